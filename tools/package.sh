@@ -1,6 +1,6 @@
 #!/usr/bin/env bash
 # Makes a Debian package of the program, in the folder that is given (out/package): the program with its launcher, the manual pages desk(1) and
-# desk-script(5), units of systemd that serve a register, sign for it, issue and publish its CRLs, completion for bash, the board, documents and examples.
+# desk-script(5), units of systemd that serve a register, sign for it, issue and publish its CRLs, completion for bash, the board, the office view, documents and examples.
 # The program is built first, where it is not built yet or is older than its sources. Prints the package's path.
 #
 # Usage, from the repository's root: tools/package.sh [FOLDER]
@@ -39,6 +39,7 @@ tools/version.sh >"$root/usr/lib/durshavon/version"
 chmod 0644 "$root/usr/lib/durshavon/version"
 put 0644 packaging/desk.bash usr/share/bash-completion/completions/desk
 put 0644 examples/board/index.html usr/share/durshavon/board/index.html
+put 0644 examples/office/index.html usr/share/durshavon/office/index.html
 
 mkdir -p "$root/etc/durshavon"
 # What serves a register; what issues and publishes its CRLs; what signs, and what signs for a responder, each behind a socket of its own, as a user of its own.
@@ -46,7 +47,7 @@ for name in desk@.service desk-crl@.timer desk-crl@.service desk-publish@.servic
     desk-signer@.socket desk-signer@.service desk-responder@.socket desk-responder@.service; do
     put 0644 "packaging/$name" "lib/systemd/system/$name"
 done
-for name in issue-due-crl.sh publish-crl.sh register-pem.sh backup.sh from-openssl-index.py signer.py only_ours.py check-signer.py pkcs11-signer.sh issuer-words.sh; do
+for name in issue-due-crl.sh publish-crl.sh register-pem.sh backup.sh from-openssl-index.py signer.py only_ours.py check-signer.py pkcs11-signer.sh issuer-words.sh audit-report.py; do
     put 0755 "examples/$name" "usr/lib/durshavon/$name"
 done
 put 0755 packaging/wait-for-desk.sh usr/lib/durshavon/wait-for-desk.sh

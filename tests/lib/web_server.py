@@ -76,7 +76,8 @@ class Front:
         self.t, self.seconds = t, seconds
         self.folder, self.port, self.tls_port = t.room / name, program.free_port(), program.free_port()
         (self.folder / "share").mkdir(parents=True)
-        (self.folder / "share/board").symlink_to(EXAMPLES / "board")
+        for it in ("board", "office"):
+            (self.folder / "share" / it).symlink_to(EXAMPLES / it)
         for it in ("desk.pem", "desk.key", "office.pem", "office.crl"):
             (self.folder / it).write_bytes((t.room / it).read_bytes())
         (self.folder / "desk.conf").write_text(self.site(desk_port))

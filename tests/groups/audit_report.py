@@ -1,0 +1,243 @@
+"""examples/audit-report.py: its tables and figures beside the desk's own lists, counts, `overdue`, `next-crl` and CRLs, for a register of some hundred entries."""
+
+import csv
+import heapq
+import json
+import random
+import re
+from html.parser import HTMLParser
+
+from lib import authority, program
+from lib.authority import DAY, EXAMPLES, moment_of
+from lib.program import parted
+from lib.trial import each, test
+from model import lines as model_lines
+from model.register import Register
+
+GROUNDS = ("asked", "unauthorized", "key-compromise", "control-lost", "affiliation", "superseded", "cessation", "misuse", "name-not-permitted", "nonconforming", "inaccurate")
+HOUR = 3600
+
+
+class Made:
+    """A register of 300 days, which ends half an hour ago: its lines, and the desk's replies to them."""
+
+    def __init__(self, t, file="ca.db", seed=7):
+        draw = random.Random(seed)
+        self.now = authority.now()
+        self.begun = self.now - 300 * DAY - HOUR // 2
+        rows = [(0, f"subscriber {name}") for name in ("acme", "north-mill", "harbour.example", "city-library")]
+        for at in range(1, 161):
+            begins = draw.randrange(250 * DAY)
+            ends = self.begun + begins + draw.choice((40, 90, 200, 397)) * DAY
+            rows += [(begins, f"order {draw.randrange(4) + 1} 398"), (begins, f"register {at} {at * 65537:x} {moment_of(self.begun + begins)} {moment_of(ends)}")]
+        # Orders get their ids in the order of their moments.
+        rows.sort(key=lambda it: it[0])
+        order, told = 0, []
+        for when, line in rows:
+            order += line.startswith("order")
+            told.append((when, re.sub(r"^register \d+", f"register {order}", line)))
+        # Requests come at any time; one is decided in time, late, or not at all.
+        requests = sorted(draw.sample(range(200 * DAY, 300 * DAY), 90))
+        for when in requests:
+            told.append((when, f"request {draw.randrange(1, 161) * 65537:x} {draw.choice(GROUNDS)}"))
+        told += [(300 * DAY - hours * HOUR, f"request {serial * 65537:x} misuse") for hours, serial in ((20, 161 - 1), (5, 159), (1, 158))]
+        # A CRL every few days, and twice none for a while; before each one the desk tells when it is due.
+        when = 30 * DAY
+        while when < 299 * DAY:
+            told += [(when, "next-crl"), (when, "crl")]
+            when += draw.choice((2, 5, 6, 7, 8, 8, 9, 14)) * DAY + draw.randrange(HOUR)
+        told.sort(key=lambda it: it[0])
+        self.file, self.crls = t.register(file), {}
+        self.run(t, "".join(f"{moment_of(self.begun + when)} {line}\n" for when, line in told), draw)
+
+    def run(self, t, lines, draw):
+        """Runs the lines in the order of their moments. Where the register as plain lists accepts a request, another line may decide it later."""
+        plain, left, told = Register(), [(line.split()[0], at, line) for at, line in enumerate(lines.splitlines())], []
+        heapq.heapify(left)
+        while left:
+            when, _, line = heapq.heappop(left)
+            told.append(line)
+            found = re.match(r"request (\d+) due", model_lines.reply(plain, line.encode()))
+            at = program.seconds_of(when) + int(draw.choice((0, 0.2, 0.8, 3, 20)) * DAY)
+            if found and program.seconds_of(when) < at < self.now - 2 * HOUR:
+                heapq.heappush(left, (moment_of(at), len(told) + 10_000, f"{moment_of(at)} {draw.choice(('revoke', 'revoke', 'revoke', 'decline'))} {found[1]}"))
+        replies = t.desk("script", str(self.file), given="\n".join(told) + "\n").lines
+        due = None
+        for line, reply in zip(told, replies):
+            if line.endswith(" next-crl"):
+                due = reply.removeprefix("next-crl ")
+            elif found := re.fullmatch(r"crl (\d+) entries (\d+)", reply):
+                self.crls[int(found[1])] = {"thisUpdate": line.split()[0], "due": "" if due == "at-once" else due, "entries": found[2]}
+
+
+def listed(t, file, word):
+    return [json.loads(it) for it in t.done("list", file, word, "--json").splitlines()]
+
+
+def report(t, *words, status=0):
+    """Runs the script, which is to end so; what it printed."""
+    ran = t.tried("python3", EXAMPLES / "audit-report.py", *words, env=dict(program.environment(), DESK=program.program()))
+    t.same(ran.returncode, status, f"status; it printed {ran.stdout + ran.stderr!r}")
+    return (ran.stdout + ran.stderr).decode()
+
+
+def table(t, folder, word):
+    with open(t.room / folder / f"{word}.csv", encoding="utf-8", newline="") as file:
+        return list(csv.DictReader(file))
+
+
+def columns(rows, *names):
+    """Of rows of a list or of a CSV these columns, as text."""
+    return [tuple("" if row[name] is None else str(row[name]) for name in names) for row in rows]
+
+
+class Page(HTMLParser):
+    """The cells of a page's tables, by the heading before each; other text by itself."""
+
+    def __init__(self, text):
+        super().__init__()
+        self.rows, self.stack, self.heading, self.findings = {}, [], "", []
+        self.feed(text)
+
+    def handle_starttag(self, tag, _):
+        if tag in ("meta", "link"):
+            return
+        self.stack.append(tag)
+        if tag == "h2":
+            self.heading = ""
+        if tag == "tr":
+            self.rows.setdefault(self.heading, []).append([])
+        if tag in ("td", "th"):
+            self.rows[self.heading][-1].append("")
+        if tag == "li":
+            self.findings.append("")
+
+    def handle_endtag(self, tag):
+        while self.stack and self.stack.pop() != tag:
+            pass
+
+    def handle_data(self, data):
+        if "h2" in self.stack and "span" not in self.stack:
+            self.heading += data.strip()
+        elif {"td", "th"} & {*self.stack}:
+            self.rows[self.heading][-1][-1] += data
+        elif "li" in self.stack:
+            self.findings[-1] += data
+
+
+@test(seconds=15)
+def its_figures_are_those_of_the_desk(t):
+    made = Made(t)
+    lists = {word: listed(t, "ca.db", word) for word in ("certificates", "revoked", "open-requests", "overdue", "crls")}
+    t.true(len(made.crls) > 20 and len(lists["revoked"]) > 20 and lists["overdue"] and len(lists["open-requests"]) > len(lists["overdue"]), f"there is something of all: {[(word, len(it)) for word, it in lists.items()]}")
+    desk = t.open("ca.db")
+    url = f"http://127.0.0.1:{desk.port}"
+    told = report(t, "--url", url, "--folder", "all", moment_of(made.begun), moment_of(made.now + DAY))
+    # Certificates and their statuses.
+    names = ("serial", "subscriber", "name", "order", "notBefore", "notAfter", "status")
+    certificates = table(t, "all", "certificates")
+    t.same(columns(certificates, *names), columns(lists["certificates"], *names), "certificates")
+    counts = json.loads(parted(desk.ask("GET", "/counts"))[2])
+    t.same({status: sum(row["status"] == status for row in certificates) for status in counts}, counts, "statuses beside counts")
+    # Revocations.
+    names = ("serial", "subscriber", "name", "order", "revokedAt", "reason")
+    revocations = table(t, "all", "revocations")
+    t.same(columns(revocations, *names), columns(lists["revoked"], *names), "revocations")
+    for row, of_list in zip(revocations, lists["revoked"]):
+        first = of_list["firstCrl"]
+        at = made.crls[first]["thisUpdate"] if first in made.crls else ""
+        after = str(program.seconds_of(at) - program.seconds_of(row["revokedAt"])) if at else ""
+        t.same((row["firstCrl"], row["listedAt"], row["listedAfterSeconds"]), (str(first) if at else "", at, after), f"where {row['serial']} is listed")
+    # Requests.
+    names = ("request", "serial", "ground", "received", "due", "subscriber", "name")
+    requests = table(t, "all", "requests")
+    t.same(columns(requests, *names), columns(lists["open-requests"], *names), "open requests")
+    overdue = [row["request"] for row in requests if row["state"] == "overdue"]
+    t.same(overdue, [str(row["request"]) for row in lists["overdue"]], "overdue requests beside their list")
+    t.same(t.counter().ask("overdue"), f"overdue {len(overdue)} first {overdue[0]}", "and beside the query")
+    # CRLs: entries as the desk counted them, bytes as it gives them, due as it told before each.
+    crls = table(t, "all", "crls")
+    t.same(columns(crls, "crl", "thisUpdate"), columns(lists["crls"], "crl", "thisUpdate"), "CRLs")
+    before = None
+    for row in crls:
+        wanted, at = made.crls[int(row["crl"])], program.seconds_of(row["thisUpdate"])
+        t.same((row["thisUpdate"], row["entries"], row["due"]), (wanted["thisUpdate"], wanted["entries"], wanted["due"]), f"CRL {row['crl']}")
+        t.same(row["bytes"], str(len(parted(desk.ask("GET", f"/crl/{row['crl']}"))[2])), f"bytes of CRL {row['crl']}")
+        t.same(row["lateSeconds"], str(max(0, at - program.seconds_of(row["due"])) if row["due"] else 0), f"how late CRL {row['crl']} is")
+        t.same(program.seconds_of(row["nextUpdate"]), at + 8 * DAY, "nextUpdate")
+        t.same(row["gapSeconds"], str(max(0, at - before - 8 * DAY) if before else 0), f"the gap before CRL {row['crl']}")
+        before = at
+    the_page(t, told, certificates, revocations, requests, crls)
+    a_part_of_the_time(t, made, url, desk, crls)
+
+
+def the_page(t, told, certificates, revocations, requests, crls):
+    """The page has the rows of the tables, and its findings are those that are printed."""
+    page = Page((t.room / "all/report.html").read_text(encoding="utf-8"))
+    for heading, rows in (("CRLs", crls), ("Open requests", requests), ("Revocations", revocations), ("Certificates whose notBefore is in the time", certificates)):
+        t.same(len(page.rows[heading]), len(rows) + 1, f"rows of {heading}")
+    short = lambda serial: serial.lstrip("0")
+    t.same([row[0] for row in page.rows["Revocations"][1:]], [short(row["serial"]) for row in revocations], "serial numbers")
+    figures = {name.strip(): value for name, value in page.rows["Figures"]}
+    late, gaps = sum(int(row["lateSeconds"]) > 2 * HOUR for row in crls), sum(row["gapSeconds"] != "0" for row in crls)
+    overdue = sum(row["state"] == "overdue" for row in requests)
+    t.true(late > 2 and gaps > 2, f"some CRLs were late, and some not there: {late}, {gaps}")
+    wanted = {"Revocations": len(revocations), "CRLs": len(crls), "of them over two hours late": late, "of them overdue": overdue, "Times in which no CRL was valid": gaps,
+              "Certificates whose notBefore is in the time": len(certificates), "Open requests, received before the end of the time": len(requests)}
+    t.same({name: figures[name] for name in wanted}, {name: str(number) for name, number in wanted.items()}, "figures")
+    t.same(page.findings, told.splitlines()[:-1], "findings, as they are printed")
+    t.same([it.split()[1] for it in page.findings if it.startswith("CRL ")], [row["crl"] for row in crls if int(row["lateSeconds"]) > 2 * HOUR or row["gapSeconds"] != "0"], "CRLs that are findings")
+    t.same(sum(it.startswith("Request ") for it in page.findings), overdue, "requests that are findings")
+    t.true(f"{len(page.findings)} findings" in told.splitlines()[-1], f"how many: {told.splitlines()[-1]}")
+
+
+def a_part_of_the_time(t, made, url, desk, crls):
+    """A quarter has what is in it, and a gap that began before it is told from its begin on; a closed register gives the same tables."""
+    day = lambda at: moment_of(at)[:10]
+    gap = next(row for row in crls if int(row["gapSeconds"]) > 2 * DAY)
+    begin = day(program.seconds_of(gap["thisUpdate"]) - DAY)
+    end = day(program.seconds_of(gap["thisUpdate"]) + 60 * DAY)
+    report(t, "--url", url, "--folder", "part", begin, end)
+    is_inside = lambda text: begin <= text[:10] < end
+    for word, moment in (("certificates", "notBefore"), ("revocations", "revokedAt")):
+        t.same(table(t, "part", word), [row for row in table(t, "all", word) if is_inside(row[moment])], word)
+    inside = [dict(row) for row in crls if is_inside(row["thisUpdate"])]
+    inside[0]["gapSeconds"] = str(program.seconds_of(gap["thisUpdate"]) - program.seconds_of(f"{begin}T00:00:00Z"))
+    t.same(table(t, "part", "crls"), inside, "CRLs")
+    t.same([row["request"] for row in table(t, "part", "requests")], [row["request"] for row in table(t, "all", "requests") if row["received"][:10] < end], "open requests")
+    desk.end()
+    report(t, "--register", "ca.db", "--folder", "closed", begin, end)
+    for word in ("certificates", "revocations", "crls"):
+        t.same(table(t, "closed", word), table(t, "part", word), f"{word} of a closed register")
+
+
+@test(seconds=3)
+def a_register_with_nothing_in_it(t):
+    t.register()
+    told = report(t, "--register", "ca.db", "2026-01-01", "2026-02-01")
+    t.same(told, "audit-2026-01-01-2026-02-01/report.html: 0 certificates, 0 revocations, 0 open requests, 0 CRLs, 0 findings\n")
+    t.same(Page((t.room / "audit-2026-01-01-2026-02-01/report.html").read_text()).findings, [], "findings")
+    for word in ("certificates", "revocations", "requests", "crls"):
+        t.same(table(t, "audit-2026-01-01-2026-02-01", word), [], word)
+
+
+@test(seconds=3)
+def a_time_with_no_crl_and_one_that_ended(t):
+    """No CRL is in the time; the one before it ended in it, and none came."""
+    begun = authority.now() - 40 * DAY
+    t.register(lines=f"{moment_of(begun)} crl\n")
+    day = lambda days: moment_of(begun + days * DAY)
+    told = report(t, "--register", "ca.db", "--folder", "it", day(5), day(20))
+    t.same(told.splitlines()[0], f"No CRL was valid for 12 d 0 h before {day(20)}.")
+    t.same(table(t, "it", "crls"), [])
+
+
+@each({
+    "nobody at the port": (("--url", "http://127.0.0.1:1", "2026-01-01", "2026-02-01"), 1, "audit-report: http://127.0.0.1:1/list/crls?limit=250: "),
+    "no such register": (("--register", "none.db", "2026-01-01", "2026-02-01"), 1, "audit-report: none.db: F2 store no such file"),
+    "no moment": (("2026-01-01", "soon"), 2, "FROM and TO are days"), "no such day": (("2026-02-30", "2026-03-01"), 2, "FROM and TO are days"),
+    "backwards": (("2026-02-01", "2026-02-01"), 2, "FROM must be before TO"),
+}, seconds=2)  # fmt: skip
+def what_it_refuses(t, words, status, why):
+    t.has(report(t, *words, status=status), why)
+    t.same([it.name for it in t.room.iterdir()], [], "it writes nothing")

@@ -1,0 +1,311 @@
+"""examples/office/index.html in Debian's Chromium with no screen: served by nginx with examples/nginx.conf beside an open desk, to a browser that shows a client
+certificate of the office. What is shown is compared with the lines that made the register. OFFICE_PICTURE=FILE.png keeps a picture of it."""
+
+import json
+import os
+import time
+
+from groups.board import Browser
+from lib import authority, faults
+from lib.authority import DAY, Authority, moment_of
+from lib.trial import need, test
+from lib.web_server import Front, certificates
+
+HOUR = 3600
+
+
+def shown(at):
+    return time.strftime("%Y-%m-%d %H:%M", time.gmtime(at))
+
+
+def give_certificate(t, front, name):
+    """Has chromium show this client certificate to the server: it lies in the browser's database, and its settings choose it without a question."""
+    words = ("-inkey", f"{name}.key", "-name", name, "-passout", "pass:it", "-out", f"{name}.p12")
+    t.tool("openssl", "pkcs12", "-export", "-in", f"{name}.pem", *words)
+    for folder in (".pki/nssdb", ".local/share/pki/nssdb"):
+        database = t.room / folder
+        database.mkdir(parents=True, exist_ok=True)
+        t.tool("certutil", "-d", f"sql:{database}", "-N", "--empty-password")
+        t.tool("pk12util", "-d", f"sql:{database}", "-i", f"{name}.p12", "-W", "it")
+    settings = t.room / "chromium/Default/Preferences"
+    settings.parent.mkdir(parents=True, exist_ok=True)
+    chosen = json.dumps({"pattern": f"https://127.0.0.1:{front.tls_port}", "filter": {}})
+    settings.write_text(json.dumps({"profile": {"managed_auto_select_certificate_for_urls": [chosen]}}))
+
+
+def opened(t, lines="", name="clerk", **how):
+    """A CA with a register of these lines, an open desk, nginx before it, and a browser with a clerk's certificate."""
+    need("chromium", "nginx", "certutil")
+    it = Authority(t, subject="/O=Example/CN=Example CA")
+    certificates(t)
+    it.register()
+    if lines:
+        told = t.done("script", "ca.db", given=lines).splitlines()
+        t.same([reply for reply in told if reply[:1] in "EF"], [], "refusals")
+    desk = t.open("ca.db")
+    front = Front(t, desk.port, seconds=1)
+    give_certificate(t, front, name)
+    browser = Browser(t)
+    browser.ask("Emulation.setDeviceMetricsOverride", width=1120, height=900, deviceScaleFactor=1, mobile=False)
+    return it, desk, front, browser
+
+
+def load(browser, front):
+    browser.ask("Page.navigate", url=front.url("/office/", tls=True))
+    rounds(browser, 1)
+
+
+def rounds(browser, count):
+    """Waits until the page has read all parts so many times."""
+    browser.until(f"document.readyState === 'complete' && document.body && Number(document.body.dataset.rounds) >= {count}")
+
+
+def again(browser):
+    """Presses Reload, and waits until all was read."""
+    was = browser.value("Number(document.body.dataset.rounds)")
+    browser.press("#again")
+    rounds(browser, was + 1)
+
+
+def rows(browser, name):
+    """The rows of a table, each as its cells' text, with `!` before one that is shown in red."""
+    return browser.value(f"Array.from(document.querySelectorAll('#{name} tr'), row => (row.className === 'bad' ? '!' : '') + Array.from(row.cells, it => it.innerText).join('|'))")
+
+
+def texts(browser, *names):
+    return [browser.text_of(name) for name in names]
+
+
+class Year:
+    """A register of some months: certificates, requests of all states, revocations, and CRLs of which two came too late."""
+
+    GROUNDS = ("key-compromise", "superseded", "misuse", "cessation", "affiliation", "asked", "control-lost", "unauthorized")
+
+    def __init__(self, certificates=60, requests=40):
+        self.now = authority.now()
+        self.begun = self.now - 200 * DAY
+        rows, self.ends, self.revoked, self.open = [], {}, [], []
+        names = ["acme", "north-mill", "harbour.example", "city-library", "east-works"]
+        rows += [(0, f"subscriber {name}") for name in names]
+        for at in range(certificates):
+            end = self.begun + int((150 + 3.6 * at) * DAY) + at
+            serial = 0x4100 + 0x1000D * at
+            self.ends[serial] = (end, names[at % 5], at + 1)
+            rows += [(0, f"order {at % 5 + 1} 398"), (0, f"register {at + 1} {serial:x} {moment_of(self.begun)} {moment_of(end)}")]
+        serials, number = sorted(self.ends), 0
+        # One request every four days, decided after half a day; the last ones are open.
+        for at in range(requests):
+            serial, ground = serials[-1 - at], self.GROUNDS[at % 8]
+            day = 6 + 4.6 * at
+            number += 1
+            rows.append((day, f"request {serial:x} {ground}"))
+            if at % 7 == 3:
+                rows.append((day + 0.3, f"decline {number}"))
+            else:
+                rows.append((day + 0.5, f"revoke {number}"))
+                self.revoked.append((self.begun + int((day + 0.5) * DAY), ground))
+        for at, (days, ground) in enumerate([(3.2, "inaccurate"), (1.7, "asked"), (0.9, "superseded"), (0.4, "key-compromise"), (0.1, "control-lost"), (0.02, "misuse")]):
+            serial, number = serials[-1 - requests - at], number + 1
+            received = self.begun + round((200 - days) * DAY)
+            rows.append((200 - days, f"request {serial:x} {ground}"))
+            self.open.append((received + (5 if ground in ("misuse", "inaccurate") else 1) * DAY, number, ground, self.ends[serial][1], serial, received))
+        # A CRL a week, but for two times; the next one is due some hours ago.
+        self.crls = [3.6 + 7 * week for week in range(28) if week not in (9, 10, 21)]
+        rows += [(day, "crl") for day in self.crls]
+        at = lambda day: self.begun + round(day * DAY)
+        self.lines = "".join(f"{moment_of(at(day))} {line}\n" for day, line in sorted(rows, key=lambda it: it[0]))
+
+
+@test(seconds=25)
+def the_office_view_shows_what_the_desk_says(t):
+    year = Year()
+    it, desk, front, browser = opened(t, year.lines)
+    load(browser, front)
+    counts = json.loads(desk.ask("GET", "/counts").split(b"\r\n\r\n")[1])
+    soon = sorted((end, serial) for serial, (end, *_) in year.ends.items() if year.now <= end < year.now + 30 * DAY and status(desk, serial) == "good")
+    overdue = [row for row in year.open if row[0] < year.now]
+    wanted = [str(counts[name]) for name in ("good", "revoked", "expired")] + [str(len(year.open)), str(len(overdue)), str(len(soon))]
+    t.same(texts(browser, "good", "revoked", "expired", "open", "overdue", "ending"), wanted, "counts")
+    t.true(len(overdue) == 1 and len(soon) > 3, f"the register has what is to be shown: {overdue}, {soon}")
+    # Requests by deadline, the overdue one in red.
+    cells = [row.split("|") for row in rows(browser, "requestrows")]
+    told = [("!" * (due < year.now) + shown(due), str(number), ground, name, f"{serial:x}", shown(received)) for due, number, ground, name, serial, received in sorted(year.open)]
+    t.same([(row[0], *row[2:]) for row in cells], told, "open requests")
+    t.same(cells[0][1].split(" ")[0], "overdue")
+    t.same([(row[0], row[3]) for row in (row.split("|") for row in rows(browser, "endingrows"))], [(shown(end), f"{serial:x}") for end, serial in soon], "certificates that end soon")
+    gaps_and_plot(t, year, browser)
+    months(t, year, browser)
+    t.same(texts(browser, "health", "fault", "issuer"), ["failing", "", "Example CA"], "health; no fault; the issuer")
+    t.same([row.split("|")[1] for row in rows(browser, "healthrows") if row.split("|")[0] not in ("CRL",)], ["ok"] * 4)
+    t.has([row for row in rows(browser, "healthrows") if row.startswith("CRL|")][0], "the next CRL is due", "why it is failing")
+    if "OFFICE_PICTURE" in os.environ:
+        browser.picture(os.environ["OFFICE_PICTURE"])
+    t.same(complaints(browser), [], "what the page complained of")
+    later(t, year, desk, browser, len(overdue))
+
+
+def complaints(browser):
+    """What the browser complained of; an answer of /health with 503, and of a desk that is away, is in its log as an error."""
+    return [it for it in browser.complaints if "status of 50" not in it]
+
+
+def status(desk, serial):
+    return json.loads(desk.ask("GET", f"/status/{serial:x}").split(b"\r\n\r\n")[1])["status"]
+
+
+def gaps_and_plot(t, year, browser):
+    at = lambda day: year.begun + round(day * DAY)
+    found = [(number, at(day) + 8 * DAY, at(later)) for number, (day, later) in enumerate(zip(year.crls, year.crls[1:]), 1) if later - day > 8]
+    told = [(f"from {shown(ended)}, when CRL {number} ended,", f"to {shown(came)}, when CRL {number + 1} was issued") for number, ended, came in found]
+    browser.value("document.getElementById('window').value = '0'; document.getElementById('window').dispatchEvent(new Event('change'))")
+    points = "document.querySelectorAll('#plot circle').length"
+    browser.until(f"{points} === {2 * len(year.crls)}")
+    t.same([tuple(row.split("|")[1:]) for row in rows(browser, "gaprows")], told[::-1], "gaps between CRLs")
+    t.same(browser.value("document.querySelectorAll('#plot rect').length"), len(found), "gaps in the plot")
+    # The bytes and entries of the latest CRL, as the plot tells them.
+    latest = t.tool("curl", "-sk", "-o", "latest.crl", "-w", "%{size_download}", browser.value("location.origin") + "/crl").decode()
+    entries = t.tool("openssl", "crl", "-inform", "DER", "-in", "latest.crl", "-noout", "-text").decode().count("Serial Number: ")
+    last = browser.value("Array.from(document.querySelectorAll('#plot circle title'), it => it.textContent).pop()")
+    t.same(last, f"CRL {len(year.crls)} of {shown(at(year.crls[-1]))}: {entries} entries, {latest} bytes", "the latest CRL in the plot")
+
+
+def months(t, year, browser):
+    """Each month's revocations by the grounds of one reason."""
+    columns = [("key-compromise",), ("control-lost", "superseded", "nonconforming"), ("unauthorized", "misuse", "inaccurate"), ("cessation", "name-not-permitted"), ("affiliation",), ("asked",)]
+    t.same(browser.value("Array.from(document.querySelectorAll('#monthshead th'), it => it.innerText.trim().replaceAll('\\n', ' ')).slice(3)"), [", ".join(it) for it in columns], "the columns")
+    wanted = {}
+    for at, ground in year.revoked:
+        month = wanted.setdefault(time.strftime("%Y-%m", time.gmtime(at)), [0] * len(columns))
+        month[next(place for place, it in enumerate(columns) if ground in it)] += 1
+    got = {cells[0]: cells[2:] for cells in (row.split("|") for row in rows(browser, "monthrows"))}
+    t.same(max(wanted) in got and min(wanted) == list(got)[-1], True, f"months up to the first revocation: {list(got)}")
+    t.same({month: cells for month, cells in got.items() if cells[0] != "0"}, {month: [str(sum(it)), *(str(n) if n else "·" for n in it)] for month, it in wanted.items()}, "revocations by month")
+
+
+def later(t, year, desk, browser, overdue):
+    """What is entered meanwhile is there after the next round; so is a fault, which leaves what was shown."""
+    counter = t.counter()
+    first = sorted(year.open)[0][1]
+    t.same(counter.ask(f"revoke {first}"), "revoked late")
+    t.same(counter.ask("crl").split(" ")[0], "crl")
+    again(browser)
+    t.same(texts(browser, "open", "overdue", "health"), [str(len(year.open) - 1), str(overdue - 1), "all is well"], "after the overdue request was carried out, and a CRL came")
+    t.same(browser.text_of("crlsnote").split(";")[0], str(len(year.crls) + 1), "one CRL more")
+    before = rows(browser, "requestrows")
+    desk.end()
+    again(browser)
+    t.has(browser.text_of("fault"), "The desk does not answer (502)", "a desk that is away")
+    t.has(browser.text_of("fault"), "What is shown was read at", "since when")
+    t.same((rows(browser, "requestrows"), browser.text_of("open")), (before, str(len(year.open) - 1)), "what was shown stays")
+    t.same((browser.text_of("health"), rows(browser, "healthrows")), ("could not be read", []), "but for the health")
+    t.open("ca.db", "--port", desk.port, "--counter", "second")
+    again(browser)
+    t.same(texts(browser, "fault", "health"), ["", "all is well"], "the desk is back")
+
+
+@test(seconds=15)
+def a_new_register(t):
+    _, _, front, browser = opened(t)
+    load(browser, front)
+    t.same(texts(browser, "good", "open", "overdue", "ending", "requestsnote", "endingnote", "crlsnote", "monthsnote", "health", "fault"),
+           ["0", "0", "0", "0", "none", "none", "none was issued yet", "none", "failing", ""], "what is shown")  # fmt: skip
+    t.has("\n".join(rows(browser, "healthrows")), "no CRL was issued yet", "why")
+    t.same([rows(browser, name) for name in ("requestrows", "endingrows", "gaprows", "monthrows")], [[]] * 4, "rows")
+    t.same(complaints(browser), [], "what the page complained of")
+
+
+@test(seconds=25)
+def a_desk_that_is_away_or_refuses_or_fails(t):
+    _, desk, front, browser = opened(t, f"{moment_of(authority.now() - DAY)} subscriber acme\n")
+    desk.end()
+    load(browser, front)
+    t.same(browser.text_of("fault"), "The desk does not answer (502).", "a desk that is away from the first moment on")
+    t.same(texts(browser, "good", "open", "requestsnote", "crlsnote"), ["–", "–", "could not be read", "could not be read"], "what is shown")
+    t.clock(authority.now() - 2 * DAY)
+    behind = t.open("ca.db", "--port", desk.port, "--counter", "second")
+    again(browser)
+    t.has(browser.text_of("fault"), "The desk's clock is before its last command, and it refuses all until then (E01 clock-back", "a clock that is behind")
+    t.has("\n".join(rows(browser, "healthrows")), "Clock|is before the last command", "health")
+    behind.end()
+
+
+@test(seconds=15)
+def a_store_that_fails(t):
+    """Where the disk refuses a write the page goes on showing what can be read, and tells since when and what to look at."""
+    _, desk, front, browser = opened(t)
+    desk.end()
+    base, files = t.register("base.db"), "ca.db-wal,ca.db"
+    for fails in (None, "write"):
+        for it in ("ca.db", "ca.db-wal", "second"):
+            (t.room / it).unlink(missing_ok=True)
+        faults.copy(base, t.room / "ca.db")
+        # The first write behind those of the opening, which are counted first.
+        how = {"fail": f"write:{faults.counted(t.room / 'count')['write'] + 1}"} if fails else {"count": t.room / "count"}
+        desk = t.open("ca.db", "--port", desk.port, "--counter", "second", faults=faults.environment(only=files, **how))
+        if not fails:
+            desk.end()
+    t.same(t.counter("second").ask("subscriber acme"), "F2 store")
+    load(browser, front)
+    t.same(texts(browser, "health", "fault", "good"), ["failing", "", "0"], "what is shown")
+    [row] = [row for row in rows(browser, "healthrows") if row.startswith("Store|")]
+    t.has(row, "Store|since ", "since when")
+    t.has(row, "the register could not be read or written. Look at the disk.", "what to do")
+
+
+@test(seconds=60)
+def thousands_of_rows(t):
+    """Lists of more rows than a page looks at: all are counted, and the first ones by deadline are shown."""
+    now, most = authority.now(), 3_000
+    begun = now - 3 * DAY
+    lines = ["subscriber acme"]
+    for at in range(1, most + 1):
+        lines += ["order 1 398", f"register {at} {at:x} {moment_of(begun)} {moment_of(now + 3 * DAY + (most - at))}"]
+    lines = [f"{moment_of(begun)} {it}" for it in lines]
+    # Each third is asked for, over two days; each sixth is revoked.
+    asked = [(begun + at * 61, at) for at in range(3, most + 1, 3)]
+    lines += [f"{moment_of(when)} request {at:x} {'misuse' if at % 2 else 'asked'}" for when, at in asked]
+    lines += [f"{moment_of(now - HOUR)} revoke {number}" for number, (_, at) in enumerate(asked, 1) if number % 2]
+    folder = authority.in_memory(t)
+    _, desk, front, browser = opened(t)
+    t.same(t.done("init", folder / "large.db", "--name", "300D310B300906035504030C024341", "--key", "616263"), "created\n")
+    told = t.done("script", folder / "large.db", given="\n".join(lines) + "\n", timeout=120).splitlines()
+    t.same([it for it in told if it[:1] in "EF"], [], "refusals")
+    desk.end()
+    t.open(folder / "large.db", "--port", desk.port, "--counter", "second")
+    load(browser, front)
+    left = [(when + (5 if at % 2 else 1) * DAY, number) for number, (when, at) in enumerate(asked, 1) if not number % 2]
+    overdue = sum(due < now for due, _ in left)
+    t.same(texts(browser, "open", "overdue", "ending"), [f"{it:,}" for it in (len(left), overdue, most - (len(asked) - len(left)))], "counts")
+    numbers = lambda: [int(row.split("|")[2]) for row in rows(browser, "requestrows")]
+    t.same(numbers(), [number for _, number in sorted(left)][:25], "the first 25 by deadline")
+    browser.value("document.getElementById('requestsmore').click()")
+    t.same(numbers(), [number for _, number in sorted(left)][:225], "and 200 more")
+    t.same(browser.text_of("endingmore"), "Show 200 more")
+    t.same(sum(int(row.split("|")[2]) for row in rows(browser, "monthrows")), len(asked) - len(left), "revocations")
+    t.same(complaints(browser), [], "what the page complained of")
+
+
+@test(seconds=8)
+def the_office_view_is_for_the_office_alone(t):
+    need("nginx")
+    _, front = plain(t)
+    shows = lambda name: ("--cert", f"{name}.pem", "--key", f"{name}.key")
+    paths = ("/office/", "/office/index.html", "/office/list/open-requests", "/office/list/ending?before=2030-01-01T00:00:00Z", "/office/health")
+    for path in paths:
+        t.same(front.ask(path)[0], 403, f"{path} by plain http")
+        t.same(front.ask(path, tls=True)[0], 403, f"{path} without a certificate")
+        t.same([front.ask(path, *shows(name), tls=True)[0] for name in ("stranger", "former")], [400, 400], f"{path} with a stranger's, and with a revoked one")
+        got, fields, _ = front.ask(path, *shows("clerk"), tls=True)
+        t.same((got in (200, 503), fields["Cache-Control"]), (True, "no-store"), f"{path} with a clerk's: {got}")
+    for path in ("/list/open-requests", "/health", "/metrics", "/office/metrics", "/office/counts"):
+        t.same(front.ask(path, *shows("clerk"), tls=True)[0], 404, f"{path} with a clerk's")
+    t.same(front.ask("/office/list/nothing", *shows("clerk"), tls=True)[2], b'{"error":"E22 syntax"}', "the desk's own refusal")
+
+
+def plain(t):
+    it = Authority(t)
+    certificates(t)
+    it.register()
+    t.done("script", "ca.db", given=authority.first_day(authority.now()))
+    desk = t.open("ca.db")
+    return desk, Front(t, desk.port)
