@@ -73,6 +73,10 @@ pub on_ok : {T E P Q : Type 0} (r : Result T E) → OnOk r P → (P → Q) → O
 on_ok (Ok x) holds more = more holds
 on_ok (Err e) holds more = tt
 
+pub on_both : {T E P Q R : Type 0} (r : Result T E) → OnOk r P → OnOk r Q → (P → Q → R) → OnOk r R
+on_both (Ok x) one other more = more one other
+on_both (Err e) one other more = tt
+
 counted_push : (from : ℕ) (rows : List Row) (row : Row) → CountedFrom from rows → column row 0 ≡ number (from + length rows) → CountedFrom from (rows ++ row ∷ [])
 counted_push from [] row counted is = let here : from + 0 ≡ from = omega arith in (is ∙ ap number here, tt)
 counted_push from (first ∷ rows) row counted is =

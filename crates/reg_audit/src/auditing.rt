@@ -43,22 +43,13 @@ const WHOLE: [What; 10] = [
 ];
 
 /// Reads the rows of a register's tables whole, and checks that they are those of sound records, with the letters, counts
-/// and last listings that follow from them ([`reg_audit_rows::check`]); then reads the bytes of each CRL, one after the other, and
-/// checks that they are those of what the records list in it (RFC 5280 5.1), under the algorithm that stands in them and
-/// whatever signature ([`reg_audit_rows::check_crl`]).
+/// and last listings that follow from them ([`reg_audit_rows::check`]); then reads the bytes of each CRL in turn, and checks
+/// that they are those of what the records list in it (RFC 5280 5.1), under the algorithm that stands in them and whatever
+/// signature ([`reg_audit_rows::check_crl`]). At last it reads the rowids, the office and the schedule. It looks neither at
+/// whether a signature verifies nor at the schema, changes nothing, and tells the watch how far it is.
 ///
-/// Each value in a row is read as the number, moment, serial number, label or letter that it is, or as none where the
-/// register's type has no such value. Whatever records the tables show, where all is found well these are sound, each CRL's
-/// bytes are those of what it lists, what is kept beside the records follows from them, the days that the office was made with
-/// are some that a schedule can allow (`HasAllowedDays`), and so many are told as there are (`AreNumbersOf`); where a row is told
-/// as broken, the records are not sound, or what is kept does not follow, or the office's days are others, or they have a value
-/// that no register's records have (`HasValues`), or, where it is told for its bytes, some CRL's bytes are others than those of
-/// what it lists (`Denies`). It changes nothing of the tables of a register, and commits nothing. The watch is told how far it is.
-///
-/// In the end the rowids are read, the whole office and the schedule: where all is found well over tables that obey a register's
-/// schema (`AreTables`), there are records that they show, sound and with what is kept beside them (`ShowsSound`).
-///
-/// Whether a signature verifies is not looked at. The schema is not looked at either.
+/// A value that the register's type lacks is told as a broken row. A row that is told as broken denies what `IsDenied` says.
+/// Over tables that obey a register's schema (`AreTables`) there are records that they show, where all is found well.
 ///
 /// # Errors
 /// `Broken` with a row that breaks a rule; `Memory`; `Store` where the database fails, or where the issuer or the policy is

@@ -10,16 +10,16 @@ ghost use Rattle.reg_store_tables.specs.Columns.{Columns};
 ghost use Rattle.reg_store_tables.specs.ReadStatements.{shown_step};
 ghost use Rattle.reg_store_tables.specs.Rows.{number};
 ghost use Rattle.reg_audit.specs.Cells.{CountedFrom, HasCells, IsOfSomeRecord};
-ghost use Rattle.reg_audit.specs.Complete.{AreTables, AreCounts, AreOffice, IsTermsOf, ShowSome, HoldSubscribers, HoldOrders, HoldCertificates, HoldRequests, HoldRevocations, HoldCrls, HoldLetters, HoldListings};
-ghost use Rattle.reg_audit.specs.ReadTexts.{AreRead, AreReadFrom, IsReadFrom, IsReadOf, read_besides, whole};
+ghost use Rattle.reg_audit.specs.Complete.{AreTables, AreCounts, AreOffice, IsTermsOf, ShowSome};
+ghost use Rattle.reg_audit.specs.ReadTexts.{AreRead, AreReadFrom, IsReadFrom, read_besides, whole};
 ghost use Rattle.reg_audit.specs.Faults.{EndsAtBrokenRow};
-ghost use Rattle.reg_audit.specs.declared.sql.What.TheVariants.{Subscribers, Orders, Certificates, Requests, Revocations, Crls, Standings, Counts as OfCounts, Listings, CertificateRowids, RevocationRowids, StandingRowids, CountsRowid, ListingRowids, Terms as OfTerms, Steps};
+ghost use Rattle.reg_audit.specs.declared.sql.What.TheVariants.{Counts as OfCounts, CountsRowid, Terms as OfTerms, Steps};
 
-use crate::fault::AuditFault;
+use crate::fault::{AuditFault, broken_at};
 use crate::read_rows::rows_at;
 use crate::sql::What;
 use crate::typed::{ListedRows, StandingRows};
-use reg_audit_rows::{BrokenRow, Defect, RegisterTable};
+use reg_audit_rows::{Defect, RegisterTable};
 use reg_core::{
     CertRow, Counts, CrlRow, Moment, OrderRow, Policy, RequestRow, RevocationRow, Schedule,
     SubscriberRow,
@@ -40,10 +40,8 @@ pub(crate) const BESIDE: [What; 7] = [
     What::Steps,
 ];
 
-/// The version of the tables.
 const VERSION: u64 = 3;
 
-/// The number in a column is this one.
 fn is_number(row: &Row, at: usize, n: u64) -> bool
     ensures yes { IsTrue result → column row.now at ≡ number n }
     ensures no { column row.now at ≡ number n → IsTrue result }
@@ -54,27 +52,18 @@ fn is_number(row: &Row, at: usize, n: u64) -> bool
     }
 }
 
-/// The row at a place of a table, counted from 0, has another rowid than its place.
-fn out_of_order(table: RegisterTable, place: usize) -> AuditFault {
-    let row = (place as u64).saturating_add(1);
-    let why = Defect::OutOfOrder;
-    AuditFault::Broken(BrokenRow { table, row, why })
-}
-
-/// The numbers in the first column are 1, 2, 3 and so on.
 fn check_counted(table: RegisterTable, rows: &[Row]) -> Result<(), AuditFault>
     ensures counted { OnOk result (CountedFrom 1 rows.now) }
     ensures broken { CountedFrom 1 rows.now → IfErr result (λ fault. ¬ EndsAtBrokenRow fault) }
 {
     for (place, row) in rows.iter().enumerate() {
         if !is_number(row, 0, place as u64 + 1) {
-            return Err(out_of_order(table, place));
+            return Err(broken_at(table, place, Defect::OutOfOrder));
         }
     }
     Ok(())
 }
 
-/// The row is that of some record.
 fn stands<T: ShownRow>(row: &Row) -> bool
     ensures { IsTrue result → IsOfSomeRecord T.is_keyed T.shown row.now }
 {
@@ -97,67 +86,28 @@ fn each_stands<T: ShownRow>(rows: &[Row]) -> Result<(), AuditFault>
     Ok(())
 }
 
-/// The rows of subscriber are those of subscribers.
-fn check_subscribers(rows: &[Row]) -> Result<(), AuditFault>
-    ensures hold { (db : Database) → AreTables db → IsReadFrom db Subscribers rows.now → OnOk result (HoldSubscribers db.trees) }
-    ensures broken { (records : Records) → (columns : Columns) → IsReadOf records columns Subscribers rows.now → IfErr result (λ fault. ¬ EndsAtBrokenRow fault) }
+/// The rows of a table are those of some records, whose numbers are 1, 2, 3 and so on.
+fn check_keyed<T: ShownRow>(table: RegisterTable, rows: &[Row]) -> Result<(), AuditFault>
+    ensures counted { OnOk result (CountedFrom 1 rows.now) }
+    ensures stand { OnOk result (AllByRecursion (IsOfSomeRecord T.is_keyed T.shown) rows.now) }
+    ensures broken { CountedFrom 1 rows.now → IfErr result (λ fault. ¬ EndsAtBrokenRow fault) }
 {
-    check_counted(RegisterTable::Subscriber, rows)?;
-    each_stands::<SubscriberRow>(rows)
+    check_counted(table, rows)?;
+    each_stands::<T>(rows)
 }
 
-/// The rows of orders are those of orders.
-fn check_orders(rows: &[Row]) -> Result<(), AuditFault>
-    ensures hold { (db : Database) → AreTables db → IsReadFrom db Orders rows.now → OnOk result (HoldOrders db.trees) }
-    ensures broken { (records : Records) → (columns : Columns) → IsReadOf records columns Orders rows.now → IfErr result (λ fault. ¬ EndsAtBrokenRow fault) }
+/// The rows of a table are those of some records, and its rowids are 1, 2, 3 and so on.
+fn check_table<T: ShownRow>(
+    table: RegisterTable,
+    rows: &[Row],
+    rowids: &[Row],
+) -> Result<(), AuditFault>
+    ensures counted { OnOk result (CountedFrom 1 rowids.now) }
+    ensures stand { OnOk result (AllByRecursion (IsOfSomeRecord T.is_keyed T.shown) rows.now) }
+    ensures broken { CountedFrom 1 rowids.now → IfErr result (λ fault. ¬ EndsAtBrokenRow fault) }
 {
-    check_counted(RegisterTable::Orders, rows)?;
-    each_stands::<OrderRow>(rows)
-}
-
-/// The rows of cert are those of certificates.
-fn check_certificates(rows: &[Row], rowids: &[Row]) -> Result<(), AuditFault>
-    ensures hold { (db : Database) → AreTables db → IsReadFrom db Certificates rows.now → IsReadFrom db CertificateRowids rowids.now → OnOk result (HoldCertificates db.trees) }
-    ensures broken { (records : Records) → (columns : Columns) → IsReadOf records columns CertificateRowids rowids.now → IfErr result (λ fault. ¬ EndsAtBrokenRow fault) }
-{
-    check_counted(RegisterTable::Cert, rowids)?;
-    each_stands::<CertRow>(rows)
-}
-
-/// The rows of request are those of requests.
-fn check_requests(rows: &[Row]) -> Result<(), AuditFault>
-    ensures hold { (db : Database) → AreTables db → IsReadFrom db Requests rows.now → OnOk result (HoldRequests db.trees) }
-    ensures broken { (records : Records) → (columns : Columns) → IsReadOf records columns Requests rows.now → IfErr result (λ fault. ¬ EndsAtBrokenRow fault) }
-{
-    check_counted(RegisterTable::Request, rows)?;
-    each_stands::<RequestRow>(rows)
-}
-
-/// The rows of revocation are those of revocations.
-fn check_revocations(rows: &[Row], rowids: &[Row]) -> Result<(), AuditFault>
-    ensures hold { (db : Database) → AreTables db → IsReadFrom db Revocations rows.now → IsReadFrom db RevocationRowids rowids.now → OnOk result (HoldRevocations db.trees) }
-    ensures broken { (records : Records) → (columns : Columns) → IsReadOf records columns RevocationRowids rowids.now → IfErr result (λ fault. ¬ EndsAtBrokenRow fault) }
-{
-    check_counted(RegisterTable::Revocation, rowids)?;
-    each_stands::<RevocationRow>(rows)
-}
-
-/// The rows of crl are those of CRLs, whatever their bytes are.
-fn check_crls(rows: &[Row]) -> Result<(), AuditFault>
-    ensures hold { (db : Database) → AreTables db → IsReadFrom db Crls rows.now → OnOk result (HoldCrls db.trees) }
-    ensures broken { (records : Records) → (columns : Columns) → IsReadOf records columns Crls rows.now → IfErr result (λ fault. ¬ EndsAtBrokenRow fault) }
-{
-    check_counted(RegisterTable::Crl, rows)?;
-    each_stands::<CrlRow>(rows)
-}
-
-/// The rows of standing are those of state letters.
-fn check_letters(rows: &[Row], rowids: &[Row]) -> Result<(), AuditFault>
-    ensures hold { (db : Database) → AreTables db → IsReadFrom db Standings rows.now → IsReadFrom db StandingRowids rowids.now → OnOk result (HoldLetters db.trees) }
-    ensures broken { (records : Records) → (columns : Columns) → IsReadOf records columns StandingRowids rowids.now → IfErr result (λ fault. ¬ EndsAtBrokenRow fault) }
-{
-    check_counted(RegisterTable::Standing, rowids)?;
-    each_stands::<StandingRows>(rows)
+    check_counted(table, rowids)?;
+    each_stands::<T>(rows)
 }
 
 /// The one row of kept is that of counts.
@@ -174,16 +124,6 @@ fn check_counts(rows: &[Row], rowids: &[Row]) -> Result<(), AuditFault>
     each_stands::<Counts>(rows)
 }
 
-/// The rows of listed are those of what CRLs list.
-fn check_listings(rows: &[Row], rowids: &[Row]) -> Result<(), AuditFault>
-    ensures hold { (db : Database) → AreTables db → IsReadFrom db Listings rows.now → IsReadFrom db ListingRowids rowids.now → OnOk result (HoldListings db.trees) }
-    ensures broken { (records : Records) → (columns : Columns) → IsReadOf records columns ListingRowids rowids.now → IfErr result (λ fault. ¬ EndsAtBrokenRow fault) }
-{
-    check_counted(RegisterTable::Listed, rowids)?;
-    each_stands::<ListedRows>(rows)
-}
-
-/// The numbers of the office's one row.
 #[derive(Clone, Copy)]
 struct Terms {
     crl_life: u64,
@@ -210,7 +150,6 @@ fn terms_in(rows: &[Row]) -> Option<Terms>
     })
 }
 
-/// The steps of the schedule.
 fn steps_in(alloc: Global, rows: &[Row]) -> Result<Vec<(Moment, u64)>, AuditFault>
     ensures told { IfOk result (λ steps. AllZip (λ (step : ℕ × ℕ) (row : Cells). HasCells 0 row (shown_step step)) steps.items rows.now) }
     ensures broken { IfErr result (λ fault. ¬ EndsAtBrokenRow fault) }
@@ -225,7 +164,6 @@ fn steps_in(alloc: Global, rows: &[Row]) -> Result<Vec<(Moment, u64)>, AuditFaul
     Ok(steps)
 }
 
-/// The schedule and the numbers are those of a policy.
 fn check_policy(steps: &[(Moment, u64)], terms: Terms) -> Result<(), AuditFault>
     ensures hold { OnOk result (IsPolicy (record { schedule = steps.now; crl_life = terms.crl_life; ocsp_life = terms.ocsp_life; cap = terms.cap })) }
     ensures broken { IfErr result (λ fault. ¬ EndsAtBrokenRow fault) }
@@ -241,7 +179,6 @@ fn check_policy(steps: &[(Moment, u64)], terms: Terms) -> Result<(), AuditFault>
     }
 }
 
-/// The office and the schedule are those of a policy.
 fn check_office(alloc: Global, office: &[Row], steps: &[Row]) -> Result<(), AuditFault>
     ensures hold { (db : Database) → AreTables db → IsReadFrom db OfTerms office.now → IsReadFrom db Steps steps.now → OnOk result (AreOffice db.trees) }
     ensures broken { IfErr result (λ fault. ¬ EndsAtBrokenRow fault) }
@@ -265,13 +202,13 @@ pub(crate) fn check_complete(
         → IfErr result (λ fault. ¬ EndsAtBrokenRow fault) }
 {
     check_office(alloc, rows_at(more, 5), rows_at(more, 6))?;
-    check_subscribers(rows_at(all, 1))?;
-    check_orders(rows_at(all, 2))?;
-    check_certificates(rows_at(all, 3), rows_at(more, 0))?;
-    check_requests(rows_at(all, 4))?;
-    check_revocations(rows_at(all, 5), rows_at(more, 1))?;
-    check_crls(rows_at(all, 6))?;
-    check_letters(rows_at(all, 7), rows_at(more, 2))?;
+    check_keyed::<SubscriberRow>(RegisterTable::Subscriber, rows_at(all, 1))?;
+    check_keyed::<OrderRow>(RegisterTable::Orders, rows_at(all, 2))?;
+    check_table::<CertRow>(RegisterTable::Cert, rows_at(all, 3), rows_at(more, 0))?;
+    check_keyed::<RequestRow>(RegisterTable::Request, rows_at(all, 4))?;
+    check_table::<RevocationRow>(RegisterTable::Revocation, rows_at(all, 5), rows_at(more, 1))?;
+    check_keyed::<CrlRow>(RegisterTable::Crl, rows_at(all, 6))?;
+    check_table::<StandingRows>(RegisterTable::Standing, rows_at(all, 7), rows_at(more, 2))?;
     check_counts(rows_at(all, 8), rows_at(more, 3))?;
-    check_listings(rows_at(all, 9), rows_at(more, 4))
+    check_table::<ListedRows>(RegisterTable::Listed, rows_at(all, 9), rows_at(more, 4))
 }

@@ -1,5 +1,3 @@
-//! The days that the office was made with.
-
 ghost use Rattle.std.specs.Prelude.{◌≡◌, ◌↔◌, ℕ, IfErr, IsTrue, OnOk};
 ghost use Rattle.sqlite_value.specs.Order.{column};
 ghost use Rattle.reg_core.specs.Records.{Records};
@@ -10,14 +8,13 @@ ghost use Rattle.reg_audit.specs.ReadTexts.{AreRead, read_besides};
 ghost use Rattle.reg_audit.specs.Faults.{EndsAtBrokenRow};
 ghost use Rattle.reg_audit.specs.ReadableValues.{HasAllowedDays};
 
-use crate::fault::AuditFault;
+use crate::fault::{AuditFault, broken_at};
 use crate::read_rows::rows_at;
-use reg_audit_rows::{BrokenRow, Defect, RegisterTable};
+use reg_audit_rows::{Defect, RegisterTable};
 use reg_core::Schedule;
 use reg_store_tables::sql_values::number_at;
 use sqlite::Row;
 
-/// Whether the days in the row of the office are some that a schedule can allow.
 fn are_allowed(row: &Row) -> bool
     ensures allowed { IsTrue result → (days : ℕ) × (column row.now 6 ≡ number days) × IsDays days }
     ensures others { (days : ℕ) → column row.now 6 ≡ number days → IsDays days → IsTrue result }
@@ -41,6 +38,5 @@ pub(crate) fn check_days(more: &[Vec<Row>]) -> Result<(), AuditFault>
     if are_allowed(office) {
         return Ok(());
     }
-    let (table, row, why) = (RegisterTable::Office, 1, Defect::BadDays);
-    Err(AuditFault::Broken(BrokenRow { table, row, why }))
+    Err(broken_at(RegisterTable::Office, 0, Defect::BadDays))
 }

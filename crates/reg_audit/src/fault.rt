@@ -1,19 +1,14 @@
-//! Why an audit comes to no good end.
-
 ghost use Rattle.std.specs.Prelude.{◌≡◌, ◌⊎◌};
 
-use reg_audit_rows::{BrokenRow, CheckFault};
+use reg_audit_rows::{BrokenRow, CheckFault, Defect, RegisterTable};
 use reg_store_tables::DatabaseFault;
 use std::alloc::AllocFailed;
 
 /// Why an audit comes to no good end.
 #[derive(Clone, Copy, PartialEq, Eq)]
 pub enum AuditFault {
-    /// Memory could not be had.
     Memory,
-    /// The database failed.
     Store,
-    /// A row breaks a rule.
     Broken(BrokenRow),
 }
 
@@ -52,4 +47,10 @@ impl<T: Drop> From<AllocFailed<T>> for AuditFault {
     fn from(_error: AllocFailed<T>) -> AuditFault {
         AuditFault::Memory
     }
+}
+
+/// The row at a place of a table, counted from 0, breaks a rule.
+pub(crate) fn broken_at(table: RegisterTable, place: usize, why: Defect) -> AuditFault {
+    let row = (place as u64).saturating_add(1);
+    AuditFault::Broken(BrokenRow { table, row, why })
 }

@@ -21,7 +21,6 @@ use reg_audit_rows::{Audited, KeptRows, Rows, check};
 use sqlite::Row;
 use std::alloc::Global;
 
-/// The rows of the table that was read at a place.
 pub(crate) fn rows_at(all: &[Vec<Row>], place: usize) -> &[Row]
     ensures read { (records : Records) → (columns : Columns) → (whats : List What) → (other : What) → AreRead records columns whats all.now (λ rows. rows.items)
         → place < length whats → IsReadOf records columns (get_or whats place other) result.now }

@@ -1,5 +1,3 @@
-//! The one value of SQL that is no value of a record: the state letter.
-
 ghost use Rattle.std.specs.Prelude.{◌≡◌, Some, IfSome};
 ghost use Rattle.sqlite_value.specs.declared.value.Value.TheVariants.{Text};
 ghost use Rattle.sqlite_value.specs.Order.{column};
@@ -10,7 +8,6 @@ use reg_audit_rows::Letter;
 use sqlite::Row;
 use sqlite::types::ValueRef;
 
-/// The state letter in a column.
 pub(crate) fn letter_at(row: &Row, at: usize) -> Option<Letter>
     ensures read { (letter : Letter) → column row.now at ≡ Text (letter_text (letter_in letter)) → result ≡ Some letter }
     ensures told { IfSome result (λ letter. column row.now at ≡ Text (letter_text (letter_in letter))) }

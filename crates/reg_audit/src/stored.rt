@@ -32,16 +32,13 @@ use reg_store_tables::DatabaseFault;
 use sqlite::{Alter, Connection, Row};
 use std::alloc::Global;
 
-/// The tag octet of a SEQUENCE (X.690 8.9).
 const SEQUENCE: u8 = 0x30;
 
-/// The most octets of an AlgorithmIdentifier.
 const MOST_ALGORITHM: usize = 1_024;
 
 /// The most octets of a CRL: those that are made here have little more than half as many at most.
 const MOST_CRL: usize = 268_435_456;
 
-/// The bytes of the CRL with a number are not those of what the records list.
 fn other_bytes(number: u64) -> AuditFault
     ensures { ¬ IsBrokenRow result }
 {
@@ -63,7 +60,6 @@ fn value_behind_signed(crl: &[u8]) -> Option<Tlv<'_>>
     Some(algorithm)
 }
 
-/// A value as an AlgorithmIdentifier (RFC 5280 4.1.1.2), where it is one.
 fn as_algorithm(value: Tlv<'_>) -> Option<&[u8]>
     ensures found { IsTlv value.entry.raw.now value.entry.tag value.entry.contents.now → IfSome result (λ found. IsAlgorithm found.now) }
     ensures one { value.entry.tag ≡ 48 → length value.entry.raw.now ≤ 1024 → IsSomeAnd result (λ found. found.now ≡ value.entry.raw.now) }

@@ -17,7 +17,6 @@ use reg_core::{CertRow, Counts, CrlRow, OrderRow, RequestRow, RevocationRow, Sub
 use sqlite::Row;
 use std::alloc::Global;
 
-/// The cap and the last accepted moment.
 pub(crate) fn office(rows: &[Row]) -> Result<OfficeRow, AuditFault>
     ensures read { (records : Records) → (columns : Columns) → IsReadOf records columns OfOffice rows.now
         → IfOk result (λ found. (found.cap ≡ records.policy.cap) × (found.last ≡ records.last)) }
@@ -26,7 +25,6 @@ pub(crate) fn office(rows: &[Row]) -> Result<OfficeRow, AuditFault>
     only::<OfficeRow>(RegisterTable::Office, rows)
 }
 
-/// The subscribers, in the order of entry.
 pub(crate) fn subscribers(alloc: Global, rows: &[Row]) -> Result<Vec<SubscriberRow>, AuditFault>
     ensures read { (records : Records) → (columns : Columns) → IsReadOf records columns Subscribers rows.now → IfOk result (λ found. found.items ≡ records.subscribers) }
     ensures has { (records : Records) → (columns : Columns) → IsReadOf records columns Subscribers rows.now → AreReadable records columns → IfErr result (λ fault. ¬ EndsAtBrokenRow fault) }
@@ -34,7 +32,6 @@ pub(crate) fn subscribers(alloc: Global, rows: &[Row]) -> Result<Vec<SubscriberR
     typed::<SubscriberRow>(alloc, RegisterTable::Subscriber, rows)
 }
 
-/// The orders, in the order of entry.
 pub(crate) fn orders(alloc: Global, rows: &[Row]) -> Result<Vec<OrderRow>, AuditFault>
     ensures read { (records : Records) → (columns : Columns) → IsReadOf records columns Orders rows.now → IfOk result (λ found. found.items ≡ records.orders) }
     ensures has { (records : Records) → (columns : Columns) → IsReadOf records columns Orders rows.now → AreReadable records columns → IfErr result (λ fault. ¬ EndsAtBrokenRow fault) }
@@ -42,7 +39,6 @@ pub(crate) fn orders(alloc: Global, rows: &[Row]) -> Result<Vec<OrderRow>, Audit
     typed::<OrderRow>(alloc, RegisterTable::Orders, rows)
 }
 
-/// The certificates, in the order of entry.
 pub(crate) fn certificates(alloc: Global, rows: &[Row]) -> Result<Vec<CertRow>, AuditFault>
     ensures read { (records : Records) → (columns : Columns) → IsReadOf records columns Certificates rows.now → IfOk result (λ found. found.items ≡ records.certificates) }
     ensures has { (records : Records) → (columns : Columns) → IsReadOf records columns Certificates rows.now → AreReadable records columns → IfErr result (λ fault. ¬ EndsAtBrokenRow fault) }
@@ -50,7 +46,6 @@ pub(crate) fn certificates(alloc: Global, rows: &[Row]) -> Result<Vec<CertRow>, 
     typed::<CertRow>(alloc, RegisterTable::Cert, rows)
 }
 
-/// The requests, in the order of entry.
 pub(crate) fn requests(alloc: Global, rows: &[Row]) -> Result<Vec<RequestRow>, AuditFault>
     ensures read { (records : Records) → (columns : Columns) → IsReadOf records columns Requests rows.now → IfOk result (λ found. found.items ≡ records.requests) }
     ensures has { (records : Records) → (columns : Columns) → IsReadOf records columns Requests rows.now → AreReadable records columns → IfErr result (λ fault. ¬ EndsAtBrokenRow fault) }
@@ -58,7 +53,6 @@ pub(crate) fn requests(alloc: Global, rows: &[Row]) -> Result<Vec<RequestRow>, A
     typed::<RequestRow>(alloc, RegisterTable::Request, rows)
 }
 
-/// The revocations, in the order of entry.
 pub(crate) fn revocations(alloc: Global, rows: &[Row]) -> Result<Vec<RevocationRow>, AuditFault>
     ensures read { (records : Records) → (columns : Columns) → IsReadOf records columns Revocations rows.now → IfOk result (λ found. found.items ≡ records.revocations) }
     ensures has { (records : Records) → (columns : Columns) → IsReadOf records columns Revocations rows.now → AreReadable records columns → IfErr result (λ fault. ¬ EndsAtBrokenRow fault) }
@@ -66,7 +60,6 @@ pub(crate) fn revocations(alloc: Global, rows: &[Row]) -> Result<Vec<RevocationR
     typed::<RevocationRow>(alloc, RegisterTable::Revocation, rows)
 }
 
-/// The CRLs without their bytes, in the order of their numbers.
 pub(crate) fn crls(alloc: Global, rows: &[Row]) -> Result<Vec<CrlRow>, AuditFault>
     ensures read { (records : Records) → (columns : Columns) → IsReadOf records columns Crls rows.now → IfOk result (λ found. found.items ≡ map row_of records.crls) }
     ensures has { (records : Records) → (columns : Columns) → IsReadOf records columns Crls rows.now → AreReadable records columns → IfErr result (λ fault. ¬ EndsAtBrokenRow fault) }
@@ -74,7 +67,6 @@ pub(crate) fn crls(alloc: Global, rows: &[Row]) -> Result<Vec<CrlRow>, AuditFaul
     typed::<CrlRow>(alloc, RegisterTable::Crl, rows)
 }
 
-/// The state letters.
 pub(crate) fn letters(alloc: Global, rows: &[Row]) -> Result<Vec<Standing>, AuditFault>
     ensures read { (records : Records) → (columns : Columns) → IsReadOf records columns Standings rows.now → IfOk result (λ found. map standing_in found.items ≡ columns.letters) }
     ensures has { (records : Records) → (columns : Columns) → IsReadOf records columns Standings rows.now → AreReadable records columns → IfErr result (λ fault. ¬ EndsAtBrokenRow fault) }
@@ -82,7 +74,6 @@ pub(crate) fn letters(alloc: Global, rows: &[Row]) -> Result<Vec<Standing>, Audi
     typed::<StandingRows>(alloc, RegisterTable::Standing, rows)
 }
 
-/// The counts of the state letters.
 pub(crate) fn counts(rows: &[Row]) -> Result<Counts, AuditFault>
     ensures read { (records : Records) → (columns : Columns) → IsReadOf records columns OfCounts rows.now → IfOk result (λ found. found ≡ columns.counts) }
     ensures has { (records : Records) → (columns : Columns) → IsReadOf records columns OfCounts rows.now → AreReadable records columns → IfErr result (λ fault. ¬ EndsAtBrokenRow fault) }
@@ -90,7 +81,6 @@ pub(crate) fn counts(rows: &[Row]) -> Result<Counts, AuditFault>
     only::<Counts>(RegisterTable::Kept, rows)
 }
 
-/// What CRLs list of each revocation.
 pub(crate) fn listings(alloc: Global, rows: &[Row]) -> Result<Vec<Listed>, AuditFault>
     ensures read { (records : Records) → (columns : Columns) → IsReadOf records columns Listings rows.now → IfOk result (λ found. map listed_in found.items ≡ columns.listed) }
     ensures has { (records : Records) → (columns : Columns) → IsReadOf records columns Listings rows.now → AreReadable records columns → IfErr result (λ fault. ¬ EndsAtBrokenRow fault) }

@@ -4,9 +4,9 @@ ghost use Rattle.std.specs.Prelude.{◌≡◌, [], ◌∷◌, List, map, IfOk, I
 ghost use Rattle.std.specs.List.{AllByRecursion};
 ghost use Rattle.reg_audit.specs.Faults.{EndsAtBrokenRow};
 
-use crate::fault::AuditFault;
+use crate::fault::{AuditFault, broken_at};
 use crate::sql_values::letter_at;
-use reg_audit_rows::{BrokenRow, Defect, Listed, RegisterTable, Standing};
+use reg_audit_rows::{Defect, Listed, RegisterTable, Standing};
 use reg_core::Moment;
 use reg_store_tables::Unshown;
 use reg_store_tables::rows::{ShownRow, rows_in};
@@ -16,7 +16,6 @@ use reg_store_tables::sql_values::{
 use sqlite::Row;
 use std::alloc::Global;
 
-/// The cap and the last accepted moment.
 #[derive(Clone, Copy)]
 pub(crate) struct OfficeRow {
     pub(crate) cap: u64,
@@ -44,7 +43,6 @@ impl ShownRow for OfficeRow {
     }
 }
 
-/// The rows of standing.
 pub(crate) struct StandingRows;
 
 impl ShownRow for StandingRows {
@@ -69,7 +67,6 @@ impl ShownRow for StandingRows {
     }
 }
 
-/// The rows of listed.
 pub(crate) struct ListedRows;
 
 impl ShownRow for ListedRows {
@@ -98,13 +95,6 @@ impl ShownRow for ListedRows {
     }
 }
 
-/// A row of a table, at a place counted from 0, has a value that no register writes.
-fn no_value(table: RegisterTable, place: usize) -> AuditFault {
-    let row = (place as u64).saturating_add(1);
-    let why = Defect::NoValue;
-    AuditFault::Broken(BrokenRow { table, row, why })
-}
-
 /// What each row of a table shows.
 pub(crate) fn typed<T: ShownRow>(
     alloc: Global,
@@ -117,7 +107,7 @@ pub(crate) fn typed<T: ShownRow>(
     match rows_in::<T>(alloc, rows) {
         Ok(found) => Ok(found),
         Err(Unshown::Memory) => Err(AuditFault::Memory),
-        Err(Unshown::At(place)) => Err(no_value(table, place)),
+        Err(Unshown::At(place)) => Err(broken_at(table, place, Defect::NoValue)),
     }
 }
 
@@ -127,7 +117,7 @@ pub(crate) fn only<T: ShownRow>(table: RegisterTable, rows: &[Row]) -> Result<T:
     ensures has { (it : T.Record) → T.is_keyed it → T.has_values it → rows.now ≡ T.shown it ∷ [] → IfErr result (λ fault. ¬ EndsAtBrokenRow fault) }
 {
     match rows {
-        [row] => T::in_row(row).ok_or(no_value(table, 0)),
-        _ => Err(no_value(table, rows.len())),
+        [row] => T::in_row(row).ok_or(broken_at(table, 0, Defect::NoValue)),
+        _ => Err(broken_at(table, rows.len(), Defect::NoValue)),
     }
 }

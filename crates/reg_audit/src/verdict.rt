@@ -26,7 +26,6 @@ use reg_store_tables::StoreFault;
 use sqlite::{Alter, Connection};
 use std::alloc::Global;
 
-/// What an audit of tables of the program's version says.
 fn said(audited: Result<Audited, AuditFault>) -> Result<Verdict, StoreFault>
     ensures is { result ≡ verdict_of audited }
     ensures faults { IfErr result (λ fault. fault ≢ StoreFault.NotEmpty) }
@@ -39,7 +38,6 @@ fn said(audited: Result<Audited, AuditFault>) -> Result<Verdict, StoreFault>
     }
 }
 
-/// Whether a connection is in no transaction, and its schema is a register's.
 fn is_over_register<S: Alter>(alloc: Global, conn: &Connection<S>) -> Result<bool, StoreFault>
     ensures is { IfOk result (λ same. IsTrue same → IsOverRegister S.Store conn.now) }
     ensures other { conn.now.in_transaction ≡ false → IfOk result (λ same. same ≡ false → (state S.Store conn.now).now.schema ≢ register_schema) }
@@ -57,15 +55,11 @@ fn is_over_register<S: Alter>(alloc: Global, conn: &Connection<S>) -> Result<boo
 /// Looks at the version, the issuer, the policy and the last accepted moment as who opens a register does; then, where the
 /// version is the program's, whether the schema is a register's ([`reg_store_schema::is_register`]), and where it is, at all rows
 /// ([`crate::audit`]). Nothing is changed; a register of version 1 or 2 is not made newer. The connection is in no
-/// transaction, as one that was just opened.
+/// transaction, as one that was just opened. The watch is told how far it is.
 ///
-/// Where the answer is `Sound`, the schema is a register's, whatever records the tables show are sound, each CRL's bytes are
-/// those of what it lists, whatever its signature, what is kept beside the records follows from them, the office was made with
-/// days that a schedule can allow, and they are as many as is told; and there are such records, where the connection was open and
-/// what is presumed of it holds (`IsPresumed`). Where it is `Broken`, the tables show no such records, with what follows from them
-/// kept beside them and such days, whose names, validities and reasonCodes are a register's; and, but for the bytes of a CRL, none
-/// whatever the bytes of CRLs are (`Denies`). `Older` and `OtherSchema` tell what the tables are (`TellsOf`). The watch is told how
-/// far it is.
+/// Where the answer is `Sound`, there are such records if the connection was open and what is presumed of it holds
+/// (`IsPresumed`). Where it is `Broken`, the tables show none; and, but for the bytes of a CRL, none whatever the bytes of CRLs
+/// are (`Denies`). `Older` and `OtherSchema` tell what the tables are (`TellsOf`).
 ///
 /// # Errors
 /// `NotARegister` and `NewVersion` as [`reg_store_opening::open`] has them; `Memory`; `Store` where the database fails.

@@ -1,5 +1,3 @@
-//! Who is told how far an audit is.
-
 /// Who is told how far an audit is. Nothing of the audit's answer hangs on it.
 pub trait Watch {
     /// So many rows more were read.

@@ -1,5 +1,3 @@
-//! The tables read whole.
-
 ghost use Rattle.std.specs.Prelude.{◌≡◌, ◌≤◌, [], IfOk};
 ghost use Rattle.sqlite.specs.Effect.{Database};
 ghost use Rattle.sqlite.specs.Held.{state};
@@ -19,7 +17,6 @@ use reg_store_tables::DatabaseFault;
 use sqlite::{Alter, Connection, Row};
 use std::alloc::Global;
 
-/// The rows that a query answers.
 fn read<S: Alter>(conn: &mut Connection<S>, sql: &str) -> Result<Vec<Row>, DatabaseFault>
     ensures rows { IsReading sql.now → IsRegister (state S.Store conn.old) → HasCleanDisk (state S.Store conn.new)
         → IfOk result (λ rows. Answers (state S.Store conn.old) sql.now [] rows.items) }
@@ -29,7 +26,6 @@ fn read<S: Alter>(conn: &mut Connection<S>, sql: &str) -> Result<Vec<Row>, Datab
     Ok(conn.query_all(sql, &[])?)
 }
 
-/// All rows of a table.
 fn read_whole<S: Alter>(conn: &mut Connection<S>, what: What) -> Result<Vec<Row>, DatabaseFault>
     ensures found { (records : Records) → (columns : Columns) → ShowsBoth S.Store conn.old records columns → HasCleanDisk (state S.Store conn.new) → IfOk result (λ rows. IsReadOf records columns what rows.items) }
     ensures from { (db : Database) → Holds S.Store conn.old (λ now. now ≡ db) → db.schema ≡ register_schema → HasCleanDisk (state S.Store conn.new) → IfOk result (λ rows. IsReadFrom db what rows.items) }

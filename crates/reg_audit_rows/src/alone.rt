@@ -10,7 +10,6 @@ use crate::fault::{CheckFault, broken_at};
 use crate::{Defect, RegisterTable};
 use reg_core::{CertRow, OrderRow, Schedule, SubscriberRow};
 
-/// Each name is one that a command takes.
 pub(crate) fn names_are_good(subscribers: &[SubscriberRow]) -> Result<(), CheckFault>
     ensures ok { OnOk result (AllByRecursion (λ row. IsName row.name) subscribers.now) }
     ensures broken { IfErr result (λ fault. IsBroken fault → ¬ AllByRecursion (λ row. IsName row.name) subscribers.now) }
@@ -23,7 +22,6 @@ pub(crate) fn names_are_good(subscribers: &[SubscriberRow]) -> Result<(), CheckF
     Ok(())
 }
 
-/// Each order's days are some that a schedule can allow.
 pub(crate) fn days_are_allowed(orders: &[OrderRow]) -> Result<(), CheckFault>
     ensures ok { OnOk result (AllByRecursion (λ row. IsDays row.days) orders.now) }
     ensures broken { IfErr result (λ fault. IsBroken fault → ¬ AllByRecursion (λ row. IsDays row.days) orders.now) }

@@ -15,7 +15,6 @@ pub(crate) trait Numbered {
 
     ghost number: { Self → ℕ };
 
-    /// The id, or the CRL number.
     fn number(&self) -> u64
         ensures { result ≡ number self.now };
 }
@@ -71,7 +70,6 @@ pub(crate) trait Dated {
 
     ghost moment: { Self → ℕ };
 
-    /// The moment.
     fn moment(&self) -> Moment
         ensures { result ≡ moment self.now };
 }
@@ -135,27 +133,18 @@ pub(crate) fn firsts_never_fall(revocations: &[RevocationRow]) -> Result<(), Che
     Ok(())
 }
 
-/// No thisUpdate is after the last accepted moment.
-pub(crate) fn updates_by_last(crls: &[CrlRow], last: Moment) -> Result<(), CheckFault>
-    ensures ok { OnOk result (AllByRecursion (λ crl. crl.this_update ≤ last) crls.now) }
-    ensures broken { IfErr result (λ fault. IsBroken fault → ¬ AllByRecursion (λ crl. crl.this_update ≤ last) crls.now) }
+/// No moment is after the last accepted one.
+pub(crate) fn are_by_last<T: Dated>(
+    table: RegisterTable,
+    rows: &[T],
+    last: Moment,
+) -> Result<(), CheckFault>
+    ensures ok { OnOk result (AllByRecursion (λ row. T.moment row ≤ last) rows.now) }
+    ensures broken { IfErr result (λ fault. IsBroken fault → ¬ AllByRecursion (λ row. T.moment row ≤ last) rows.now) }
 {
-    for (place, crl) in crls.iter().enumerate() {
-        if crl.this_update > last {
-            return Err(broken_at(RegisterTable::Crl, place, Defect::AfterLast));
-        }
-    }
-    Ok(())
-}
-
-/// No request was received after the last accepted moment.
-pub(crate) fn received_by_last(requests: &[RequestRow], last: Moment) -> Result<(), CheckFault>
-    ensures ok { OnOk result (AllByRecursion (λ row. row.received ≤ last) requests.now) }
-    ensures broken { IfErr result (λ fault. IsBroken fault → ¬ AllByRecursion (λ row. row.received ≤ last) requests.now) }
-{
-    for (place, request) in requests.iter().enumerate() {
-        if request.received > last {
-            return Err(broken_at(RegisterTable::Request, place, Defect::AfterLast));
+    for (place, row) in rows.iter().enumerate() {
+        if row.moment() > last {
+            return Err(broken_at(table, place, Defect::AfterLast));
         }
     }
     Ok(())

@@ -15,7 +15,6 @@ use crate::kept::{KeptRows, check_counts, listings, same_rows, standings};
 use crate::rows::{Found, Rows, check_rows};
 use std::alloc::Global;
 
-/// Whether what is kept beside the records follows from them.
 fn check_kept(
     alloc: Global,
     rows: &Rows<'_>,
@@ -34,12 +33,8 @@ fn check_kept(
 }
 
 /// Whether the rows are those of sound records, and what is kept beside these follows from them: the letters, their
-/// counts, and what CRLs list up to the last one that does. What the CRLs' bytes are is not looked at.
-///
+/// counts, and what CRLs list. The CRLs' bytes are not looked at. `Broken` with a row that breaks a rule.
 /// It takes as many steps as there are rows, with a look-up by halves for some, and one step for each revocation and CRL.
-///
-/// # Errors
-/// `Broken` where they are not, with a row that breaks a rule; `Memory`.
 pub fn check(alloc: Global, rows: &Rows<'_>, beside: &KeptRows<'_>) -> Result<(), CheckFault>
     ensures sound { (records : Records) → AreOf rows.now records → OnOk result (SoundRows records) }
     ensures kept { (records : Records) → AreOf rows.now records → (columns : Columns) → AreColumnsOf beside.now columns → OnOk result (Kept columns records) }

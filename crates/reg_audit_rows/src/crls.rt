@@ -1,5 +1,3 @@
-//! The bytes of stored CRLs.
-
 ghost use Rattle.std.specs.Prelude.{◌≡◌, ◌+◌, ◌≤◌, ◌↔◌, ℕ, List, Some, length, filter, map, IsTrue, OnOk, IfOk, IfErr};
 ghost use Rattle.std.specs.List.Sorted.{IsPermutation};
 ghost use Rattle.reg_core.specs.Calendar.{IsMoment};
@@ -19,10 +17,8 @@ use reg_crl::{crl_tbs, crl_whole};
 use reg_der::{Issuer, take};
 use std::alloc::Global;
 
-/// The most octets of a signature.
 const MOST_SIGNATURE: usize = 65_536;
 
-/// The most entries of a CRL.
 const MOST_ENTRIES: usize = 1_000_000;
 
 /// The octets of the signature that stands in a CRL (RFC 5280 5.1.1.3).
@@ -37,7 +33,6 @@ fn signature_in(crl: &[u8]) -> Option<&[u8]>
     Some(signature)
 }
 
-/// The same, or nothing where there is none.
 fn signature_of(crl: &[u8]) -> &[u8]
     ensures { (signature : List ℕ) → signature_at crl.now ≡ Some signature → result.now ≡ signature }
 {
@@ -47,7 +42,6 @@ fn signature_of(crl: &[u8]) -> &[u8]
     }
 }
 
-/// Whether CRL n lists a row.
 fn is_on(row: &Listed, number: u64) -> bool
     ensures { result ≡ lists_row number row.now }
 {
@@ -57,7 +51,6 @@ fn is_on(row: &Listed, number: u64) -> bool
     }
 }
 
-/// The entries of what a CRL lists.
 fn listed_by(alloc: Global, listed: &[Listed], number: u64) -> Result<Vec<Entry>, CheckFault>
     ensures made { IfOk result (λ entries. entries.items ≡ map listed_entry (filter (lists_row number) listed.now)) }
     ensures memory { IfErr result (λ fault. ¬ IsBroken fault) }
@@ -75,7 +68,6 @@ fn listed_by(alloc: Global, listed: &[Listed], number: u64) -> Result<Vec<Entry>
     Ok(entries)
 }
 
-/// Whether the serial numbers rise strictly.
 fn ascends(entries: &[Entry]) -> bool
     ensures { IsTrue result ↔ EntriesAscend entries.now }
 {
@@ -138,11 +130,8 @@ fn check_bytes(
     }
 }
 
-/// Whether the bytes of a CRL are those of what the records say that it lists, under an algorithm and whatever signature.
-/// What CRLs list comes as it is kept of each revocation; it takes as many steps as there are rows of it, and bytes.
-///
-/// # Errors
-/// `Broken` where they are not; `Memory`.
+/// Whether the bytes of a CRL are those of what the records say that it lists, under an algorithm and whatever signature;
+/// else `Broken`. It takes as many steps as there are rows of what CRLs list, and bytes.
 pub fn check_crl(
     alloc: Global,
     issuer: &Issuer,

@@ -1,5 +1,3 @@
-//! Why a check of rows comes to no good end.
-
 ghost use Rattle.std.specs.Prelude.{◌≡◌, ◌≤◌, length, OnOk, IfErr};
 ghost use Rattle.reg_audit_rows.specs.Faults.{IsBroken};
 
@@ -10,9 +8,7 @@ use std::alloc::{AllocError, AllocFailed};
 /// Why a check came to no end, or found a row that breaks a rule.
 #[derive(Clone, Copy, PartialEq, Eq)]
 pub enum CheckFault {
-    /// Memory could not be had.
     Memory,
-    /// A row breaks a rule.
     Broken(BrokenRow),
 }
 
@@ -54,7 +50,6 @@ pub(crate) fn broken_at(table: RegisterTable, place: usize, why: Defect) -> Chec
     CheckFault::Broken(BrokenRow { table, row, why })
 }
 
-/// The table has no more rows than the cap.
 pub(crate) fn within_cap(table: RegisterTable, rows: usize, cap: u64) -> Result<(), CheckFault>
     ensures ok { OnOk result (rows ≤ cap) }
     ensures broken { IfErr result (λ fault. IsBroken fault → ¬ (rows ≤ cap)) }

@@ -1,5 +1,3 @@
-//! A row that breaks a rule.
-
 /// A table of a register.
 #[derive(Clone, Copy, PartialEq, Eq)]
 pub enum RegisterTable {
@@ -28,31 +26,22 @@ pub enum Defect {
     OutOfOrder,
     /// Its name has a byte that no command takes.
     BadName,
-    /// An earlier row has the same name.
     SameName,
-    /// No schedule allows so many days.
     BadDays,
     /// An earlier row has the same serial number (RFC 5280 4.1.2.2).
     SameSerial,
-    /// An earlier row fills the same order.
     SameOrder,
     /// An earlier row was led to by the same request.
     SameRequest,
-    /// There is no such subscriber.
     NoSubscriber,
-    /// There is no such order.
     NoOrder,
     /// Its notBefore is after its notAfter (RFC 5280 4.1.2.5).
     Backwards,
-    /// Its validity is longer than it was ordered.
     TooLong,
-    /// There is no such certificate.
     NoCertificate,
     /// There is no such request, or it is for another serial number.
     NoRequest,
-    /// Its request was declined.
     ByDeclined,
-    /// Its reason is not that of its request's ground.
     OtherReason,
     /// Its moment is after the last accepted one.
     AfterLast,

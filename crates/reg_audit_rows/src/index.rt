@@ -12,7 +12,6 @@ use reg_core::{CertRow, RevocationRow, Serial, SubscriberRow};
 use std::alloc::Global;
 use std::collections::{BTreeMap, BTreeSet};
 
-/// The certificates by their serial numbers (RFC 5280 4.1.2.2).
 pub(crate) fn certificates_by_serial(
     alloc: Global,
     certificates: &[CertRow],
@@ -30,7 +29,6 @@ pub(crate) fn certificates_by_serial(
     Ok(found)
 }
 
-/// The certificates by the orders that they fill.
 pub(crate) fn certificates_by_order(
     alloc: Global,
     certificates: &[CertRow],
@@ -48,7 +46,6 @@ pub(crate) fn certificates_by_order(
     Ok(found)
 }
 
-/// The revocations by their serial numbers.
 pub(crate) fn revocations_by_serial(
     alloc: Global,
     revocations: &[RevocationRow],
@@ -66,7 +63,6 @@ pub(crate) fn revocations_by_serial(
     Ok(found)
 }
 
-/// The revocations by the requests that led to them.
 pub(crate) fn revocations_by_request(
     alloc: Global,
     revocations: &[RevocationRow],
@@ -84,7 +80,6 @@ pub(crate) fn revocations_by_request(
     Ok(found)
 }
 
-/// No two subscribers have the same name.
 pub(crate) fn names_differ(alloc: Global, subscribers: &[SubscriberRow]) -> Result<(), CheckFault>
     ensures ok { OnOk result (KeysDiffer (λ row. row.name) subscribers.now) }
     ensures broken { IfErr result (λ fault. IsBroken fault → ¬ KeysDiffer (λ row. row.name) subscribers.now) }

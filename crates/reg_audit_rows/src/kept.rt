@@ -56,11 +56,9 @@ pub(crate) trait OfSerial: Copy {
 
     ghost serial: { Self → ℕ };
 
-    /// The serial number.
     fn serial(&self) -> Serial
         ensures { result ≡ serial self.now };
 
-    /// Whether the row is another.
     fn is(&self, other: &Self) -> bool
         ensures { IsTrue result ↔ (self.now ≡ other.now) };
 }
@@ -96,7 +94,6 @@ impl OfSerial for Listed {
     }
 }
 
-/// The letter of a status.
 fn letter_of(status: Status) -> Letter
     ensures { result ≡ letter_by status }
 {
@@ -107,7 +104,6 @@ fn letter_of(status: Status) -> Letter
     }
 }
 
-/// The letter of each certificate at a moment.
 pub(crate) fn standings(
     alloc: Global,
     certificates: &[CertRow],
@@ -130,7 +126,6 @@ pub(crate) fn standings(
     Ok(made)
 }
 
-/// Whether a CRL can list from a number on, and its thisUpdate is past a moment.
 fn is_past(crl: &CrlRow, first: u64, not_after: Moment) -> bool
     ensures { result ≡ (nat_le first crl.now.number && nat_lt not_after crl.now.this_update) }
 {
@@ -148,7 +143,6 @@ fn last_listing(crls: &[CrlRow], first: u64, not_after: Moment) -> Option<u64>
     }
 }
 
-/// The end of a certificate that was looked up, moment 0 where there is none.
 fn end_of(certificate: Option<CertRow>) -> Moment
     ensures { result ≡ found_end certificate }
 {
@@ -158,7 +152,6 @@ fn end_of(certificate: Option<CertRow>) -> Moment
     }
 }
 
-/// What CRLs list of each revocation.
 pub(crate) fn listings(
     alloc: Global,
     revocations: &[RevocationRow],
@@ -184,7 +177,6 @@ pub(crate) fn listings(
     Ok(made)
 }
 
-/// How many of the rows have a letter.
 fn count_of(rows: &[Standing], letter: Letter) -> u64
     ensures { result ≡ length (filter (λ row. same_letter row.letter letter) rows.now) }
 {
@@ -197,7 +189,6 @@ fn count_of(rows: &[Standing], letter: Letter) -> u64
     count
 }
 
-/// The counts are those of the letters.
 pub(crate) fn check_counts(rows: &[Standing], counts: Counts) -> Result<(), CheckFault>
     ensures ok { OnOk result (counts ≡ found_counts rows.now) }
     ensures broken { IfErr result (λ fault. IsBroken fault → ¬ (counts ≡ found_counts rows.now)) }
@@ -242,7 +233,6 @@ fn place_of<T: OfSerial>(rows: &[T], row: Option<&T>) -> usize {
     rows.len()
 }
 
-/// The rows are the wanted ones, in any order.
 pub(crate) fn same_rows<T: OfSerial>(
     alloc: Global,
     table: RegisterTable,

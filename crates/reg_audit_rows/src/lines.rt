@@ -13,7 +13,6 @@ use std::alloc::{AllocError, Global};
 pub const OTHER_SCHEMA: &str =
     "broken: schema: other tables, columns or indexes than a register has\n";
 
-/// The name of a table.
 #[tactic(auto, unfolding(crate::specs::FindingLines::table_name))]
 fn name_of(table: RegisterTable) -> &'static str
     ensures { result.now ≡ table_name table }
@@ -32,7 +31,6 @@ fn name_of(table: RegisterTable) -> &'static str
     }
 }
 
-/// What is wrong with a row.
 #[tactic(auto, unfolding(crate::specs::FindingLines::why_text))]
 fn text_of(why: Defect) -> &'static str
     ensures { result.now ≡ why_text why }
@@ -71,7 +69,6 @@ fn text_of(why: Defect) -> &'static str
     }
 }
 
-/// A text with another one behind it.
 fn with(text: Vec<u8>, more: &[u8]) -> Result<Vec<u8>, AllocError>
     ensures { IfOk result (λ made. made.items ≡ text.items ++ more.now) }
 {
@@ -80,7 +77,6 @@ fn with(text: Vec<u8>, more: &[u8]) -> Result<Vec<u8>, AllocError>
     Ok(text)
 }
 
-/// A text with a word and a number behind it.
 fn with_number(text: Vec<u8>, word: &[u8], number: u64) -> Result<Vec<u8>, AllocError>
     ensures { IfOk result (λ made. made.items ≡ text.items ++ word.now ++ decimal number) }
 {
@@ -89,9 +85,6 @@ fn with_number(text: Vec<u8>, word: &[u8], number: u64) -> Result<Vec<u8>, Alloc
 }
 
 /// The line of rows that are all sound.
-///
-/// # Errors
-/// Memory could not be had.
 pub fn sound_line(alloc: Global, found: Audited) -> Result<Vec<u8>, AllocError>
     ensures { IfOk result (λ line. line.items ≡ sound_text found) }
 {
@@ -102,9 +95,6 @@ pub fn sound_line(alloc: Global, found: Audited) -> Result<Vec<u8>, AllocError>
 }
 
 /// The line of a row that breaks a rule.
-///
-/// # Errors
-/// Memory could not be had.
 pub fn broken_line(alloc: Global, broken: BrokenRow) -> Result<Vec<u8>, AllocError>
     ensures { IfOk result (λ line. line.items ≡ broken_text broken) }
 {

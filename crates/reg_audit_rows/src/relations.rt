@@ -26,7 +26,6 @@ fn is_one_of(id: u64, rows: usize) -> bool
     id >= 1 && id <= rows as u64
 }
 
-/// Each order's subscriber is there.
 pub(crate) fn subscribers_exist(
     orders: &[OrderRow],
     subscribers: &[SubscriberRow],
@@ -42,7 +41,6 @@ pub(crate) fn subscribers_exist(
     Ok(())
 }
 
-/// The row with a number.
 fn row_with<T: Numbered + Copy>(rows: &[T], number: u64) -> Option<T>
     ensures { NumberedFrom T.number 1 rows.now → result ≡ find (λ row. T.number row == number) rows.now }
 {
@@ -98,7 +96,6 @@ fn untimely(request: &RequestRow, certificate: Option<CertRow>) -> Option<Defect
     None
 }
 
-/// The certificate of each request is there, and had not ended when it was received.
 pub(crate) fn are_in_time(
     requests: &[RequestRow],
     certificates: &BTreeMap<Serial, CertRow>,
@@ -115,7 +112,6 @@ pub(crate) fn are_in_time(
     Ok(())
 }
 
-/// Whether a request was not received after a revocation, where there is one.
 fn is_before(request: &RequestRow, revocation: Option<RevocationRow>) -> bool
     ensures { IsTrue result ↔ IsBefore request.now revocation }
 {
@@ -125,7 +121,6 @@ fn is_before(request: &RequestRow, revocation: Option<RevocationRow>) -> bool
     }
 }
 
-/// No request was received after the revocation of its serial number.
 pub(crate) fn none_after(
     requests: &[RequestRow],
     revocations: &BTreeMap<Serial, RevocationRow>,
@@ -169,7 +164,6 @@ fn is_around(crl: &CrlRow, first: u64, at: Moment) -> bool
     }
 }
 
-/// Whether each CRL does.
 fn are_around(crls: &[CrlRow], first: u64, at: Moment) -> bool
     ensures { IsTrue result ↔ AreAround first at crls.now }
 {

@@ -11,9 +11,7 @@ ghost use Rattle.reg_audit_rows.specs.Read.{AreOf, AreCrls, AreRevocations, IsLa
 ghost use Rattle.reg_audit_rows.specs.Faults.{IsBroken};
 
 use crate::alone::{days_are_allowed, names_are_good, run_forward};
-use crate::chain::{
-    firsts_never_fall, in_order, moments_never_fall, received_by_last, updates_by_last,
-};
+use crate::chain::{are_by_last, firsts_never_fall, in_order, moments_never_fall};
 use crate::fault::{CheckFault, broken_at, within_cap};
 use crate::index::{
     certificates_by_order, certificates_by_serial, names_differ, revocations_by_request,
@@ -32,9 +30,7 @@ use std::collections::BTreeMap;
 /// The rows of the tables of the records, each table's in the order of its rowids, the CRLs without their bytes.
 #[derive(Clone, Copy)]
 pub struct Rows<'a> {
-    /// The most rows of a table, by the policy.
     pub cap: u64,
-    /// The last accepted moment.
     pub last: Moment,
     pub subscribers: &'a [SubscriberRow],
     pub orders: &'a [OrderRow],
@@ -70,8 +66,7 @@ fn check_orders(
     days_are_allowed(rows)
 }
 
-/// Serial numbers differ (RFC 5280 4.1.2.2), each fills an order of its own, validities run forward and are no longer than
-/// ordered, and no more than the cap.
+/// Serial numbers differ (RFC 5280 4.1.2.2), each fills an order of its own, validities are no longer than ordered.
 fn check_certificates(
     alloc: Global,
     orders: &[OrderRow],
@@ -89,8 +84,7 @@ fn check_certificates(
     certificates_by_serial(alloc, rows)
 }
 
-/// Ids are 1, 2, 3 and so on, each certificate is there and had not ended, receipts do not fall, none is after the last
-/// accepted moment, and no more than the cap.
+/// Ids are 1, 2, 3 and so on, each certificate is there and had not ended, receipts do not fall.
 fn check_requests(
     certificates: &BTreeMap<Serial, CertRow>,
     rows: &[RequestRow],
@@ -102,13 +96,12 @@ fn check_requests(
 {
     within_cap(RegisterTable::Request, rows.len(), cap)?;
     in_order(RegisterTable::Request, rows)?;
-    received_by_last(rows, last)?;
+    are_by_last(RegisterTable::Request, rows, last)?;
     moments_never_fall(RegisterTable::Request, rows, Defect::Earlier)?;
     are_in_time(rows, certificates)
 }
 
-/// Numbers are 1, 2, 3 and so on (RFC 5280 5.2.3), thisUpdates do not fall, none is after the last accepted moment, and
-/// no more than the cap.
+/// Numbers are 1, 2, 3 and so on (RFC 5280 5.2.3), thisUpdates do not fall.
 fn check_crls(rows: &[CrlRow], last: Moment, cap: u64) -> Result<(), CheckFault>
     ensures ok { OnOk result (AreCrls cap last rows.now) }
     ensures broken { IfErr result (λ fault. IsBroken fault → ¬ AreCrls cap last rows.now) }
@@ -116,11 +109,9 @@ fn check_crls(rows: &[CrlRow], last: Moment, cap: u64) -> Result<(), CheckFault>
     within_cap(RegisterTable::Crl, rows.len(), cap)?;
     in_order(RegisterTable::Crl, rows)?;
     moments_never_fall(RegisterTable::Crl, rows, Defect::BeforeThePrevious)?;
-    updates_by_last(rows, last)
+    are_by_last(RegisterTable::Crl, rows, last)
 }
 
-/// One revocation of a serial number, and one of a request, and each holds together with its certificate, its request
-/// and the CRLs; neither moments nor first CRL numbers fall, and no request was received after the revocation.
 fn check_revocations(
     alloc: Global,
     certificates: &BTreeMap<Serial, CertRow>,
@@ -145,7 +136,6 @@ fn check_revocations(
     Ok(revocations)
 }
 
-/// The clock lets the last accepted moment pass.
 fn check_last(last: Moment) -> Result<(), CheckFault>
     ensures ok { OnOk result (last < clock_end) }
     ensures broken { IfErr result (λ fault. IsBroken fault → ¬ (last < clock_end)) }
@@ -157,7 +147,6 @@ fn check_last(last: Moment) -> Result<(), CheckFault>
     }
 }
 
-/// Whether a CRL has this thisUpdate.
 fn is_issued_at(crls: &[CrlRow], moment: Moment) -> bool
     ensures { result ≡ list_any (λ crl. crl.this_update == moment) crls.now }
 {
@@ -184,10 +173,6 @@ pub(crate) struct Found {
     pub(crate) revocations: BTreeMap<Serial, RevocationRow>,
 }
 
-/// Whether the rows are those of sound records.
-///
-/// # Errors
-/// `Broken` where they are not, with a row that breaks a rule; `Memory`.
 pub(crate) fn check_rows(alloc: Global, rows: &Rows<'_>) -> Result<Found, CheckFault>
     ensures ok { (records : Records) → AreOf rows.now records → OnOk result (SoundRows records) }
     ensures found { IfOk result (IsIndexOf rows.now) }

@@ -1,5 +1,3 @@
-//! What an audit says.
-
 use crate::finding::BrokenRow;
 
 /// How many rows an audit found well: those of certificates, of revocations and of CRLs.

@@ -1,5 +1,3 @@
-//! The civil calendar of the register: dates in UTC with a time of day.
-
 ghost use Rattle.std.specs.Prelude.{◌≡◌, ◌≢◌, ℕ, ◌+◌, ◌<◌, ◌≤◌, ◌<ℤ◌, [], ◌∷◌, length, pos, MatchOption};
 ghost use Rattle.jiff.specs.Words.{epoch_day};
 ghost use Rattle.jiff_core.specs.Calendar.{IsCivilDate};
@@ -8,27 +6,20 @@ ghost use Rattle.reg_core.specs.Calendar.{IsMoment, Spells, two_digits};
 use jiff::ToSpan;
 use jiff::civil::{Date, date};
 
-/// A date of the Gregorian calendar with a time of day in UTC, without leap seconds.
+/// A date of the Gregorian calendar, 1970 to 9999, with a time of day in UTC, without leap seconds.
 #[derive(Clone, Copy, PartialEq, Eq)]
 pub struct Civil {
-    /// 1970 to 9999.
     pub year: u16,
-    /// 1 to 12.
     pub month: u8,
-    /// 1 to 31.
     pub day: u8,
-    /// 0 to 23.
     pub hour: u8,
-    /// 0 to 59.
     pub minute: u8,
-    /// 0 to 59.
     pub second: u8,
 }
 
 impl Civil {
     ghost use Rattle.reg_core.specs.Calendar.{IsCivil, IsShownAt, HasDigits, shown_of, date_time};
 
-    /// What calendar and clock show that many seconds after 1970-01-01T00:00:00Z.
     pub(crate) fn at(seconds: u64) -> Civil
         requires { IsMoment seconds }
         ensures exact { result ≡ shown_of seconds }
@@ -47,8 +38,7 @@ impl Civil {
         }
     }
 
-    /// The seconds since 1970-01-01T00:00:00Z; `None` where the calendar or the clock has no such
-    /// date or time, and before 1970.
+    /// The seconds since 1970-01-01T00:00:00Z; `None` for what is no date or time, and before 1970.
     pub(crate) fn seconds(self) -> Option<u64>
         ensures { MatchOption result ((s : ℕ) → IsMoment s → shown_of s ≢ self)
             (λ s. IsMoment s × (shown_of s ≡ self)) }
@@ -90,8 +80,7 @@ impl Civil {
         ]
     }
 
-    /// The parts that a text `YYYY-MM-DDTHH:MM:SSZ` spells, whether or not the calendar has them;
-    /// `None` for any other bytes.
+    /// The parts that such a text spells, whether or not the calendar has them; `None` for other bytes.
     #[tactic(auto, unfolding(crate::specs::Calendar::date_time))]
     pub(crate) fn read(text: &[u8]) -> Option<Civil>
         ensures { MatchOption result ((c : Civil) → HasDigits c → text.now ≢ date_time c)
@@ -115,7 +104,6 @@ impl Civil {
     }
 }
 
-/// The date that many days after 1970-01-01.
 fn date_after_epoch(days: u64) -> Date
     requires { days < 2932897 }
     ensures { epoch_day result ≡ pos days }
@@ -126,7 +114,6 @@ fn date_after_epoch(days: u64) -> Date
     }
 }
 
-/// The days from 1970-01-01 to the date; `None` for an earlier one.
 fn days_since_epoch(day: Date) -> Option<u64>
     ensures { MatchOption result (epoch_day day <ℤ pos 0)
         (λ n. (n < 2932897) × (epoch_day day ≡ pos n)) }
@@ -134,7 +121,6 @@ fn days_since_epoch(day: Date) -> Option<u64>
     u64::try_from(day.duration_since(date(1970, 1, 1)).as_hours() / 24).ok()
 }
 
-/// A number below 100 in two decimal digits.
 fn digits(number: u8) -> [u8; 2]
     requires { number < 100 }
     ensures { result ≡ two_digits number }
@@ -142,7 +128,6 @@ fn digits(number: u8) -> [u8; 2]
     [b'0' + number / 10, b'0' + number % 10]
 }
 
-/// The number that the two decimal digits from a place on spell.
 fn number(text: &[u8], at: usize) -> Option<u8>
     requires { at + 2 ≤ length text.now }
     ensures { MatchOption result ((n : ℕ) → ¬ (Spells text.now at n)) (Spells text.now at) }

@@ -1,5 +1,3 @@
-//! The causes, and the errors that tell them.
-
 ghost use Rattle.std.specs.Prelude.{◌≡◌, ◌≤◌, Some, None, length, if◌then◌else◌};
 ghost use Rattle.reg_core.specs.Causes.{cause_line, terms_cause};
 
@@ -9,21 +7,16 @@ use std::io::ErrorKind;
 /// Why a call of the machine failed, who is to sign for a register does not fit it, or what is told is no policy.
 #[derive(Clone, Copy, PartialEq, Eq)]
 pub enum Cause {
-    /// Nothing lies at the path.
     NoFile,
-    /// The program may not do so.
     NoRight,
     /// Another program has it open.
     InUse,
     /// What lies there is not what was written, or no database.
     Damaged,
-    /// There is no room left.
     DiskFull,
     /// Something lies there already.
     Taken,
-    /// Another program listens at the port.
     PortInUse,
-    /// The machine's clock can't be read.
     Clock,
     /// The latest CRL is signed under another algorithm.
     OtherAlgorithm,
@@ -31,15 +24,10 @@ pub enum Cause {
     UnknownAlgorithm,
     /// The issuer's key is none of the algorithm.
     OtherKey,
-    /// The days are out of their range.
     Days,
-    /// The life of CRLs is.
     CrlLife,
-    /// The life of OCSP answers is.
     OcspLife,
-    /// The most rows of a table are.
     Cap,
-    /// The steps are no schedule.
     Steps,
 }
 
@@ -70,7 +58,6 @@ impl Cause {
     }
 }
 
-/// A line of words alone.
 fn words(text: &[u8]) -> Label
     requires not_empty { 1 ≤ length text.now }
     requires short { length text.now ≤ 64 }

@@ -1,5 +1,3 @@
-//! What an accepted command changes.
-
 use crate::moment::Moment;
 use crate::rows::{CertRow, CrlRow, OrderRow, RequestRow, RevocationRow, SubscriberRow};
 
@@ -8,13 +6,9 @@ use crate::rows::{CertRow, CrlRow, OrderRow, RequestRow, RevocationRow, Subscrib
 pub enum Change<'a> {
     /// The last accepted moment alone.
     Touch,
-    /// One subscriber more.
     Subscriber(SubscriberRow),
-    /// One order more.
     Order(OrderRow),
-    /// One certificate more.
     Certificate(CertRow),
-    /// One request for revocation more.
     Request(RequestRow),
     /// The request with this id is declined.
     Decline(u64),

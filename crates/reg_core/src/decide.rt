@@ -1,6 +1,5 @@
-//! The pure decisions: each command over the rows that were looked up for it. The rows are handed in, since the caller
-//! looks them up by key: the subscriber, order or request that the command names, the certificate and the revocation
-//! of the serial number, the CRL issued last. A refusal is the first that applies; it comes before any change.
+//! The pure decisions: each command over the rows that the caller looked up for it by key. A refusal is the first that
+//! applies; it comes before any change.
 
 ghost use Rattle.std.specs.Prelude.{◌≡◌, ℕ, ◌+◌, ◌<◌, ◌^◌, false, IfSome, ⊤};
 ghost use Rattle.reg_core.specs.Checks.{clock_checks, first_of_all, live_checks, settle_checks, validity_checks, when};
@@ -16,9 +15,7 @@ use crate::rows::{CertRow, CrlRow, Head, OrderRow, RequestRow, RevocationRow, Su
 const SECONDS_OF_DAY: u64 = 86_400;
 
 /// The moment is below the clock's end, and not before the last accepted moment.
-///
-/// # Errors
-/// `ClockEnd` from 9999-12-22T00:00:00Z on; else `ClockBack` before the last accepted moment.
+/// Refusals: `ClockEnd` from 9999-12-22T00:00:00Z on; else `ClockBack` before the last accepted moment.
 pub fn clock(now: Moment, last: Moment) -> Result<(), Refusal>
     ensures { IsDecidedBy (first_of_all (clock_checks now last)) (λ _. ⊤) result }
 {
@@ -32,9 +29,7 @@ pub fn clock(now: Moment, last: Moment) -> Result<(), Refusal>
 }
 
 /// The subscriber to enter. `by_name` is the one that has the name.
-///
-/// # Errors
-/// Those of [`clock`]; then `BadName`, `NameTaken`, `Full`.
+/// Refusals: those of [`clock`]; then `BadName`, `NameTaken`, `Full`.
 pub fn decide_subscriber(
     head: &Head,
     name: Label,
@@ -54,9 +49,7 @@ pub fn decide_subscriber(
 }
 
 /// The order to enter. `subscriber` is the one that the command names.
-///
-/// # Errors
-/// Those of [`clock`]; then `NoSubscriber`, `BadDays`, `Full`.
+/// Refusals: those of [`clock`]; then `NoSubscriber`, `BadDays`, `Full`.
 pub fn decide_order(
     head: &Head,
     subscriber: Option<SubscriberRow>,
@@ -82,9 +75,7 @@ pub fn decide_order(
 
 /// The certificate to register, or `None` where it stands registered, equal in all parts. `order` is the one that it is
 /// to fill, `by_order` the certificate that fills that order, `by_serial` the one that has the serial number.
-///
-/// # Errors
-/// Those of [`clock`]; then `NoOrder`, `OrderFilled`, `SerialTaken`, `BadValidity`, `TooLong`, `Ended`, `Full`.
+/// Refusals: those of [`clock`]; then `NoOrder`, `OrderFilled`, `SerialTaken`, `BadValidity`, `TooLong`, `Ended`, `Full`.
 pub fn decide_register(
     head: &Head,
     wanted: CertRow,
@@ -115,9 +106,7 @@ pub fn decide_register(
 }
 
 /// The request to enter, on a ground in words. `certificate` and `revocation` are those of the serial number.
-///
-/// # Errors
-/// Those of [`clock`]; then `UnknownSerial`, `NoHold`, `BadGround`, `RevokedBefore`, `Expired`, `Full`.
+/// Refusals: those of [`clock`]; then `UnknownSerial`, `NoHold`, `BadGround`, `RevokedBefore`, `Expired`, `Full`.
 pub fn decide_request(
     head: &Head,
     certificate: Option<CertRow>,
@@ -144,9 +133,7 @@ pub fn decide_request(
 }
 
 /// The request, declined. `certificate` and `revocation` are those of its serial number.
-///
-/// # Errors
-/// Those of [`clock`]; then `NoRequest`, `DeclinedBefore`, `RevokedBefore`, `Expired`.
+/// Refusals: those of [`clock`]; then `NoRequest`, `DeclinedBefore`, `RevokedBefore`, `Expired`.
 pub fn decide_decline(
     head: &Head,
     request: Option<RequestRow>,
@@ -167,9 +154,7 @@ pub fn decide_decline(
 
 /// The revocation, and whether it comes after the request's deadline. `certificate` and `revocation` are those of the
 /// request's serial number, `latest` is the CRL that was issued last.
-///
-/// # Errors
-/// Those of [`clock`]; then `NoRequest`, `DeclinedBefore`, `RevokedBefore`, `Expired`.
+/// Refusals: those of [`clock`]; then `NoRequest`, `DeclinedBefore`, `RevokedBefore`, `Expired`.
 pub fn decide_revoke(
     head: &Head,
     request: Option<RequestRow>,
@@ -193,9 +178,7 @@ pub fn decide_revoke(
 }
 
 /// The CRL to issue, with thisUpdate now. `latest` is the one that was issued last.
-///
-/// # Errors
-/// Those of [`clock`]; then `Full`.
+/// Refusals: those of [`clock`]; then `Full`.
 pub fn decide_crl(head: &Head, latest: Option<CrlRow>) -> Result<CrlRow, Refusal>
     requires { IfSome latest (λ crl. crl.number < 10 ^ 18) }
     ensures { DecidesCrl head.entry.now latest result }
@@ -210,7 +193,6 @@ pub fn decide_crl(head: &Head, latest: Option<CrlRow>) -> Result<CrlRow, Refusal
     })
 }
 
-/// The next id of the table that would grow.
 fn next_id(head: &Head) -> Result<u64, Refusal>
     ensures { IsDecidedBy (when (head_is_full head.entry.now) Refusal.Full) (λ id. id ≡ head.entry.now.held + 1) result }
 {
@@ -220,7 +202,6 @@ fn next_id(head: &Head) -> Result<u64, Refusal>
     Ok(head.held + 1)
 }
 
-/// The table that would grow holds as many rows as the policy allows.
 fn has_no_room(head: &Head) -> bool
     ensures full { result ≡ head_is_full head.entry.now }
     ensures room { (result ≡ false) → head.entry.now.held < 1000000 }
@@ -228,7 +209,6 @@ fn has_no_room(head: &Head) -> bool
     head.held >= head.policy.cap()
 }
 
-/// The number of the next CRL.
 fn next_number(latest: Option<CrlRow>) -> u64
     requires { IfSome latest (λ crl. crl.number < 10 ^ 18) }
     ensures { result ≡ number_after latest }
@@ -239,7 +219,6 @@ fn next_number(latest: Option<CrlRow>) -> u64
     }
 }
 
-/// The validity runs forward, is no longer than ordered and allowed, and has not ended.
 fn check_validity(head: &Head, wanted: &CertRow, order: &OrderRow) -> Result<(), Refusal>
     ensures { IsDecidedBy
         (first_of_all (validity_checks head.entry.now.policy head.entry.now.now wanted.now (Some order.now)))
@@ -260,7 +239,6 @@ fn check_validity(head: &Head, wanted: &CertRow, order: &OrderRow) -> Result<(),
     Ok(())
 }
 
-/// The certificate is not revoked, and not past its end.
 fn check_live(
     now: Moment,
     certificate: Option<CertRow>,

@@ -1,5 +1,3 @@
-//! The grounds on which a certificate is revoked.
-
 ghost use Rattle.std.specs.Prelude.{◌≡◌, ◌≤◌};
 ghost use Rattle.reg_core.specs.Grounds.{ground_or_refusal, limit_of, reason_of};
 
@@ -10,33 +8,24 @@ use crate::refusal::Refusal;
 pub enum Ground {
     /// The subscriber asks for it.
     Asked,
-    /// The certificate was not authorized.
     Unauthorized,
     /// The private key is no longer the subscriber's alone.
     KeyCompromise,
     /// Control of what the certificate names can't be relied upon.
     ControlLost,
-    /// The subscriber's affiliation changed.
     Affiliation,
-    /// Another certificate took its place.
     Superseded,
     /// What the certificate was for has ended.
     Cessation,
-    /// The certificate was misused.
     Misuse,
-    /// The name may no longer be used.
     NameNotPermitted,
-    /// The certificate does not conform to the rules it was issued under.
     Nonconforming,
     /// The certificate says what is not so.
     Inaccurate,
 }
 
 impl Ground {
-    /// The ground that a word names.
-    ///
-    /// # Errors
-    /// `NoHold` for the word `hold`, since a certificate is not put on hold; `BadGround` for any other word.
+    /// The ground that a word names; `NoHold` for `hold`, since no certificate is put on hold, `BadGround` for any other word.
     pub fn read(word: &[u8]) -> Result<Ground, Refusal>
         ensures { result ≡ ground_or_refusal word.now }
     {

@@ -1,5 +1,3 @@
-//! Short texts of 1 to 64 bytes.
-
 ghost use Rattle.std.specs.Prelude.{◌≡◌, ◌+◌, ◌≤◌, ◌++◌, ◌↔◌, IsSome, IfSome, length, take, drop};
 ghost use Rattle.std.specs.Str.{bytes_eq};
 ghost use Rattle.std.specs.Cmp.{partial_equiv_from_equiv};
@@ -8,7 +6,6 @@ ghost use Rattle.reg_core.specs.Label.{IsLabel, is_name};
 
 use std::marker::Model;
 
-/// The most bytes of a label.
 const MAX_BYTES: usize = 64;
 
 /// A short text: 1 to 64 bytes of any value. Contracts see the list of its bytes.
@@ -88,7 +85,6 @@ impl Label {
     }
 }
 
-/// Writes a text over the bytes from a place on.
 fn write_at(bytes: &mut [u8; MAX_BYTES], at: usize, text: &[u8])
     requires { at + length text.now ≤ 64 }
     ensures { bytes.new ≡ take at bytes.old ++ text.now ++ drop (at + length text.now) bytes.old }

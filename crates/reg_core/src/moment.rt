@@ -1,5 +1,3 @@
-//! Moments of the register: whole seconds, and the civil date that they show.
-
 ghost use Rattle.std.specs.Prelude.{◌≡◌, ◌≢◌, ℕ, ◌+◌, ◌≤◌, MatchOption, IfSome, IfNone, Some};
 
 use crate::calendar::Civil;
@@ -24,7 +22,6 @@ impl Model for Moment {
     ghost inverse = { λ seconds. record { seconds = seconds } };
 }
 
-/// The first second of the year 10000.
 const END: u64 = 253_402_300_800;
 
 impl Moment {
@@ -38,8 +35,7 @@ impl Moment {
         seconds: 253_401_436_800,
     };
 
-    /// The moment that many seconds after 1970-01-01T00:00:00Z; `None` from 253,402,300,800 on,
-    /// where the year 10000 begins.
+    /// The moment that many seconds after 1970-01-01T00:00:00Z; `None` from the year 10000 on.
     pub fn of_secs(seconds: u64) -> Option<Moment>
         ensures { MatchOption result (253402300800 ≤ seconds) (λ m. (m ≡ seconds) × IsMoment seconds) }
     {
@@ -77,9 +73,8 @@ impl Moment {
         Civil::at(self.secs())
     }
 
-    /// The moment whose text this is; `None` for any other bytes. The text is `YYYY-MM-DDTHH:MM:SSZ`
-    /// (RFC 3339 5.6) in the years 1970 to 9999, with a date that the calendar has, hours 00 to 23
-    /// and seconds 00 to 59: no other offset, no fraction, no lower case.
+    /// The moment whose text this is: `YYYY-MM-DDTHH:MM:SSZ` (RFC 3339 5.6) with a date that the calendar has, hours 00
+    /// to 23 and seconds 00 to 59. `None` for any other bytes: no other offset, no fraction, no lower case.
     pub fn read(bytes: &[u8]) -> Option<Moment>
         ensures found { IfSome result (λ m. IsMoment m × (bytes.now ≡ moment_text m)) }
         ensures none { IfNone result ((m : ℕ) → IsMoment m → bytes.now ≢ moment_text m) }

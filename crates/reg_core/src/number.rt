@@ -10,7 +10,6 @@ use std::marker::Model;
 /// The most digits that [`read_number`] takes: any number of so many digits is below 10^18.
 const MOST_DIGITS: usize = 18;
 
-/// The most digits that a `u64` has.
 const DECIMAL_ROOM: usize = 20;
 
 /// Reads 1 to 18 decimal digits; leading zeros are allowed. `None` for any other text.

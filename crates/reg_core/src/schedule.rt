@@ -1,5 +1,3 @@
-//! The longest validity of certificates, by the moment from which they are valid.
-
 ghost use Rattle.std.specs.Prelude.{◌≡◌, ◌≤◌, ◌↔◌, IsSome, IsTrue, IfSome};
 ghost use Rattle.reg_core.specs.Schedule.{IsSchedule, Ascends, IsDays, HasDays, longest_at, greatest_of, same_steps, same_steps_both_ways, same_steps_equivalence};
 ghost use Rattle.std.specs.List.{AllByRecursion};
@@ -7,7 +5,6 @@ ghost use Rattle.std.specs.List.{AllByRecursion};
 use crate::moment::Moment;
 use std::marker::Model;
 
-/// The most steps of a schedule.
 const MAX_STEPS: usize = 16;
 
 /// The longest validity in days that any step may allow, the first of the Baseline Requirements 6.3.2.
@@ -124,14 +121,12 @@ impl Schedule {
     }
 }
 
-/// Whether the moments of the steps rise strictly.
 fn ascends(steps: &[(Moment, u64)]) -> bool
     ensures { IsTrue result ↔ Ascends steps.now }
 {
     steps.is_sorted_by(|earlier, later| earlier.0 < later.0)
 }
 
-/// Whether the days of each step are 1 to 398.
 fn days_in_range(steps: &[(Moment, u64)]) -> bool
     ensures { IsTrue result ↔ AllByRecursion HasDays steps.now }
 {

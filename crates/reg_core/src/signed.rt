@@ -1,5 +1,3 @@
-//! Whose signatures stand on CRLs.
-
 /// A signer of CRLs, as the laws of the register see it: a relation between what is signed in a CRL
 /// (tbsCertList, RFC 5280 5.1.2) and the DER of the CRL.
 pub trait SignsCrls {

@@ -14,7 +14,6 @@ const LONGEST_LIMIT: u64 = 1_000;
 /// The most rows that a page looks at that is asked for from outside, so that nobody else waits long.
 const MOST_ROWS: u64 = 250;
 
-/// How many things can be told beside the word of a list.
 const MOST_PARAMS: usize = 3;
 
 /// What is told beside the word of a list.
@@ -36,7 +35,6 @@ pub fn read_page(word: &[u8], told: &[u8]) -> Option<(Cursor, u64)>
     Some((from, rows_of(params.limit)?))
 }
 
-/// The list behind a key, where one is told.
 fn cursor_of(from: Cursor, after: Option<Label>) -> Option<Cursor>
     ensures { result ≡ cursor_at from after }
 {
@@ -46,7 +44,6 @@ fn cursor_of(from: Cursor, after: Option<Label>) -> Option<Cursor>
     }
 }
 
-/// How many rows a page looks at, by the limit that is told.
 fn rows_of(limit: Option<u64>) -> Option<u64>
     ensures { result ≡ at_most limit }
 {
@@ -57,7 +54,6 @@ fn rows_of(limit: Option<u64>) -> Option<u64>
     }
 }
 
-/// What is told, piece by piece.
 fn read_params(told: &[u8]) -> Option<Params>
     ensures { result ≡ params_of told.now }
 {
@@ -81,7 +77,6 @@ fn read_params(told: &[u8]) -> Option<Params>
     None
 }
 
-/// What is behind a place in a text.
 fn behind(text: &[u8], place: usize) -> &[u8]
     requires { place < length text.now }
     ensures { result.now ≡ drop (place + 1) text.now }
@@ -89,7 +84,6 @@ fn behind(text: &[u8], place: usize) -> &[u8]
     &text[place + 1..]
 }
 
-/// Where a byte stands first in a text, or its length.
 fn place_of(text: &[u8], wanted: u8) -> usize
     ensures place { result ≡ position_or_len (λ byte. byte == wanted) text.now }
     ensures within { result ≤ length text.now }
@@ -100,14 +94,12 @@ fn place_of(text: &[u8], wanted: u8) -> usize
     }
 }
 
-/// Where a byte stands first in a text, if it does.
 fn first_of(text: &[u8], wanted: u8) -> Option<usize>
     ensures { result ≡ position (λ byte. byte == wanted) text.now }
 {
     text.iter().position(|byte| *byte == wanted)
 }
 
-/// What is told with one piece more, `NAME=VALUE`.
 fn with_piece(params: Params, piece: &[u8]) -> Option<Params>
     ensures { result ≡ with_piece params piece.now }
 {
@@ -169,14 +161,12 @@ fn with_limit(params: Params, value: &[u8]) -> Option<Params>
     })
 }
 
-/// A text of 1 to 64 bytes.
 fn read_key(text: &[u8]) -> Option<Label>
     ensures { result ≡ label_of text.now }
 {
     Label::of(text)
 }
 
-/// Reads a moment.
 fn read_moment(text: &[u8]) -> Option<Moment>
     ensures { result ≡ moment_of text.now }
 {

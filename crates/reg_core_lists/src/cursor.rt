@@ -1,5 +1,3 @@
-//! A list of a register, from a key on.
-
 ghost use Rattle.std.specs.Prelude.{◌≡◌, Some, None};
 ghost use Rattle.reg_core_lists.specs.Cursors.{cursor_named, cursor_past, list_word};
 
@@ -9,9 +7,7 @@ use reg_core::{Moment, Serial, read_number};
 /// above 0.
 #[derive(Clone, Copy)]
 pub enum Cursor {
-    /// The revocations, by their serial numbers.
     Revoked(Option<Serial>),
-    /// The certificates, by their serial numbers.
     Certificates(Option<Serial>),
     /// The good certificates whose notAfter is before a moment, by their serial numbers.
     Ending {
@@ -22,11 +18,8 @@ pub enum Cursor {
     OpenRequests(u64),
     /// The open requests whose deadline is past, by their ids.
     Overdue(u64),
-    /// The subscribers, by their ids.
     Subscribers(u64),
-    /// The orders, by their ids.
     Orders(u64),
-    /// The issued CRLs, by their numbers.
     Crls(u64),
 }
 
@@ -62,7 +55,6 @@ impl Cursor {
         }
     }
 
-    /// The word that names the list.
     pub(crate) fn word(self) -> &'static str
         ensures { result.now ≡ list_word self }
     {
@@ -79,7 +71,6 @@ impl Cursor {
     }
 }
 
-/// The certificates that end before a moment, where the word names that list.
 fn ending(word: &[u8], before: Moment) -> Option<Cursor>
     ensures { result ≡ cursor_named word.now (Some before) }
 {
@@ -93,7 +84,6 @@ fn ending(word: &[u8], before: Moment) -> Option<Cursor>
     }
 }
 
-/// The list that a word names and that wants no moment.
 fn whole(word: &[u8]) -> Option<Cursor>
     ensures { result ≡ cursor_named word.now None }
 {

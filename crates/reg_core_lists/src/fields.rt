@@ -7,10 +7,8 @@ use crate::rows::{CertificateLine, OrderLine, RequestLine, Row};
 use reg_core::{CrlRow, Ground, Label, Listing, Moment, Serial, Status, SubscriberRow};
 use std::alloc::{AllocError, Global};
 
-/// What stands in a field.
 #[derive(Clone, Copy)]
 pub(crate) enum Cell {
-    /// Nothing.
     Empty,
     Number(u64),
     Serial(Serial),
@@ -121,14 +119,12 @@ fn of_crl(alloc: Global, crl: &CrlRow) -> Result<Vec<Field>, AllocError>
     )
 }
 
-/// A field with a name.
 fn named(name: &'static str, cell: Cell) -> Field
     ensures { told_field result ≡ (name.now, cell) }
 {
     Field { name, cell }
 }
 
-/// A word.
 fn word(text: &[u8]) -> Cell
     requires not_empty { 1 ≤ length text.now }
     requires short { length text.now ≤ 64 }
@@ -137,7 +133,6 @@ fn word(text: &[u8]) -> Cell
     Cell::Text(Label::joined(text, b""))
 }
 
-/// The word of a status.
 fn word_of(status: Status) -> Cell
     ensures { result ≡ Cell.Text (status_word status) }
 {
@@ -149,7 +144,6 @@ fn word_of(status: Status) -> Cell
     }
 }
 
-/// The moment of revocation.
 fn at_of(status: Status) -> Cell
     ensures { result ≡ revoked_at_cell status }
 {
@@ -169,7 +163,6 @@ fn reason_in(status: Status) -> Cell
     }
 }
 
-/// The first CRL that can list it.
 fn first_in(listing: Option<Listing>) -> Cell
     ensures { result ≡ first_listing listing }
 {
@@ -179,7 +172,6 @@ fn first_in(listing: Option<Listing>) -> Cell
     }
 }
 
-/// The last CRL that lists it, where that was issued.
 fn last_in(listing: Option<Listing>) -> Cell
     ensures { result ≡ last_listing_cell listing }
 {
@@ -194,7 +186,6 @@ fn last_in(listing: Option<Listing>) -> Cell
     }
 }
 
-/// A serial number, where there is one.
 pub(crate) fn serial_in(serial: Option<Serial>) -> Cell
     ensures { result ≡ serial_or_empty serial }
 {
@@ -204,7 +195,6 @@ pub(crate) fn serial_in(serial: Option<Serial>) -> Cell
     }
 }
 
-/// The word of a ground.
 fn ground_in(ground: Ground) -> Cell
     ensures { result ≡ Cell.Text (ground_word ground) }
 {

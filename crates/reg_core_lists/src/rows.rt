@@ -1,5 +1,3 @@
-//! The rows of lists, and pages of them.
-
 use crate::cursor::Cursor;
 use reg_core::{
     CertRow, CrlRow, Listing, Moment, OrderRow, RequestRow, Serial, Status, SubscriberRow,

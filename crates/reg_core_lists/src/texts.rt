@@ -41,9 +41,6 @@ pub fn header(from: Cursor) -> &'static str
 }
 
 /// Puts rows behind a text, each a line.
-///
-/// # Errors
-/// Memory could not be had.
 pub fn put_rows(
     alloc: Global,
     out: &mut Vec<u8>,
@@ -58,7 +55,6 @@ pub fn put_rows(
     Ok(())
 }
 
-/// Puts a row behind a text, as a line.
 #[tactic(auto, unfolding(crate::specs::Texts::row_text))]
 fn put_row(alloc: Global, out: &mut Vec<u8>, form: Form, row: &Row) -> Result<(), AllocError>
     ensures { OnOk result (out.new.items ≡ out.old.items ++ row_text form row.now) }
@@ -72,7 +68,6 @@ fn put_row(alloc: Global, out: &mut Vec<u8>, form: Form, row: &Row) -> Result<()
     Ok(())
 }
 
-/// Puts fields behind a text, with commas between them.
 #[tactic(auto, unfolding(crate::specs::Texts::record_text))]
 fn put_record(out: &mut Vec<u8>, fields: &[Field]) -> Result<(), AllocError>
     ensures { OnOk result (out.new.items ≡ out.old.items ++ record_text (map told_field fields.now)) }
@@ -86,7 +81,6 @@ fn put_record(out: &mut Vec<u8>, fields: &[Field]) -> Result<(), AllocError>
     }
 }
 
-/// Puts fields behind a text, with a comma before each.
 fn put_record_rest(out: &mut Vec<u8>, fields: &[Field]) -> Result<(), AllocError>
     ensures { OnOk result (out.new.items ≡ out.old.items ++ flat_map record_rest (map told_field fields.now)) }
 {
@@ -97,7 +91,6 @@ fn put_record_rest(out: &mut Vec<u8>, fields: &[Field]) -> Result<(), AllocError
     Ok(())
 }
 
-/// Puts what stands in a field behind a text.
 #[tactic(auto, unfolding(crate::specs::Fields::plain_text))]
 fn put_plain(out: &mut Vec<u8>, cell: &Cell) -> Result<(), AllocError>
     ensures { OnOk result (out.new.items ≡ out.old.items ++ plain_text cell.now) }
@@ -111,7 +104,6 @@ fn put_plain(out: &mut Vec<u8>, cell: &Cell) -> Result<(), AllocError>
     }
 }
 
-/// Puts an object of fields behind a text.
 #[tactic(auto, unfolding(crate::specs::Texts::object_text))]
 fn put_object(out: &mut Vec<u8>, fields: &[Field]) -> Result<(), AllocError>
     ensures { OnOk result (out.new.items ≡ out.old.items ++ object_text (map told_field fields.now)) }
@@ -128,7 +120,6 @@ fn put_object(out: &mut Vec<u8>, fields: &[Field]) -> Result<(), AllocError>
     Ok(())
 }
 
-/// Puts members behind a text, with a comma before each.
 fn put_members_rest(out: &mut Vec<u8>, fields: &[Field]) -> Result<(), AllocError>
     ensures { OnOk result (out.new.items ≡ out.old.items ++ flat_map member_rest (map told_field fields.now)) }
 {
@@ -139,7 +130,6 @@ fn put_members_rest(out: &mut Vec<u8>, fields: &[Field]) -> Result<(), AllocErro
     Ok(())
 }
 
-/// Puts a member behind a text: its name and its value.
 #[tactic(auto, unfolding(crate::specs::Texts::member_text))]
 fn put_member(out: &mut Vec<u8>, field: &Field) -> Result<(), AllocError>
     ensures { OnOk result (out.new.items ≡ out.old.items ++ member_text (told_field field.now)) }
@@ -150,7 +140,6 @@ fn put_member(out: &mut Vec<u8>, field: &Field) -> Result<(), AllocError>
     put_value(out, &field.cell)
 }
 
-/// Puts a value behind a text: `null` where nothing stands in the field, and else a number or a string.
 #[tactic(auto, unfolding(crate::specs::Fields::json_text))]
 fn put_value(out: &mut Vec<u8>, cell: &Cell) -> Result<(), AllocError>
     ensures { OnOk result (out.new.items ≡ out.old.items ++ json_text cell.now) }
@@ -162,7 +151,6 @@ fn put_value(out: &mut Vec<u8>, cell: &Cell) -> Result<(), AllocError>
     }
 }
 
-/// Puts what stands in a field behind a text, as a string.
 fn put_string(out: &mut Vec<u8>, cell: &Cell) -> Result<(), AllocError>
     ensures { OnOk result (out.new.items ≡ out.old.items ++ (34 ∷ plain_text cell.now ++ 34 ∷ [])) }
 {
@@ -173,9 +161,6 @@ fn put_string(out: &mut Vec<u8>, cell: &Cell) -> Result<(), AllocError>
 }
 
 /// A page as a JSON object: the word of its list, the key behind which the next page goes on, or `null`, and its rows.
-///
-/// # Errors
-/// Memory could not be had.
 #[tactic(auto, unfolding(crate::specs::Texts::page_body))]
 pub fn page_text(alloc: Global, from: Cursor, page: &Page) -> Result<Vec<u8>, AllocError>
     ensures { IfOk result (λ text. text.items ≡ page_body from page.now.next page.now.rows.items) }
@@ -190,7 +175,6 @@ pub fn page_text(alloc: Global, from: Cursor, page: &Page) -> Result<Vec<u8>, Al
     Ok(out)
 }
 
-/// Puts the key of the next page behind a text, as a string.
 #[tactic(auto, unfolding(crate::specs::Texts::next_text))]
 fn put_next(out: &mut Vec<u8>, next: Option<Cursor>) -> Result<(), AllocError>
     ensures { OnOk result (out.new.items ≡ out.old.items ++ next_text next) }
@@ -201,7 +185,6 @@ fn put_next(out: &mut Vec<u8>, next: Option<Cursor>) -> Result<(), AllocError>
     }
 }
 
-/// The key behind which a list goes on.
 fn key_of(from: Cursor) -> Cell
     ensures { result ≡ key_cell from }
 {
@@ -217,7 +200,6 @@ fn key_of(from: Cursor) -> Cell
     }
 }
 
-/// Puts rows behind a text, with commas between them.
 fn put_json_rows(alloc: Global, out: &mut Vec<u8>, rows: &[Row]) -> Result<(), AllocError>
     ensures { OnOk result (out.new.items ≡ out.old.items ++ rows_json rows.now) }
 {
@@ -230,7 +212,6 @@ fn put_json_rows(alloc: Global, out: &mut Vec<u8>, rows: &[Row]) -> Result<(), A
     }
 }
 
-/// Puts rows behind a text, with a comma before each.
 fn put_json_rest(alloc: Global, out: &mut Vec<u8>, rows: &[Row]) -> Result<(), AllocError>
     ensures { OnOk result (out.new.items ≡ out.old.items ++ flat_map row_rest rows.now) }
 {
@@ -241,7 +222,6 @@ fn put_json_rest(alloc: Global, out: &mut Vec<u8>, rows: &[Row]) -> Result<(), A
     Ok(())
 }
 
-/// Puts a row behind a text, as an object.
 fn put_json_row(alloc: Global, out: &mut Vec<u8>, row: &Row) -> Result<(), AllocError>
     ensures { OnOk result (out.new.items ≡ out.old.items ++ object_text (row_fields row.now)) }
 {

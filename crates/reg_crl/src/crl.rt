@@ -6,19 +6,15 @@ ghost use Rattle.reg_crl.specs.Crl.{extension, crl_entry_extensions, revoked_cer
 ghost use Rattle.reg_core.specs.Crls.{EntriesAscend};
 
 use reg_core::{Entry, Memory, Moment};
-use reg_der::{Issuer, put, put_bits, put_number, put_serial, put_utc_or_general};
+use reg_der::{Issuer, put, put_bits, put_number, put_raw, put_serial, put_utc_or_general};
 use std::alloc::Global;
 
-/// The tag octet of an OCTET STRING (X.690 8.7).
 const OCTET_STRING: u8 = 0x04;
 
-/// The tag octet of an OBJECT IDENTIFIER (X.690 8.19).
 const OBJECT_IDENTIFIER: u8 = 0x06;
 
-/// The tag octet of an ENUMERATED (X.690 8.4).
 const ENUMERATED: u8 = 0x0A;
 
-/// The tag octet of a SEQUENCE (X.690 8.9).
 const SEQUENCE: u8 = 0x30;
 
 /// The tag octet [0] of a keyIdentifier (RFC 5280 4.2.1.1).
@@ -42,12 +38,8 @@ const REASON_CODE: [u8; 3] = [0x55, 0x1D, 0x15];
 /// 2.5.29.35, the authority key identifier (RFC 5280 5.2.1).
 const AUTHORITY_KEY_IDENTIFIER: [u8; 3] = [0x55, 0x1D, 0x23];
 
-/// The TBSCertList of a CRL (RFC 5280 5.1.2), the part that is signed; at most 2^27 bytes.
-///
-/// The entries ascend strictly by serial number, and there are at most 1,000,000. The algorithm has at most 1,024 bytes.
-///
-/// # Errors
-/// `Memory` where memory could not be had.
+/// The TBSCertList of a CRL (RFC 5280 5.1.2), the part that is signed; at most 2^27 bytes. The entries ascend strictly by
+/// serial number, and there are at most 1,000,000. The algorithm has at most 1,024 bytes.
 #[tactic(auto, unfolding(crate::specs::Crl::tbs_cert_list))]
 pub fn crl_tbs(
     alloc: Global,
@@ -72,8 +64,8 @@ pub fn crl_tbs(
 {
     let mut contents = Vec::new(alloc);
     put_number(&mut contents, VERSION_2)?;
-    append(&mut contents, algorithm)?;
-    append(&mut contents, issuer.name())?;
+    put_raw(&mut contents, algorithm)?;
+    put_raw(&mut contents, issuer.name())?;
     put_utc_or_general(&mut contents, this_update)?;
     put_utc_or_general(&mut contents, next_update)?;
     put_revoked_certificates(&mut contents, alloc, entries)?;
@@ -85,9 +77,6 @@ pub fn crl_tbs(
 
 /// The CertificateList (RFC 5280 5.1.1) of a TBSCertList of at most 2^27 bytes, an algorithm of at most 1,024 and a
 /// signature of at most 65,536.
-///
-/// # Errors
-/// `Memory` where memory could not be had.
 #[tactic(auto, unfolding(crate::specs::Crl::certificate_list))]
 pub fn crl_whole(
     alloc: Global,
@@ -104,8 +93,8 @@ pub fn crl_whole(
         length whole.items ≤ length tbs.now + length algorithm.now + length signature.now + 13) }
 {
     let mut contents = Vec::new(alloc);
-    append(&mut contents, tbs)?;
-    append(&mut contents, algorithm)?;
+    put_raw(&mut contents, tbs)?;
+    put_raw(&mut contents, algorithm)?;
     put_bits(&mut contents, signature)?;
     let mut whole = Vec::new(alloc);
     put(&mut whole, SEQUENCE, &contents)?;
@@ -130,7 +119,6 @@ fn put_revoked_certificates(
     put(out, SEQUENCE, &contents)
 }
 
-/// The entries, one after the other.
 fn revoked(alloc: Global, entries: &[Entry]) -> Result<Vec<u8>, Memory>
     ensures bytes { IfOk result (λ bytes. bytes.items ≡ flat_map revoked_certificate entries.now) }
     ensures short { IfOk result (λ bytes. length bytes.items ≤ 59 * length entries.now) }
@@ -188,7 +176,7 @@ fn put_crl_entry_extensions(out: &mut Vec<u8>, reason: u8) -> Result<(), Memory>
         1,
         reason,
     ];
-    append(out, &extensions)
+    put_raw(out, &extensions)
 }
 
 /// Appends the crlExtensions: the authority key identifier and the CRL number.
@@ -210,7 +198,6 @@ fn put_crl_extensions(
     put(out, CRL_EXTENSIONS, &sequence)
 }
 
-/// Appends the authority key identifier extension of a CRL of this number.
 fn put_authority_key_identifier(
     out: &mut Vec<u8>,
     alloc: Global,
@@ -241,7 +228,6 @@ fn put_identifier(out: &mut Vec<u8>, alloc: Global, identifier: &[u8]) -> Result
     put_extension(out, alloc, AUTHORITY_KEY_IDENTIFIER, &value)
 }
 
-/// Appends the CRL number extension.
 #[tactic(auto, unfolding(crate::specs::Crl::crl_number))]
 fn put_crl_number(out: &mut Vec<u8>, alloc: Global, number: u64) -> Result<(), Memory>
     ensures ok { OnOk result (out.new.items ≡ out.old.items ++ crl_number number) }
@@ -268,12 +254,4 @@ fn put_extension(
     put(&mut contents, OBJECT_IDENTIFIER, &identifier)?;
     put(&mut contents, OCTET_STRING, value)?;
     put(out, SEQUENCE, &contents)
-}
-
-/// Appends bytes as they are.
-fn append(out: &mut Vec<u8>, bytes: &[u8]) -> Result<(), Memory>
-    ensures ok { OnOk result (out.new.items ≡ out.old.items ++ bytes.now) }
-    ensures longer { OnOk result (length out.new.items ≡ length out.old.items + length bytes.now) }
-{
-    out.extend_from_slice(bytes).map_err(|_| Memory)
 }

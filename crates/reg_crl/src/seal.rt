@@ -1,5 +1,3 @@
-//! The seal that stands for a signature where there is no key.
-
 ghost use Rattle.std.specs.Prelude.{◌≡◌, []};
 ghost use Rattle.sha1.specs.Sha1.{sha1};
 ghost use Rattle.reg_crl.specs.Signing.{sha1_algorithm};
@@ -13,8 +11,7 @@ const ALGORITHM: [u8; 11] = [
     0x30, 0x09, 0x06, 0x05, 0x2B, 0x0E, 0x03, 0x02, 0x1A, 0x05, 0x00,
 ];
 
-/// A signer without a key: its seal is the SHA-1 of the message, which anyone can make. It is a checksum and no
-/// signature in the sense of cryptography. Its count of failures stays 0.
+/// A signer without a key: its seal is the SHA-1 of the message, a checksum that anyone can make. Its failures stay 0.
 #[derive(Clone, Copy, PartialEq, Eq)]
 pub struct DigestSeal;
 

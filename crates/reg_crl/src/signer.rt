@@ -1,5 +1,3 @@
-//! Signers.
-
 ghost use Rattle.std.specs.Prelude.{◌≡◌, IfSome, option_copied};
 ghost use Rattle.reg_crl.specs.declared.signer.SignFault.TheVariants.{Memory};
 
@@ -11,7 +9,6 @@ use std::alloc::{AllocError, Global};
 pub enum SignFault {
     /// The device that holds the key failed, and the signer counted the failure.
     Device,
-    /// Memory could not be had.
     Memory,
 }
 
@@ -61,11 +58,8 @@ pub trait Signer {
     fn public_key(&self) -> Option<&[u8]>
         ensures { IfSome (option_copied result) (λ key. key ≡ (identity self.now).public_key) };
 
-    /// A signature of the message, of at most 65,536 bytes.
-    ///
-    /// # Errors
-    /// `Device` where the device failed: the count of failures rises, so at `u64::MAX` this no longer comes. `Memory`
-    /// where memory could not be had.
+    /// A signature of the message, of at most 65,536 bytes. `Device` where the device failed: the count of failures rises, so
+    /// at `u64::MAX` this no longer comes.
     fn sign(&mut self, alloc: Global, message: &[u8]) -> Result<Vec<u8>, SignFault>
         ensures { SignsOrFails identity signs failure_count self.old self.new message.now result };
 

@@ -55,18 +55,11 @@ is_all bytes raw contents after whole tag is parts sequence =
     let same = no_two_prefixes raw after contents bytes [] whole tag 48 is sequence (sym parts ∙ sym (append-nil bytes)) in
     record { sequence = same.1; nothing = same.3; same = same.2 }
 
--- what was read of a pair's first number leaves its second
-pub second_left : (contents rest : List ℕ) (size first second : ℕ) (bytes : List ℕ) → BeginsPositive contents size rest
-    → (pair : IsPair bytes first second) → contents ≡ pair.first_bytes ++ pair.second_bytes → rest ≡ pair.second_bytes
-second_left contents rest size first second bytes begins pair same =
-    (one_number begins.raw rest pair.first_bytes pair.second_bytes begins.number first begins.is pair.first_is (sym begins.parts ∙ same)).1
-
--- and of the second, nothing
-pub nothing_left : (rest after : List ℕ) (size first second : ℕ) (bytes : List ℕ) → BeginsPositive rest size after
-    → (pair : IsPair bytes first second) → rest ≡ pair.second_bytes → after ≡ []
-nothing_left rest after size first second bytes begins pair same =
-    (one_number begins.raw after pair.second_bytes [] begins.number second begins.is pair.second_is
-    (sym begins.parts ∙ same ∙ sym (append-nil pair.second_bytes))).1
+-- what was read of a number at the front leaves what stands behind it
+pub left_behind : (contents rest : List ℕ) (size number : ℕ) (raw behind : List ℕ) → BeginsPositive contents size rest → IsPositive raw number
+    → contents ≡ raw ++ behind → rest ≡ behind
+left_behind contents rest size number raw behind begins is same =
+    (one_number begins.raw rest raw behind begins.number number begins.is is (sym begins.parts ∙ same)).1
 
 -- two numbers that were read, with nothing behind them, are a pair
 pub holds_pair : (bytes raw contents after rest left : List ℕ) (tag m n : ℕ) → IsTlv raw tag contents → bytes ≡ raw ++ after → tag ≡ 48 → after ≡ []

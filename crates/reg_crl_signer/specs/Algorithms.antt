@@ -20,18 +20,6 @@ algorithm_named name =
     else if bytes_eq name (algorithm_name Ed25519) then Some Ed25519
     else None
 
--- ecdsa-with-SHA256, 1.2.840.10045.4.3.2 (RFC 5758 3.2)
-abbrev pub ecdsa_with_sha256 : List ℕ
-ecdsa_with_sha256 = tlv 6 (42 ∷ 134 ∷ 72 ∷ 206 ∷ 61 ∷ 4 ∷ 3 ∷ 2 ∷ [])
-
--- ecdsa-with-SHA384, 1.2.840.10045.4.3.3 (RFC 5758 3.2)
-abbrev pub ecdsa_with_sha384 : List ℕ
-ecdsa_with_sha384 = tlv 6 (42 ∷ 134 ∷ 72 ∷ 206 ∷ 61 ∷ 4 ∷ 3 ∷ 3 ∷ [])
-
--- sha256WithRSAEncryption, 1.2.840.113549.1.1.11 (RFC 4055 5)
-abbrev pub sha256_with_rsa_encryption : List ℕ
-sha256_with_rsa_encryption = tlv 6 (42 ∷ 134 ∷ 72 ∷ 134 ∷ 247 ∷ 13 ∷ 1 ∷ 1 ∷ 11 ∷ [])
-
 -- id-Ed25519, 1.3.101.112 (RFC 8410 3)
 abbrev pub id_ed25519 : List ℕ
 id_ed25519 = tlv 6 (43 ∷ 101 ∷ 112 ∷ [])
@@ -40,34 +28,22 @@ id_ed25519 = tlv 6 (43 ∷ 101 ∷ 112 ∷ [])
 abbrev pub null_value : List ℕ
 null_value = tlv 5 []
 
--- The AlgorithmIdentifier of an algorithm (RFC 5280 4.1.1.2): no parameters with ECDSA (RFC 5758 3.2) and Ed25519 (RFC 8410 3),
--- the parameters NULL with RSA (RFC 4055 5)
+-- The AlgorithmIdentifier of an algorithm (RFC 5280 4.1.1.2), without parameters but for RSA: ecdsa-with-SHA256, 1.2.840.10045.4.3.2, and
+-- ecdsa-with-SHA384, 1.2.840.10045.4.3.3 (RFC 5758 3.2); sha256WithRSAEncryption, 1.2.840.113549.1.1.11, and NULL (RFC 4055 5)
 abbrev pub identifier_of : Algorithm → List ℕ
-identifier_of EcdsaSha256 = tlv 48 ecdsa_with_sha256
-identifier_of EcdsaSha384 = tlv 48 ecdsa_with_sha384
-identifier_of RsaSha256 = tlv 48 (sha256_with_rsa_encryption ++ null_value)
+identifier_of EcdsaSha256 = tlv 48 (tlv 6 (42 ∷ 134 ∷ 72 ∷ 206 ∷ 61 ∷ 4 ∷ 3 ∷ 2 ∷ []))
+identifier_of EcdsaSha384 = tlv 48 (tlv 6 (42 ∷ 134 ∷ 72 ∷ 206 ∷ 61 ∷ 4 ∷ 3 ∷ 3 ∷ []))
+identifier_of RsaSha256 = tlv 48 (tlv 6 (42 ∷ 134 ∷ 72 ∷ 134 ∷ 247 ∷ 13 ∷ 1 ∷ 1 ∷ 11 ∷ []) ++ null_value)
 identifier_of Ed25519 = tlv 48 id_ed25519
 
 -- id-ecPublicKey, 1.2.840.10045.2.1 (RFC 5480 2.1.1)
 abbrev pub id_ec_public_key : List ℕ
 id_ec_public_key = tlv 6 (42 ∷ 134 ∷ 72 ∷ 206 ∷ 61 ∷ 2 ∷ 1 ∷ [])
 
--- the curve P-256, secp256r1, 1.2.840.10045.3.1.7 (RFC 5480 2.1.1.1)
-abbrev pub secp256r1 : List ℕ
-secp256r1 = tlv 6 (42 ∷ 134 ∷ 72 ∷ 206 ∷ 61 ∷ 3 ∷ 1 ∷ 7 ∷ [])
-
--- the curve P-384, secp384r1, 1.3.132.0.34 (RFC 5480 2.1.1.1)
-abbrev pub secp384r1 : List ℕ
-secp384r1 = tlv 6 (43 ∷ 129 ∷ 4 ∷ 0 ∷ 34 ∷ [])
-
--- rsaEncryption, 1.2.840.113549.1.1.1 (RFC 3279 2.3.1)
-abbrev pub rsa_encryption : List ℕ
-rsa_encryption = tlv 6 (42 ∷ 134 ∷ 72 ∷ 134 ∷ 247 ∷ 13 ∷ 1 ∷ 1 ∷ 1 ∷ [])
-
--- The AlgorithmIdentifier of a public key of an algorithm, in a subjectPublicKeyInfo (RFC 5280 4.1.2.7): a key of a curve with ECDSA
--- (RFC 5480 2.1.1), one of RSA with the parameters NULL (RFC 3279 2.3.1), one of Ed25519 without any (RFC 8410 3)
+-- The AlgorithmIdentifier of a public key of an algorithm, in a subjectPublicKeyInfo (RFC 5280 4.1.2.7): id-ecPublicKey with the curve P-256,
+-- 1.2.840.10045.3.1.7, or P-384, 1.3.132.0.34 (RFC 5480 2.1.1.1); rsaEncryption, 1.2.840.113549.1.1.1, and NULL (RFC 3279 2.3.1)
 abbrev pub key_identifier_of : Algorithm → List ℕ
-key_identifier_of EcdsaSha256 = tlv 48 (id_ec_public_key ++ secp256r1)
-key_identifier_of EcdsaSha384 = tlv 48 (id_ec_public_key ++ secp384r1)
-key_identifier_of RsaSha256 = tlv 48 (rsa_encryption ++ null_value)
+key_identifier_of EcdsaSha256 = tlv 48 (id_ec_public_key ++ tlv 6 (42 ∷ 134 ∷ 72 ∷ 206 ∷ 61 ∷ 3 ∷ 1 ∷ 7 ∷ []))
+key_identifier_of EcdsaSha384 = tlv 48 (id_ec_public_key ++ tlv 6 (43 ∷ 129 ∷ 4 ∷ 0 ∷ 34 ∷ []))
+key_identifier_of RsaSha256 = tlv 48 (tlv 6 (42 ∷ 134 ∷ 72 ∷ 134 ∷ 247 ∷ 13 ∷ 1 ∷ 1 ∷ 1 ∷ []) ++ null_value)
 key_identifier_of Ed25519 = tlv 48 id_ed25519

@@ -1,13 +1,23 @@
 -- The back-off from a signer: after a ten-second timeout it is not asked again for ten seconds.
-use Rattle.std.specs.Prelude.{◌-◌, ◌<◌, Option, Some, None}
+use Rattle.std.specs.Prelude.{◌≡◌, ◌⊎◌, ◌-◌, ◌<◌, ℕ, List, Option, Some, None, Result}
 use Rattle.std.specs.Duration.{as_nanos}
 use Rattle.std.specs.declared.time.Duration.{Duration}
+use Rattle.reg_crl_signer.specs.Devices.{Exchanges}
+use Rattle.reg_crl_signer.specs.declared.backoff.BackoffDevice.{BackoffDevice}
+use Rattle.reg_crl_signer.specs.declared.device.Device.{Ghosts}
+use Rattle.reg_crl_signer.specs.declared.device.DeviceFault.{DeviceFault}
 
 -- at this time ten seconds have not gone by yet since a signer timed out, if it did
 abbrev pub IsBackedOff : Option Duration → Duration → Type 0
 IsBackedOff None now = ⊥
 IsBackedOff (Some since) now = as_nanos now - as_nanos since < 10000000000
 
--- there was such a time
-abbrev pub WasBackedOff : Option Duration → Type 0
-WasBackedOff since = (now : Duration) × IsBackedOff since now
+module _ {D C : Type 0} (g : Ghosts D) where
+  -- the device failed; or its back-off was active at some time, and it stayed as it was
+  abbrev pub FailsOrIsBackedOff : BackoffDevice D C → List ℕ → BackoffDevice D C → Type 0
+  FailsOrIsBackedOff it message after =
+      g.fails it.device message after.device ⊎ (((now : Duration) × IsBackedOff it.backoff.since now) × (after ≡ it))
+
+  -- one exchange with the device, unless its back-off was active
+  abbrev pub ExchangesUnlessBackedOff : BackoffDevice D C → BackoffDevice D C → List ℕ → List ℕ → Result ℕ DeviceFault → Type 0
+  ExchangesUnlessBackedOff = Exchanges (λ it. g.public_key it.device) (λ it. g.place it.device) g.asked g.answers FailsOrIsBackedOff

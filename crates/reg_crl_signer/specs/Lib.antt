@@ -1,7 +1,6 @@
 pub mod Algorithms
 pub mod Asking
 pub mod Backoff
-pub mod BackoffDevices
 pub mod Both
 pub mod DeviceSigners
 pub mod Devices

@@ -2,7 +2,7 @@
 
 ghost use Rattle.std.specs.Prelude.{◌≡◌, ◌≢◌, ◌↔◌, IsTrue, MatchOption};
 ghost use Rattle.reg_crl.specs.Signing.{IsAlgorithm};
-ghost use Rattle.reg_crl_signer.specs.Algorithms.{algorithm_named, identifier_of, algorithm_name};
+ghost use Rattle.reg_crl_signer.specs.Algorithms.{algorithm_named, identifier_of, algorithm_name, key_identifier_of};
 ghost use Rattle.reg_crl_signer.specs.declared.algorithm.Algorithm.{Algorithm};
 
 /// ecdsa-with-SHA256, 1.2.840.10045.4.3.2.
@@ -22,6 +22,23 @@ const RSA_SHA256: [u8; 15] = [
 
 /// id-Ed25519, 1.3.101.112.
 const ED25519: [u8; 7] = [0x30, 0x05, 0x06, 0x03, 0x2B, 0x65, 0x70];
+
+/// id-ecPublicKey, 1.2.840.10045.2.1, with the curve secp256r1, 1.2.840.10045.3.1.7 (RFC 5480 2.1.1).
+const P256: [u8; 21] = [
+    0x30, 0x13, 0x06, 0x07, 0x2A, 0x86, 0x48, 0xCE, 0x3D, 0x02, 0x01, 0x06, 0x08, 0x2A, 0x86, 0x48,
+    0xCE, 0x3D, 0x03, 0x01, 0x07,
+];
+
+/// The same with the curve secp384r1, 1.3.132.0.34.
+const P384: [u8; 18] = [
+    0x30, 0x10, 0x06, 0x07, 0x2A, 0x86, 0x48, 0xCE, 0x3D, 0x02, 0x01, 0x06, 0x05, 0x2B, 0x81, 0x04,
+    0x00, 0x22,
+];
+
+/// rsaEncryption, 1.2.840.113549.1.1.1, and NULL (RFC 3279 2.3.1).
+const RSA: [u8; 15] = [
+    0x30, 0x0D, 0x06, 0x09, 0x2A, 0x86, 0x48, 0x86, 0xF7, 0x0D, 0x01, 0x01, 0x01, 0x05, 0x00,
+];
 
 /// An algorithm of signatures.
 #[derive(Clone, Copy, Debug, PartialEq, Eq)]
@@ -70,7 +87,6 @@ impl Algorithm {
         }
     }
 
-    /// Whether this is its AlgorithmIdentifier.
     fn is(self, identifier: &[u8]) -> bool
         ensures { IsTrue result ↔ (identifier_of self ≡ identifier.now) }
     {
@@ -101,5 +117,18 @@ impl Algorithm {
             Algorithm::RsaSha256 => &RSA_SHA256,
             Algorithm::Ed25519 => &ED25519,
         }
+    }
+}
+
+/// Whether this is the AlgorithmIdentifier of a subjectPublicKeyInfo with a key of the algorithm (RFC 5280 4.1.2.7).
+#[tactic(auto, unfolding(reg_der::specs::Der::tlv, reg_der::specs::Der::length_octets))]
+pub fn is_key_identifier(algorithm: Algorithm, identifier: &[u8]) -> bool
+    ensures { IsTrue result ↔ (identifier.now ≡ key_identifier_of algorithm) }
+{
+    match algorithm {
+        Algorithm::EcdsaSha256 => identifier == P256.as_slice(),
+        Algorithm::EcdsaSha384 => identifier == P384.as_slice(),
+        Algorithm::RsaSha256 => identifier == RSA.as_slice(),
+        Algorithm::Ed25519 => identifier == ED25519.as_slice(),
     }
 }

@@ -21,69 +21,46 @@ use std::net::Shutdown;
 pub struct Asking {
     stream: UnixStream,
     path: String,
-    /// What went out on it.
     message: Vec<u8>,
 }
 
 impl Asking {
-    /// Asks the signer at a path to sign a message.
-    ///
-    /// # Errors
-    /// As [`Asking::connect`]; also where the message is not taken at once, as one of some hundred thousand bytes may be.
+    /// Asks the signer at a path to sign a message. An error is one of [`Asking::connect`], or `BrokenPipe` where the message is not taken
+    /// at once, as one of some hundred thousand bytes may be.
     pub fn ask(rt: &HostRuntime, path: &str, message: &[u8]) -> io::Result<Asking>
         ensures { IfOk result (IsAsking path.now message.now) }
     {
         let mut asking = Asking::connect(rt, path)?;
         asking.message.extend_from_slice(message)?;
-        match write_whole(&mut asking.stream, message) {
-            Ok(()) => {
-                asking.finish()?;
-                Ok(asking)
-            }
-            Err(_) => Err(io::Error::from(ErrorKind::BrokenPipe)),
-        }
+        write_whole(&mut asking.stream, message).map_err(|_| io::Error::from(
+            ErrorKind::BrokenPipe,
+        ))?;
+        asking.finish()?;
+        Ok(asking)
     }
 
     /// Whether the signer at this path is asked on it, and to sign this message.
     pub fn is_for(&self, path: &str, message: &[u8]) -> bool
         ensures { IsTrue result → IsAsking path.now message.now self.now }
     {
-        if self.path.as_str() != path {
-            return false;
-        }
-        self.message.as_slice() == message
-    }
-
-    /// The answer that came on it, up to its end. `None` where it fails, is not at its end, or gave more than 4,096 bytes, and where memory
-    /// is out.
-    pub fn answer(&mut self, alloc: Global) -> Option<Vec<u8>>
-        ensures { IfSome result (λ answer. length answer.items ≤ 4096) }
-    {
-        read_answer(alloc, &mut self.stream)
+        self.path.as_str() == path && self.message.as_slice() == message
     }
 }
 
-/// The answer that a reader gives up to its end. `None` where it fails, has not come to its end, or gives more than 4,096 bytes, and where
-/// memory is out.
-fn read_answer<R: Read>(alloc: Global, reader: &mut R) -> Option<Vec<u8>>
+/// The answer that a connection gives up to its end. `None` where it fails, has not come to its end, or gives more than 4,096 bytes, and
+/// where memory is out.
+pub fn read_answer<R: Read>(alloc: Global, reader: &mut R) -> Option<Vec<u8>>
     ensures came { IfSome result (λ answer.
         Consumes (R.remaining reader.old) (R.remaining reader.new) answer.items) }
     ensures ended { OnSome result (IsAtEnd (R.remaining reader.new)) }
     ensures short { IfSome result (λ answer. length answer.items ≤ 4096) }
 {
-    let Ok(mut answer) = vec![in alloc; 0; LONGEST_ANSWER + 1] else {
-        return None;
-    };
-    match fill_to_end(reader, &mut answer) {
-        Ok(count) => {
-            answer.truncate(count);
-            Some(answer)
-        }
-        Err(_) => None,
-    }
+    let mut answer = vec![in alloc; 0; LONGEST_ANSWER + 1].ok()?;
+    let count = fill_to_end(reader, &mut answer).ok()?;
+    answer.truncate(count);
+    Some(answer)
 }
 
-/// Reads never wait.
 impl Read for Asking {
     fn read(&mut self, buf: &mut [u8]) -> io::Result<usize> {
         self.stream.read(buf)
@@ -129,24 +106,17 @@ impl DeviceConnection for Asking {
 
     ghost gave = { λ path message answer. Unit {0} };
 
-    /// Connects to the signer at a path, and waits for nothing.
-    ///
-    /// # Errors
-    /// `WouldBlock` where the socket has no room for one more connection. What else the system says where nothing listens there, and
-    /// `OutOfMemory`.
+    /// Waits for nothing: an error is `WouldBlock` where the socket has no room for one more connection.
     fn connect(rt: &HostRuntime, path: &str) -> io::Result<Asking>
         ensures ok { IfOk result (IsAsking path.now []) }
         ensures err { Unit {0} }
     {
         let kept = String::from_str(rt.alloc(), path)?;
-        match UnixStream::connect(rt, path) {
-            Ok(stream) => Ok(Asking {
-                stream,
-                path: kept,
-                message: Vec::new(rt.alloc()),
-            }),
-            Err(error) => Err(error),
-        }
+        Ok(Asking {
+            stream: UnixStream::connect(rt, path)?,
+            path: kept,
+            message: Vec::new(rt.alloc()),
+        })
     }
 
     fn finish(&mut self) -> io::Result<()> {

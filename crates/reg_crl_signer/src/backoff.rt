@@ -2,14 +2,12 @@
 
 ghost use Rattle.std.specs.Prelude.{◌≡◌, ◌↔◌, ◌≤◌, ◌<◌, ◌-◌, IsTrue, IfSome, MatchOption, None, OnErr, OnOk, length};
 ghost use Rattle.std.specs.Duration.{as_nanos};
-ghost use Rattle.reg_crl_signer.specs.Backoff.{IsBackedOff};
-ghost use Rattle.reg_crl_signer.specs.BackoffDevices.{ExchangesUnlessBackedOff};
+ghost use Rattle.reg_crl_signer.specs.Backoff.{ExchangesUnlessBackedOff, IsBackedOff};
 
 use crate::device::{Device, DeviceFault};
 use crate::unix_connection::PATIENCE;
 use std::time::{Clock, Duration};
 
-/// How many nanoseconds a signer is not asked after a timeout.
 const REST: u128 = 10_000_000_000;
 
 /// The back-off from a signer: after a timeout it is not asked again for ten seconds. Times are readings of one clock that never goes back.
@@ -20,7 +18,6 @@ pub struct Backoff {
 }
 
 impl Backoff {
-    /// No back-off: the signer is asked.
     pub fn none() -> Backoff
         ensures { result.since ≡ None }
     {
@@ -40,7 +37,6 @@ impl Backoff {
         }
     }
 
-    /// Whether the signer is not to be asked at this time.
     pub fn is_active(&self, now: Duration) -> bool
         ensures { IsTrue result ↔ IsBackedOff self.now.since now }
     {
@@ -51,8 +47,7 @@ impl Backoff {
     }
 }
 
-/// A device with a back-off: after an exchange that failed and took ten seconds, exchanges fail at once for ten seconds, and the device is
-/// not asked. An exchange that fails sooner costs nobody much time, and the next one asks the device.
+/// A device with a back-off. An exchange that fails sooner costs nobody much time, and the next one asks the device.
 #[derive(Drop)]
 pub struct BackoffDevice<D: Device, C: Clock> {
     device: D,
@@ -61,7 +56,6 @@ pub struct BackoffDevice<D: Device, C: Clock> {
 }
 
 impl<D: Device, C: Clock> BackoffDevice<D, C> {
-    /// The device, without a back-off. The clock gives the time by its monotonic readings.
     pub fn new(device: D, clock: C) -> BackoffDevice<D, C>
         ensures device { result.device ≡ device }
         ensures asked { result.backoff.since ≡ None }
@@ -73,10 +67,6 @@ impl<D: Device, C: Clock> BackoffDevice<D, C> {
         }
     }
 
-    /// One exchange that begins at a time of the clock.
-    ///
-    /// # Errors
-    /// [`DeviceFault`] where the back-off is active, and where the device fails.
     fn exchange_at(
         &mut self,
         began: Duration,
@@ -109,7 +99,7 @@ impl<D: Device, C: Clock> BackoffDevice<D, C> {
 }
 
 impl<D: Device, C: Clock> Device for BackoffDevice<D, C> {
-    ghost use Rattle.reg_crl_signer.specs.BackoffDevices.{FailsOrIsBackedOff};
+    ghost use Rattle.reg_crl_signer.specs.Backoff.{FailsOrIsBackedOff};
 
     ghost public_key = { λ it. D.public_key it.device };
 
@@ -147,7 +137,6 @@ impl<D: Device, C: Clock> Device for BackoffDevice<D, C> {
     }
 }
 
-/// The back-off after an exchange that began at a time and has failed by now.
 fn backoff_after<C: Clock>(clock: &C, began: Duration) -> Backoff
     ensures { IfSome result.since (λ since. 10000000000 ≤ as_nanos since - as_nanos began) }
 {

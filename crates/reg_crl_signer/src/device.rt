@@ -37,10 +37,7 @@ pub trait Device {
         ensures { result.now ≡ public_key self.now };
 
     /// One exchange: the whole message goes in, and the answer comes out, up to its end. Returns its length; the answer is
-    /// the front of `room`, and shorter than it. No more than `room` holds is read, and that is at most 4,097 bytes.
-    ///
-    /// # Errors
-    /// [`DeviceFault`] where the device fails, or its answer leaves no room.
+    /// the front of `room`, and shorter than it. No more than `room` holds is read.
     fn exchange(&mut self, message: &[u8], room: &mut [u8]) -> Result<usize, DeviceFault>
         requires { length room.old ≤ 4097 }
         ensures { Exchanges public_key place asked answers fails

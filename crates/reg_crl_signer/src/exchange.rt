@@ -25,18 +25,11 @@ pub trait DeviceConnection: Read + Write {
     // Over another kind of connection, what listens at the path answered this message so.
     ghost gave: { List ℕ → List ℕ → List ℕ → Type 0 };
 
-    /// Connects to the socket at a path.
-    ///
-    /// # Errors
-    /// What the system says, where nothing listens there or no connection is taken.
     fn connect(rt: &HostRuntime, path: &str) -> io::Result<Self>
         ensures ok { IfOk result (connected path.now) }
         ensures err { OnErr result (unconnected path.now) };
 
     /// Tells the peer that no more is written.
-    ///
-    /// # Errors
-    /// What the system says, where the peer can't be told.
     fn finish(&mut self) -> io::Result<()>
         ensures { OnOk result (finished self.old self.new) };
 }
@@ -52,7 +45,6 @@ pub struct SocketDevice<L: DeviceConnection> {
 }
 
 impl<L: DeviceConnection> SocketDevice<L> {
-    /// The device that listens at a path, with the public key that its signatures are to be verified with.
     pub fn new(rt: HostRuntime, path: String, key: Vec<u8>) -> SocketDevice<L>
         ensures path { result.path ≡ path }
         ensures key { result.key ≡ key }
@@ -75,12 +67,12 @@ impl<L: DeviceConnection + Drop> Device for SocketDevice<L> {
 
     ghost place = { λ it. string_bytes it.path };
 
-    ghost asked = { GivesBackAt L.connected L.Read.remaining L.Write.contents L.finished };
+    ghost asked = { GivesBackAt L.Read.remaining L.Write.contents L.finished L.connected };
 
     // What listens at some path answered so, over such a connection or another kind.
     ghost answers = { λ key message answer.
         ((path : List ℕ)
-        × GivesBackAt L.connected L.Read.remaining L.Write.contents L.finished path message answer)
+        × GivesBackAt L.Read.remaining L.Write.contents L.finished L.connected path message answer)
         ⊎ ((path : List ℕ) × ∥ L.gave path message answer ∥₁) };
 
     ghost gave = { L.gave };
@@ -105,8 +97,6 @@ impl<L: DeviceConnection + Drop> Device for SocketDevice<L> {
     fn rouse(&mut self) {}
 }
 
-/// One exchange over a connection: the whole message goes out, the peer is told that no more comes, and its answer is read
-/// to the end.
 fn converse<L: DeviceConnection>(
     link: &mut L,
     message: &[u8],

@@ -20,9 +20,7 @@ const ED25519_KEY: usize = 32;
 const ED25519_SIGNATURE: usize = 64;
 
 impl Algorithm {
-    /// Whether the bytes are a public key of the algorithm by their form, as the bits of a subjectPublicKey
-    /// (RFC 5280 4.1.2.7): a point of P-256 or of P-384, uncompressed or compressed (RFC 5480 2.2); an RSAPublicKey
-    /// (RFC 8017 A.1.1); or the 32 octets of Ed25519 (RFC 8410 4).
+    /// Whether the bytes are a public key of the algorithm by their form, as the bits of a subjectPublicKey (RFC 5280 4.1.2.7).
     pub fn is_key(self, key: &[u8]) -> bool
         ensures { IsTrue result ↔ IsKeyOf self key.now }
     {
@@ -34,9 +32,7 @@ impl Algorithm {
         }
     }
 
-    /// Whether the bytes are a signature under the key by their form: the DER of r and s, positive and below 2^256 or
-    /// 2^384, with ECDSA (RFC 3279 2.2.3); as many octets as the key's modulus has, with RSA (RFC 8017 8.2.1); 64 octets
-    /// with Ed25519 (RFC 8032 5.1.6). Whether it verifies is not looked at.
+    /// Whether the bytes are a signature under the key by their form. Whether it verifies is not looked at.
     pub fn is_signature(self, key: &[u8], signature: &[u8]) -> bool
         ensures { IsTrue result ↔ IsSignature self key.now signature.now }
     {
@@ -61,7 +57,6 @@ pub fn has_form(identifier: &[u8], key: &[u8], signature: &[u8]) -> bool
     }
 }
 
-/// Whether the bytes are a point whose coordinates have so many octets.
 fn is_point(key: &[u8], octets: usize) -> bool
     requires { octets < 100 }
     ensures { IsTrue result ↔ IsPoint octets key.now }
@@ -73,7 +68,6 @@ fn is_point(key: &[u8], octets: usize) -> bool
     }
 }
 
-/// Whether the bytes are an Ecdsa-Sig-Value of two numbers of at most so many octets.
 fn is_ecdsa_value(signature: &[u8], octets: usize) -> bool
     ensures { IsTrue result ↔ IsEcdsaValue (256 ^ octets) signature.now }
 {
@@ -83,7 +77,6 @@ fn is_ecdsa_value(signature: &[u8], octets: usize) -> bool
     }
 }
 
-/// Whether the bytes are an RSAPublicKey with a modulus of so many octets.
 fn has_modulus_of(key: &[u8], octets: usize) -> bool
     ensures { IsTrue result ↔ IsRsaKey key.now octets }
 {

@@ -11,7 +11,6 @@ use crate::signer::{DeviceSigner, count_failure};
 use reg_crl::{DigestSeal, SignFault, Signer};
 use std::alloc::Global;
 
-/// The signer of a register.
 #[derive(Drop)]
 pub enum KeyOrDigest<D: Device> {
     /// The issuer's key.

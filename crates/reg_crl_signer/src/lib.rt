@@ -4,7 +4,6 @@
 mod algorithm;
 mod asking;
 mod backoff;
-mod certified;
 mod device;
 mod exchange;
 mod forms;
@@ -15,10 +14,9 @@ mod signed;
 mod signer;
 mod unix_connection;
 
-pub use algorithm::Algorithm;
-pub use asking::Asking;
+pub use algorithm::{Algorithm, is_key_identifier};
+pub use asking::{Asking, read_answer};
 pub use backoff::{Backoff, BackoffDevice};
-pub use certified::is_key_identifier;
 pub use device::{Device, DeviceFault};
 pub use exchange::{DeviceConnection, SocketDevice};
 pub use forms::has_form;

@@ -6,10 +6,8 @@ ghost use Rattle.reg_crl_signer.specs.Forms.{BeginsPositive, HasOctets, HoldsPai
 
 use reg_der::take;
 
-/// The tag octet of an INTEGER (X.690 8.3).
 const INTEGER: u8 = 0x02;
 
-/// The tag octet of a SEQUENCE (X.690 8.9).
 const SEQUENCE: u8 = 0x30;
 
 /// The first octet of an INTEGER that is not negative is below this (X.690 8.3.3).
@@ -47,7 +45,6 @@ fn take_positive(bytes: &[u8]) -> Option<(usize, &[u8])>
     Some((octets_of(value.contents)?, rest))
 }
 
-/// How many octets the number above 0 has whose INTEGER has these contents. `None` where they are those of no such number.
 fn octets_of(contents: &[u8]) -> Option<usize>
     ensures { MatchOption result ((number : ℕ) → 0 < number → ¬ IsInteger contents.now number)
         (λ count. (number : ℕ) × (0 < number) × IsInteger contents.now number × HasOctets number count) }

@@ -5,9 +5,7 @@ ghost use Rattle.std.specs.Prelude.{◌≡◌, Some, IfSome};
 /// A preset signature: the answer to a message for which others asked the device before the signature is wanted, or that there was none.
 #[derive(Drop)]
 pub struct Primed {
-    /// The message to be signed.
     pub message: Vec<u8>,
-    /// The answer; `None` where there was none in time.
     pub answer: Option<Vec<u8>>,
 }
 

@@ -11,7 +11,6 @@ use crate::primed::{Primed, answer_to};
 use reg_crl::{SignFault, Signer};
 use std::alloc::Global;
 
-/// The most bytes of an answer.
 pub(crate) const LONGEST_ANSWER: usize = 4_096;
 
 /// The device's key is none of the algorithm.
@@ -27,7 +26,6 @@ pub struct DeviceSigner<D: Device> {
     device: D,
     algorithm: Algorithm,
     failures: u64,
-    /// The preset of the next signature, for which the device is not asked then.
     primed: Option<Primed>,
     ghost came: { IsPrimed (D.gave (D.place device)) primed },
 }
@@ -35,9 +33,6 @@ pub struct DeviceSigner<D: Device> {
 impl<D: Device + Drop> DeviceSigner<D> {
     ghost use Rattle.reg_crl_signer.specs.DeviceSigners.{AsksAtItsPlace, GivesNone, IsNew, SigningByDevice, SignsByDevice, device_identity};
 
-    /// The signer over a device that has not failed yet.
-    ///
-    /// # Errors
     /// [`KeyFault`] where the device's public key is none of the algorithm by its form.
     pub fn new(device: D, algorithm: Algorithm) -> Result<DeviceSigner<D>, KeyFault>
         ensures ok { IfOk result (IsNew D.Device device algorithm) }
@@ -66,7 +61,7 @@ impl<D: Device + Drop> DeviceSigner<D> {
         self.primed = primed;
     }
 
-    /// Asks the device for a signature, and whether it gave one, which is then all of `answer`.
+    /// Whether the device gave a signature, which is then all of `answer`.
     fn ask(&mut self, message: &[u8], answer: &mut Vec<u8>) -> bool
         requires { vec_len answer.old ≤ 4097 }
         ensures signed { OnTrue result
@@ -88,7 +83,6 @@ impl<D: Device + Drop> DeviceSigner<D> {
         }
     }
 
-    /// A signature of the message: what the device answers, where that has the form of one.
     fn sign_asking(&mut self, alloc: Global, message: &[u8]) -> Result<Vec<u8>, SignFault>
         requires { self.old.primed ≡ None }
         ensures signing { SigningByDevice D.Device self.old self.new message.now result }
@@ -101,7 +95,6 @@ impl<D: Device + Drop> DeviceSigner<D> {
         Err(count_failure(&mut self.failures))
     }
 
-    /// A signature of the message: the preset one, where that is for this message and has the form of one.
     fn sign_primed(&mut self, primed: Primed, message: &[u8]) -> Result<Vec<u8>, SignFault>
         requires { IsPrimed (D.gave (D.place self.old.device)) (Some primed) }
         ensures signing { SigningByDevice D.Device self.old self.new message.now result }
@@ -116,7 +109,6 @@ impl<D: Device + Drop> DeviceSigner<D> {
         }
     }
 
-    /// Whether an answer is a signature by its form, and short enough for one.
     fn is_signature(&self, answer: &[u8]) -> bool
         ensures { OnTrue result (IsSignature self.now.algorithm (D.public_key self.now.device) answer.now
             × (length answer.now ≤ 4096)) }
@@ -145,7 +137,6 @@ impl<D: Device + Drop> Signer for DeviceSigner<D> {
         Some(self.device.public_key())
     }
 
-    /// A signature of the message: the device's answer, now or as it was preset, where that has the form of one.
     fn sign(&mut self, alloc: Global, message: &[u8]) -> Result<Vec<u8>, SignFault>
         ensures signing { SigningByDevice D.Device self.old self.new message.now result }
         ensures asks { AsksAtItsPlace D.Device self.old self.new message.now result }

@@ -29,21 +29,12 @@ pub struct UnixConnection {
     began: Instant,
 }
 
-impl UnixConnection {
-    /// How much is left of the time.
-    ///
-    /// # Errors
-    /// `TimedOut` where nothing is.
-    fn left(&self) -> io::Result<Duration> {
-        left_now(&self.rt, self.began)
-    }
-}
-
-/// A signal that comes while it waits ends no read.
+/// A signal that comes while it waits ends no read, and no write.
 impl Read for UnixConnection {
     fn read(&mut self, buf: &mut [u8]) -> io::Result<usize> {
         for _ in 0..u64::MAX {
-            self.stream.set_read_timeout(Some(self.left()?))?;
+            self.stream
+                .set_read_timeout(Some(left_now(&self.rt, self.began)?))?;
             match self.stream.read(buf) {
                 Err(error) if error.kind() == ErrorKind::Interrupted => {}
                 ended => return ended,
@@ -53,12 +44,12 @@ impl Read for UnixConnection {
     }
 }
 
-/// A signal that comes while it waits ends no write.
 impl Write for UnixConnection {
     fn write(&mut self, bytes: &[u8]) -> io::Result<usize> {
         let piece = &bytes[..bytes.len().min(LONGEST_PIECE)];
         for _ in 0..u64::MAX {
-            self.stream.set_write_timeout(Some(self.left()?))?;
+            self.stream
+                .set_write_timeout(Some(left_now(&self.rt, self.began)?))?;
             match self.stream.write(piece) {
                 Err(error) if error.kind() == ErrorKind::Interrupted => {}
                 ended => return ended,
@@ -91,7 +82,11 @@ impl DeviceConnection for UnixConnection {
         for _ in 0..u64::MAX {
             let left = left_now(rt, began)?;
             match UnwaitingStream::connect(rt, path) {
-                Ok(stream) => return waiting_connection(rt, UnixStream::from(stream), began),
+                Ok(stream) => {
+                    let (rt, stream) = (*rt, UnixStream::from(stream));
+                    stream.set_nonblocking(false)?;
+                    return Ok(UnixConnection { rt, stream, began });
+                }
                 Err(error) if error.kind() == ErrorKind::WouldBlock => {
                     thread::sleep(rt, left.min(Duration::from_millis(PAUSE_MILLIS)));
                 }
@@ -108,32 +103,11 @@ impl DeviceConnection for UnixConnection {
     }
 }
 
-/// The connection over a stream, whose reads and writes are made to wait.
-fn waiting_connection(
-    rt: &HostRuntime,
-    stream: UnixStream,
-    began: Instant,
-) -> io::Result<UnixConnection> {
-    stream.set_nonblocking(false)?;
-    Ok(UnixConnection {
-        rt: *rt,
-        stream,
-        began,
-    })
-}
-
-/// How much is left by the clock of the time of an exchange that began at an instant.
-///
-/// # Errors
-/// `TimedOut` where nothing is.
+/// How much is left by the clock of the time of an exchange that began at an instant; `TimedOut` where nothing is.
 fn left_now(rt: &HostRuntime, began: Instant) -> io::Result<Duration> {
-    match time_left(began, Instant::now(rt)?) {
-        Some(left) => Ok(left),
-        None => Err(io::Error::from(ErrorKind::TimedOut)),
-    }
+    time_left(began, Instant::now(rt)?).ok_or(io::Error::from(ErrorKind::TimedOut))
 }
 
-/// How much is left of the time of an exchange that began at an instant. `None` where nothing is.
 fn time_left(began: Instant, now: Instant) -> Option<Duration>
     ensures { MatchOption result (10000000000 ≤ instant_nanos now - instant_nanos began)
         (λ left. (as_nanos left + (instant_nanos now - instant_nanos began) ≡ 10000000000)

@@ -1,5 +1,3 @@
-//! Key identifiers that an issuer has of its own, as they are kept behind its Name.
-
 ghost use Rattle.std.specs.Prelude.{◌≡◌, ◌+◌, ◌<◌, ◌≤◌, length, IfSome, IsSome, IsTrue, ◌↔◌, unwrap_or, []};
 ghost use Rattle.reg_core.specs.Integer.{value};
 ghost use Rattle.reg_der.specs.Authority as authority;
@@ -11,10 +9,8 @@ use reg_core::Label;
 /// The tag octet [0] of a key identifier (RFC 5280 4.2.1.1).
 pub(crate) const KEY_IDENTIFIER: u8 = 0x80;
 
-/// How many octets tell the number of the first CRL that has it.
 const NUMBER_OCTETS: usize = 8;
 
-/// The most octets of a number and a key identifier.
 const MOST_OCTETS: usize = 72;
 
 /// A key identifier of an issuer's own, and the number of the first CRL that has it.
@@ -24,7 +20,6 @@ pub struct KeyIdentifier {
     pub octets: Label,
 }
 
-/// The number that the octets spell, the highest first.
 fn number(octets: &[u8]) -> u64
     requires { length octets.now ≤ 8 }
     ensures { result ≡ value octets.now }
@@ -36,7 +31,6 @@ fn number(octets: &[u8]) -> u64
     number
 }
 
-/// The key identifier at the front, and what follows.
 #[tactic(auto, unfolding(crate::specs::Authority::identifier_at))]
 fn front(bytes: &[u8]) -> Option<(KeyIdentifier, &[u8])>
     ensures exact { Gives (λ x. (x.0, x.1.now)) result (authority.identifier_at bytes.now) }

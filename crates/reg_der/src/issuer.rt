@@ -1,5 +1,3 @@
-//! The issuer of CRLs and OCSP responses: its name and its key.
-
 ghost use Rattle.std.specs.Prelude.{◌≡◌, ◌≤◌, ◌↔◌, ◌++◌, length, IfOk, IfSome, OnOk, IsErrOf, IsTrue};
 ghost use Rattle.sha1.specs.Sha1.{sha1};
 ghost use Rattle.reg_der.specs.Authority.{IsIssuerName, IsKey, IsKept, IsIssuer, name_in, behind_name, name_of, identifier_value, key_identifier_at, others_than, with_identifier, HasIdentifier};
@@ -7,19 +5,16 @@ ghost use Rattle.reg_der.specs.declared.issuer.IssuerFault.TheVariants.{Memory};
 
 use crate::identifiers::{KEY_IDENTIFIER, are_identifiers, identifier_for, others_than};
 use crate::reading::take;
-use crate::writing::put;
+use crate::writing::{copy_of, put, put_raw};
 use reg_core::{Label, Memory};
 use sha1::Sha1;
 use std::alloc::{AllocError, Global};
 use std::marker::Model;
 
-/// The tag octet of a SEQUENCE (X.690 8.9).
 const SEQUENCE: u8 = 0x30;
 
-/// The longest name, in bytes.
 const LONGEST_NAME: usize = 1_024;
 
-/// The longest key, in bytes.
 const LONGEST_KEY: usize = 2_048;
 
 /// Why a name and a key make no issuer.
@@ -29,7 +24,6 @@ pub enum IssuerFault {
     BadName,
     /// The key has no byte, or more than 2,048.
     BadKey,
-    /// Memory could not be had.
     Memory,
 }
 
@@ -63,11 +57,10 @@ impl Model for Issuer {
 }
 
 impl Issuer {
-    /// The issuer with this name and this key, or the first of the faults that there is, in their order.
+    /// The issuer with this name and key and no key identifier of its own, or the first of the faults that there is.
     ///
-    /// The name is one DER value of tag 30h with contents, of at most 1,024 bytes in all (RFC 5280 4.1.2.4). The key is
-    /// the contents of the subjectPublicKey BIT STRING without tag, length and the octet that counts unused bits, 1 to
-    /// 2,048 bytes (RFC 5280 4.1.2.7). It has no key identifier of its own.
+    /// The name is one DER value of tag 30h with contents, of at most 1,024 bytes in all (RFC 5280 4.1.2.4). The key is the
+    /// contents of the subjectPublicKey BIT STRING behind the octet that counts unused bits, 1 to 2,048 bytes (4.1.2.7).
     pub fn new(alloc: Global, name: &[u8], key: &[u8]) -> Result<Issuer, IssuerFault>
         ensures ok { IfOk result (λ issuer. (issuer.name ≡ name.now) × (issuer.key ≡ key.now)) }
         ensures good { OnOk result (IsIssuerName name.now × IsKey key.now) }
@@ -81,10 +74,8 @@ impl Issuer {
         }
     }
 
-    /// The issuer of which this is kept beside its key, or the first of the faults that there is, in their order.
-    ///
-    /// `BadName` where it isn't a Name as [`new`](Issuer::new) takes it, and behind it key identifiers and nothing else;
-    /// `BadKey` as there.
+    /// The issuer of which this is kept beside its key. `BadName` where it isn't a Name as [`new`](Issuer::new) takes it, and
+    /// behind it key identifiers and nothing else; else `BadKey` as there.
     pub fn of_kept(alloc: Global, kept: &[u8], key: &[u8]) -> Result<Issuer, IssuerFault>
         ensures ok { IfOk result (λ issuer. (issuer.name ≡ kept.now) × (issuer.key ≡ key.now)) }
         ensures good { OnOk result (IsKept kept.now × IsKey key.now) }
@@ -104,9 +95,6 @@ impl Issuer {
 
     /// The same issuer with one key identifier more, which its CRLs have from this number on; those with lower numbers have
     /// what they had (`laws::identifiers_follow`). One from the same number on is replaced.
-    ///
-    /// # Errors
-    /// `Memory` where memory could not be had.
     pub fn with_key_identifier(
         &self,
         alloc: Global,
@@ -117,7 +105,7 @@ impl Issuer {
         ensures follows { HasIdentifier self.now first octets }
     {
         let name = kept_with(alloc, &self.name, first, octets.as_bytes())?;
-        let key = bytes_of(alloc, &self.key)?;
+        let key = copy_of(alloc, &self.key)?;
         Ok(Issuer { name, key })
     }
 
@@ -182,7 +170,6 @@ fn parts(kept: &[u8]) -> (&[u8], &[u8])
     }
 }
 
-/// Whether the bytes are a Name, and behind it key identifiers and nothing else.
 fn is_kept(kept: &[u8]) -> bool
     ensures { IsTrue result ↔ IsKept kept.now }
 {
@@ -190,16 +177,15 @@ fn is_kept(kept: &[u8]) -> bool
     is_name(name) && are_identifiers(behind)
 }
 
-/// What is kept of a Name, with one key identifier more. One from the same number on is replaced.
 fn kept_with(alloc: Global, kept: &[u8], first: u64, octets: &[u8]) -> Result<Vec<u8>, Memory>
     requires { length octets.now ≤ 64 }
     ensures { IfOk result (λ made. made.items
         ≡ (name_in kept.now ++ identifier_value first octets.now) ++ others_than first (behind_name kept.now)) }
 {
     let (name, behind) = parts(kept);
-    let mut made = bytes_of(alloc, name)?;
+    let mut made = copy_of(alloc, name)?;
     put_identifier(alloc, &mut made, first, octets)?;
-    append(&mut made, others_than(behind, first))?;
+    put_raw(&mut made, others_than(behind, first))?;
     Ok(made)
 }
 
@@ -209,23 +195,9 @@ fn put_identifier(alloc: Global, out: &mut Vec<u8>, first: u64, octets: &[u8]) -
     requires { length octets.now ≤ 64 }
     ensures { OnOk result (out.new.items ≡ out.old.items ++ identifier_value first octets.now) }
 {
-    let mut contents = bytes_of(alloc, &first.to_be_bytes())?;
-    append(&mut contents, octets)?;
+    let mut contents = copy_of(alloc, &first.to_be_bytes())?;
+    put_raw(&mut contents, octets)?;
     put(out, KEY_IDENTIFIER, &contents)
-}
-
-/// These bytes as a vector.
-fn bytes_of(alloc: Global, bytes: &[u8]) -> Result<Vec<u8>, Memory>
-    ensures { IfOk result (λ made. made.items ≡ bytes.now) }
-{
-    Vec::from_slice(alloc, bytes).map_err(|_| Memory)
-}
-
-/// Appends bytes as they are.
-fn append(out: &mut Vec<u8>, bytes: &[u8]) -> Result<(), Memory>
-    ensures { OnOk result (out.new.items ≡ out.old.items ++ bytes.now) }
-{
-    out.extend_from_slice(bytes).map_err(|_| Memory)
 }
 
 fn is_name(name: &[u8]) -> bool

@@ -11,4 +11,6 @@ mod writing;
 pub use identifiers::KeyIdentifier;
 pub use issuer::{Issuer, IssuerFault};
 pub use reading::{Tlv, take};
-pub use writing::{put, put_bits, put_general, put_number, put_serial, put_utc_or_general};
+pub use writing::{
+    copy_of, put, put_bits, put_general, put_number, put_raw, put_serial, put_utc_or_general,
+};

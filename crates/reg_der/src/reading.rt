@@ -8,9 +8,7 @@ ghost use Rattle.reg_der.specs.ValueReading.{Gives, Parts, long_at, length_at, c
 /// A value as it stands in the bytes that it was taken from.
 #[derive(Clone, Copy)]
 pub struct Tlv<'a> {
-    /// The tag octet.
     pub tag: u8,
-    /// The contents octets.
     pub contents: &'a [u8],
     /// The whole value: tag, length and contents.
     pub raw: &'a [u8],
@@ -22,7 +20,6 @@ const HIGH_TAG: u8 = 0x1F;
 /// The first octet of a length above 127 is this and the count of the octets that follow (X.690 8.1.3.5).
 const LONG_FORM: u8 = 0x80;
 
-/// The number that the digits spell, the highest first.
 fn number(digits: &[u8]) -> usize
     requires { length digits.now ≤ 4 }
     ensures { result ≡ value digits.now }
@@ -83,7 +80,6 @@ fn counted(bytes: &[u8]) -> Option<(&[u8], &[u8])>
     Some(rest.split_at(length))
 }
 
-/// The tag and the contents of the value at the front, and what follows.
 #[tactic(auto, unfolding(crate::specs::ValueReading::value_at))]
 fn front(bytes: &[u8]) -> Option<(u8, &[u8], &[u8])>
     ensures exact { Gives (λ x. (record { tag = x.0; contents = x.1.now }, x.2.now)) result (value_at bytes.now) }
@@ -97,10 +93,8 @@ fn front(bytes: &[u8]) -> Option<(u8, &[u8], &[u8])>
     Some((*tag, contents, rest))
 }
 
-/// The value at the front, and what follows.
-///
-/// A value is a tag of one octet, the length in the fewest octets, at most five, and the contents. `None` where no prefix
-/// of the bytes is a value. No two prefixes are (`laws::no_two_prefixes`).
+/// The value at the front, and what follows: a tag of one octet, the length in the fewest octets, at most five, and the
+/// contents. `None` where no prefix of the bytes is a value. No two prefixes are (`laws::no_two_prefixes`).
 pub fn take(bytes: &[u8]) -> Option<(Tlv<'_>, &[u8])>
     // What is taken is a value, the whole of it, and what follows it.
     ensures found { IfSome result (λ x. IsTlv x.0.raw.now x.0.tag x.0.contents.now × (bytes.now ≡ x.0.raw.now ++ x.1.now)) }

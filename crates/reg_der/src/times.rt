@@ -1,5 +1,3 @@
-//! The texts of times in certificates, CRLs and OCSP responses.
-
 ghost use Rattle.std.specs.Prelude.{◌≡◌, ◌<◌};
 ghost use Rattle.reg_core.specs.Calendar.{IsCivil, two_digits, utc_time, generalized_time};
 
@@ -36,7 +34,6 @@ pub(crate) fn general_text(civil: Civil) -> [u8; 15]
     [y1, y2, y3, y4, m1, m2, d1, d2, h1, h2, n1, n2, s1, s2, b'Z']
 }
 
-/// A number below 100 in two decimal digits.
 fn digits(number: u8) -> [u8; 2]
     requires { number < 100 }
     ensures { result ≡ two_digits number }

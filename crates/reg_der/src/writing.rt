@@ -1,7 +1,7 @@
 //! DER values appended to bytes. Each call appends exactly one value, or leaves the bytes as they were. It asks for memory
 //! once, for the whole value, and only where the bytes haven't the capacity for it.
 
-ghost use Rattle.std.specs.Prelude.{◌≡◌, ℕ, List, ◌∷◌, ◌++◌, ◌+◌, ◌≤◌, ◌<◌, ◌%◌, ◌^◌, length, OnOk, OnErr, vec_capacity};
+ghost use Rattle.std.specs.Prelude.{◌≡◌, ℕ, List, ◌∷◌, ◌++◌, ◌+◌, ◌≤◌, ◌<◌, ◌%◌, ◌^◌, length, IfOk, OnOk, OnErr, vec_capacity};
 ghost use Rattle.reg_core.specs.Integer.{IsInteger, integer, without_zeros, with_clear_bit};
 ghost use Rattle.reg_core.specs.Calendar as calendar;
 ghost use Rattle.reg_der.specs.Der.{IsTlv, tlv, length_octets};
@@ -9,17 +9,14 @@ ghost use Rattle.reg_der.specs.WrittenValues.{integer_value, bits_value, general
 
 use crate::times::{general_text, utc_text};
 use reg_core::{Memory, Moment, Serial};
+use std::alloc::Global;
 
-/// The tag octet of an INTEGER (X.690 8.3).
 const INTEGER: u8 = 0x02;
 
-/// The tag octet of a BIT STRING in primitive form (X.690 8.6, 10.2).
 const BIT_STRING: u8 = 0x03;
 
-/// The tag octet of a UTCTime (X.690 11.8).
 const UTC_TIME: u8 = 0x17;
 
-/// The tag octet of a GeneralizedTime (X.690 11.7).
 const GENERALIZED_TIME: u8 = 0x18;
 
 /// A length below this is one octet. A greater one is its digits, and before them this and their count (X.690 8.1.3).
@@ -28,12 +25,8 @@ const LONG_FORM: u8 = 128;
 /// The last year that is written as a UTCTime (RFC 5280 4.1.2.5).
 const LAST_UTC_YEAR: u16 = 2049;
 
-/// Appends the value of the tag with the contents.
-///
-/// The tag is one octet (its low five bits aren't all ones), and the contents have fewer than 2^32 bytes.
-///
-/// # Errors
-/// `Memory` only where `out` has no capacity for the value. It leaves `out` unchanged.
+/// Appends the value of the tag, one octet whose low five bits aren't all ones, with contents of fewer than 2^32 bytes.
+/// `Memory` only where `out` has no capacity for the value; it leaves `out` unchanged.
 #[tactic(auto, unfolding(crate::specs::Der::tlv))]
 pub fn put(out: &mut Vec<u8>, tag: u8, contents: &[u8]) -> Result<(), Memory>
     requires low_tag { tag % 32 < 31 }
@@ -51,10 +44,22 @@ pub fn put(out: &mut Vec<u8>, tag: u8, contents: &[u8]) -> Result<(), Memory>
     Ok(())
 }
 
-/// Appends the INTEGER of the number.
-///
-/// # Errors
-/// As [`put`].
+/// Appends bytes as they are; `Memory` leaves `out` unchanged.
+pub fn put_raw(out: &mut Vec<u8>, bytes: &[u8]) -> Result<(), Memory>
+    ensures ok { OnOk result (out.new.items ≡ out.old.items ++ bytes.now) }
+    ensures longer { OnOk result (length out.new.items ≡ length out.old.items + length bytes.now) }
+{
+    out.extend_from_slice(bytes).map_err(|_| Memory)
+}
+
+/// A copy of bytes.
+pub fn copy_of(alloc: Global, bytes: &[u8]) -> Result<Vec<u8>, Memory>
+    ensures { IfOk result (λ copy. copy.items ≡ bytes.now) }
+{
+    Vec::from_slice(alloc, bytes).map_err(|_| Memory)
+}
+
+/// Appends the INTEGER of the number; `Memory` as [`put`].
 pub fn put_number(out: &mut Vec<u8>, number: u64) -> Result<(), Memory>
     ensures ok { OnOk result (out.new.items ≡ out.old.items ++ integer_value number) }
     ensures value { IsTlv (integer_value number) 2 (integer number) }
@@ -67,10 +72,7 @@ pub fn put_number(out: &mut Vec<u8>, number: u64) -> Result<(), Memory>
     put_integer(out, &number.to_be_bytes())
 }
 
-/// Appends the INTEGER of the serial number (RFC 5280 4.1.2.2).
-///
-/// # Errors
-/// As [`put`].
+/// Appends the INTEGER of the serial number (RFC 5280 4.1.2.2); `Memory` as [`put`].
 pub fn put_serial(out: &mut Vec<u8>, serial: Serial) -> Result<(), Memory>
     ensures ok { OnOk result (out.new.items ≡ out.old.items ++ integer_value serial) }
     ensures value { IsTlv (integer_value serial) 2 (integer serial) }
@@ -83,12 +85,7 @@ pub fn put_serial(out: &mut Vec<u8>, serial: Serial) -> Result<(), Memory>
     put_integer(out, &serial.bytes20())
 }
 
-/// Appends the BIT STRING of the bytes, all of whose bits are used (X.690 8.6.2.2).
-///
-/// There are fewer than 2^32 - 1 bytes, since one octet of the contents counts unused bits.
-///
-/// # Errors
-/// As [`put`].
+/// Appends the BIT STRING of fewer than 2^32 - 1 bytes, all of whose bits are used (X.690 8.6.2.2); `Memory` as [`put`].
 pub fn put_bits(out: &mut Vec<u8>, bytes: &[u8]) -> Result<(), Memory>
     requires { length bytes.now + 1 < 2 ^ 32 }
     ensures ok { OnOk result (out.new.items ≡ out.old.items ++ bits_value bytes.now) }
@@ -101,11 +98,8 @@ pub fn put_bits(out: &mut Vec<u8>, bytes: &[u8]) -> Result<(), Memory>
     put_behind_zero(out, BIT_STRING, bytes)
 }
 
-/// Appends the moment as RFC 5280 wants its times (4.1.2.5, 5.1.2.4): a UTCTime through the year 2049, a GeneralizedTime
-/// from 2050 on, to the second and in UTC.
-///
-/// # Errors
-/// As [`put`].
+/// Appends the moment as RFC 5280 wants its times (4.1.2.5, 5.1.2.4), in UTC: a UTCTime through the year 2049, a
+/// GeneralizedTime from 2050 on; `Memory` as [`put`].
 #[tactic(auto, unfolding(crate::specs::WrittenValues::time_value, reg_core::specs::Calendar::utc_text, reg_core::specs::Calendar::general_text))]
 pub fn put_utc_or_general(out: &mut Vec<u8>, moment: Moment) -> Result<(), Memory>
     ensures ok { OnOk result (out.new.items ≡ out.old.items ++ time_value moment) }
@@ -123,10 +117,7 @@ pub fn put_utc_or_general(out: &mut Vec<u8>, moment: Moment) -> Result<(), Memor
     }
 }
 
-/// Appends the GeneralizedTime of the moment (RFC 5280 4.1.2.5.2), to the second and in UTC.
-///
-/// # Errors
-/// As [`put`].
+/// Appends the GeneralizedTime of the moment (RFC 5280 4.1.2.5.2), to the second and in UTC; `Memory` as [`put`].
 #[tactic(auto, unfolding(reg_core::specs::Calendar::general_text))]
 pub fn put_general(out: &mut Vec<u8>, moment: Moment) -> Result<(), Memory>
     ensures ok { OnOk result (out.new.items ≡ out.old.items ++ general_value moment) }
@@ -139,7 +130,6 @@ pub fn put_general(out: &mut Vec<u8>, moment: Moment) -> Result<(), Memory>
     put(out, GENERALIZED_TIME, &general_text(moment.civil()))
 }
 
-/// Appends the INTEGER of the number that the octets spell, the highest first.
 fn put_integer(out: &mut Vec<u8>, octets: &[u8]) -> Result<(), Memory>
     requires { length octets.now ≤ 20 }
     ensures ok { OnOk result (out.new.items ≡ out.old.items ++ tlv 2 (with_clear_bit (without_zeros octets.now))) }
@@ -199,7 +189,6 @@ fn start_value(out: &mut Vec<u8>, tag: u8, size: usize) -> Result<(), Memory>
     Ok(())
 }
 
-/// Makes room for so many bytes more.
 fn reserve(out: &mut Vec<u8>, more: usize) -> Result<(), Memory>
     ensures same { out.new.items ≡ out.old.items }
     ensures ok { OnOk result (length out.old.items + more ≤ vec_capacity out.new) }
@@ -219,7 +208,6 @@ fn append(out: &mut Vec<u8>, bytes: &[u8])
     let _ = out.extend_from_slice(bytes);
 }
 
-/// The octets from the first that isn't zero on.
 fn trim_zeros(octets: &[u8]) -> &[u8]
     ensures digits { result.now ≡ without_zeros octets.now }
     ensures shorter { length result.now ≤ length octets.now }

@@ -1,11 +1,41 @@
 //! The program `desk`: the register and status desk of one certification authority.
 #![tactic(auto)]
 
+use reg_desk_cli::{Usage, no_text, read_words};
 use reg_desk_program::run_desk;
-use std::io;
+use std::io::ErrorKind;
 use std::process::ExitCode;
+use std::{env, io};
 
-/// Does what the words say, as [`run_desk`] does.
+/// Reads the words, does the job that they say, and tells by the exit status how it ended: 0 done, or help or the version was asked for; 1 a
+/// fault, with its line on standard error, and the line of its cause if that is asked for and known; 2 words that can't be read, with the
+/// usage on standard error; 3 a reply that was a refusal or a fault, or a last line without its end, at a control socket or in a strict
+/// script or import.
 fn main(rt: HostRuntime) -> io::Result<ExitCode> {
-    run_desk(&rt)
+    let status = match words_of(&rt) {
+        Ok(words) => match read_words(rt.alloc(), words.as_slice()) {
+            Ok(invocation) => run_desk(&rt, &invocation),
+            Err(usage) => tell_usage(&rt, &usage)?,
+        },
+        Err(usage) => tell_usage(&rt, &usage)?,
+    };
+    Ok(ExitCode::from(status))
+}
+
+fn words_of(rt: &HostRuntime) -> Result<Vec<String>, Usage> {
+    match env::args(rt) {
+        Ok(args) => args.collect(rt.alloc()).map_err(|_| Usage::Memory),
+        Err(error) if error.kind() == ErrorKind::InvalidData => Err(no_text(rt.alloc())),
+        Err(_) => Err(Usage::Memory),
+    }
+}
+
+/// Tells help or the version, or why there is no invocation.
+fn tell_usage(rt: &HostRuntime, usage: &Usage) -> io::Result<u8> {
+    match usage {
+        Usage::Help(text) | Usage::Version(text) => print!(rt; "{text}")?,
+        Usage::Bad(text) => eprint!(rt; "{text}")?,
+        Usage::Memory => eprintln!(rt; "F1 memory")?,
+    }
+    Ok(usage.status())
 }

@@ -1,13 +1,12 @@
 -- What clap says of the command line as a whole.
 use Rattle.std.proofs.Common.{◌≡◌, ◌⊎◌, true, List, [], Option, Some, None, Bor, refl, sym, ap, ◌∙◌, subst, inl, inr}
 use Rattle.std.specs.Prelude.{option_map}
-use Rattle.clap.specs.Words.{App, HasKind, HasMatchesOf, IsAmong, Row, Text, fault_of, is_simple, is_simple_and_free, matches_of, subcommand_of}
+use Rattle.clap.specs.Words.{App, HasKind, HasMatchesOf, IsAmong, Row, Text, fault_of, is_simple, is_simple_and_free, matches_of, subcommand_of, found_of, rows_of, subcommand_name_of, subcommand_rows_of}
 use Rattle.clap.specs.declared.error.Error.{Error}
 use Rattle.clap.specs.declared.error.kind.ErrorKind.{ErrorKind}
-use Rattle.clap.specs.declared.error.kind.ErrorKind.TheVariants.{OutOfMemory, ValueValidation}
+use Rattle.clap.specs.declared.error.kind.ErrorKind.TheVariants.{OutOfMemory}
 use Rattle.clap.proofs.OnLiterals.{clap_on_literals}
 use Rattle.std.specs.Box.{box_value}
-use Rattle.clap.specs.Words.{found_of, rows_of, subcommand_name_of, subcommand_rows_of}
 use Rattle.clap.specs.declared.parser.matches.ArgMatches.{ArgMatches}
 use Rattle.clap.specs.declared.parser.matches.ArgMatches.TheViews.{out-ArgMatches, out-SubCommand}
 use Rattle.reg_desk_cli.specs.Desk.{desk_app}
@@ -85,11 +84,11 @@ rows_behind app words m is has = (has (ap is_simple is ∙ simple)).1 ∙ ap (λ
 -- so what was read of it is what the words say
 pub invocations : (app : App) (words : List Text) (m : ArgMatches) (invocation : Invocation) → app ≡ desk_app → (is_simple_and_free app ≡ true → fault_of app words ≡ [])
     → HasMatchesOf app words m → IsInvocationIn (rows_of (found_of m)) (subcommand_rows_of m) invocation → IsInvocationOf words invocation
-invocations app words m invocation is clean has read =
-    let whole : IsInvocationIn (matches_of desk_app words) (subcommand_of desk_app words) invocation =
-    subst (λ before. IsInvocationIn before (subcommand_of desk_app words) invocation) (rows_before app words m is has)
-    (subst (λ found. IsInvocationIn (rows_of (found_of m)) found invocation) (rows_behind app words m is has) read) in
-    ((accepted app words is clean, whole.0), whole.1, whole.2, whole.3)
+invocations app words m invocation is clean has read = (
+  accepted app words is clean,
+  subst (λ before. IsInvocationIn before (subcommand_of desk_app words) invocation) (rows_before app words m is has)
+      (subst (λ found. IsInvocationIn (rows_of (found_of m)) found invocation) (rows_behind app words m is has) read),
+)
 
 pub no_invocation : (app : App) (words : List Text) (m : ArgMatches) (usage : Usage) → app ≡ desk_app → (is_simple_and_free app ≡ true → fault_of app words ≡ [])
     → HasMatchesOf app words m → IsNoInvocation (subcommand_rows_of m) usage → IsUsageOf words usage

@@ -19,7 +19,6 @@ use Rattle.reg_desk_cli.specs.declared.job.Job.{Job}
 use Rattle.reg_desk_cli.specs.declared.job.Job.TheVariants.{Init, Script, Lines, Import, Crl, Serve, Open, At, Schedule, KeyId, Listing, Copy, Audit}
 use Rattle.reg_desk_cli.specs.declared.job.KeyHolder.{KeyHolder}
 use Rattle.reg_desk_cli.specs.declared.job.Invocation.{Invocation}
-use Rattle.reg_desk_cli.specs.declared.commands.Terms.{Terms}
 use Rattle.reg_desk_cli.specs.declared.job.Usage.{Usage}
 use Rattle.reg_desk_cli.specs.declared.job.Way.{Way}
 use Rattle.reg_desk_cli.specs.declared.job.Usage.TheVariants.{Help, Version, Bad, Memory}
@@ -99,31 +98,25 @@ abbrev pub script_by : Option Text → Option KeyHolder → Way → Option Job
 script_by None signer way = if way.is_clocked || way.is_strict then None else Some (Script None signer)
 script_by (Some file) signer way = if way.is_clocked || way.is_strict then Some (Lines (record { file = file; signer = signer; way = way })) else Some (Script (Some file) signer)
 
--- what an issuer is to keep to; what is left out is as in the usual policy
-unfoldable pub terms_of : List Row → Option Terms
-terms_of rows = do
-  days ← given_or 398 (codes "days") rows
-  crl_life ← given_or 691200 (codes "crl-life") rows
-  ocsp_life ← given_or 345600 (codes "ocsp-life") rows
-  cap ← given_or 1000000 (codes "cap") rows
-  Some (record { days = days; crl_life = crl_life; ocsp_life = ocsp_life; cap = cap })
-
--- each command by its words and options
+-- each command by its words and options; the terms of a policy that are left out are the usual ones
 unfoldable pub init_of : List Row → Option Job
 init_of rows = do
   file ← first_of (codes "file") rows
   name ← first_of (codes "name") rows
   key ← first_of (codes "key") rows
-  terms ← terms_of rows
+  days ← given_or 398 (codes "days") rows
+  crl_life ← given_or 691200 (codes "crl-life") rows
+  ocsp_life ← given_or 345600 (codes "ocsp-life") rows
+  cap ← given_or 1000000 (codes "cap") rows
   Some (Init (record {
     file = file;
     name = name;
     key = key;
     key_id = first_of (codes "key-id") rows;
-    days = terms.days;
-    crl_life = terms.crl_life;
-    ocsp_life = terms.ocsp_life;
-    cap = terms.cap;
+    days = days;
+    crl_life = crl_life;
+    ocsp_life = ocsp_life;
+    cap = cap;
   }))
 
 unfoldable pub script_of : List Row → Option Job
@@ -247,36 +240,20 @@ told_behind id found = option_and_then (λ found. first_of id found.1) found
 abbrev pub job_of : List Text → Option Job
 job_of words = job_found (subcommand_of desk_app words)
 
--- whether words ask for the cause of a fault, by `--why` before the command or behind it
-abbrev pub asks_cause : List Text → Bool
-asks_cause words = is_given (codes "why") (matches_of desk_app words) || is_given_behind (codes "why") (subcommand_of desk_app words)
-
--- whether words ask for a log, by `--log` behind the command
-abbrev pub asks_log : List Text → Bool
-asks_log words = is_given_behind (codes "log") (subcommand_of desk_app words)
-
--- the file of a log that words tell, by `--log-file` behind the command
-abbrev pub log_file_of : List Text → Option Text
-log_file_of words = told_behind (codes "log-file") (subcommand_of desk_app words)
-
 -- clap accepts the words
 abbrev pub ClapAccepts : List Text → Type 0
 ClapAccepts words = fault_of desk_app words ≡ []
 
--- clap accepts the words, and they say the job
-abbrev pub IsJobOf : List Text → Job → Type 0
-IsJobOf words job = ClapAccepts words × (job_of words ≡ Some job)
-
--- clap accepts the words, and they say the job and what is told beside it
-abbrev pub IsInvocationOf : List Text → Invocation → Type 0
-IsInvocationOf words invocation = IsJobOf words invocation.job × (invocation.is_explained ≡ asks_cause words) × (invocation.has_log ≡ asks_log words)
-    × (invocation.log_file ≡ log_file_of words)
-
--- the same, of what was found before the command and behind it
+-- what was found before the command and behind it says the job, and what is told beside it: whether the cause of a fault is asked for,
+-- by `--why` before or behind, and a log, by `--log` and `--log-file` behind
 abbrev pub IsInvocationIn : List Row → Option (Text × List Row) → Invocation → Type 0
 IsInvocationIn before found invocation = (job_found found ≡ Some invocation.job)
     × (invocation.is_explained ≡ (is_given (codes "why") before || is_given_behind (codes "why") found)) × (invocation.has_log ≡ is_given_behind (codes "log") found)
     × (invocation.log_file ≡ told_behind (codes "log-file") found)
+
+-- clap accepts the words, and they say so
+abbrev pub IsInvocationOf : List Text → Invocation → Type 0
+IsInvocationOf words invocation = ClapAccepts words × IsInvocationIn (matches_of desk_app words) (subcommand_of desk_app words) invocation
 
 -- what is answered for an error of a kind: help for help, the version for the version, and bad words for the rest, unless memory runs out
 abbrev pub TellsUsage : ErrorKind → Usage → Type 0

@@ -13,7 +13,6 @@ use reg_core::{Fault, Label, Memory, Policy, Schedule};
 use reg_der::{Issuer, IssuerFault};
 use std::alloc::Global;
 
-/// The number of a register's first CRL.
 const FIRST_CRL: u64 = 1;
 
 /// The issuer whose Name and key the two words write in hexadecimal. `BadIssuer` where a word is no hexadecimal
@@ -69,7 +68,6 @@ pub fn identified_issuer_of(
     }
 }
 
-/// The bytes that a word writes in hexadecimal.
 fn bytes_of(alloc: Global, word: &Word<'_>) -> Result<Vec<u8>, Failure>
     ensures ok { IfOk result (λ bytes. decode_of word.now ≡ Ok bytes.items) }
     ensures err { IfErr result (λ failure. (failure ≡ Failure.Fault Fault.Memory)

@@ -2,7 +2,7 @@
 
 ghost use Rattle.std.specs.Prelude.{◌≡◌, codes, IfOk};
 ghost use Rattle.clap.specs.Words.{found_of, rows_of};
-ghost use Rattle.reg_desk_cli.specs.Jobs.{job_in, serving_job_in, keeping_job_in, init_of, terms_of, script_by, script_of, import_of, crl_job, number_in, serve_of, open_of, at_of, schedule_of, key_id_of, form_in, list_of, copy_of, audit_of};
+ghost use Rattle.reg_desk_cli.specs.Jobs.{job_in, serving_job_in, keeping_job_in, init_of, script_by, script_of, import_of, crl_job, number_in, serve_of, open_of, at_of, schedule_of, key_id_of, form_in, list_of, copy_of, audit_of};
 
 use crate::given_values::{
     answerer, chosen_holder, is_set, key_holder, moment, moment_if_given, number_if_given,
@@ -17,15 +17,6 @@ use clap::ArgMatches;
 use reg_core_lists::{Cursor, Form};
 use std::alloc::{AllocError, Global};
 
-/// What a new register is to keep to.
-#[derive(Clone, Copy)]
-struct Terms {
-    days: u64,
-    crl_life: u64,
-    ocsp_life: u64,
-    cap: u64,
-}
-
 /// The most days of validity of the usual policy.
 const USUAL_DAYS: u64 = 398;
 
@@ -38,7 +29,6 @@ const USUAL_OCSP_LIFE: u64 = 345_600;
 /// The most rows of a table of the usual policy.
 const USUAL_CAP: u64 = 1_000_000;
 
-/// The job of a command by its name.
 #[tactic(auto, unfolding(crate::specs::Jobs::job_in))]
 pub(crate) fn read_command<'a>(
     alloc: Global,
@@ -108,32 +98,16 @@ fn read_keeping<'a>(
 fn read_init<'a>(given: &ArgMatches<'a>) -> Option<Job<'a>>
     ensures { result ≡ init_of (rows_of (found_of given.now)) }
 {
-    let file = word_of(given, "file")?;
-    let name = word_of(given, "name")?;
-    let key = word_of(given, "key")?;
-    let terms = read_terms(given)?;
     Some(Job::Init(NewRegister {
-        file,
-        name,
-        key,
+        file: word_of(given, "file")?,
+        name: word_of(given, "name")?,
+        key: word_of(given, "key")?,
         key_id: word_of(given, "key-id"),
-        days: terms.days,
-        crl_life: terms.crl_life,
-        ocsp_life: terms.ocsp_life,
-        cap: terms.cap,
-    }))
-}
-
-#[tactic(auto, unfolding(crate::specs::Jobs::terms_of))]
-fn read_terms(given: &ArgMatches<'_>) -> Option<Terms>
-    ensures { result ≡ terms_of (rows_of (found_of given.now)) }
-{
-    Some(Terms {
         days: number_or(given, "days", USUAL_DAYS)?,
         crl_life: number_or(given, "crl-life", USUAL_CRL_LIFE)?,
         ocsp_life: number_or(given, "ocsp-life", USUAL_OCSP_LIFE)?,
         cap: number_or(given, "cap", USUAL_CAP)?,
-    })
+    }))
 }
 
 #[tactic(auto, unfolding(crate::specs::Jobs::script_of))]
@@ -181,7 +155,6 @@ fn read_crl<'a>(given: &ArgMatches<'a>) -> Option<Job<'a>>
     })
 }
 
-/// The TCP port that is given.
 fn port_of(given: &ArgMatches<'_>) -> Option<u16>
     ensures { result ≡ number_in 1 65535 (codes "port") (rows_of (found_of given.now)) }
 {
@@ -269,7 +242,6 @@ fn read_list<'a>(given: &ArgMatches<'a>) -> Option<Job<'a>>
     }))
 }
 
-/// How a list is written.
 fn form_of(given: &ArgMatches<'_>) -> Form
     ensures { result ≡ form_in (rows_of (found_of given.now)) }
 {

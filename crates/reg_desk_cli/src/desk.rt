@@ -3,7 +3,7 @@
 ghost use Rattle.std.specs.Prelude.{◌≡◌, IfOk, OnOk, false, map};
 ghost use Rattle.clap.specs.Words.{App, app_of, rule_of, with_subcommand};
 ghost use Rattle.clap.specs.declared.builder.command.Command.TheViews.{out-Command as fields_of};
-ghost use Rattle.reg_desk_cli.specs.Desk.{must, may, needs, takes_value, flag, some, bare_app, begun_app, desk_app, keeping_apps, running_apps, with_commands, with_rules};
+ghost use Rattle.reg_desk_cli.specs.Desk.{may, bare_app, begun_app, desk_app, keeping_apps, running_apps, with_commands, with_rules};
 ghost use Rattle.reg_desk_cli.specs.Table.{AreLocal, app_told, rule_told, with_made};
 
 use crate::table::{BEFORE, CommandEntry, KEEPING, Part, RUNNING};
@@ -23,21 +23,18 @@ pub(crate) fn desk<'a>(alloc: Global) -> Result<Command<'a>, AllocError>
     begun(alloc)?.subcommands(commands)
 }
 
-/// The commands of the table that make, run and serve a register.
 fn running() -> &'static [CommandEntry]
     ensures { map app_told result.now ≡ running_apps }
 {
     RUNNING
 }
 
-/// Those that set, list, copy and audit what it has.
 fn keeping() -> &'static [CommandEntry]
     ensures { map app_told result.now ≡ keeping_apps }
 {
     KEEPING
 }
 
-/// Adds the command of each entry to those before it.
 fn add_commands<'a>(
     alloc: Global,
     commands: &mut Vec<Command<'a>>,
@@ -53,7 +50,6 @@ fn add_commands<'a>(
     Ok(())
 }
 
-/// Adds the command of an entry to those before it.
 fn add_command<'a>(
     alloc: Global,
     commands: &mut Vec<Command<'a>>,
@@ -67,7 +63,6 @@ fn add_command<'a>(
     Ok(())
 }
 
-/// The command line with no command yet.
 fn begun<'a>(alloc: Global) -> Result<Command<'a>, AllocError>
     ensures app { IfOk result (λ made. app_of made ≡ begun_app) }
     ensures local { IfOk result (λ made. (fields_of made).has_globals ≡ false) }
@@ -75,7 +70,6 @@ fn begun<'a>(alloc: Global) -> Result<Command<'a>, AllocError>
     with_parts(alloc, bare(alloc), BEFORE)
 }
 
-/// The command line with no option and no command yet.
 fn bare<'a>(alloc: Global) -> Command<'a>
     ensures app { app_of result ≡ bare_app }
     ensures local { (fields_of result).has_globals ≡ false }
@@ -90,7 +84,6 @@ fn bare<'a>(alloc: Global) -> Command<'a>
         .disable_help_subcommand(true)
 }
 
-/// A command of the table.
 fn command<'a>(alloc: Global, entry: &CommandEntry) -> Result<Command<'a>, AllocError>
     ensures app { IfOk result (λ made. app_of made ≡ app_told entry.now) }
     ensures local { IfOk result (λ made. (fields_of made).has_globals ≡ false) }
@@ -101,7 +94,6 @@ fn command<'a>(alloc: Global, entry: &CommandEntry) -> Result<Command<'a>, Alloc
     with_parts(alloc, command, entry.parts)
 }
 
-/// The command with these words and options, each behind those before it.
 fn with_parts<'a>(
     alloc: Global,
     command: Command<'a>,
@@ -118,68 +110,26 @@ fn with_parts<'a>(
     Ok(command)
 }
 
-/// A word or an option of the table.
 fn arg<'a>(alloc: Global, part: &Part) -> Arg<'a>
     ensures rule { rule_of result ≡ rule_told part.now }
     ensures local { result.global ≡ false }
 {
     match *part {
-        Part::Must(id, name, help) => word_wanted(alloc, id, name, help),
+        Part::Must(id, name, help) => word(alloc, id, name, help).required(true),
         Part::May(id, name, help) => word(alloc, id, name, help),
-        Part::Rest(id, name, help) => words_wanted(alloc, id, name, help),
-        Part::Needs(id, name, help) => option_wanted(alloc, id, name, help),
-        Part::Takes(id, name, help) => option(alloc, id, name, help),
-        Part::Flag(id, help) => flagged(alloc, id, help),
+        Part::Rest(id, name, help) => word(alloc, id, name, help).required(true).num_args(1..),
+        Part::Needs(id, name, help) => word(alloc, id, name, help).long(id).required(true),
+        Part::Takes(id, name, help) => word(alloc, id, name, help).long(id),
+        Part::Flag(id, help) => Arg::new(alloc, id)
+            .long(id)
+            .action(ArgAction::SetTrue)
+            .help(help),
     }
 }
 
-/// A word that may be left out.
 fn word<'a>(alloc: Global, id: &'a str, name: &'a str, help: &'a str) -> Arg<'a>
     ensures rule { rule_of result ≡ may id.entry.now }
     ensures local { result.global ≡ false }
 {
     Arg::new(alloc, id).value_name(name).help(help)
-}
-
-/// A word that must be given.
-fn word_wanted<'a>(alloc: Global, id: &'a str, name: &'a str, help: &'a str) -> Arg<'a>
-    ensures rule { rule_of result ≡ must id.entry.now }
-    ensures local { result.global ≡ false }
-{
-    word(alloc, id, name, help).required(true)
-}
-
-/// One word or more.
-fn words_wanted<'a>(alloc: Global, id: &'a str, name: &'a str, help: &'a str) -> Arg<'a>
-    ensures rule { rule_of result ≡ some id.entry.now }
-    ensures local { result.global ≡ false }
-{
-    word_wanted(alloc, id, name, help).num_args(1..)
-}
-
-/// An option that must be given.
-fn option_wanted<'a>(alloc: Global, id: &'a str, name: &'a str, help: &'a str) -> Arg<'a>
-    ensures rule { rule_of result ≡ needs id.entry.now }
-    ensures local { result.global ≡ false }
-{
-    option(alloc, id, name, help).required(true)
-}
-
-/// An option that may be left out.
-fn option<'a>(alloc: Global, id: &'a str, name: &'a str, help: &'a str) -> Arg<'a>
-    ensures rule { rule_of result ≡ takes_value id.entry.now }
-    ensures local { result.global ≡ false }
-{
-    word(alloc, id, name, help).long(id)
-}
-
-/// An option that may be left out and takes no value.
-fn flagged<'a>(alloc: Global, id: &'a str, help: &'a str) -> Arg<'a>
-    ensures rule { rule_of result ≡ flag id.entry.now }
-    ensures local { result.global ≡ false }
-{
-    Arg::new(alloc, id)
-        .long(id)
-        .action(ArgAction::SetTrue)
-        .help(help)
 }

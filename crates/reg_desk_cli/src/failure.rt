@@ -1,5 +1,3 @@
-//! How a job ends that is not done.
-
 ghost use Rattle.std.specs.Prelude.{◌≡◌, ◌≤◌, length};
 ghost use Rattle.reg_desk_cli.specs.Endings.{failure_line, exit_status};
 
@@ -13,15 +11,12 @@ pub enum Failure {
     Fault(Fault),
     /// The file of a new register has tables already.
     NotEmpty,
-    /// The file holds no register.
     NotARegister,
-    /// The register is of a newer version.
     NewVersion,
     /// The register that is to be audited is of an older version.
     OldVersion,
     /// The Name or the key is not what an issuer has.
     BadIssuer,
-    /// The terms are not those of a policy.
     BadPolicy,
     /// The latest CRL was signed under another algorithm, or the issuer's key is none of the algorithm.
     BadSigner,
@@ -114,7 +109,6 @@ pub fn status_of(ending: &Result<(), Failure>) -> u8
     }
 }
 
-/// A line of words alone.
 fn words(text: &[u8]) -> Label
     requires not_empty { 1 ≤ length text.now }
     requires short { length text.now ≤ 64 }

@@ -2,7 +2,6 @@
 
 ghost use Rattle.std.specs.Prelude.{◌≡◌, ◌≤◌, ◌==◌, IfOk, IfSome, List, ℕ, map, option_and_then, option_map, position};
 ghost use Rattle.reg_core.specs.Calendar.{moment_of};
-ghost use Rattle.reg_core.specs.Number.{number_of};
 ghost use Rattle.clap.specs.Words.{all_of, first_of, found_of, rows_of};
 ghost use Rattle.reg_desk_cli.specs.Jobs.{answerer_in, answerer_told, given, given_or, chosen, has_own_key, holder_by_options, holder_chosen, holder_in, is_given, moment_given, number_in, way_in};
 ghost use Rattle.reg_desk_cli.specs.WordValues.{step_of, step_told, steps_of, within};
@@ -14,14 +13,12 @@ use reg_core::{Moment, read_number};
 use reg_crl_signer::Algorithm;
 use std::alloc::{AllocError, Global};
 
-/// The word that was given.
 pub(crate) fn word_of<'a>(matches: &ArgMatches<'a>, id: &str) -> Option<Word<'a>>
     ensures { result ≡ first_of id.now (rows_of (found_of matches.now)) }
 {
     Some(Word::of(text_of(matches, id)?))
 }
 
-/// The text that was given.
 pub(crate) fn text_of<'a>(matches: &ArgMatches<'a>, id: &str) -> Option<&'a str>
     ensures { option_map (λ text. text.now) result ≡ first_of id.now (rows_of (found_of matches.now)) }
 {
@@ -58,17 +55,9 @@ pub(crate) fn number_within(
     ensures exact { result ≡ number_in least most id.now (rows_of (found_of matches.now)) }
     ensures at_most { IfSome result (λ number. number ≤ most) }
 {
-    bounded(number(matches, id)?, least, most)
+    bounded(read_number(text_of(matches, id)?.as_bytes())?, least, most)
 }
 
-/// The number of an option, where it is given and a number.
-fn number(matches: &ArgMatches<'_>, id: &str) -> Option<u64>
-    ensures { result ≡ option_and_then number_of (first_of id.now (rows_of (found_of matches.now))) }
-{
-    read_number(text_of(matches, id)?.as_bytes())
-}
-
-/// The number, where it is within bounds.
 fn bounded(number: u64, least: u64, most: u64) -> Option<u64>
     ensures exact { result ≡ within least most number }
     ensures at_most { IfSome result (λ number. number ≤ most) }
@@ -80,7 +69,6 @@ fn bounded(number: u64, least: u64, most: u64) -> Option<u64>
     }
 }
 
-/// The moment of an option.
 pub(crate) fn moment(matches: &ArgMatches<'_>, id: &str) -> Option<Moment>
     ensures { result ≡ option_and_then moment_of (first_of id.now (rows_of (found_of matches.now))) }
 {
@@ -115,7 +103,6 @@ pub(crate) fn answerer<'a>(matches: &ArgMatches<'a>) -> Option<Answerer<'a>>
     answerer_of(word_of(matches, "responder"), holder, embedded)
 }
 
-/// Who answers, by the paths of both certificates and what holds the responder's key.
 fn answerer_of<'a>(
     responder: Option<Word<'a>>,
     holder: Option<KeyHolder<'a>>,
@@ -141,7 +128,6 @@ fn answerer_of<'a>(
     }
 }
 
-/// What holds a key, by the ids of its two options.
 fn holder_by<'a>(
     matches: &ArgMatches<'a>,
     socket: &str,
@@ -171,7 +157,6 @@ pub(crate) fn chosen_holder<'a>(
     choose(key_holder(matches)?, is_unsigned, is_delegate(answerer))
 }
 
-/// Whether who answers has a key of its own.
 fn is_delegate(answerer: &Answerer<'_>) -> bool
     ensures { result ≡ has_own_key answerer.now }
 {
@@ -251,14 +236,12 @@ pub fn read_step(text: &[u8]) -> Option<(Moment, u64)>
     step_by(&text[..equals], &text[equals + 1..])
 }
 
-/// Where the first `=` of a text is.
 fn first_equals(text: &[u8]) -> Option<usize>
     ensures { result ≡ position (λ byte. byte == 61) text.now }
 {
     text.iter().position(|byte| *byte == b'=')
 }
 
-/// The step of a moment and of days, where both are.
 fn step_by(from: &[u8], days: &[u8]) -> Option<(Moment, u64)>
     ensures { result ≡ step_told from.now days.now }
 {
@@ -266,7 +249,6 @@ fn step_by(from: &[u8], days: &[u8]) -> Option<(Moment, u64)>
     Some((read_moment(from)?, days))
 }
 
-/// Reads a moment.
 fn read_moment(text: &[u8]) -> Option<Moment>
     ensures { result ≡ moment_of text.now }
 {

@@ -8,12 +8,10 @@ use reg_core::Moment;
 use reg_core_lists::{Cursor, Form};
 use reg_crl_signer::Algorithm;
 
-/// What holds the issuer's key: what listens at a Unix socket, and the algorithm of its signatures.
+/// What listens at a Unix socket and holds a key, and the algorithm of its signatures.
 #[derive(Drop)]
 pub struct KeyHolder<'a> {
-    /// The path of the socket.
     pub socket: Word<'a>,
-    /// The algorithm.
     pub algorithm: Algorithm,
 }
 
@@ -43,7 +41,6 @@ pub struct Way {
 /// A register that is to be made.
 #[derive(Drop)]
 pub struct NewRegister<'a> {
-    /// Its path.
     pub file: Word<'a>,
     /// The DER of the issuer's Name, in hexadecimal.
     pub name: Word<'a>,
@@ -51,33 +48,27 @@ pub struct NewRegister<'a> {
     pub key: Word<'a>,
     /// The key identifier of the issuer's certificate, in hexadecimal, where it is told.
     pub key_id: Option<Word<'a>>,
-    /// The longest validity in days.
     pub days: u64,
     /// The seconds from thisUpdate to nextUpdate of a CRL.
     pub crl_life: u64,
     /// The same of an OCSP answer.
     pub ocsp_life: u64,
-    /// The most rows of a table.
     pub cap: u64,
 }
 
 /// A script that is run line by line over a register.
 #[derive(Drop)]
 pub struct LinedScript<'a> {
-    /// The register's path.
     pub file: Word<'a>,
     /// What holds the key, where one does.
     pub signer: Option<KeyHolder<'a>>,
-    /// How the lines are run.
     pub way: Way,
 }
 
 /// Rows that are to be registered.
 #[derive(Drop)]
 pub struct RowsToImport<'a> {
-    /// The register's path.
     pub file: Word<'a>,
-    /// The moment of their registration.
     pub moment: Moment,
     /// The import ends at the first refusal or fault, and registers no last row without its line end.
     pub is_strict: bool,
@@ -86,58 +77,46 @@ pub struct RowsToImport<'a> {
 /// A register that is served to so many peers.
 #[derive(Drop)]
 pub struct Serving<'a> {
-    /// The register's path.
     pub file: Word<'a>,
     /// The port, 1 to 65,535.
     pub port: u16,
-    /// How many requests are answered.
     pub requests: u32,
-    /// What holds the key, where one does.
     pub signer: Option<KeyHolder<'a>>,
-    /// Who answers OCSP requests.
     pub answerer: Answerer<'a>,
 }
 
 /// A register that is kept open, with a counter.
 #[derive(Drop)]
 pub struct KeptOpen<'a> {
-    /// The register's path.
     pub file: Word<'a>,
     /// The port, 1 to 65,535.
     pub port: u16,
     /// The path of the counter's socket.
     pub counter: Word<'a>,
-    /// What holds the key, where one does.
     pub signer: Option<KeyHolder<'a>>,
-    /// Who answers OCSP requests.
     pub answerer: Answerer<'a>,
 }
 
 /// A list of a register that is to be written.
 #[derive(Drop)]
 pub struct ListToWrite<'a> {
-    /// The register's path.
     pub file: Word<'a>,
-    /// The list.
     pub from: Cursor,
     /// The moment of which it is told, where it is not that of the machine's clock.
     pub moment: Option<Moment>,
-    /// How it is written.
     pub form: Form,
 }
 
 /// A job of the program, with all that the command line says of it. FILE is the path of a register.
 #[derive(Drop)]
 pub enum Job<'a> {
-    /// Makes a register.
     Init(NewRegister<'a>),
-    /// Runs the script of standard input, without FILE over a register in memory. What holds the key signs, or else a digest
-    /// seals.
+    /// Runs the script of standard input, without FILE over a register in memory. Without a signer a digest seals.
     Script {
         file: Option<Word<'a>>,
         signer: Option<KeyHolder<'a>>,
     },
-    /// Runs the script of standard input line by line. What holds the key signs, or else a digest seals.
+    /// The same line by line.
     Lines(LinedScript<'a>),
     /// Registers the rows of standard input at a moment.
     Import(RowsToImport<'a>),
@@ -146,7 +125,7 @@ pub enum Job<'a> {
         file: Word<'a>,
         number: Option<u64>,
     },
-    /// Answers so many requests over HTTP at a port. What holds the key signs, or else a digest seals.
+    /// Answers so many requests over HTTP at a port. Without a signer a digest seals.
     Serve(Serving<'a>),
     /// Keeps a register open until the program is ended: answers requests over HTTP at a port, and lines at a counter, a Unix socket
     /// at a path. What holds the key signs; a digest seals only where `--unsigned` says that none does. Where one answers with a key
@@ -157,7 +136,6 @@ pub enum Job<'a> {
         counter: Word<'a>,
         rows: Option<Word<'a>>,
     },
-    /// Gives the register another schedule of longest validities.
     Schedule {
         file: Word<'a>,
         steps: Steps,
@@ -174,7 +152,6 @@ pub enum Job<'a> {
         file: Word<'a>,
         path: Word<'a>,
     },
-    /// Looks whether the tables are those of sound records, and changes nothing.
     Audit {
         file: Word<'a>,
     },
@@ -183,7 +160,6 @@ pub enum Job<'a> {
 /// A job, and what is told beside it.
 #[derive(Drop)]
 pub struct Invocation<'a> {
-    /// The job.
     pub job: Job<'a>,
     /// The cause of a fault is told, where it is known.
     pub is_explained: bool,

@@ -16,15 +16,11 @@ use clap::{ArgMatches, Command, Error};
 use std::alloc::{AllocError, Global};
 use std::convert::AsStr;
 
-/// What is said where a word of the command line is no text.
 const TEXT_WANTED: &str = "a word is no UTF-8 text: the name of a FILE is to be UTF-8";
 
-/// Reads the words of a command line, of which the first is the program's name.
-///
-/// An invocation comes where clap accepts the words and each value is in its form and range, with options left out as in the
-/// usual policy. `Help` and `Version` come where clap answers them, `Bad` where clap finds another fault, where a value is
-/// out of its form or range, or where `open` is told of no signer and not `--unsigned`, or of both, `Memory` where memory
-/// could not be had.
+/// Reads the words of a command line, of which the first is the program's name; options that are left out are as in the
+/// usual policy. `Help` and `Version` come where clap answers them, `Bad` where clap finds another fault, a value is out of
+/// its form or range, or `open` is told of no signer and not `--unsigned`, or of both.
 pub fn read_words<'a, S: AsStr>(alloc: Global, words: &'a [S]) -> Result<Invocation<'a>, Usage>
     ensures invocation { IfOk result (IsInvocationOf (map S.text words.entry.now)) }
     ensures usage { IfErr result (IsUsageOf (map S.text words.entry.now)) }
@@ -35,7 +31,6 @@ pub fn read_words<'a, S: AsStr>(alloc: Global, words: &'a [S]) -> Result<Invocat
     }
 }
 
-/// Reads the words by the program's command line.
 fn read_by<'a, S: AsStr>(
     alloc: Global,
     desk: &mut Command<'a>,
@@ -72,7 +67,6 @@ fn read_invocation<'a>(
     }
 }
 
-/// Whether an option that takes no value is given behind the command.
 fn is_set_behind(matches: &ArgMatches<'_>, id: &str) -> bool
     ensures { result ≡ is_given_behind id.now (subcommand_rows_of matches.now) }
 {
@@ -82,7 +76,6 @@ fn is_set_behind(matches: &ArgMatches<'_>, id: &str) -> bool
     }
 }
 
-/// The word of an option that is given behind the command.
 fn word_behind<'a>(matches: &ArgMatches<'a>, id: &str) -> Option<Word<'a>>
     ensures { result ≡ told_behind id.now (subcommand_rows_of matches.now) }
 {
@@ -112,7 +105,6 @@ pub fn no_text(alloc: Global) -> Usage
     }
 }
 
-/// The same, by the program's command line.
 fn text_wanted(alloc: Global, desk: &mut Command<'_>) -> Usage
     ensures { TellsUsage ErrorKind.InvalidValue result }
 {
@@ -139,7 +131,6 @@ fn told(alloc: Global, desk: &mut Command<'_>, kind: ErrorKind, text: &str) -> U
     }
 }
 
-/// What is answered for an error of clap.
 fn usage_of(alloc: Global, error: &Error) -> Usage
     ensures { TellsUsage (kind_of error.now) result }
 {

@@ -4,15 +4,11 @@
 /// says of it.
 #[derive(Clone, Copy)]
 pub(crate) enum Part {
-    /// A word that must be given.
     Must(&'static str, &'static str, &'static str),
-    /// A word that may be left out.
     May(&'static str, &'static str, &'static str),
     /// One word or more, all that are left.
     Rest(&'static str, &'static str, &'static str),
-    /// An option that must be given.
     Needs(&'static str, &'static str, &'static str),
-    /// An option that may be left out.
     Takes(&'static str, &'static str, &'static str),
     /// An option that may be left out and takes no value.
     Flag(&'static str, &'static str),

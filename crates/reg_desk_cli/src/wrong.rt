@@ -4,10 +4,8 @@ use crate::given_values::{answerer, key_holder, moment, number_within, read_step
 use clap::ArgMatches;
 use std::alloc::Global;
 
-/// The last TCP port.
 pub(crate) const LAST_PORT: u64 = 65_535;
 
-/// The most connections of one run of the server.
 pub(crate) const MOST_REQUESTS: u64 = 1_000_000;
 
 /// The greatest number of 18 digits.
@@ -62,6 +60,16 @@ struct Wrong<'a> {
     wanted: &'static str,
 }
 
+impl<'a> Wrong<'a> {
+    fn of(option: &'static str, value: &'a str, wanted: &'static str) -> Wrong<'a> {
+        Wrong {
+            option,
+            value,
+            wanted,
+        }
+    }
+}
+
 /// What is said of the first value that is out of its form or range; `None` for want of memory.
 pub(crate) fn wrong_text(alloc: Global, matches: &ArgMatches<'_>) -> Option<String> {
     let Some(wrong) = first_wrong(matches) else {
@@ -71,7 +79,6 @@ pub(crate) fn wrong_text(alloc: Global, matches: &ArgMatches<'_>) -> Option<Stri
     format!(in alloc; "invalid value '{value}' for '{option}': {wanted}").ok()
 }
 
-/// What is said where each value is in its form and range, and the words don't go together.
 fn combination_wanted(matches: &ArgMatches<'_>) -> &'static str {
     match matches.subcommand() {
         Some((name, _)) if name == "open" => CHOICE_WANTED,
@@ -98,47 +105,32 @@ fn first_wrong<'a>(matches: &ArgMatches<'a>) -> Option<Wrong<'a>> {
     wrong_responder(given)
 }
 
-/// The first number that is none, or out of its range.
 fn wrong_number<'a>(given: &ArgMatches<'a>) -> Option<Wrong<'a>> {
     for (id, option, least, most) in NUMBERS {
         if let Some(value) = text_of(given, id) {
             if number_within(given, id, least, most).is_none() {
-                return Some(Wrong {
-                    option,
-                    value,
-                    wanted: NUMBER_WANTED,
-                });
+                return Some(Wrong::of(option, value, NUMBER_WANTED));
             }
         }
     }
     None
 }
 
-/// The first moment of an option that is none.
 fn wrong_moment<'a>(given: &ArgMatches<'a>) -> Option<Wrong<'a>> {
     for (id, option) in MOMENTS {
         if let Some(value) = text_of(given, id) {
             if moment(given, id).is_none() {
-                return Some(Wrong {
-                    option,
-                    value,
-                    wanted: MOMENT_WANTED,
-                });
+                return Some(Wrong::of(option, value, MOMENT_WANTED));
             }
         }
     }
     None
 }
 
-/// The first step of a schedule that is none.
 fn wrong_step<'a>(given: &ArgMatches<'a>) -> Option<Wrong<'a>> {
     for value in given.get_strs("steps")? {
         if read_step(value.as_bytes()).is_none() {
-            return Some(Wrong {
-                option: "MOMENT=DAYS",
-                value,
-                wanted: STEP_WANTED,
-            });
+            return Some(Wrong::of("MOMENT=DAYS", value, STEP_WANTED));
         }
     }
     None
@@ -153,11 +145,7 @@ fn wrong_holder<'a>(given: &ArgMatches<'a>) -> Option<Wrong<'a>> {
         Some(name) => ("--algorithm", name),
         None => ("--signer", text_of(given, "signer")?),
     };
-    Some(Wrong {
-        option,
-        value,
-        wanted: KEY_HOLDER_WANTED,
-    })
+    Some(Wrong::of(option, value, KEY_HOLDER_WANTED))
 }
 
 /// Who answers OCSP requests, where that is not told whole, or told twice.
@@ -167,11 +155,7 @@ fn wrong_responder<'a>(given: &ArgMatches<'a>) -> Option<Wrong<'a>> {
     }
     for (id, option) in RESPONDERS {
         if let Some(value) = text_of(given, id) {
-            return Some(Wrong {
-                option,
-                value,
-                wanted: RESPONDER_WANTED,
-            });
+            return Some(Wrong::of(option, value, RESPONDER_WANTED));
         }
     }
     None

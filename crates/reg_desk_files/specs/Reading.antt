@@ -1,10 +1,15 @@
 -- Why files are not opened to be read.
 use Rattle.std.specs.Prelude.{◌≡◌, ◌⊎◌}
 use Rattle.reg_core.specs.declared.refusal.Fault.TheVariants.{Memory, Store}
+use Rattle.reg_desk_files.specs.declared.file_fault.FileFault.{FileFault}
 use Rattle.reg_desk_files.specs.declared.reading.Unread.{Unread}
 use Rattle.reg_desk_files.specs.declared.reading.Unread.TheVariants as unread
 
--- no database was begun in them, memory was wanting, or the store failed
+-- out of memory, or the store failed
+abbrev pub IsFileFault : FileFault → Type 0
+IsFileFault why = (why.fault ≡ Memory) ⊎ (why.fault ≡ Store)
+
+-- no database was begun in them, or a fault
 abbrev pub IsUnread : Unread → Type 0
 IsUnread unread.Nothing = Unit {0}
-IsUnread (unread.Fault why) = (why.fault ≡ Memory) ⊎ (why.fault ≡ Store)
+IsUnread (unread.Fault why) = IsFileFault why

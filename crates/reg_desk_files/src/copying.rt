@@ -1,15 +1,15 @@
-//! A copy of a register's files: one new file, which has each page as who opens them finds it, what the log has too.
+//! A copy of a register's files: one new file, which has each page as an opening finds it, also what only the log has.
 
-ghost use Rattle.std.specs.Prelude.{◌≡◌, ◌⊎◌, ◌*◌, min, IfErr, IfOk, IsTrue, OnOk};
+ghost use Rattle.std.specs.Prelude.{◌≡◌, ◌*◌, min, IfErr, IfOk, IsTrue, OnOk};
 ghost use Rattle.std.specs.Io.KnownBytes.{Appends};
 ghost use Rattle.sqlite.specs.Files.{image_of};
 ghost use Rattle.sqlite_pager.specs.Pager.{page_count, state, visible};
 ghost use Rattle.sqlite_wal.specs.Reads.{OnlyReads};
 ghost use Rattle.sqlite_wal.specs.Recovery.{Recovers};
 ghost use Rattle.reg_desk_files.specs.Copied.{laid_out, page_bytes};
-ghost use Rattle.reg_desk_files.specs.Reading.{IsUnread};
+ghost use Rattle.reg_desk_files.specs.Reading.{IsFileFault, IsUnread};
 
-use crate::file_fault::{FileFault, damaged, no_memory, of_call, of_lay, unlooked};
+use crate::file_fault::{FileFault, damaged, of_lay, with_cause};
 use crate::laying::lay_pages;
 use crate::overlay::overlaid;
 use crate::read_file::Holder;
@@ -23,40 +23,28 @@ use sqlite_wal::{PageSize, probe_page_size};
 use std::alloc::Global;
 use std::io::Write;
 
-/// Copies the database whose files lie at a path, and that no program has open, to a path at which nothing lies. Gives how many bytes the
-/// copy has. The files are only read. The copy is a file that its owner alone may read and write, and it has that name once it is whole and
-/// on the disk.
-///
-/// # Errors
-/// `Nothing` where no database was begun in them; `Memory`; `Store` where they can't be read, something lies at the other path or beside it,
-/// or the copy can't be written: nothing is left of it then.
+/// Copies a database that no program has open to a path at which nothing lies, and gives how many bytes the copy has. The copy, which its
+/// owner alone may read and write, has that name once it is whole and synced. Errors: `Nothing` where no database was begun; `Memory`; `Store`
+/// where the files can't be read, something lies at the other path or beside it, or the copy can't be written. No copy is left then.
 pub fn copy_closed(rt: &HostRuntime, path: &str, to: &str) -> Result<u64, Unread>
     ensures { IfErr result IsUnread }
 {
     copy_held(rt, path, Holder::Nobody, to)
 }
 
-/// The same of a database that this program has open, as it is between two transactions.
-///
-/// # Errors
-/// As [`copy_closed`]; also where this program has not open what lies at the path.
+/// The same of a database that this program has open, as it is between two transactions: else `Store`.
 pub fn copy_open(rt: &HostRuntime, path: &str, to: &str) -> Result<u64, Unread>
     ensures { IfErr result IsUnread }
 {
     copy_held(rt, path, Holder::Us, to)
 }
 
-/// The same of a database that somebody has open, or nobody.
 fn copy_held(rt: &HostRuntime, path: &str, holder: Holder, to: &str) -> Result<u64, Unread>
     ensures { IfErr result IsUnread }
 {
-    match sources_at(rt, path, holder) {
-        Ok(sources) => copy_sources(rt, sources, to),
-        Err(why) => Err(Unread::Fault(why)),
-    }
+    copy_sources(rt, sources_at(rt, path, holder)?, to)
 }
 
-/// Copies what files hold that are only read.
 fn copy_sources<F: Source + Drop>(
     rt: &HostRuntime,
     sources: Sources<F>,
@@ -66,31 +54,25 @@ fn copy_sources<F: Source + Drop>(
 {
     let options = Options::new(sources.options.seed);
     let files = overlaid(rt.alloc(), sources.log, sources.db, sources.key);
-    match recovered(rt.alloc(), files, options) {
-        Ok(pager) => copy_pages(rt, pager, to),
-        Err(why) => Err(why),
-    }
+    copy_files(rt, files, options, to)
 }
 
-/// Lays a copy of all pages.
-fn copy_pages<D: Disk + Drop>(
+fn copy_files<D: Disk + Drop>(
     rt: &HostRuntime,
-    mut pager: Pager<D>,
+    files: Files<D>,
+    options: Options,
     to: &str,
 ) -> Result<u64, Unread>
+    requires log { IsTrue (D.Disk.is_usable files.log) }
+    requires db { IsTrue (D.Disk.is_usable files.db) }
     ensures { IfErr result IsUnread }
 {
-    match lay_pages(rt, &mut pager, to) {
-        Ok(bytes) => Ok(bytes),
-        Err(why) => Err(Unread::Fault(why)),
-    }
+    let mut pager = recovered(rt.alloc(), files, options)?;
+    Ok(lay_pages(rt, &mut pager, to)?)
 }
 
-/// The pages that files stand for, where a database was begun in them: those that who opens them finds. The file and what the log has of
-/// them stay as they are.
-///
-/// # Errors
-/// `Nothing` where none was begun; else `Memory`, or `Store` where they hold none or a call failed.
+/// The pages that an opening finds in files. Errors: `Nothing` where no database was begun; `Memory`; `Store` where they hold none or a call
+/// failed.
 pub fn recovered<D: Disk + Drop>(
     alloc: Global,
     mut files: Files<D>,
@@ -106,7 +88,6 @@ pub fn recovered<D: Disk + Drop>(
     recovered_by(alloc, files, size, options)
 }
 
-/// The size of the pages of files in which a database was begun.
 fn size_in<D: Disk>(files: &mut Files<D>) -> Result<PageSize, Unread>
     requires log { IsTrue (D.Disk.is_usable files.old.log) }
     requires db { IsTrue (D.Disk.is_usable files.old.db) }
@@ -117,11 +98,10 @@ fn size_in<D: Disk>(files: &mut Files<D>) -> Result<PageSize, Unread>
     match probe_page_size(files) {
         Ok(Some(size)) => Ok(size),
         Ok(None) => Err(Unread::Fault(damaged())),
-        Err(error) => Err(Unread::Fault(of_call(error.kind()))),
+        Err(error) => Err(Unread::Fault(FileFault::from(error))),
     }
 }
 
-/// The pages of this size that files stand for.
 fn recovered_by<D: Disk + Drop>(
     alloc: Global,
     files: Files<D>,
@@ -133,25 +113,21 @@ fn recovered_by<D: Disk + Drop>(
     ensures found { IfOk result (λ pager. IsTrue (state pager).is_clean → Recovers (state pager).page_size (image_of D.Disk files) (visible pager)) }
     ensures faults { IfErr result IsUnread }
 {
-    let mut pager = match Pager::new(alloc, files, size, options) {
-        Ok(pager) => pager,
-        Err(_) => return Err(Unread::Fault(no_memory())),
+    let Ok(mut pager) = Pager::new(alloc, files, size, options) else {
+        return Err(Unread::Fault(with_cause(Fault::Memory, None)));
     };
     match pager.recover() {
         Ok(()) => Ok(pager),
-        Err(error) => Err(Unread::Fault(unlooked(&error))),
+        Err(error) => Err(Unread::Fault(FileFault::from(error))),
     }
 }
 
-/// Puts all pages into a writer, in order, and gives how many bytes those are.
-///
-/// # Errors
-/// `Memory`; `Store` where a page can't be read, or not all could be written.
+/// Writes all pages in order, and gives how many bytes those are. Errors: `Memory`; `Store` where a page can't be read or written.
 pub fn put_pages<D: Disk, W: Write>(pager: &mut Pager<D>, writer: &mut W) -> Result<u64, FileFault>
     ensures whole { IfOk result (λ bytes. IsTrue (state pager.new).is_clean
         → Appends (W.contents writer.old) (W.contents writer.new) (laid_out (visible pager.old) (page_count pager.old))) }
     ensures bytes { IfOk result (λ bytes. bytes ≡ min (page_count pager.old * (state pager.old).page_size) 18446744073709551615) }
-    ensures faults { IfErr result (λ why. (why.fault ≡ Fault.Memory) ⊎ (why.fault ≡ Fault.Store)) }
+    ensures faults { IfErr result IsFileFault }
 {
     let count = pager.page_count();
     let bytes = u64::from(count).saturating_mul(pager.page_size() as u64);
@@ -161,7 +137,6 @@ pub fn put_pages<D: Disk, W: Write>(pager: &mut Pager<D>, writer: &mut W) -> Res
     Ok(bytes)
 }
 
-/// Puts a page into a writer.
 fn put_page<D: Disk, W: Write>(
     pager: &mut Pager<D>,
     page: u32,
@@ -171,18 +146,15 @@ fn put_page<D: Disk, W: Write>(
         → Appends (W.contents writer.old) (W.contents writer.new) (page_bytes (visible pager.old page))) }
     ensures clean { IsTrue (state pager.new).is_clean → IsTrue (state pager.old).is_clean }
     ensures pages { visible pager.new ≡ visible pager.old }
-    ensures faults { IfErr result (λ why. (why.fault ≡ Fault.Memory) ⊎ (why.fault ≡ Fault.Store)) }
+    ensures faults { IfErr result IsFileFault }
 {
-    match pager.load(page) {
-        Ok(()) => put(writer, pager.loaded()),
-        Err(error) => Err(unlooked(&error)),
-    }
+    pager.load(page)?;
+    put(writer, pager.loaded())
 }
 
-/// Puts bytes into a writer.
 fn put<W: Write>(writer: &mut W, bytes: &[u8]) -> Result<(), FileFault>
     ensures whole { OnOk result (Appends (W.contents writer.old) (W.contents writer.new) bytes.now) }
-    ensures faults { IfErr result (λ why. (why.fault ≡ Fault.Memory) ⊎ (why.fault ≡ Fault.Store)) }
+    ensures faults { IfErr result IsFileFault }
 {
     match writer.write_all(bytes) {
         Ok(()) => Ok(()),

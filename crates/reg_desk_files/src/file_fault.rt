@@ -1,22 +1,24 @@
 //! Why a file is not opened.
 
-ghost use Rattle.std.specs.Prelude.{◌≡◌, ◌⊎◌};
+ghost use Rattle.std.specs.Prelude.{◌≡◌};
+ghost use Rattle.reg_desk_files.specs.Reading.{IsFileFault};
 
 use reg_core::{Cause, Fault, of_io, of_laying};
 use sqlite::{Error, ErrorCode};
 use sqlite_std_file::OpenError;
+use std::alloc::AllocError;
+use std::io;
 use std::io::ErrorKind;
 
-/// Why a file is not opened: the fault, and its cause where that is known.
+/// Why a file is not opened: the fault, and its cause if that is known.
 #[derive(Clone, Copy, PartialEq, Eq)]
 pub struct FileFault {
     /// The fault.
     pub fault: Fault,
-    /// The cause that the call told which failed.
+    /// The cause that the failing call told.
     pub cause: Option<Cause>,
 }
 
-/// A fault with its cause.
 pub(crate) fn with_cause(fault: Fault, cause: Option<Cause>) -> FileFault
     ensures fault { result.fault ≡ fault }
     ensures cause { result.cause ≡ cause }
@@ -24,53 +26,65 @@ pub(crate) fn with_cause(fault: Fault, cause: Option<Cause>) -> FileFault
     FileFault { fault, cause }
 }
 
-/// Why files are not opened.
-pub(crate) fn not_found(error: &OpenError) -> FileFault
-    ensures { (result.fault ≡ Fault.Memory) ⊎ (result.fault ≡ Fault.Store) }
-{
-    let fault = match error {
-        OpenError::OutOfMemory => Fault::Memory,
-        OpenError::Io(error) if error.kind() == ErrorKind::OutOfMemory => Fault::Memory,
-        _ => Fault::Store,
-    };
-    with_cause(fault, of_opening(error))
-}
+impl From<OpenError> for FileFault {
+    ghost from_gives = { λ error fault. IsFileFault fault };
 
-/// Why files hold no database.
-pub(crate) fn no_database(error: &Error) -> FileFault
-    ensures { (result.fault ≡ Fault.Memory) ⊎ (result.fault ≡ Fault.Store) }
-{
-    let fault = match error {
-        Error::SqliteFailure(ErrorCode::OutOfMemory) => Fault::Memory,
-        _ => Fault::Store,
-    };
-    with_cause(fault, of_database(error))
-}
-
-/// Why files could not be looked at.
-pub(crate) fn unlooked(error: &sqlite_wal::Error) -> FileFault
-    ensures { (result.fault ≡ Fault.Memory) ⊎ (result.fault ≡ Fault.Store) }
-{
-    match error {
-        sqlite_wal::Error::OutOfMemory => with_cause(Fault::Memory, None),
-        sqlite_wal::Error::Io(error) => of_call(error.kind()),
-        _ => damaged(),
+    fn from(error: OpenError) -> FileFault {
+        let fault = match &error {
+            OpenError::OutOfMemory => Fault::Memory,
+            OpenError::Io(error) if error.kind() == ErrorKind::OutOfMemory => Fault::Memory,
+            _ => Fault::Store,
+        };
+        with_cause(fault, of_opening(&error))
     }
 }
 
-/// Why a file is not opened where a call of the system failed.
-pub(crate) fn of_call(kind: ErrorKind) -> FileFault
-    ensures { (result.fault ≡ Fault.Memory) ⊎ (result.fault ≡ Fault.Store) }
-{
-    match kind {
-        ErrorKind::OutOfMemory => with_cause(Fault::Memory, None),
-        other => with_cause(Fault::Store, of_io(other)),
+impl From<Error> for FileFault {
+    ghost from_gives = { λ error fault. IsFileFault fault };
+
+    fn from(error: Error) -> FileFault {
+        let fault = match &error {
+            Error::SqliteFailure(ErrorCode::OutOfMemory) => Fault::Memory,
+            _ => Fault::Store,
+        };
+        with_cause(fault, of_database(&error))
     }
 }
 
-/// Why a file is not laid where a call of the system failed.
+impl From<sqlite_wal::Error> for FileFault {
+    ghost from_gives = { λ error fault. IsFileFault fault };
+
+    fn from(error: sqlite_wal::Error) -> FileFault {
+        match error {
+            sqlite_wal::Error::OutOfMemory => with_cause(Fault::Memory, None),
+            sqlite_wal::Error::Io(error) => FileFault::from(error),
+            _ => damaged(),
+        }
+    }
+}
+
+impl From<io::Error> for FileFault {
+    ghost from_gives = { λ error fault. IsFileFault fault };
+
+    fn from(error: io::Error) -> FileFault {
+        match error.kind() {
+            ErrorKind::OutOfMemory => with_cause(Fault::Memory, None),
+            other => with_cause(Fault::Store, of_io(other)),
+        }
+    }
+}
+
+impl From<AllocError> for FileFault {
+    ghost from_gives = { λ error fault. IsFileFault fault };
+
+    fn from(_: AllocError) -> FileFault {
+        with_cause(Fault::Memory, None)
+    }
+}
+
+/// Why a file is not created where a call of the system failed.
 pub(crate) fn of_lay(kind: ErrorKind) -> FileFault
-    ensures { (result.fault ≡ Fault.Memory) ⊎ (result.fault ≡ Fault.Store) }
+    ensures { IsFileFault result }
 {
     match kind {
         ErrorKind::OutOfMemory => with_cause(Fault::Memory, None),
@@ -78,28 +92,18 @@ pub(crate) fn of_lay(kind: ErrorKind) -> FileFault
     }
 }
 
-/// What lies there is no database.
 pub(crate) fn damaged() -> FileFault
     ensures { result.fault ≡ Fault.Store }
 {
     with_cause(Fault::Store, Some(Cause::Damaged))
 }
 
-/// Another program has it open.
 pub(crate) fn in_use() -> FileFault
     ensures { result.fault ≡ Fault.Store }
 {
     with_cause(Fault::Store, Some(Cause::InUse))
 }
 
-/// There is no memory for it.
-pub(crate) fn no_memory() -> FileFault
-    ensures { result.fault ≡ Fault.Memory }
-{
-    with_cause(Fault::Memory, None)
-}
-
-/// The cause that an error tells where a database's files are opened.
 fn of_opening(error: &OpenError) -> Option<Cause>
     ensures busy { error.now ≡ OpenError.Busy → result ≡ Some Cause.InUse }
     ensures memory { error.now ≡ OpenError.OutOfMemory → result ≡ None }
@@ -111,7 +115,6 @@ fn of_opening(error: &OpenError) -> Option<Cause>
     }
 }
 
-/// The cause that a failure of a database tells.
 fn of_database(error: &Error) -> Option<Cause>
     ensures no_database { error.now ≡ Error.SqliteFailure ErrorCode.NotADatabase → result ≡ Some Cause.Damaged }
     ensures corrupt { error.now ≡ Error.SqliteFailure ErrorCode.DatabaseCorrupt → result ≡ Some Cause.Damaged }

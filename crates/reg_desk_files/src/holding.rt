@@ -1,8 +1,9 @@
-//! Files that are held, so that no other program opens them meanwhile, and what lies beside them.
+//! Files that are locked, so that no other program opens them meanwhile, and what lies beside them.
 
-ghost use Rattle.std.specs.Prelude.{◌≡◌, ◌⊎◌, ◌++◌, codes, string_bytes, IfErr, IfOk};
+ghost use Rattle.std.specs.Prelude.{◌≡◌, ◌++◌, codes, string_bytes, IfErr, IfOk};
+ghost use Rattle.reg_desk_files.specs.Reading.{IsFileFault};
 
-use crate::file_fault::{FileFault, in_use, of_call, with_cause};
+use crate::file_fault::{FileFault, in_use, with_cause};
 use os::RangeLock;
 use reg_core::{Cause, Fault};
 use std::alloc::AllocError;
@@ -14,31 +15,26 @@ use std::{fs, io};
 /// Where SQLite's locks lie in a database file: its pending, reserved and shared ones.
 const LOCKS: u64 = 1_073_741_824;
 
-/// How many bytes they have.
 const LOCKS_LENGTH: u64 = 512;
 
-/// Takes the locks of a database's file, as SQLite does: shared, which many may have, or alone. They end with the file.
-///
-/// # Errors
-/// `Store` where another program has them otherwise, or the system refused.
+/// Takes the locks of a database's file, as SQLite does. They end with the file.
 pub(crate) fn lock(file: &fs::File, kind: RangeLock) -> Result<(), FileFault>
-    ensures { IfErr result (λ why. (why.fault ≡ Fault.Memory) ⊎ (why.fault ≡ Fault.Store)) }
+    ensures { IfErr result IsFileFault }
 {
     if os::try_lock_range(file.as_raw_fd(), kind, LOCKS, LOCKS_LENGTH) == 0 {
         return Ok(());
     }
-    match io::Error::from_raw_os_error(os::errno()).kind() {
+    let error = io::Error::from_raw_os_error(os::errno());
+    match error.kind() {
         ErrorKind::WouldBlock => Err(in_use()),
-        other => Err(of_call(other)),
+        _ => Err(FileFault::from(error)),
     }
 }
 
-/// Looks that a database's file is held to be written, as this program holds what it has open.
-///
-/// # Errors
-/// `Store` where nobody holds it: what was opened at its path lies there no more.
+/// Looks that a database's file is locked to be written, as this program locks what it has open. Where nobody locks it, what this program
+/// opened at its path lies there no more.
 pub(crate) fn look_held(file: &fs::File) -> Result<(), FileFault>
-    ensures { IfErr result (λ why. (why.fault ≡ Fault.Memory) ⊎ (why.fault ≡ Fault.Store)) }
+    ensures { IfErr result IsFileFault }
 {
     match lock(file, RangeLock::Shared) {
         Ok(()) => Err(with_cause(Fault::Store, Some(Cause::NoFile))),
@@ -47,7 +43,6 @@ pub(crate) fn look_held(file: &fs::File) -> Result<(), FileFault>
     }
 }
 
-/// The file at a path, held so that nobody else opens it; `None` where there is none, or another program has it open.
 pub(crate) fn held_alone(rt: &HostRuntime, path: &str) -> Option<fs::File> {
     let mut options = OpenOptions::new();
     options.read(true).write(true);
@@ -57,7 +52,6 @@ pub(crate) fn held_alone(rt: &HostRuntime, path: &str) -> Option<fs::File> {
     }
 }
 
-/// A file whose locks nobody else has.
 fn alone(file: fs::File) -> Option<fs::File> {
     match lock(&file, RangeLock::Exclusive) {
         Ok(()) => Some(file),
@@ -65,14 +59,12 @@ fn alone(file: fs::File) -> Option<fs::File> {
     }
 }
 
-/// The path of the log that lies beside a database's file.
 pub(crate) fn log_of(rt: &HostRuntime, path: &str) -> Result<String, AllocError>
     ensures { IfOk result (λ log. string_bytes log ≡ path.now ++ codes "-wal") }
 {
     beside(rt, path, "-wal")
 }
 
-/// The path of what lies beside a database's file, by the end of its name.
 pub(crate) fn beside(rt: &HostRuntime, path: &str, end: &str) -> Result<String, AllocError>
     ensures { IfOk result (λ other. string_bytes other ≡ path.now ++ end.now) }
 {

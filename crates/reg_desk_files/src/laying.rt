@@ -1,9 +1,10 @@
 //! A new file for the pages of a database: under another name until it is whole and on the disk.
 
-ghost use Rattle.std.specs.Prelude.{◌≡◌, ◌⊎◌, IfErr};
+ghost use Rattle.std.specs.Prelude.{IfErr};
+ghost use Rattle.reg_desk_files.specs.Reading.{IsFileFault};
 
 use crate::copying::put_pages;
-use crate::file_fault::{FileFault, no_memory, of_lay, with_cause};
+use crate::file_fault::{FileFault, of_lay, with_cause};
 use crate::holding::beside;
 use reg_core::{Cause, Fault};
 use sqlite_disk::Disk;
@@ -13,28 +14,22 @@ use std::io::ErrorKind;
 use std::os::unix::fs::OpenOptionsExt;
 use std::{fs, io};
 
-/// The mode of a file that its owner alone may read and write.
 const OWNER_ALONE: u32 = 0o600;
 
 /// What the name ends with under which a copy is written.
 const UNDER_WAY: &str = ".part";
 
-/// Lays all pages as a new file at a path at which nothing lies, nor what would be taken for its log. It is written beside that under a name of
-/// its own and synced, and only then gets its name, in one step that replaces nothing.
-///
-/// # Errors
-/// `Memory`; `Store`, with the cause that the failing call told. Nothing is left of the file then, but for what can't be removed.
+/// Writes all pages as a new file at a path at which nothing lies, nor what would be taken for its log. The file is written under a name of its
+/// own and synced, and only then gets its name, in one step that replaces nothing. Where that fails, it is removed.
 pub(crate) fn lay_pages<D: Disk>(
     rt: &HostRuntime,
     pager: &mut Pager<D>,
     to: &str,
 ) -> Result<u64, FileFault>
-    ensures { IfErr result (λ why. (why.fault ≡ Fault.Memory) ⊎ (why.fault ≡ Fault.Store)) }
+    ensures { IfErr result IsFileFault }
 {
     look_all_free(rt, to)?;
-    let Ok(part) = beside(rt, to, UNDER_WAY) else {
-        return Err(no_memory());
-    };
+    let part = beside(rt, to, UNDER_WAY)?;
     let mut file = new_file(rt, part.as_str())?;
     match fill_and_name(rt, pager, &mut file, part.as_str(), to) {
         Ok(bytes) => Ok(bytes),
@@ -45,9 +40,8 @@ pub(crate) fn lay_pages<D: Disk>(
     }
 }
 
-/// Looks that nothing lies at a path, and nothing beside it that would be taken for its log or its journal.
 fn look_all_free(rt: &HostRuntime, to: &str) -> Result<(), FileFault>
-    ensures { IfErr result (λ why. (why.fault ≡ Fault.Memory) ⊎ (why.fault ≡ Fault.Store)) }
+    ensures { IfErr result IsFileFault }
 {
     if to.is_empty() {
         return Err(with_cause(Fault::Store, Some(Cause::NoFile)));
@@ -57,13 +51,11 @@ fn look_all_free(rt: &HostRuntime, to: &str) -> Result<(), FileFault>
     look_free(rt, to, "-journal")
 }
 
-/// Looks that nothing lies at a path with this end, a link that leads nowhere neither.
+/// Looks that nothing lies at a path with this end, nor a link that leads nowhere.
 fn look_free(rt: &HostRuntime, to: &str, end: &str) -> Result<(), FileFault>
-    ensures { IfErr result (λ why. (why.fault ≡ Fault.Memory) ⊎ (why.fault ≡ Fault.Store)) }
+    ensures { IfErr result IsFileFault }
 {
-    let Ok(path) = beside(rt, to, end) else {
-        return Err(no_memory());
-    };
+    let path = beside(rt, to, end)?;
     match fs::symlink_metadata(rt, path.as_str()) {
         Ok(_) => Err(with_cause(Fault::Store, Some(Cause::Taken))),
         Err(error) if error.kind() == ErrorKind::NotFound => Ok(()),
@@ -71,9 +63,8 @@ fn look_free(rt: &HostRuntime, to: &str, end: &str) -> Result<(), FileFault>
     }
 }
 
-/// Makes an empty file where nothing lies, which its owner alone may read and write.
 fn new_file(rt: &HostRuntime, path: &str) -> Result<File, FileFault>
-    ensures { IfErr result (λ why. (why.fault ≡ Fault.Memory) ⊎ (why.fault ≡ Fault.Store)) }
+    ensures { IfErr result IsFileFault }
 {
     let mut options = OpenOptions::new();
     options.write(true).create_new(true).mode(OWNER_ALONE);
@@ -83,7 +74,6 @@ fn new_file(rt: &HostRuntime, path: &str) -> Result<File, FileFault>
     }
 }
 
-/// Writes all pages into a file that was made, syncs it, and gives it its name.
 fn fill_and_name<D: Disk>(
     rt: &HostRuntime,
     pager: &mut Pager<D>,
@@ -91,7 +81,7 @@ fn fill_and_name<D: Disk>(
     part: &str,
     to: &str,
 ) -> Result<u64, FileFault>
-    ensures { IfErr result (λ why. (why.fault ≡ Fault.Memory) ⊎ (why.fault ≡ Fault.Store)) }
+    ensures { IfErr result IsFileFault }
 {
     let bytes = put_pages(pager, file)?;
     laid(file.sync_all())?;
@@ -99,9 +89,9 @@ fn fill_and_name<D: Disk>(
     Ok(bytes)
 }
 
-/// Gives a file that is whole its name where nothing lies, and takes its first one. Where that fails, it has lost its name again.
+/// Gives a file that is whole its name where nothing lies, and takes its first one. Where that fails, it loses its name again.
 fn name(rt: &HostRuntime, part: &str, to: &str) -> Result<(), FileFault>
-    ensures { IfErr result (λ why. (why.fault ≡ Fault.Memory) ⊎ (why.fault ≡ Fault.Store)) }
+    ensures { IfErr result IsFileFault }
 {
     laid(fs::hard_link(rt, part, to))?;
     match settle(rt, part) {
@@ -122,9 +112,8 @@ fn settle(rt: &HostRuntime, part: &str) -> io::Result<()> {
     folder.sync_all()
 }
 
-/// What a call came to by which a file is laid.
 fn laid(outcome: io::Result<()>) -> Result<(), FileFault>
-    ensures { IfErr result (λ why. (why.fault ≡ Fault.Memory) ⊎ (why.fault ≡ Fault.Store)) }
+    ensures { IfErr result IsFileFault }
 {
     match outcome {
         Ok(()) => Ok(()),

@@ -1,37 +1,34 @@
 //! What files hold before a database is opened in them.
 
-ghost use Rattle.std.specs.Prelude.{◌≡◌, ◌≢◌, ◌↔◌, ◌⊎◌, false, IfErr, IfOk, IsTrue};
+ghost use Rattle.std.specs.Prelude.{◌≡◌, ◌≢◌, ◌↔◌, false, IfErr, IfOk, IsTrue};
 ghost use Rattle.sqlite.specs.Files.{HoldsDatabase, IsBlankAs, IsNothing, image_of};
 ghost use Rattle.sqlite_pool.specs.Stored.{stored_size};
 ghost use Rattle.sqlite_trees.specs.Tree.{Trees};
 ghost use Rattle.sqlite_wal.specs.PageSize.{bytes_of};
 ghost use Rattle.sqlite_wal.specs.Reads.{AreClean, OnlyReads};
+ghost use Rattle.reg_desk_files.specs.Reading.{IsFileFault};
 
-use crate::file_fault::{FileFault, unlooked};
+use crate::file_fault::FileFault;
 use reg_core::Fault;
 use sqlite_disk::{Disk, Files};
 use sqlite_pool::probe_blank;
 use sqlite_wal::{Error, PageSize, probe_first_page, probe_page_size};
 use std::alloc::Global;
 
-/// How many bytes a page of a new database has.
 const NEW_PAGE: usize = 4096;
 
 /// What files hold.
 #[derive(Clone, Copy, PartialEq, Eq)]
 pub enum Found {
-    /// No database yet: the file is empty, or is what an opening that was stopped left of a first page. Who opens it makes one.
+    /// No database yet: the file is empty, or what a stopped opening left of a first page. An opening makes one.
     Nothing,
     /// No database, and something else.
     Other,
-    /// What begins as a database does. Who opens it finds whether it is one.
+    /// The beginning of a database. An opening finds whether it is one.
     Begun,
 }
 
-/// What files hold, as who opens them would find it. They are read, and nothing is written.
-///
-/// # Errors
-/// `Memory`; `Store` where a call failed, or the log is none of a database.
+/// What an opening would find in files, which are only read. Errors: `Memory`; `Store` where a call failed, or the log is none of a database.
 pub fn look<D: Disk>(alloc: Global, files: &mut Files<D>) -> Result<Found, FileFault>
     requires log { IsTrue (D.Disk.is_usable files.old.log) }
     requires db { IsTrue (D.Disk.is_usable files.old.db) }
@@ -40,21 +37,17 @@ pub fn look<D: Disk>(alloc: Global, files: &mut Files<D>) -> Result<Found, FileF
         → (db : Trees) → ¬ HoldsDatabase (image_of D.Disk files.old) db) }
     ensures log { OnlyReads D.Disk files.old.log files.new.log }
     ensures db { OnlyReads D.Disk files.old.db files.new.db }
-    ensures faults { IfErr result (λ why. (why.fault ≡ Fault.Memory) ⊎ (why.fault ≡ Fault.Store)) }
+    ensures faults { IfErr result IsFileFault }
 {
-    match is_nothing(alloc, files) {
-        Ok(true) => return Ok(Found::Nothing),
-        Ok(false) => {}
-        Err(error) => return Err(unlooked(&error)),
+    if is_nothing(alloc, files)? {
+        return Ok(Found::Nothing);
     }
-    match begins(alloc, files) {
-        Ok(true) => Ok(Found::Begun),
-        Ok(false) => Ok(Found::Other),
-        Err(error) => Err(unlooked(&error)),
+    if begins(alloc, files)? {
+        return Ok(Found::Begun);
     }
+    Ok(Found::Other)
 }
 
-/// Whether there is no database yet, with sums on its pages or without.
 fn is_nothing<D: Disk>(alloc: Global, files: &mut Files<D>) -> Result<bool, Error>
     requires log { IsTrue (D.Disk.is_usable files.old.log) }
     requires db { IsTrue (D.Disk.is_usable files.old.db) }
@@ -68,7 +61,6 @@ fn is_nothing<D: Disk>(alloc: Global, files: &mut Files<D>) -> Result<bool, Erro
     is_blank(alloc, files, true)
 }
 
-/// Whether a new database, with sums on its pages or without, has still to be made.
 fn is_blank<D: Disk>(alloc: Global, files: &mut Files<D>, has_sums: bool) -> Result<bool, Error>
     requires log { IsTrue (D.Disk.is_usable files.old.log) }
     requires db { IsTrue (D.Disk.is_usable files.old.db) }
@@ -80,14 +72,12 @@ fn is_blank<D: Disk>(alloc: Global, files: &mut Files<D>, has_sums: bool) -> Res
     probe_blank(alloc, files, size, has_sums)
 }
 
-/// The size of the pages of a new database.
 fn new_page() -> PageSize
     ensures { bytes_of result ≡ 4096 }
 {
     PageSize::new(NEW_PAGE).unwrap()
 }
 
-/// Whether files name the size of a page, and begin as a database of such pages does.
 fn begins<D: Disk>(alloc: Global, files: &mut Files<D>) -> Result<bool, Error>
     requires log { IsTrue (D.Disk.is_usable files.old.log) }
     requires db { IsTrue (D.Disk.is_usable files.old.db) }
@@ -102,8 +92,7 @@ fn begins<D: Disk>(alloc: Global, files: &mut Files<D>) -> Result<bool, Error>
     }
 }
 
-/// Whether the first page that is found in files, of this size, begins as that of a database: with the S of SQLite (SQLite's file
-/// format, 1.3.1).
+/// Whether the first page begins with the S of SQLite, as that of a database does (SQLite's file format, 1.3.1).
 fn begins_with<D: Disk>(alloc: Global, files: &mut Files<D>, size: PageSize) -> Result<bool, Error>
     requires log { IsTrue (D.Disk.is_usable files.old.log) }
     requires db { IsTrue (D.Disk.is_usable files.old.db) }

@@ -12,8 +12,7 @@ use std::alloc::{AllocError, Global};
 use std::io;
 use std::io::ErrorKind;
 
-/// A file as a database meets it, which writes: either bytes in memory, which take what is written, or a file that is read
-/// alone, of which each write is refused. Neither has a call that writes into a file.
+/// A file as a database meets it, which writes: bytes in memory, or a file that is only read, of which each write is refused.
 #[derive(Drop)]
 pub struct Overlay<F: Source> {
     /// The file that is read, where it is one.
@@ -55,7 +54,6 @@ impl<F: Source> Overlay<F> {
         }
     }
 
-    /// How many bytes it has.
     fn size(&self) -> io::Result<usize>
         ensures { IfOk result (λ size. IsTrue (honest_with F.Source.is_honest self.now.below)
             → size ≡ length (bytes_with F.Source.bytes self.now.below self.now.kept.items)) }
@@ -66,7 +64,6 @@ impl<F: Source> Overlay<F> {
         }
     }
 
-    /// Fills a buffer with what it has from a place on.
     fn fill(&self, at: usize, buf: &mut [u8]) -> io::Result<()>
         ensures { OnOk result (IsTrue (honest_with F.Source.is_honest self.now.below) → 0 < length buf.old
             → Holds (bytes_with F.Source.bytes self.now.below self.now.kept.items) at buf.new) }
@@ -182,7 +179,6 @@ impl<F: Source> Disk for Overlay<F> {
     }
 }
 
-/// Counts a call that failed.
 fn count<T>(outcome: &io::Result<T>, faults: &mut u64)
     ensures { CountsFault outcome.now faults.old faults.new }
 {
@@ -192,7 +188,6 @@ fn count<T>(outcome: &io::Result<T>, faults: &mut u64)
     }
 }
 
-/// A write into a file that is read alone, which counts as a call that failed.
 fn refused(faults: &mut u64) -> io::Result<()>
     ensures refused { IsErr result }
     ensures counted { CountsFault result faults.old faults.new }
@@ -202,7 +197,6 @@ fn refused(faults: &mut u64) -> io::Result<()>
     Err(io::Error::from(ErrorKind::ReadOnlyFilesystem))
 }
 
-/// The error of a write where memory is wanting.
 fn in_memory(outcome: Result<(), AllocError>) -> io::Result<()>
     ensures variant { is_ok result ≡ is_ok outcome }
     ensures kind { finds_no_room result ≡ false }
@@ -213,7 +207,6 @@ fn in_memory(outcome: Result<(), AllocError>) -> io::Result<()>
     }
 }
 
-/// Gives the bytes another length: cut, or with zeros behind them.
 fn resize(kept: &mut Vec<u8>, len: usize) -> Result<(), AllocError>
     ensures len { OnOk result (length kept.new.items ≡ len) }
     ensures others { Cut len kept.old.items kept.new.items }
@@ -221,7 +214,6 @@ fn resize(kept: &mut Vec<u8>, len: usize) -> Result<(), AllocError>
     kept.resize(len, 0)
 }
 
-/// Writes from a place on.
 fn overwrite(kept: &mut Vec<u8>, at: usize, bytes: &[u8]) -> Result<(), AllocError>
     ensures written { OnOk result (Holds kept.new.items at bytes.now) }
     ensures others { Torn at (length bytes.now) kept.old.items kept.new.items }

@@ -1,9 +1,10 @@
 //! Files of the machine, opened for reading alone.
 
-ghost use Rattle.std.specs.Prelude.{◌≡◌, ◌⊎◌, [], false, IfErr};
+ghost use Rattle.std.specs.Prelude.{◌≡◌, [], false, IfErr};
 ghost use Rattle.std.specs.Fs.{asks_append, asks_create, asks_create_new, asks_truncate, asks_write};
+ghost use Rattle.reg_desk_files.specs.Reading.{IsFileFault};
 
-use crate::file_fault::{FileFault, no_memory, of_call, with_cause};
+use crate::file_fault::{FileFault, with_cause};
 use crate::holding::{beside, lock, look_held};
 use crate::source::Source;
 use os::RangeLock;
@@ -13,13 +14,12 @@ use std::io::ErrorKind;
 use std::os::unix::fs::{FileExt, MetadataExt};
 use std::{fs, io};
 
-/// A file of the machine, opened for reading alone: the system refuses each write through it.
+/// A file of the machine, opened for reading alone: the system refuses each write through it. No contract can say what the machine answers.
 #[derive(Drop)]
 pub struct ReadFile {
     file: fs::File,
 }
 
-/// What the machine answers, no contract can say.
 impl Source for ReadFile {
     ghost bytes = { λ _. [] };
 
@@ -34,42 +34,33 @@ impl Source for ReadFile {
     }
 }
 
-/// Who has a database open whose files are read.
+/// Which program has a database open whose files are read.
 #[derive(Clone, Copy)]
 pub(crate) enum Holder {
-    /// Nobody who writes: it is held until it was read.
+    /// None that writes: the file is locked until it was read.
     Nobody,
     /// This program, which writes nothing meanwhile.
     Us,
 }
 
-/// The files of a database, held so that nobody else writes them; the log where there is one.
 #[derive(Drop)]
 pub(crate) struct HeldFiles {
     pub(crate) log: Option<ReadFile>,
     pub(crate) db: ReadFile,
 }
 
-/// Opens the files of a database for reading alone, where a link leads, and holds them until they are dropped.
-///
-/// # Errors
-/// `Memory`; `Store` where there is no file at the path, or none that can be read; where another program has it open to write, or this one
-/// should and has not; or where SQLite left a rollback journal beside it, which only SQLite can play back.
+/// Opens the files of a database for reading alone, where a link leads, and locks them until they are dropped. Errors: `Memory`; `Store` also
+/// where another program has the file open to write, or this one should and has not; or where SQLite left a rollback journal beside it,
+/// which only SQLite can play back.
 pub(crate) fn hold(rt: &HostRuntime, path: &str, holder: Holder) -> Result<HeldFiles, FileFault>
-    ensures { IfErr result (λ why. (why.fault ≡ Fault.Memory) ⊎ (why.fault ≡ Fault.Store)) }
+    ensures { IfErr result IsFileFault }
 {
     // A path that SQLite reads as another thing than a file's name is refused.
     if path == ":memory:" || path.starts_with("file:") {
         return Err(with_cause(Fault::Store, None));
     }
-    let real = match fs::canonicalize(rt, path) {
-        Ok(real) => real,
-        Err(error) => return Err(of_call(error.kind())),
-    };
-    let db = match open_plain(rt, real.as_str()) {
-        Ok(db) => db,
-        Err(error) => return Err(of_call(error.kind())),
-    };
+    let real = fs::canonicalize(rt, path)?;
+    let db = open_plain(rt, real.as_str())?;
     match holder {
         Holder::Nobody => lock(&db.file, RangeLock::Shared)?,
         Holder::Us => look_held(&db.file)?,
@@ -78,30 +69,22 @@ pub(crate) fn hold(rt: &HostRuntime, path: &str, holder: Holder) -> Result<HeldF
     Ok(HeldFiles { log, db })
 }
 
-/// The log that lies beside a database's file, `None` where none does.
 fn log_at(rt: &HostRuntime, path: &str) -> Result<Option<ReadFile>, FileFault>
-    ensures { IfErr result (λ why. (why.fault ≡ Fault.Memory) ⊎ (why.fault ≡ Fault.Store)) }
+    ensures { IfErr result IsFileFault }
 {
-    let Ok(journal) = beside(rt, path, "-journal") else {
-        return Err(no_memory());
-    };
-    match has_hot_journal(rt, journal.as_str()) {
-        Ok(false) => {}
-        Ok(true) => return Err(with_cause(Fault::Store, None)),
-        Err(error) => return Err(of_call(error.kind())),
+    let journal = beside(rt, path, "-journal")?;
+    if has_hot_journal(rt, journal.as_str())? {
+        return Err(with_cause(Fault::Store, None));
     }
-    let Ok(log) = beside(rt, path, "-wal") else {
-        return Err(no_memory());
-    };
+    let log = beside(rt, path, "-wal")?;
     match open_plain(rt, log.as_str()) {
         Ok(log) => Ok(Some(log)),
         Err(error) if error.kind() == ErrorKind::NotFound => Ok(None),
-        Err(error) => Err(of_call(error.kind())),
+        Err(error) => Err(FileFault::from(error)),
     }
 }
 
-/// Whether a rollback journal lies at a path that SQLite has to play back: one that is empty or begins with a zero has nothing. What
-/// else lies there is taken for one.
+/// Whether SQLite has to play back a rollback journal at a path: one that is empty or begins with a zero has nothing.
 fn has_hot_journal(rt: &HostRuntime, path: &str) -> io::Result<bool> {
     match open_plain(rt, path) {
         Ok(journal) => begins_hot(&journal),
@@ -111,7 +94,6 @@ fn has_hot_journal(rt: &HostRuntime, path: &str) -> io::Result<bool> {
     }
 }
 
-/// Whether a journal has a first byte that is not 0.
 fn begins_hot(journal: &ReadFile) -> io::Result<bool> {
     if journal.size()? == 0 {
         return Ok(false);
@@ -136,7 +118,6 @@ fn open_plain(rt: &HostRuntime, path: &str) -> io::Result<ReadFile> {
     Ok(ReadFile { file })
 }
 
-/// How a file is opened for reading alone: nothing can be written through it, and none is made.
 fn to_read() -> OpenOptions
     ensures writes { asks_write result ≡ false }
     ensures appends { asks_append result ≡ false }

@@ -1,16 +1,16 @@
 //! A register's files, opened as a database that is read alone.
 
-ghost use Rattle.std.specs.Prelude.{◌≡◌, ◌⊎◌, false, length, IfErr, IfOk, IsTrue, OnOk};
+ghost use Rattle.std.specs.Prelude.{◌≡◌, false, length, IfErr, IfOk, IsTrue, OnOk};
 ghost use Rattle.sqlite.specs.Files.{file_state, image_of, IsNothing, IsOpened};
 ghost use Rattle.sqlite.specs.Held.{IsNew};
 ghost use Rattle.sqlite.specs.Start.{FindsIn};
 ghost use Rattle.sqlite.specs.State.{HasCleanDisk};
 ghost use Rattle.sqlite_wal.specs.Reads.{AreClean, OnlyReads};
 ghost use Rattle.reg_desk_files.specs.Overlaid.{image};
-ghost use Rattle.reg_desk_files.specs.Reading.{IsUnread};
+ghost use Rattle.reg_desk_files.specs.Reading.{IsFileFault, IsUnread};
 
 use crate::file::options_for;
-use crate::file_fault::{FileFault, damaged, no_database, no_memory, of_call};
+use crate::file_fault::{FileFault, damaged};
 use crate::looking::{Found, look};
 use crate::overlay::{Overlay, overlaid};
 use crate::read_file::{HeldFiles, Holder, ReadFile, hold};
@@ -24,13 +24,23 @@ use std::hash::{BuildHasher, RandomState};
 /// More bytes than an opening writes behind those of a log.
 const ROOM: usize = 64;
 
-/// Why files are not opened to be read.
+/// Why files can't be read.
 #[derive(Clone, Copy, PartialEq, Eq)]
 pub enum Unread {
-    /// There is no database yet: who opened them to write would make one.
+    /// There is no database yet: an opening to write would make one.
     Nothing,
-    /// They are not opened.
+    /// They can't be opened.
     Fault(FileFault),
+}
+
+impl From<FileFault> for Unread {
+    ghost use Rattle.reg_desk_files.specs.declared.reading.Unread.TheVariants.{Fault as IsFault};
+
+    ghost from_gives = { λ fault why. why ≡ IsFault fault };
+
+    fn from(fault: FileFault) -> Unread {
+        Unread::Fault(fault)
+    }
 }
 
 /// The files of a database, which are only read, and how it is to be opened.
@@ -46,28 +56,21 @@ pub struct Sources<F: Source> {
     pub options: Options,
 }
 
-/// The files at a path, opened for reading alone, where a link leads. They stay as they are, byte for byte, and none is made; the log
-/// is copied into memory. Until they are let go others may read them, and nobody may open them to write. There is to be room for
-/// pages as [`crate::open_file`] has it.
-///
-/// # Errors
-/// `Memory`; `Store` where the files can't be opened, with the cause that the failing call told.
+/// Opens the files at a path for reading alone, where a link leads. None is made, and the log is copied into memory. Until they are dropped
+/// no program may open them to write. Errors: `Memory`; `Store` where the files can't be opened, with the cause.
 pub fn read_at(rt: &HostRuntime, path: &str) -> Result<Sources<ReadFile>, FileFault>
-    ensures { IfErr result (λ why. (why.fault ≡ Fault.Memory) ⊎ (why.fault ≡ Fault.Store)) }
+    ensures { IfErr result IsFileFault }
 {
     sources_at(rt, path, Holder::Nobody)
 }
 
-/// The same of files that may be open in this program.
-///
-/// # Errors
-/// As [`read_at`]; `Store` also where this program should have them open and has not.
+/// The same of files that this program may have open.
 pub(crate) fn sources_at(
     rt: &HostRuntime,
     path: &str,
     holder: Holder,
 ) -> Result<Sources<ReadFile>, FileFault>
-    ensures { IfErr result (λ why. (why.fault ≡ Fault.Memory) ⊎ (why.fault ≡ Fault.Store)) }
+    ensures { IfErr result IsFileFault }
 {
     let options = options_for(rt, path)?;
     let HeldFiles { log, db } = hold(rt, path, holder)?;
@@ -75,32 +78,23 @@ pub(crate) fn sources_at(
         Some(log) => copy_of(rt.alloc(), log)?,
         None => Vec::new(rt.alloc()),
     };
-    match RandomState::new(rt) {
-        Ok(state) => Ok(Sources {
-            log,
-            db,
-            key: state.hash_one(&0u8),
-            options,
-        }),
-        Err(error) => Err(of_call(error.kind())),
-    }
+    let key = RandomState::new(rt)?.hash_one(&0u8);
+    Ok(Sources {
+        log,
+        db,
+        key,
+        options,
+    })
 }
 
-/// Looks whether a database was begun in the files at a path. They are opened for reading alone, and are as they were.
-///
-/// # Errors
-/// `Nothing` where none was begun; else `Memory`, or `Store` where the files can't be opened or hold something else, with the
-/// cause that the failing call told.
+/// Looks whether a database was begun in the files at a path, which are only read. Errors: `Nothing` where none was begun; `Memory`; `Store`
+/// where the files can't be opened or hold something else, with the cause.
 pub fn look_at(rt: &HostRuntime, path: &str) -> Result<(), Unread>
     ensures { IfErr result IsUnread }
 {
-    match read_at(rt, path) {
-        Ok(sources) => look_into(rt.alloc(), sources),
-        Err(why) => Err(Unread::Fault(why)),
-    }
+    look_into(rt.alloc(), read_at(rt, path)?)
 }
 
-/// Looks whether a database was begun in files that are only read.
 fn look_into<F: Source + Drop>(alloc: Global, sources: Sources<F>) -> Result<(), Unread>
     ensures { IfErr result IsUnread }
 {
@@ -108,11 +102,8 @@ fn look_into<F: Source + Drop>(alloc: Global, sources: Sources<F>) -> Result<(),
     is_begun(alloc, &mut files)
 }
 
-/// Opens a database over files that have no call that writes: so whatever is asked of the connection, they are as they were. What an
-/// opening writes goes into the copy of the log. What the log has is found as a part of the database.
-///
-/// # Errors
-/// As [`open_begun`].
+/// Opens a database over files that have no call that writes, so no use of the connection changes them: an opening writes into the copy of the
+/// log. Errors as of [`open_begun`].
 pub fn open_sources<F: Source + Drop>(
     alloc: Global,
     sources: Sources<F>,
@@ -130,10 +121,7 @@ pub fn open_sources<F: Source + Drop>(
     open_begun(alloc, files, options)
 }
 
-/// Opens files as a database, where one was begun in them: none is made.
-///
-/// # Errors
-/// `Nothing` where none was begun; else `Memory`, or `Store` where they hold none or a call failed.
+/// Opens files in which a database was begun. Errors: `Nothing` where none was; `Memory`; `Store` where they hold none or a call failed.
 pub fn open_begun<D: Disk + Drop>(
     alloc: Global,
     mut files: Files<D>,
@@ -151,11 +139,10 @@ pub fn open_begun<D: Disk + Drop>(
     is_begun(alloc, &mut files)?;
     match Connection::open_files_with(alloc, files, options, false) {
         Ok(connection) => Ok(connection),
-        Err((error, _)) => Err(Unread::Fault(no_database(&error))),
+        Err((error, _)) => Err(Unread::Fault(FileFault::from(error))),
     }
 }
 
-/// Whether a database was begun in files.
 pub(crate) fn is_begun<D: Disk>(alloc: Global, files: &mut Files<D>) -> Result<(), Unread>
     requires log { IsTrue (D.Disk.is_usable files.old.log) }
     requires db { IsTrue (D.Disk.is_usable files.old.db) }
@@ -164,37 +151,24 @@ pub(crate) fn is_begun<D: Disk>(alloc: Global, files: &mut Files<D>) -> Result<(
     ensures db { OnlyReads D.Disk files.old.db files.new.db }
     ensures faults { IfErr result IsUnread }
 {
-    match look(alloc, files) {
-        Ok(Found::Begun) => Ok(()),
-        Ok(Found::Nothing) => Err(Unread::Nothing),
-        Ok(Found::Other) => Err(Unread::Fault(damaged())),
-        Err(why) => Err(Unread::Fault(why)),
+    match look(alloc, files)? {
+        Found::Begun => Ok(()),
+        Found::Nothing => Err(Unread::Nothing),
+        Found::Other => Err(Unread::Fault(damaged())),
     }
 }
 
-/// A copy of all bytes of a file, with room for what an opening writes behind them.
-///
-/// # Errors
-/// `Memory`; `Store` where a call failed.
+/// A copy of all bytes of a file, with room for what an opening writes behind them. Errors: `Memory`; `Store` where a call failed.
 pub fn copy_of<F: Source>(alloc: Global, file: &F) -> Result<Vec<u8>, FileFault>
     ensures bytes { IfOk result (λ copy. IsTrue (F.Source.is_honest file.now) → copy.items ≡ F.Source.bytes file.now) }
-    ensures faults { IfErr result (λ why. (why.fault ≡ Fault.Memory) ⊎ (why.fault ≡ Fault.Store)) }
+    ensures faults { IfErr result IsFileFault }
 {
-    let size = match file.size() {
-        Ok(size) => size,
-        Err(error) => return Err(of_call(error.kind())),
-    };
-    let mut copy = match zeros(alloc, size) {
-        Ok(copy) => copy,
-        Err(_) => return Err(no_memory()),
-    };
-    match file.fill(0, &mut copy) {
-        Ok(()) => Ok(copy),
-        Err(error) => Err(of_call(error.kind())),
-    }
+    let size = file.size()?;
+    let mut copy = zeros(alloc, size)?;
+    file.fill(0, &mut copy)?;
+    Ok(copy)
 }
 
-/// So many zeros, with room behind them.
 fn zeros(alloc: Global, size: usize) -> Result<Vec<u8>, AllocError>
     ensures { IfOk result (λ all. length all.items ≡ size) }
 {

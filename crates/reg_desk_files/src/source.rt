@@ -2,8 +2,7 @@
 
 use std::io;
 
-/// A file that can be read at any place, as often as is wanted. No call of it writes: who is handed nothing but such files
-/// changes none of them.
+/// A file that can be read at any place. No call of it writes, so a function that gets only such files changes none of them.
 pub trait Source {
     ghost use Rattle.std.specs.Prelude.{◌≡◌, ◌<◌, ℕ, Bool, List, length, IfOk, IsTrue, OnOk};
     ghost use Rattle.sqlite_disk.specs.Disk.{Holds};
@@ -14,22 +13,15 @@ pub trait Source {
     /// Each call answers by these bytes. Of a file of the machine no contract can say so.
     ghost is_honest: { Self → Bool };
 
-    /// How many bytes the file has.
-    ///
-    /// # Errors
-    /// The call of the system failed.
+    /// How many bytes the file has. Errors: the call of the system failed.
     fn size(&self) -> io::Result<usize>
         ensures { IfOk result (λ size. IsTrue (is_honest self.now) → size ≡ length (bytes self.now)) };
 
-    /// Fills a buffer with what the file has from a place on.
-    ///
-    /// # Errors
-    /// The file ends before that, or the call of the system failed.
+    /// Fills a buffer with the bytes from a place on. Errors: the file ends before that, or the call of the system failed.
     fn fill(&self, at: usize, buf: &mut [u8]) -> io::Result<()>
         ensures { OnOk result (IsTrue (is_honest self.now) → 0 < length buf.old → Holds (bytes self.now) at buf.new) };
 }
 
-/// Bytes in memory answer by what they are.
 impl Source for Vec<u8> {
     ghost use Rattle.std.specs.Prelude.{true};
 

@@ -7,7 +7,6 @@ pub mod LookedAt
 pub mod Looks
 pub mod NextLines
 pub mod PageByPage
-pub mod Peers
 pub mod Setting
 pub mod StepWords
 pub mod Talking

@@ -17,7 +17,7 @@ use Rattle.reg_ocsp.specs.Drafts.{Drafted}
 use Rattle.reg_io.specs.declared.begun.Begun.{Begun}
 use Rattle.reg_io.specs.declared.begun.Begun.TheVariants.{Ready, Unsigned}
 use Rattle.reg_desk_jobs.specs.Exchanges.{AnswersAt, IsExchange, IsRouteOf, Says, dispatch}
-use Rattle.reg_desk_jobs.specs.Leaving.{BegunMeets, FinishesAt}
+use Rattle.reg_desk_jobs.specs.Leaving.{FinishesAt}
 use Rattle.reg_desk_jobs.specs.declared.visiting.Dispatch.TheVariants.{ToRegister}
 
 -- an answer that is ready, or out of memory
@@ -39,13 +39,10 @@ BeginsAt is_open signs now who before method target body (Err memory) after = af
 -- records gain one request for revocation at most.
 abbrev pub AnswersBegun
     : (List ℕ → List ℕ → Type 0) → Bool → Signs → ℕ → Signatory → Records → List ℕ → Begun Exchange Left → Records → Type 0
-AnswersBegun gave is_open signs now who before request begun after =
-    BegunMeets
-    (λ draft text. FinishesAt gave draft now text)
-    (λ exchange. IsExchange is_open signs now who before request exchange after)
-    (λ text. AnswersAt is_open signs now who before request text after)
-    begun
-    × AddsARequestAtMost now before after
+AnswersBegun gave is_open signs now who before request (Ready exchange) after =
+    IsExchange is_open signs now who before request exchange after × AddsARequestAtMost now before after
+AnswersBegun gave is_open signs now who before request (Unsigned left) after =
+    ((text : List ℕ) → FinishesAt gave left.draft now text → AnswersAt is_open signs now who before request text after) × AddsARequestAtMost now before after
 
 -- the route under which it is counted
 abbrev pub IsBegunRoute : List ℕ → Begun Exchange Left → Type 0

@@ -1,12 +1,12 @@
 -- That an open register counts each exchange once, where its text is made.
-use Rattle.std.specs.Prelude.{◌≡◌, ◌⊎◌, ◌↔◌, ◌<◌, ℕ, Bool, IsTrue, List, Option}
+use Rattle.std.specs.Prelude.{◌≡◌, ◌⊎◌, ◌↔◌, ◌<◌, ℕ, Bool, IsTrue, List}
 use Rattle.reg_http.specs.declared.exchange.Exchange.{Exchange}
 use Rattle.reg_http.specs.declared.exchange.Left.{Left}
 use Rattle.reg_desk_server.specs.Exchange.{Outcome, said, pending}
 use Rattle.reg_desk_jobs.specs.ControlReplies.{TellsCame, effects_of}
 use Rattle.reg_desk_jobs.specs.declared.control_reply.Came.{Came}
 use Rattle.reg_desk_jobs.specs.Exchanges.{IsRouteOf}
-use Rattle.reg_desk_jobs.specs.Leaving.{IsFinished, IsSignatureOf}
+use Rattle.reg_desk_jobs.specs.Leaving.{FinishesUnsigned}
 use Rattle.reg_desk_jobs.specs.declared.leaving.Unsigned.{Unsigned}
 use Rattle.reg_desk_metrics.specs.Tallies.{with_exchange, with_line}
 use Rattle.reg_desk_metrics.specs.declared.tally.Tally.{Tally}
@@ -22,16 +22,11 @@ CountsBegun now request (begun.Unsigned left) (pending unsigned) tally tally' =
     (unsigned.draft ≡ left.draft) × (unsigned.moment ≡ now) × (unsigned.route ≡ left.route) × IsRouteOf request left.route × (tally' ≡ tally)
 CountsBegun now request begun outcome tally tally' = ⊥
 
--- what finishes an exchange that was left is counted, by its moment and its route
-pub record CountsFinished (gave : List ℕ → List ℕ → Type 0) (unsigned : Unsigned) (text : List ℕ) (tally tally' : Tally) : Type 0 where
-  pub signature : Option (List ℕ)
-  pub signed : IsSignatureOf gave unsigned.draft signature
-  pub exchange : Exchange
-  pub finished : IsFinished unsigned.draft unsigned.moment signature exchange
-  pub text_is : text ≡ exchange.text.items
-  pub route_is : exchange.route ≡ unsigned.route
-  pub micros : ℕ
-  pub counted : tally' ≡ with_exchange unsigned.moment exchange micros tally
+-- what finishes an exchange that was left, and that it is counted by its moment and its route
+abbrev pub CountsFinished : (List ℕ → List ℕ → Type 0) → Unsigned → List ℕ → Tally → Tally → Type 0
+CountsFinished gave unsigned text tally tally' =
+    (it : FinishesUnsigned gave unsigned text) × (it.exchange.route ≡ unsigned.route)
+    × ((micros : ℕ) × (tally' ≡ with_exchange unsigned.moment it.exchange micros tally))
 
 -- whether a signature failed between two states of an office, by its counts of those: of CRLs, and of OCSP answers
 abbrev pub SignatureFailed : {S : Type 0} → (S → ℕ) → (S → ℕ) → S → S → Type 0

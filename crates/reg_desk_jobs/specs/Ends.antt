@@ -1,5 +1,5 @@
 -- How a job of the program ends.
-use Rattle.std.specs.Prelude.{◌≡◌, ◌≢◌, ◌⊎◌, ℕ, Bool, true, false, List, codes, Result, Ok, Err, Some, None}
+use Rattle.std.specs.Prelude.{◌≡◌, ◌≢◌, ◌⊎◌, ℕ, Bool, true, false, List, codes, is_some, Result, Ok, Err, Some, None}
 use Rattle.std.specs.declared.option.Option.{Option}
 use Rattle.std.specs.Io.KnownBytes.{Appends}
 use Rattle.reg_core.specs.Issuer.{Issuer}
@@ -21,7 +21,6 @@ use Rattle.reg_lines.specs.Import.{ImportEnds}
 use Rattle.reg_core_lists.specs.Pages.{GivesWholeList}
 use Rattle.reg_lines.specs.Script.{LinesEnd, ScriptEnds}
 use Rattle.reg_lines.specs.Strict.{StrictEnds}
-use Rattle.reg_lines.specs.declared.answered.Ended.{Ended}
 use Rattle.reg_audit_rows.specs.FindingLines.{broken_text, sound_text}
 use Rattle.reg_audit_rows.specs.declared.lines.TheConstants.{OTHER_SCHEMA}
 use Rattle.reg_audit_rows.specs.declared.verdict.Verdict.{Verdict}
@@ -29,6 +28,7 @@ use Rattle.reg_audit_rows.specs.declared.verdict.Verdict.TheVariants as verdict
 use Rattle.reg_io.specs.Put.{AppendsFront}
 use Rattle.reg_desk_cli.specs.declared.job.Job.{Job}
 use Rattle.reg_desk_cli.specs.declared.job.Job.TheVariants as job
+use Rattle.reg_desk_cli.specs.declared.job.Answerer.{Answerer}
 use Rattle.reg_desk_cli.specs.declared.job.KeptOpen.{KeptOpen}
 use Rattle.reg_desk_cli.specs.declared.job.KeyHolder.{KeyHolder}
 use Rattle.reg_desk_cli.specs.declared.job.LinedScript.{LinedScript}
@@ -38,16 +38,16 @@ use Rattle.reg_desk_cli.specs.declared.job.Serving.{Serving}
 use Rattle.reg_desk_jobs.specs.Asking.{AtCounter, RowsAtCounter}
 use Rattle.reg_desk_jobs.specs.Copies.{copied_text}
 use Rattle.reg_desk_jobs.specs.Digest.{digest_alone, digests}
-use Rattle.reg_desk_jobs.specs.RegisterFailures.{IsMaking}
+use Rattle.reg_desk_jobs.specs.RegisterFailures.{IsMaking, IsOpening}
 use Rattle.reg_office_api.specs.LookUps.{IsOfStore}
 use Rattle.reg_office_api.specs.Settings.{Identifies, Reschedules}
 use Rattle.reg_desk_jobs.specs.Given.{GaveAt}
 use Rattle.reg_desk_jobs.specs.Sample.{sample_records}
-use Rattle.reg_desk_jobs.specs.Registers.{Audits}
-use Rattle.reg_desk_jobs.specs.Serving.{IsControlSocket, OpenedAt, ServesOpen, Serves, ServedAt}
+use Rattle.reg_desk_jobs.specs.Registers.{Audits, Unaudited}
+use Rattle.reg_desk_jobs.specs.Serving.{IsBound, Serves, ServedAt}
 use Rattle.reg_desk_jobs.specs.Told.{Explains}
 use Rattle.reg_desk_jobs.specs.WhoSigns.{Signing, answer_socket, by_itself, signing_told, unsigned}
-use Rattle.reg_desk_jobs.specs.Visits.{Visits, NotAudited, NotCopied, NotOpened, Makes, NotMade, ending_of, ending_of_run}
+use Rattle.reg_desk_jobs.specs.Visits.{Visits, NotMade, NotOpened, Makes, ending_of, ending_of_run}
 use Rattle.reg_desk_jobs.specs.declared.leaving.Unsigned.{Unsigned}
 use Rattle.reg_desk_jobs.specs.declared.machine.Machine.{Ghosts as Machine}
 
@@ -128,14 +128,15 @@ module _ {M O D S R W : Type 0} (machines : Machine M O D S R) (offices : Office
   -- an audit of the register at a path: it could not be looked at, or what was found is told; the machine is as it was
   abbrev pub AuditAt : List ℕ → Result (Unit {0}) Failure → Type 0
   AuditAt path result =
-      (machine' ≡ machine) × ((NotAudited machines machine path result × (writer' ≡ writer))
+      (machine' ≡ machine)
+      × (((why : Failure) × (result ≡ Err why) × Unaudited machines machine path why × IsOpening why × (writer' ≡ writer))
       ⊎ ((found : Verdict) × Audits machines machine path found × TellsVerdict contents writer writer' found result))
 
   -- a copy of the register at a path, under another that nothing had: none was created; or one of so many bytes was, and that is told, with
   -- how many milliseconds it took
   abbrev pub CopyAt : List ℕ → List ℕ → Result (Unit {0}) Failure → Type 0
   CopyAt path to result =
-      (NotCopied machines machine machine' path to result × (writer' ≡ writer))
+      ((why : Failure) × (result ≡ Err why) × machines.uncopied machine path to why machine' × IsOpening why × (writer' ≡ writer))
       ⊎ ((bytes millis : ℕ) × machines.copied machine path to bytes machine'
       × TellsLine (copied_text bytes millis) contents writer writer' result)
 
@@ -155,20 +156,22 @@ module _ {M O D S R W : Type 0} (machines : Machine M O D S R) (offices : Office
       × Visits machines offices machine machine' path unsigned (λ identity. Identifies octets set)
       × TellsSet (codes "key-id set\n") contents writer writer' set result))
 
-  -- HTTP requests over the register at a path (RFC 9112), which is opened before the port is bound: what came of each connection and what
-  -- came of that, in this order. A signature that was waited for is one that the signer at the path of who answers gave.
-  abbrev pub ServeAt : Serving → Result (Unit {0}) Failure → Type 0
-  ServeAt it result = Over it.file (signing_told it.signer it.answerer) result ((inputs : List Input) × (outcomes : List (Outcome Unsigned))
-      × Visits machines offices machine machine' it.file (signing_told it.signer it.answerer)
-      (Serves offices.signs (GaveAt machines.gave (answer_socket it.signer it.answerer)) machines.told inputs outcomes)
-      × ServedAt contents writer writer' machines.bound it.port it.requests inputs result)
+  -- HTTP requests over the register at a path (RFC 9112), which is opened before the port is bound, and lines where there is a control socket:
+  -- what came on each connection and what came of that, in this order. A signature that was waited for is one that the signer at the path of who
+  -- answers gave.
+  abbrev pub AtPort : List ℕ → Option KeyHolder → Answerer → ℕ → Option (List ℕ) → ℕ → Result (Unit {0}) Failure → Type 0
+  AtPort path signer answerer port counter requests result = Over path (signing_told signer answerer) result ((inputs : List Input)
+      × (outcomes : List (Outcome Unsigned)) × Visits machines offices machine machine' path (signing_told signer answerer)
+      (Serves (is_some counter) offices.signs (GaveAt machines.gave (answer_socket signer answerer)) machines.told inputs outcomes)
+      × ServedAt contents writer writer' (IsBound machines.bound machines.laid machines.moded port counter) port requests inputs result)
 
-  -- the same, and lines at a control socket, until the program is ended
+  -- so many requests
+  abbrev pub ServeAt : Serving → Result (Unit {0}) Failure → Type 0
+  ServeAt it = AtPort it.file it.signer it.answerer it.port None it.requests
+
+  -- requests and lines, as many as can be counted: the program is ended before
   abbrev pub OpenAt : KeptOpen → Result (Unit {0}) Failure → Type 0
-  OpenAt it result = Over it.file (signing_told it.signer it.answerer) result ((inputs : List Input) × (outcomes : List (Outcome Unsigned))
-      × Visits machines offices machine machine' it.file (signing_told it.signer it.answerer)
-      (ServesOpen offices.signs (GaveAt machines.gave (answer_socket it.signer it.answerer)) machines.told inputs outcomes)
-      × OpenedAt contents writer writer' machines.bound (IsControlSocket machines.laid machines.moded) it.port it.counter inputs result)
+  OpenAt it = AtPort it.file it.signer it.answerer it.port (Some it.counter) 18446744073709551615
 
 -- A new register at a path.
 module _ {M O D S R W : Type 0} (machines : Machine M O D S R) (offices : Office O) (contents : W → Option (List ℕ))
@@ -207,39 +210,31 @@ ScriptInMemory remaining contents reader reader' writer writer' result =
 module _ {M O D S R E W : Type 0} (machines : Machine M O D S R) (offices : Office O)
     (remaining : E → Option (List ℕ)) (contents : W → Option (List ℕ))
     (machine machine' : M) (reader reader' : E) (writer writer' : W) where
-  -- the register at a path could not be opened, and nothing was read and nothing written
-  abbrev pub Unread : List ℕ → Signing → Result (Unit {0}) Failure → Type 0
-  Unread path signing result = NotOpened machines machine machine' path signing result × (reader' ≡ reader) × (writer' ≡ writer)
-
-  -- a run over the register at a path: it could not be opened, or the run led from its records to those after it
-  abbrev pub RunsAt : List ℕ → Signing → (Result (Unit {0}) Fault → Signatory → Records → Records → Type 0) → Result (Unit {0}) Failure → Type 0
-  RunsAt path signing Ran result = Unread path signing result
-      ⊎ ((ran : Result (Unit {0}) Fault) × (result ≡ ending_of ran) × Visits machines offices machine machine' path signing (Ran ran))
-
-  -- the same of a run of lines or rows that may be strict
-  abbrev pub EndsAt : List ℕ → Signing → (Result Ended Fault → Signatory → Records → Records → Type 0) → Result (Unit {0}) Failure → Type 0
-  EndsAt path signing Ran result = Unread path signing result
-      ⊎ ((ran : Result Ended Fault) × (result ≡ ending_of_run ran) × Visits machines offices machine machine' path signing (Ran ran))
+  -- a run over the register at a path, and how the job ends: it could not be opened, or the run led from its records to those after it
+  abbrev pub RunsAt : {A : Type 0} → (A → Result (Unit {0}) Failure) → List ℕ → Signing → (A → Signatory → Records → Records → Type 0)
+      → Result (Unit {0}) Failure → Type 0
+  RunsAt {A = A} ending path signing Ran result = (NotOpened machines machine machine' path signing result × (reader' ≡ reader) × (writer' ≡ writer))
+      ⊎ ((ran : A) × (result ≡ ending ran) × Visits machines offices machine machine' path signing (Ran ran))
 
   -- a script over the register at a path
   abbrev pub ScriptAt : List ℕ → Option KeyHolder → Result (Unit {0}) Failure → Type 0
-  ScriptAt path signer = RunsAt path (signing_told signer by_itself) (λ ran identity before after.
+  ScriptAt path signer = RunsAt ending_of path (signing_told signer by_itself) (λ ran identity before after.
       ScriptEnds (Lines offices.signs identity) remaining contents before after reader reader' writer writer' ran)
 
   -- a script over the register at a path, run line by line
   abbrev pub LinesAt : LinedScript → Result (Unit {0}) Failure → Type 0
-  LinesAt it = EndsAt it.file (signing_told it.signer by_itself) (λ ran identity before after.
+  LinesAt it = RunsAt ending_of_run it.file (signing_told it.signer by_itself) (λ ran identity before after.
       LinesEnd (Lines offices.signs identity) remaining contents before after reader reader' writer writer' machines.told
       it.way.is_clocked it.way.is_strict ran)
 
   -- a strict import into the register at a path, at a moment
   abbrev pub StrictImportAt : List ℕ → ℕ → Result (Unit {0}) Failure → Type 0
-  StrictImportAt path now = EndsAt path unsigned (λ ran identity before after.
+  StrictImportAt path now = RunsAt ending_of_run path unsigned (λ ran identity before after.
       StrictEnds (Lines offices.signs identity) remaining contents now before after reader reader' writer writer' ran)
 
   -- an import into the register at a path, at a moment, which is strict or is not
   abbrev pub ImportAt : Bool → List ℕ → ℕ → Result (Unit {0}) Failure → Type 0
-  ImportAt false path now = RunsAt path unsigned (λ ran identity before after.
+  ImportAt false path now = RunsAt ending_of path unsigned (λ ran identity before after.
       ImportEnds (Lines offices.signs identity) remaining contents now before after reader reader' writer writer' ran)
   ImportAt true path now = StrictImportAt path now
 

@@ -69,19 +69,8 @@ pub record AnswersAt (is_open : Bool) (signs : Signs) (now : ℕ) (who : Signato
 abbrev pub AnswersBy : Bool → Signs → (ℕ → Type 0) → Signatory → Records → List ℕ → List ℕ → Records → Type 0
 AnswersBy is_open signs told who before request text after = (now : ℕ) × told now × AnswersAt is_open signs now who before request text after
 
--- an exchange of a register that is served, and one of an open register
-abbrev pub Exchange : Signs → (ℕ → Type 0) → Signatory → Records → List ℕ → List ℕ → Records → Type 0
-Exchange = AnswersBy false
-
-abbrev pub Visit : Signs → (ℕ → Type 0) → Signatory → Records → List ℕ → List ℕ → Records → Type 0
-Visit = AnswersBy true
-
 -- ---- lines
 
 -- a line that is only looked at changes no record
 abbrev pub Unmoved : Records → List ℕ → Records → Type 0
 Unmoved before line after = after ≡ before
-
--- where there is no control socket, no line comes
-abbrev pub NoEntry : {S A : Type 0} → S → List ℕ → A → S → Type 0
-NoEntry before line answer after = ⊥

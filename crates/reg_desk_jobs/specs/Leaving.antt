@@ -7,12 +7,9 @@ use Rattle.reg_core.specs.declared.memory.Memory.{Memory}
 use Rattle.reg_http.specs.Bodies.{ocsp_reply}
 use Rattle.reg_http.specs.Exchanges.{TellsText}
 use Rattle.reg_http.specs.declared.exchange.Exchange.{Exchange}
-use Rattle.reg_http.specs.declared.exchange.Left.{Left}
 use Rattle.reg_desk_server.specs.Exchange.{Outcome, said, pending, later}
 use Rattle.reg_ocsp.specs.Drafts.{Drafted, drafted_response}
 use Rattle.reg_crl_signer.specs.Forms.{HasForm}
-use Rattle.reg_io.specs.declared.begun.Begun.{Begun}
-use Rattle.reg_io.specs.declared.begun.Begun.TheVariants as begun
 use Rattle.reg_desk_jobs.specs.declared.leaving.Unsigned.{Unsigned}
 
 -- this was given for what is to be signed, and it has the form of a signature by who is to sign; or there is none
@@ -50,8 +47,3 @@ abbrev pub Meets : {T : Type 0} → (T → List ℕ → Type 0) → (List ℕ �
 Meets finishes wanted (said text) = wanted text
 Meets finishes wanted (pending ticket) = (text : List ℕ) → finishes ticket text → wanted text
 Meets finishes wanted later = ⊥
-
--- the same of an exchange that was begun
-abbrev pub BegunMeets : (Drafted → List ℕ → Type 0) → (Exchange → Type 0) → (List ℕ → Type 0) → Begun Exchange Left → Type 0
-BegunMeets finishes is_wanted wanted (begun.Ready exchange) = is_wanted exchange
-BegunMeets finishes is_wanted wanted (begun.Unsigned left) = (text : List ℕ) → finishes left.draft text → wanted text

@@ -1,12 +1,12 @@
 -- The lines of the log: one line an exchange, whatever came.
-use Rattle.std.specs.Prelude.{ℕ, Bool, false, cond, ◌||◌, List, [], ◌∷◌, ◌++◌, ◌+◌, ◌/◌, ◌%◌, ◌==◌, nat_lt, take, length, codes, decimal}
+use Rattle.std.specs.Prelude.{ℕ, Bool, cond, not, ◌||◌, ◌&&◌, List, [], ◌∷◌, ◌++◌, ◌+◌, ◌/◌, ◌%◌, ◌==◌, nat_le, nat_lt, take, length, codes, decimal}
 use Rattle.std.specs.List.{flat_map, position}
 use Rattle.reg_core.specs.Calendar.{moment_text}
 use Rattle.reg_http.specs.RouteNames.{before}
 
 -- whether a byte is told as it is: ASCII from the space to the tilde (RFC 20 2), but the quotation mark and the backslash
 abbrev pub is_plain : ℕ → Bool
-is_plain byte = cond (byte == 34) false (cond (byte == 92) false (cond (nat_lt byte 32) false (nat_lt byte 127)))
+is_plain byte = not (byte == 34) && (not (byte == 92) && (nat_le 32 byte && nat_lt byte 127))
 
 -- a hexadecimal digit, in lower case
 abbrev pub digit : ℕ → ℕ
@@ -24,13 +24,9 @@ ends_line byte = (byte == 13) || (byte == 10)
 abbrev pub first_line : List ℕ → List ℕ
 first_line text = before (position ends_line text) text
 
--- how many bytes of a text are told
-abbrev pub most_told : ℕ
-most_told = 256
-
--- what a text is told as: its first line, as far as it is told, in quotation marks
+-- what a text is told as: the first 256 bytes of its first line, in quotation marks
 abbrev pub told_text : List ℕ → List ℕ
-told_text text = 34 ∷ flat_map told_byte (take most_told (first_line text)) ++ (34 ∷ [])
+told_text text = 34 ∷ flat_map told_byte (take 256 (first_line text)) ++ (34 ∷ [])
 
 -- what the line of an exchange ends with where a signature was asked for and did not come
 abbrev pub unsigned_end : Bool → List ℕ

@@ -1,24 +1,19 @@
 -- A schedule that is set.
 use Rattle.std.specs.Prelude.{◌≡◌, ◌⊎◌, ℕ, List, [], ◌∷◌, ◌++◌, codes, Result, Ok, Err}
-use Rattle.std.specs.Result.{result_map_both}
 use Rattle.reg_core.specs.Records.{Records}
 use Rattle.reg_core.specs.Schedule.{IsSchedule}
 use Rattle.reg_desk_cli.specs.Checks.{IsNoSchedule}
 use Rattle.reg_desk_cli.specs.Endings.{failure_line}
 use Rattle.reg_desk_cli.specs.declared.failure.Failure.{Failure}
-use Rattle.reg_desk_cli.specs.declared.failure.Failure.TheVariants as failure
 use Rattle.reg_core.specs.declared.refusal.Fault.{Fault}
 use Rattle.reg_office_api.specs.Settings.{Reschedules}
-
--- how the setting of steps ends that are a schedule: they are set, or why they are not
-abbrev pub set_ending : Result (Unit {0}) Fault → Result (Unit {0}) Failure
-set_ending set = result_map_both (λ done. done) (λ fault. failure.Fault fault) set
+use Rattle.reg_desk_jobs.specs.Visits.{ending_of}
 
 -- steps are set as the schedule; those that are none are refused, and the records stay
 abbrev pub SetsSteps : List (ℕ × ℕ) → Result (Unit {0}) Failure → Records → Records → Type 0
 SetsSteps steps result before after =
     ((why : Failure) × (result ≡ Err why) × IsNoSchedule steps why × (after ≡ before))
-    ⊎ (IsSchedule steps × (set : Result (Unit {0}) Fault) × (result ≡ set_ending set) × Reschedules steps set before after)
+    ⊎ (IsSchedule steps × (set : Result (Unit {0}) Fault) × (result ≡ ending_of set) × Reschedules steps set before after)
 
 -- the reply that tells it, without its LF
 abbrev pub set_line : Result (Unit {0}) Failure → List ℕ

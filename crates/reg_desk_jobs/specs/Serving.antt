@@ -1,6 +1,5 @@
 -- Requests served over a register.
-use Rattle.std.specs.Prelude.{◌≡◌, ◌≢◌, ◌⊎◌, ℕ, List, ◌∷◌, [], ◌++◌, codes, decimal, Result, Ok, Err}
-use Rattle.std.specs.declared.option.Option.{Option}
+use Rattle.std.specs.Prelude.{◌≡◌, ◌≢◌, ◌⊎◌, ℕ, Bool, IsTrue, List, ◌∷◌, [], ◌++◌, codes, decimal, Option, Some, None, Result, Ok, Err}
 use Rattle.std.specs.Io.KnownBytes.{Appends}
 use Rattle.reg_core.specs.Records.{Records}
 use Rattle.reg_core.specs.declared.refusal.Fault.TheVariants as fault
@@ -9,39 +8,31 @@ use Rattle.reg_office_api.specs.CallSteps.{Signs}
 use Rattle.reg_desk_server.specs.Exchange.{Input, Outcome, Handles, asked_in}
 use Rattle.reg_desk_cli.specs.declared.failure.Failure.{Failure}
 use Rattle.reg_desk_cli.specs.declared.failure.Failure.TheVariants as failure
-use Rattle.reg_desk_jobs.specs.Exchanges.{Exchange, NoEntry, Unmoved, Visit}
+use Rattle.reg_desk_jobs.specs.Exchanges.{AnswersBy, Unmoved}
 use Rattle.reg_desk_jobs.specs.Leaving.{FinishesUnsigned, Meets}
 use Rattle.reg_desk_jobs.specs.CounterWords.{Word}
 use Rattle.reg_desk_jobs.specs.declared.leaving.Unsigned.{Unsigned}
 use Rattle.reg_io.specs.Put.{AppendsFront}
 use Rattle.reg_io.specs.RunsOfAnswers.{Answered}
 
--- What came of a request: its text is that of an exchange; or its answer was left to be signed, and whatever text finishes that is of one. In
--- both the exchange is one over the records as they are where it stands among the others: so each answer is what they say at one moment
+-- What came of a request at a desk that is open or is not: its text is that of an exchange; or its answer was left to be signed, and whatever text
+-- finishes that is of one. In both the exchange is one over the records as they are where it stands among the others: so each answer is what they say at one moment
 -- between its request and its sending, and a revocation that was answered before is in it. A signature that finishes it was given (`gave`) for
 -- exactly what is signed in it.
 abbrev pub Exchanging
-    : Signs → (List ℕ → List ℕ → Type 0) → (ℕ → Type 0) → Signatory → Records → List ℕ → Outcome Unsigned → Records → Type 0
-Exchanging signs gave told identity before request outcome after =
-    Meets (FinishesUnsigned gave) (λ text. Exchange signs told identity before request text after) outcome
+    : Bool → Signs → (List ℕ → List ℕ → Type 0) → (ℕ → Type 0) → Signatory → Records → List ℕ → Outcome Unsigned → Records → Type 0
+Exchanging is_open signs gave told identity before request outcome after =
+    Meets (FinishesUnsigned gave) (λ text. AnswersBy is_open signs told identity before request text after) outcome
 
--- the same of an open register, where a request may ask for a list, or of the register itself: that is told at once, and the records stay
-abbrev pub Visiting
-    : Signs → (List ℕ → List ℕ → Type 0) → (ℕ → Type 0) → Signatory → Records → List ℕ → Outcome Unsigned → Records → Type 0
-Visiting signs gave told identity before request outcome after =
-    Meets (FinishesUnsigned gave) (λ text. Visit signs told identity before request text after) outcome
+-- a line at the control socket, which an open desk alone has
+abbrev pub OpenWord : Bool → Signs → (ℕ → Type 0) → Signatory → Records → List ℕ → List ℕ → Records → Type 0
+OpenWord is_open signs told identity before line text after = IsTrue is_open × Word signs told identity before line text after
 
--- what requests made of the records: exchanges, one after the other, and nothing else
+-- what requests, and lines at an open desk, made of the records: one after the other, and nothing else
 abbrev pub Serves
-    : Signs → (List ℕ → List ℕ → Type 0) → (ℕ → Type 0) → List Input → List (Outcome Unsigned) → Signatory → Records → Records → Type 0
-Serves signs gave told inputs outcomes identity before after =
-    Answered (Handles (Exchanging signs gave told identity) NoEntry Unmoved) before inputs outcomes after
-
--- what requests and lines at the control socket made of the records, one after the other, and nothing else
-abbrev pub ServesOpen
-    : Signs → (List ℕ → List ℕ → Type 0) → (ℕ → Type 0) → List Input → List (Outcome Unsigned) → Signatory → Records → Records → Type 0
-ServesOpen signs gave told inputs outcomes identity before after =
-    Answered (Handles (Visiting signs gave told identity) (Word signs told identity) Unmoved) before inputs outcomes after
+    : Bool → Signs → (List ℕ → List ℕ → Type 0) → (ℕ → Type 0) → List Input → List (Outcome Unsigned) → Signatory → Records → Records → Type 0
+Serves is_open signs gave told inputs outcomes identity before after =
+    Answered (Handles (Exchanging is_open signs gave told identity) (OpenWord is_open signs told identity) Unmoved) before inputs outcomes after
 
 -- this machine alone: the address of the loopback interface (RFC 1122 3.2.1.3)
 abbrev pub loopback : List ℕ
@@ -63,23 +54,16 @@ Served port requests inputs out out' (Err (failure.Fault fault.Read)) = (asked_i
 Served port requests inputs out out' (Err (failure.Fault fault.Write)) = (inputs ≡ []) × AppendsFront out out' (listening port)
 Served port requests inputs out out' (Err other) = ⊥
 
--- the port was not bound and nothing was written; or it was, and that was served there
-abbrev pub ServedAt : {W : Type 0} → (W → Option (List ℕ)) → W → W → (List ℕ → ℕ → Type 0) → ℕ → ℕ → List Input → Result (Unit {0}) Failure → Type 0
-ServedAt contents writer writer' bound port requests inputs result =
-    (Unbound inputs result × (writer' ≡ writer))
-    ⊎ (bound loopback port × Served port requests inputs (contents writer) (contents writer') result)
-
--- as many requests as can be counted: who is kept open is ended before
-abbrev pub endless : ℕ
-endless = 18446744073709551615
+-- nothing was bound and nothing was written; or this was, and that was served there
+abbrev pub ServedAt : {W : Type 0} → (W → Option (List ℕ)) → W → W → Type 0 → ℕ → ℕ → List Input → Result (Unit {0}) Failure → Type 0
+ServedAt contents writer writer' Bound port requests inputs result =
+    (Unbound inputs result × (writer' ≡ writer)) ⊎ (Bound × Served port requests inputs (contents writer) (contents writer') result)
 
 -- a control socket was created at a path: a socket with the mode 0600
 abbrev pub IsControlSocket : (List ℕ → Type 0) → (List ℕ → ℕ → Type 0) → List ℕ → Type 0
 IsControlSocket laid moded path = laid path × moded path 384
 
--- the same with a control socket, which was created too
-abbrev pub OpenedAt : {W : Type 0} → (W → Option (List ℕ)) → W → W → (List ℕ → ℕ → Type 0) → (List ℕ → Type 0) → ℕ → List ℕ → List Input
-    → Result (Unit {0}) Failure → Type 0
-OpenedAt contents writer writer' bound laid port counter inputs result =
-    (Unbound inputs result × (writer' ≡ writer))
-    ⊎ (bound loopback port × laid counter × Served port endless inputs (contents writer) (contents writer') result)
+-- a port of the loopback interface was bound, and a control socket was created where one is told
+abbrev pub IsBound : (List ℕ → ℕ → Type 0) → (List ℕ → Type 0) → (List ℕ → ℕ → Type 0) → ℕ → Option (List ℕ) → Type 0
+IsBound bound laid moded port None = bound loopback port
+IsBound bound laid moded port (Some counter) = bound loopback port × IsControlSocket laid moded counter

@@ -10,7 +10,7 @@ use Rattle.reg_desk_cli.specs.declared.failure.Failure.TheVariants as failure
 use Rattle.reg_lines.specs.declared.answered.Ended.{Ended}
 use Rattle.reg_lines.specs.declared.answered.Ended.TheVariants as ended
 use Rattle.reg_desk_jobs.specs.RegisterFailures.{IsMaking, IsOpening}
-use Rattle.reg_desk_jobs.specs.Registers.{Made, Opened, Unaudited, Unmade, Unopened}
+use Rattle.reg_desk_jobs.specs.Registers.{Made, Opened, Unmade, Unopened}
 use Rattle.reg_desk_jobs.specs.WhoSigns.{Signing}
 use Rattle.reg_desk_jobs.specs.declared.machine.Machine.{Ghosts as Machine}
 
@@ -56,12 +56,3 @@ module _ {M O D S R : Type 0} (machines : Machine M O D S R) (machine machine' :
   -- no register could be made at a path, and that is how the job ends
   abbrev pub NotMade : List ℕ → Result (Unit {0}) Failure → Type 0
   NotMade path result = (why : Failure) × (result ≡ Err why) × Unmade machines machine path why machine' × IsMaking why
-
-  -- no copy of the register at a path was created at another, and that is how the job ends
-  abbrev pub NotCopied : List ℕ → List ℕ → Result (Unit {0}) Failure → Type 0
-  NotCopied path to result = (why : Failure) × (result ≡ Err why) × machines.uncopied machine path to why machine' × IsOpening why
-
--- no audit was had of what lies at a path, and that is how the job ends
-abbrev pub NotAudited : {M O D S R : Type 0} → Machine M O D S R → M → List ℕ → Result (Unit {0}) Failure → Type 0
-NotAudited machines machine path result =
-    (why : Failure) × (result ≡ Err why) × Unaudited machines machine path why × IsOpening why

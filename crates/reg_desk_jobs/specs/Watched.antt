@@ -3,13 +3,13 @@ use Rattle.std.specs.Prelude.{◌≡◌, ◌⊎◌, ℕ, Bool, cond, List, codes
 use Rattle.std.specs.declared.option.Option.{Option}
 use Rattle.reg_core.specs.Queries.{answer}
 use Rattle.reg_core.specs.Records.{Records}
-use Rattle.reg_core.specs.declared.command.Counts.{Counts}
 use Rattle.reg_core.specs.declared.command.Overdue.{Overdue}
+use Rattle.reg_core.specs.declared.command.Query.{Query}
 use Rattle.reg_core.specs.declared.command.Query.TheVariants.{Counts as AskCounts, NextCrl as AskNextCrl, Overdue as AskOverdue}
 use Rattle.reg_core.specs.declared.command.Reply.{Reply}
 use Rattle.reg_core.specs.declared.command.Reply.TheVariants.{Counts as CountsAre, NextCrl as NextCrlIs, Overdue as OverdueAre}
 use Rattle.reg_core.specs.declared.refusal.Fault.{Fault}
-use Rattle.reg_core.specs.declared.refusal.Fault.TheVariants.{Refused, Store}
+use Rattle.reg_core.specs.declared.refusal.Fault.TheVariants.{Refused}
 use Rattle.reg_http_head.specs.Response.{Response}
 use Rattle.reg_http.specs.Bodies.{json, only}
 use Rattle.reg_http.specs.Told.{Told, plain}
@@ -25,37 +25,16 @@ use Rattle.reg_desk_metrics.specs.declared.tally.Tally.{Tally}
 
 -- ---- what is found in a register
 
--- the counts that an outcome tells; a reply of another kind, which no office gives, is a fault of the store
-abbrev pub counts_in : Result Reply Fault → Result Counts Fault
-counts_in (Ok (CountsAre counts)) = Ok counts
-counts_in (Ok other) = Err Store
-counts_in (Err fault) = Err fault
+-- a query is answered by a reply of this kind, or refused; or there was a fault, as where the reply is of another kind, which no office gives
+abbrev pub Has : {A : Type 0} → Query → (A → Reply) → Records → ℕ → Result A Fault → Type 0
+Has query kind records now (Ok it) = answer records now query ≡ Ok (kind it)
+Has query kind records now (Err (Refused refusal)) = answer records now query ≡ Err refusal
+Has query kind records now (Err other) = Unit {0}
 
--- the same of when the next CRL is due, and of how many requests are overdue
-abbrev pub due_in : Result Reply Fault → Result (Option ℕ) Fault
-due_in (Ok (NextCrlIs due)) = Ok due
-due_in (Ok other) = Err Store
-due_in (Err fault) = Err fault
-
+-- how many requests are overdue
 abbrev pub many_in : Option Overdue → ℕ
 many_in (Some overdue) = overdue.count
 many_in None = 0
-
-abbrev pub overdue_in : Result Reply Fault → Result ℕ Fault
-overdue_in (Ok (OverdueAre overdue)) = Ok (many_in overdue)
-overdue_in (Ok other) = Err Store
-overdue_in (Err fault) = Err fault
-
--- the counts at a moment as the query has them, or its refusal; or a fault
-abbrev pub HasCountsAt : Records → ℕ → Result Counts Fault → Type 0
-HasCountsAt records now (Ok counts) = answer records now AskCounts ≡ Ok (CountsAre counts)
-HasCountsAt records now (Err (Refused refusal)) = answer records now AskCounts ≡ Err refusal
-HasCountsAt records now (Err other) = Unit {0}
-
-abbrev pub HasDue : Records → ℕ → Result (Option ℕ) Fault → Type 0
-HasDue records now (Ok due) = answer records now AskNextCrl ≡ Ok (NextCrlIs due)
-HasDue records now (Err (Refused refusal)) = answer records now AskNextCrl ≡ Err refusal
-HasDue records now (Err other) = Unit {0}
 
 abbrev pub HasOverdue : Records → ℕ → Result ℕ Fault → Type 0
 HasOverdue records now (Ok count) = (overdue : Option Overdue) × (answer records now AskOverdue ≡ Ok (OverdueAre overdue)) × (count ≡ many_in overdue)
@@ -63,7 +42,8 @@ HasOverdue records now (Err fault) = Unit {0}
 
 -- what a register has at a moment: its counts and when its next CRL is due, as the queries have them, and what stands there; or why it tells nothing
 abbrev pub HasFound : Records → ℕ → Result Numbers Fault → Type 0
-HasFound records now (Ok numbers) = HasCountsAt records now (Ok numbers.counts) × HasDue records now (Ok numbers.due) × IsStanding records numbers.standing
+HasFound records now (Ok numbers) =
+    Has AskCounts CountsAre records now (Ok numbers.counts) × Has AskNextCrl NextCrlIs records now (Ok numbers.due) × IsStanding records numbers.standing
 HasFound records now (Err (Refused refusal)) = (answer records now AskCounts ≡ Err refusal) ⊎ (answer records now AskNextCrl ≡ Err refusal)
 HasFound records now (Err other) = Unit {0}
 

@@ -53,11 +53,7 @@ pub fn at<M: Machine, R: Read, W: Write>(
     }
 }
 
-/// Sends each row of a CSV file to the control socket at a path, as the line of a registration, and writes its replies.
-///
-/// # Errors
-///
-/// As of [`at`]; `Read` and `Memory` where the file can't be read whole: nothing is sent then.
+/// Sends each row of a CSV file in the same way, as the line of a registration. Nothing is sent where the file can't be read whole.
 pub fn at_rows<M: Machine, R: Read, W: Write>(
     alloc: Global,
     machine: &M,
@@ -73,7 +69,6 @@ pub fn at_rows<M: Machine, R: Read, W: Write>(
     }
 }
 
-/// Sends each line of a reader over a connection to a control socket, and writes its replies.
 fn talk_over<R: Read, W: Write>(
     alloc: Global,
     link: &UnixStream,
@@ -92,14 +87,10 @@ fn talk_over<R: Read, W: Write>(
     }
 }
 
-/// Sends each line of the input to a control socket, each once the reply to the one before it came, and writes each reply. A last line
-/// without its end is not sent.
-///
-/// # Errors
-///
-/// Once all lines are sent, `Refused` where a reply was a refusal or a fault, `NoLineEnd` where a last line without its end is left, and
-/// `RefusedNoLineEnd` for both. `Read` where the input fails, or the connection fails or ends before a reply is whole; `Write` where no
-/// line can be sent, or a reply can't be written; `Memory`.
+/// Sends each line of the input to a control socket, each once the reply to the one before it came, and writes each reply. A last line without
+/// its end is not sent. Errors: once all lines are sent, `Refused` where a reply was a refusal or a fault, `NoLineEnd` where a last line
+/// without its end is left, and `RefusedNoLineEnd` for both. `Read` where the input fails, or the connection fails or ends before a reply is
+/// whole; `Write` where no line can be sent, or a reply can't be written; `Memory`.
 pub fn talk<R: BufRead, W: Write, C: BufRead, S: Write>(
     alloc: Global,
     input: &mut R,
@@ -125,14 +116,12 @@ pub fn talk<R: BufRead, W: Write, C: BufRead, S: Write>(
     Err(Failure::Fault(Fault::Read))
 }
 
-/// Whether both hold.
 fn both(first: bool, second: bool) -> bool
     ensures { IsTrue result ↔ (IsTrue first × IsTrue second) }
 {
     first && second
 }
 
-/// How a talk ends in which each reply was accepted, or was not.
 fn ended(is_accepted: bool) -> Result<(), Failure>
     ensures { MatchResult result (λ done. IsTrue is_accepted) (λ why. (why ≡ Failure.Refused) × IsFalse is_accepted) }
 {
@@ -143,7 +132,6 @@ fn ended(is_accepted: bool) -> Result<(), Failure>
     }
 }
 
-/// The same where a last line without its end is left.
 fn cut_off(is_accepted: bool) -> Failure
     ensures { ((result ≡ Failure.NoLineEnd) × IsTrue is_accepted) ⊎ ((result ≡ Failure.RefusedNoLineEnd) × IsFalse is_accepted) }
 {
@@ -154,7 +142,6 @@ fn cut_off(is_accepted: bool) -> Failure
     }
 }
 
-/// Sends the next line, and writes its reply.
 fn talk_once<R: BufRead, W: Write, C: BufRead, S: Write>(
     alloc: Global,
     input: &mut R,
@@ -177,7 +164,6 @@ fn talk_once<R: BufRead, W: Write, C: BufRead, S: Write>(
     Ok(Step::Told(is_accepted(&reply)))
 }
 
-/// What the input has next.
 fn next_line<R: BufRead>(alloc: Global, input: &mut R) -> Result<Next, Failure>
     ensures ok { IfOk result (NextIs (R.remaining input.old) (R.remaining input.new)) }
     ensures err { IfErr result IsOfTalk }
@@ -189,7 +175,6 @@ fn next_line<R: BufRead>(alloc: Global, input: &mut R) -> Result<Next, Failure>
     }
 }
 
-/// What the bytes are that were read up to and with the first LF.
 fn next_of(line: Vec<u8>) -> Next
     requires { StopsAt line.items 10 }
     ensures { IsReadAs line.items result }
@@ -203,7 +188,6 @@ fn next_of(line: Vec<u8>) -> Next
     Next::Cut
 }
 
-/// Whether a line ends with its LF.
 fn has_end(line: &[u8]) -> bool
     ensures { result ≡ ends_with_byte 10 line.now }
 {
@@ -211,7 +195,6 @@ fn has_end(line: &[u8]) -> bool
     len > 0 && line[len - 1] == b'\n'
 }
 
-/// The next reply at the control socket, with its LF.
 fn next_reply<C: BufRead>(alloc: Global, came: &mut C) -> Result<Vec<u8>, Failure>
     ensures ok { IfOk result (λ reply. Consumes (C.remaining came.old) (C.remaining came.new) reply.items) }
     ensures err { IfErr result IsOfTalk }

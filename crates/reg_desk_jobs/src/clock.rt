@@ -18,7 +18,6 @@ pub(crate) fn moment_at(seconds: u64) -> Moment
     }
 }
 
-/// The last moment.
 fn last_moment() -> Moment
     ensures { result ≡ 253402300799 }
 {

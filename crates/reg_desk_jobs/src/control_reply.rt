@@ -27,7 +27,6 @@ pub(crate) enum Came {
 }
 
 impl Came {
-    /// What a command line came to.
     fn of(answered: &Answered) -> Came
         ensures { result ≡ came_of answered.now }
     {
@@ -49,7 +48,6 @@ impl Came {
         }
     }
 
-    /// How the line was answered.
     pub(crate) fn kind(&self) -> LineReply
         ensures { result ≡ kind_of self.now }
     {
@@ -64,7 +62,6 @@ impl Came {
         }
     }
 
-    /// What became of the signature of a CRL.
     fn crl(&self, is_unsigned: bool) -> SignatureFate
         ensures { result ≡ crl_fate is_unsigned self.now }
     {
@@ -75,7 +72,6 @@ impl Came {
         }
     }
 
-    /// What became of the signature of an OCSP response.
     fn ocsp(&self, is_unsigned: bool) -> SignatureFate
         ensures { result ≡ ocsp_fate is_unsigned self.now }
     {
@@ -88,7 +84,6 @@ impl Came {
         }
     }
 
-    /// What the line says of the store.
     fn store(&self) -> StoreEffect
         ensures { result ≡ store_effect self.now }
     {
@@ -101,7 +96,6 @@ impl Came {
     }
 }
 
-/// How a line was answered that came to a refusal or a fault.
 fn kind_of_fault(fault: &Fault) -> LineReply
     ensures { result ≡ kind_by_fault fault.now }
 {
@@ -111,7 +105,6 @@ fn kind_of_fault(fault: &Fault) -> LineReply
     }
 }
 
-/// What became of a signature that did not come: it failed, or was not asked for.
 fn failed_if(is_unsigned: bool) -> SignatureFate
     ensures { result ≡ failed_where is_unsigned }
 {
@@ -152,7 +145,6 @@ impl ControlReply {
         ControlReply::made(alloc, with_lf(alloc, line), came)
     }
 
-    /// The line of a fault.
     pub(crate) fn fault(alloc: Global, fault: Fault) -> ControlReply
         ensures { IsOf (fault_line fault ++ 10 ∷ []) (Came.Failed (Failure.Fault fault)) result.text.items result.came }
     {
@@ -174,7 +166,6 @@ impl ControlReply {
     }
 }
 
-/// A line with its LF.
 fn with_lf(alloc: Global, line: &[u8]) -> Result<Vec<u8>, AllocError>
     ensures { IfOk result (λ text. text.items ≡ line.now ++ 10 ∷ []) }
 {

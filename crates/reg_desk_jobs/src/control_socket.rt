@@ -9,19 +9,13 @@ use reg_core::of_io;
 use std::io;
 use std::io::ErrorKind;
 
-/// The mode of a socket that only its owner may connect to.
 const OWNER_ALONE: u32 = 0o600;
 
 /// The most connections that can wait before the mode is set.
 const MOST_WAITING: usize = 4_096;
 
 /// Creates a socket at a path, which only its owner may connect to, and listens there without waiting. A socket at which no program listens
-/// any more is taken over.
-///
-/// # Errors
-///
-/// What the system says, which the machine keeps: `AddrInUse` where a program listens there, `AlreadyExists` where something else than a
-/// socket lies there.
+/// any more is taken over. Errors: `AddrInUse` where a program listens there, `AlreadyExists` where something else than a socket lies there.
 pub(crate) fn lay_socket<M: Machine>(machine: &M, path: &str) -> io::Result<UnixListener>
     ensures { OnOk result (IsControlSocket M.laid M.moded path.now) }
 {
@@ -34,7 +28,6 @@ pub(crate) fn lay_socket<M: Machine>(machine: &M, path: &str) -> io::Result<Unix
     }
 }
 
-/// Listens at a new socket at a path, and lets only its owner connect from then on.
 fn lay_for_owner<M: Machine>(machine: &M, path: &str) -> io::Result<UnixListener>
     ensures { OnOk result (IsControlSocket M.laid M.moded path.now) }
 {
@@ -44,7 +37,6 @@ fn lay_for_owner<M: Machine>(machine: &M, path: &str) -> io::Result<UnixListener
     Ok(listener)
 }
 
-/// Listens at a new socket at a path, also where one lies at which no program listens any more.
 fn lay_anew<M: Machine>(machine: &M, path: &str) -> io::Result<UnixListener>
     ensures { OnOk result (M.laid path.now) }
 {
@@ -58,7 +50,6 @@ fn lay_anew<M: Machine>(machine: &M, path: &str) -> io::Result<UnixListener>
     }
 }
 
-/// Removes a socket at which no program listens.
 fn remove_stale<M: Machine>(machine: &M, path: &str) -> io::Result<()> {
     if !machine.is_socket(path)? {
         return Err(io::Error::from(ErrorKind::AlreadyExists));

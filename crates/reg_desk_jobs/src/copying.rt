@@ -4,14 +4,13 @@ ghost use Rattle.std.specs.Prelude.{◌≡◌, ◌++◌, ◌∷◌, [], IfErr, I
 ghost use Rattle.reg_core.specs.Lines.{fault_line};
 ghost use Rattle.reg_desk_jobs.specs.ControlReplies.{IsOf, TellsCame};
 ghost use Rattle.reg_desk_jobs.specs.Copies.{TellsCopy, asks_copy as asks, copied_text};
-ghost use Rattle.reg_desk_jobs.specs.Ends.{CopyAt, TellsLine};
+ghost use Rattle.reg_desk_jobs.specs.Ends.{CopyAt};
 ghost use Rattle.reg_office_api.specs.LookUps.{IsOfStore};
 
 use crate::control_reply::{Came, ControlReply};
-use crate::logging::micros_since;
 use crate::machine::Machine;
-use crate::reasons::front_and_end;
-use crate::telling::say;
+use crate::reasons::{front_and_end, note_text};
+use crate::telling::say_line;
 use reg_core::{Cause, Decimal, Fault};
 use reg_desk_cli::Failure;
 use std::alloc::{AllocError, Global};
@@ -26,7 +25,6 @@ pub struct Uncopied {
     pub cause: Option<Cause>,
 }
 
-/// Whether a line asks for a copy of the register.
 pub(crate) fn asks_copy(line: &[u8]) -> bool
     ensures { result ≡ asks line.now }
 {
@@ -53,7 +51,6 @@ pub(crate) fn tell_copy<M: Machine>(
     }
 }
 
-/// Copies the register that is open to a path, if a line has one that can be read.
 fn copy_to<M: Machine>(machine: &M, file: &str, path: Option<&str>) -> Result<u64, Uncopied>
     ensures ok { IfOk result (M.copied_open file.now) }
     ensures err { IfErr result (λ why. IsOfStore why.fault) }
@@ -75,19 +72,16 @@ pub(crate) fn path_in(line: &[u8]) -> Option<&str> {
     str::from_utf8(path).ok()
 }
 
-/// How many whole milliseconds went by since these microseconds.
 fn millis_since<M: Machine>(machine: &M, began: u64) -> u64 {
-    micros_since(machine, began) / 1_000
+    machine.micros().saturating_sub(began) / 1_000
 }
 
-/// The reply that tells a copy.
 fn told_copied(alloc: Global, bytes: u64, millis: u64) -> ControlReply
     ensures { IsOf (copied_text bytes millis) Came.Done result.text.items result.came }
 {
     ControlReply::made(alloc, copied_line(alloc, bytes, millis), Came::Done)
 }
 
-/// The text that tells a copy.
 #[tactic(auto, unfolding(crate::specs::Copies::copied_text))]
 fn copied_line(alloc: Global, bytes: u64, millis: u64) -> Result<Vec<u8>, AllocError>
     ensures { IfOk result (λ text. text.items ≡ copied_text bytes millis) }
@@ -100,27 +94,14 @@ fn copied_line(alloc: Global, bytes: u64, millis: u64) -> Result<Vec<u8>, AllocE
     Ok(text)
 }
 
-/// The reply that tells why no copy was created, whose cause is noted.
 fn told_uncopied(alloc: Global, why: Uncopied, noted: &mut Vec<u8>) -> ControlReply
     ensures { IsOf (fault_line why.fault ++ 10 ∷ []) (Came.Failed (Failure.Fault why.fault)) result.text.items result.came }
 {
-    noted.clear();
     let reply = ControlReply::fault(alloc, why.fault);
-    note_cause(alloc, why.cause, &reply.text, noted);
+    note_text(cause_text(alloc, why.cause), &reply.text, noted);
     reply
 }
 
-/// Notes the words of a cause; where none is known, or there is no memory for them, the reply itself.
-fn note_cause(alloc: Global, cause: Option<Cause>, reply: &[u8], noted: &mut Vec<u8>) {
-    match cause_text(alloc, cause) {
-        Some(text) => *noted = text,
-        None => {
-            let _ = noted.extend_from_slice(reply);
-        }
-    }
-}
-
-/// The words of a cause with an LF behind them, where it is known and there is memory for them.
 fn cause_text(alloc: Global, cause: Option<Cause>) -> Option<Vec<u8>> {
     let line = cause?.line();
     front_and_end(alloc, b"", line.as_bytes().strip_prefix(b"  ")?).ok()
@@ -139,20 +120,6 @@ pub fn copy<M: Machine, W: Write>(
 {
     let began = machine.micros();
     let bytes = machine.copy(file, to)?;
-    say_copied(alloc, writer, bytes, millis_since(machine, began))
-}
-
-/// Writes that a copy was created.
-fn say_copied<W: Write>(
-    alloc: Global,
-    writer: &mut W,
-    bytes: u64,
-    millis: u64,
-) -> Result<(), Failure>
-    ensures { TellsLine (copied_text bytes millis) W.contents writer.old writer.new result }
-{
-    match copied_line(alloc, bytes, millis) {
-        Ok(text) => say(writer, &text),
-        Err(_) => Err(Failure::Fault(Fault::Memory)),
-    }
+    let millis = millis_since(machine, began);
+    say_line(writer, copied_line(alloc, bytes, millis))
 }

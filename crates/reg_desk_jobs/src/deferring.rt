@@ -1,12 +1,11 @@
 //! A line at the control socket for which something is to be signed: it is looked at, what is to be signed goes out, and then the line is run, once.
 
-ghost use Rattle.std.specs.Prelude.{◌≡◌, [], None, IfOk, IfSome, OnErr, option_copied};
+ghost use Rattle.std.specs.Prelude.{◌≡◌, IfOk, IfSome, OnErr, option_copied};
 ghost use Rattle.reg_office_api.specs.Leads.{Leads};
 ghost use Rattle.reg_desk_jobs.specs.Deferring.{IsKnown, socket_for};
-ghost use Rattle.reg_desk_jobs.specs.Given.{AtTold, GaveAt};
+ghost use Rattle.reg_desk_jobs.specs.Given.{GaveAt};
 ghost use Rattle.reg_desk_jobs.specs.WhoSigns.{crl_socket};
 ghost use Rattle.reg_desk_jobs.specs.CounterWords.{Word};
-ghost use Rattle.reg_crl_signer.specs.Asking.{IsAsking};
 
 use crate::desks::Desk;
 use crate::entering::tell_counted;
@@ -17,20 +16,16 @@ use reg_crl_signer::{Asking, Backoff, Primed};
 use reg_desk_cli::{Answerer, KeyHolder};
 use reg_desk_server::{Deferred, HubFault};
 use reg_io::Begun;
-use reg_lines::{CommandLine, command_in, read_line};
+use reg_lines::CommandLine;
 use reg_ocsp::Draft;
 use reg_office_api::{OcspResponse, Office};
 use std::alloc::Global;
-use std::io;
-use std::io::ErrorKind;
 use std::time::Duration;
 
 /// For what a line wants a signature.
 #[derive(Clone, Copy, PartialEq, Eq)]
 pub enum Wanted {
-    /// A CRL.
     Crl,
-    /// An OCSP answer.
     Answer,
 }
 
@@ -56,20 +51,6 @@ pub(crate) struct Known {
 /// How many milliseconds after a line was looked at its signer has timed out: its ten seconds began a little before.
 const TIMEOUT: u64 = 9_500;
 
-/// A line with an OCSP request whose answer nobody signs: who would is left alone.
-fn unasked(alloc: Global, began: u64) -> Deferred<Looked> {
-    Deferred {
-        message: Vec::new(alloc),
-        ticket: Looked {
-            wanted: Wanted::Answer,
-            moment: Moment::EPOCH,
-            began,
-            is_left_alone: true,
-        },
-    }
-}
-
-/// For what a command line wants a signature, if for anything.
 fn wanted_by(said: &CommandLine<'_>) -> Option<Wanted> {
     match *said {
         CommandLine::Command(Command::Crl) => Some(Wanted::Crl),
@@ -78,7 +59,6 @@ fn wanted_by(said: &CommandLine<'_>) -> Option<Wanted> {
     }
 }
 
-/// Looks at a command line that wants a signature: what is to be signed for it. Nothing changes.
 fn look_at<M: Machine>(
     alloc: Global,
     office: &mut M::Office,
@@ -89,11 +69,13 @@ fn look_at<M: Machine>(
 {
     match *said {
         CommandLine::Ocsp(digits) => look_at_request(alloc, office, looked, digits),
-        _ => deferred_for(office.crl_message(alloc, looked.moment), looked),
+        _ => Some(Deferred {
+            message: office.crl_message(alloc, looked.moment)?,
+            ticket: looked,
+        }),
     }
 }
 
-/// Looks at an OCSP request, by its digits.
 fn look_at_request<O: Office>(
     alloc: Global,
     office: &mut O,
@@ -106,24 +88,20 @@ fn look_at_request<O: Office>(
         return None;
     };
     let begun = office.begin_ocsp(alloc, looked.moment, &request);
-    deferred_for(message_of(alloc, begun), looked)
+    deferred_for(alloc, begun, looked)
 }
 
-/// A line that was looked at, and what is to be signed for it, where something is.
-fn deferred_for(message: Option<Vec<u8>>, ticket: Looked) -> Option<Deferred<Looked>> {
-    match message {
-        Some(message) => Some(Deferred { message, ticket }),
-        None => None,
-    }
-}
-
-/// What is to be signed for an answer that was begun by what holds a key. `None` where nothing is, and for want of memory.
-fn message_of(alloc: Global, begun: Result<Begun<OcspResponse, Draft>, Memory>) -> Option<Vec<u8>> {
-    match begun {
-        Ok(Begun::Unsigned(draft)) => Vec::from_slice(alloc, draft.message()).ok(),
-        Ok(Begun::Ready(_)) => None,
-        Err(_) => None,
-    }
+/// What is to be signed for an answer that was begun, where something is and there is memory for it.
+fn deferred_for(
+    alloc: Global,
+    begun: Result<Begun<OcspResponse, Draft>, Memory>,
+    ticket: Looked,
+) -> Option<Deferred<Looked>> {
+    let Ok(Begun::Unsigned(draft)) = begun else {
+        return None;
+    };
+    let message = Vec::from_slice(alloc, draft.message()).ok()?;
+    Some(Deferred { message, ticket })
 }
 
 /// The socket of what signs this, where what holds a key does: OCSP answers, the responder's, or else the one that signs CRLs.
@@ -143,39 +121,15 @@ pub(crate) fn socket_of<'w>(
     }
 }
 
-/// The socket of what signs CRLs, where what holds a key does.
 fn crls_at<'w>(signer: &Option<KeyHolder<'w>>) -> Option<&'w str>
     ensures { crl_socket signer.now ≡ option_copied result }
 {
-    match signer {
-        Some(holder) => Some(holder.socket.as_str()),
-        None => None,
-    }
-}
-
-/// Connects to what signs for a line, as it was told, and waits for nothing.
-pub(crate) fn reach_for<M: Machine>(
-    machine: &M,
-    signer: &Option<KeyHolder<'_>>,
-    answerer: &Answerer<'_>,
-    looked: &Looked,
-) -> io::Result<Asking>
-    ensures { IfOk result (λ asking. AtTold (socket_for signer.now answerer.now looked.now.wanted)
-        (λ path. M.reached path × IsAsking path [] asking)) }
-{
-    match socket_of(signer, answerer, looked.wanted) {
-        Some(socket) if !looked.is_left_alone => machine.reach(socket),
-        _ => Err(io::Error::from(ErrorKind::NotFound)),
-    }
+    Some(signer.as_ref()?.socket.as_str())
 }
 
 /// What is known of the signature for a line that was looked at, and the moment at which the line is told: with what came for what was to be
-/// signed, the moment at which it was looked at; without a signature, that of the clock. `None` where the register's clock is past that
-/// moment: what is to be signed is another message then. Nothing changes.
-///
-/// # Errors
-///
-/// [`HubFault`] where the clock can't be read, and nothing was done.
+/// signed, the moment at which it was looked at; without a signature, that of the clock, or [`HubFault`] where it can't be read. `None` where
+/// the register's clock is past that moment: what is to be signed is another message then.
 pub(crate) fn known_of<M: Machine>(
     alloc: Global,
     office: &mut M::Office,
@@ -190,29 +144,19 @@ pub(crate) fn known_of<M: Machine>(
     ensures known { IfOk result (λ found. IfSome found (IsKnown (GaveAt M.gave (socket_for signer.now answerer.now looked.wanted)) M.told)) }
     ensures err { OnErr result (office.new ≡ office.old) }
 {
-    match link {
-        Some(link) => Ok(recalled::<M>(
-            alloc, office, machine, signer, answerer, looked, message, link,
-        )),
-        None => Ok(Some(unsigned_now(alloc, machine)?)),
-    }
-}
-
-/// Nothing is known of a signature, at the moment of the clock.
-fn unsigned_now<M: Machine>(alloc: Global, machine: &M) -> Result<Known, HubFault>
-    ensures told { IfOk result (λ known. M.told known.moment) }
-    ensures nothing { IfOk result (λ known. known.primed.answer ≡ None) }
-{
-    match machine.moment() {
-        Ok(moment) => Ok(Known {
-            moment,
-            primed: Primed {
-                message: Vec::new(alloc),
-                answer: None,
-            },
-        }),
-        Err(_) => Err(HubFault),
-    }
+    let Some(link) = link else {
+        let Ok(moment) = machine.moment() else {
+            return Err(HubFault);
+        };
+        let primed = Primed {
+            message: Vec::new(alloc),
+            answer: None,
+        };
+        return Ok(Some(Known { moment, primed }));
+    };
+    Ok(recalled::<M>(
+        alloc, office, machine, signer, answerer, looked, message, link,
+    ))
 }
 
 /// What came for what was to be signed, at the moment at which the line was looked at, unless the register's clock is past it.
@@ -232,21 +176,10 @@ fn recalled<M: Machine>(
     if is_past(office, looked.moment) {
         return None;
     }
-    match machine.recall(looked.moment) {
-        Some(moment) => {
-            let answer = heard_for::<M>(
-                alloc,
-                signer,
-                answerer,
-                looked.wanted,
-                &message,
-                Some(link),
-            );
-            let primed = Primed { message, answer };
-            Some(Known { moment, primed })
-        }
-        None => None,
-    }
+    let moment = machine.recall(looked.moment)?;
+    let answer = heard_for::<M>(alloc, signer, answerer, looked.wanted, &message, Some(link));
+    let primed = Primed { message, answer };
+    Some(Known { moment, primed })
 }
 
 /// Whether the register's clock is past a moment: something was accepted at a later one. Where it can't be read, it is not.
@@ -259,45 +192,30 @@ fn is_past<O: Office>(office: &mut O, moment: Moment) -> bool
     }
 }
 
-/// What a line has signed.
 impl<'a, 'w, M: Machine> Desk<'a, 'w, M> {
-    /// The socket of who signs what a line wants signed.
-    pub(crate) fn signer_of(&self, wanted: Wanted) -> Option<&'w str> {
-        socket_of(self.signer, self.answerer, wanted)
-    }
-
-    /// Looks at a line: what is to be signed before it is told, where its signer has a key.
-    pub(crate) fn look(&mut self, line: &[u8]) -> Option<Deferred<Looked>>
-        ensures open { self.new.is_open ≡ self.old.is_open }
-        ensures moves { Leads M.Office.is_clean M.Office.stands (λ identity before after. after ≡ before)
-            self.old.office self.new.office }
-    {
-        match command_in(line) {
-            Some(command) => match read_line(command) {
-                Some(said) => self.look_for(&said),
-                None => None,
-            },
-            None => None,
-        }
-    }
-
-    /// Looks at what a line says.
-    fn look_for(&mut self, said: &CommandLine<'_>) -> Option<Deferred<Looked>>
+    /// Looks at what a line says: what is to be signed before it is told, where its signer has a key.
+    pub(crate) fn look_for(&mut self, said: &CommandLine<'_>) -> Option<Deferred<Looked>>
         ensures open { self.new.is_open ≡ self.old.is_open }
         ensures moves { Leads M.Office.is_clean M.Office.stands (λ identity before after. after ≡ before)
             self.old.office self.new.office }
     {
         let wanted = wanted_by(said)?;
-        if self.signer_of(wanted).is_none() {
-            return None;
-        }
+        socket_of(self.signer, self.answerer, wanted)?;
         let began = self.machine.micros();
         if wanted == Wanted::Answer && self.backoff.is_active(Duration::from_micros(began)) {
-            return Some(unasked(self.alloc, began));
+            // Nobody signs it: who would is left alone.
+            let ticket = Looked {
+                wanted,
+                moment: Moment::EPOCH,
+                began,
+                is_left_alone: true,
+            };
+            return Some(Deferred {
+                message: Vec::new(self.alloc),
+                ticket,
+            });
         }
-        let Ok(moment) = self.machine.moment() else {
-            return None;
-        };
+        let moment = self.machine.moment().ok()?;
         let looked = Looked {
             wanted,
             moment,
@@ -309,8 +227,9 @@ impl<'a, 'w, M: Machine> Desk<'a, 'w, M> {
 
     /// The back-off of lines from the signer of OCSP answers, once it was asked for one, or for a CRL, and has answered or not.
     pub(crate) fn backoff_after(&self, looked: Looked, has_come: bool) -> Backoff {
-        let answers = self.signer_of(Wanted::Answer);
-        if looked.is_left_alone || !is_same(self.signer_of(looked.wanted), answers) {
+        let answers = socket_of(self.signer, self.answerer, Wanted::Answer);
+        let asked = socket_of(self.signer, self.answerer, looked.wanted);
+        if looked.is_left_alone || !is_same(asked, answers) {
             return self.backoff;
         }
         if has_come {
@@ -356,7 +275,6 @@ impl<'a, 'w, M: Machine> Desk<'a, 'w, M> {
     }
 }
 
-/// Whether two sockets are one.
 fn is_same(first: Option<&str>, second: Option<&str>) -> bool {
     match (first, second) {
         (Some(first), Some(second)) => first == second,

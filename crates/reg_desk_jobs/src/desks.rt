@@ -2,9 +2,9 @@
 
 ghost use Rattle.std.specs.Prelude.{◌≡◌, IfOk, MatchOption, OnErr};
 
-use crate::deferring::{Looked, known_of, reach_for};
-use crate::entering::tell_counted_now;
-use crate::leaving::{Unsigned, ask_for, finish_visit};
+use crate::deferring::{Looked, Wanted, known_of, socket_of};
+use crate::entering::tell_counted;
+use crate::leaving::{Unsigned, finish_visit};
 use crate::logging::log_lost;
 use crate::machine::Machine;
 use crate::visiting::visit;
@@ -14,9 +14,11 @@ use reg_desk_metrics::{Heard, Tally};
 use reg_desk_server::{Crowd, Deferred, Handler, HubFault, PeerFault};
 use reg_http_head::Collected;
 use reg_io::Begun;
+use reg_lines::{command_in, read_line};
 use std::alloc::Global;
 use std::cell::Cell;
 use std::io;
+use std::io::ErrorKind;
 use std::net::SocketAddr;
 
 /// A desk that answers HTTP requests, each at a moment of the clock. An open one tells of itself, too, and answers lines at the control
@@ -26,9 +28,7 @@ pub(crate) struct Desk<'a, 'w, M: Machine> {
     pub(crate) office: M::Office,
     pub(crate) alloc: Global,
     pub(crate) machine: &'a M,
-    /// Whether it is open.
     pub(crate) is_open: bool,
-    /// The path of the register's file.
     pub(crate) file: &'a str,
     /// Who signs CRLs, and who answers OCSP requests, as it was told.
     pub(crate) signer: &'a Option<KeyHolder<'w>>,
@@ -38,7 +38,6 @@ pub(crate) struct Desk<'a, 'w, M: Machine> {
     /// What was counted since the register was opened. No clause of the desk reads it: an answer that was left to be signed is counted where it
     /// is finished, at which the desk stays as it is.
     pub(crate) tally: &'a Cell<Tally>,
-    /// What was heard of connections.
     pub(crate) heard: &'a Cell<Heard>,
 }
 
@@ -99,7 +98,10 @@ impl<'a, 'w, M: Machine> Handler for Desk<'a, 'w, M> {
         ensures { IfOk result (λ asking. AtTold (answer_socket self.now.signer.now self.now.answerer.now)
             (λ path. M.asked path ticket.now.draft.message × IsAsking path ticket.now.draft.message asking)) }
     {
-        ask_for(self.machine, self.signer, self.answerer, ticket)
+        match socket_of(self.signer, self.answerer, Wanted::Answer) {
+            Some(socket) => self.machine.ask(socket, ticket.draft.message()),
+            None => Err(io::Error::from(ErrorKind::NotFound)),
+        }
     }
 
     fn finish(&self, ticket: Unsigned, link: Option<Asking>) -> Vec<u8> {
@@ -121,29 +123,41 @@ impl<'a, 'w, M: Machine> Handler for Desk<'a, 'w, M> {
         if !self.is_open {
             return Err(HubFault);
         }
+        let Ok(now) = self.machine.moment() else {
+            return Err(HubFault);
+        };
+        let began = self.machine.micros();
         let mut tally = self.tally.get();
-        let told = tell_counted_now::<M>(
+        let text = tell_counted::<M>(
             self.alloc,
             &mut self.office,
             self.machine,
             self.file,
             &mut tally,
+            began,
+            now,
             line,
             noted,
         );
         self.tally.set(tally);
-        told
+        Ok(text)
     }
 
     fn defer(&mut self, line: &[u8]) -> Option<Deferred<Looked>> {
-        self.look(line)
+        match read_line(command_in(line)?) {
+            Some(said) => self.look_for(&said),
+            None => None,
+        }
     }
 
     fn reach(&self, ticket: &Looked) -> io::Result<Asking>
         ensures { IfOk result (λ asking. AtTold (socket_for self.now.signer.now self.now.answerer.now ticket.now.wanted)
             (λ path. M.reached path × IsAsking path [] asking)) }
     {
-        reach_for(self.machine, self.signer, self.answerer, ticket)
+        match socket_of(self.signer, self.answerer, ticket.wanted) {
+            Some(socket) if !ticket.is_left_alone => self.machine.reach(socket),
+            _ => Err(io::Error::from(ErrorKind::NotFound)),
+        }
     }
 
     fn tell_deferred(
@@ -194,7 +208,6 @@ impl<'a, 'w, M: Machine> Handler for Desk<'a, 'w, M> {
     }
 }
 
-/// What was heard, with a connection more that ended by a fault.
 fn with_loss(heard: Heard, why: PeerFault) -> Heard {
     let mut heard = heard;
     match why {
@@ -206,7 +219,6 @@ fn with_loss(heard: Heard, why: PeerFault) -> Heard {
     heard
 }
 
-/// What was heard, with so many connections.
 fn with_crowd(heard: Heard, crowd: Crowd) -> Heard {
     Heard {
         peers: crowd.peers as u64,

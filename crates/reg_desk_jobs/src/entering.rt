@@ -1,58 +1,25 @@
 //! Lines at the control socket, as an open desk answers them.
 
-ghost use Rattle.std.specs.Prelude.{◌≡◌, ◌⊎◌, ◌↔◌, ◌<◌, ◌≤◌, [], IfOk, IsTrue, OnErr, vec_capacity};
+ghost use Rattle.std.specs.Prelude.{◌⊎◌, ◌↔◌, ◌<◌, IsTrue};
 ghost use Rattle.reg_office_api.specs.Leads.{Leads};
-ghost use Rattle.reg_lines.specs.Answer.{ComesTo, Replied};
-ghost use Rattle.reg_lines.specs.ByCalls.{Lines};
 ghost use Rattle.reg_desk_jobs.specs.ControlReplies.{TellsCame};
 ghost use Rattle.reg_desk_jobs.specs.Counted.{CountsLine, SignatureFailed};
-ghost use Rattle.reg_desk_jobs.specs.CounterWords.{CommandAt, Word, WordAt};
+ghost use Rattle.reg_desk_jobs.specs.CounterWords.{CommandAt, WordAt};
 ghost use Rattle.reg_desk_jobs.specs.Schedules.{SetAt, SetsSteps, TellsSetting};
 
 use crate::control_reply::{Came, ControlReply};
 use crate::copying::tell_copy;
-use crate::logging::{log_line, micros_since};
+use crate::jobs::ended;
+use crate::logging::log_line;
 use crate::machine::Machine;
 use crate::reasons::{note, note_reply, told_why};
 use crate::words::{ControlWord, read_word};
 use reg_core::{Fault, Moment};
 use reg_desk_cli::{Failure, Steps, schedule_of};
 use reg_desk_metrics::Tally;
-use reg_desk_server::HubFault;
 use reg_lines::{LONGEST_REPLY, run_line};
 use reg_office_api::{LineReply, Office};
 use std::alloc::Global;
-
-/// Answers a line at the control socket, at the moment of the clock, and counts it.
-pub(crate) fn tell_counted_now<M: Machine>(
-    alloc: Global,
-    office: &mut M::Office,
-    machine: &M,
-    file: &str,
-    tally: &mut Tally,
-    line: &[u8],
-    noted: &mut Vec<u8>,
-) -> Result<Vec<u8>, HubFault>
-    ensures ok { IfOk result (λ text. Leads M.Office.is_clean M.Office.stands
-        (λ identity before after. Word M.Office.signs M.told identity before line.now text.items after)
-        office.old office.new) }
-    ensures err { OnErr result ((office.new ≡ office.old) × (tally.new ≡ tally.old) × (noted.new ≡ noted.old)) }
-{
-    match machine.moment() {
-        Ok(now) => Ok(tell_counted::<M>(
-            alloc,
-            office,
-            machine,
-            file,
-            tally,
-            machine.micros(),
-            now,
-            line,
-            noted,
-        )),
-        Err(_) => Err(HubFault),
-    }
-}
 
 /// Answers a line at the control socket, which began at these microseconds, at a moment, counts it, and puts it into the log, where there is
 /// one.
@@ -76,13 +43,12 @@ pub(crate) fn tell_counted<M: Machine>(
     let failures = office.failure_counts();
     let reply = tell_word::<M>(alloc, office, machine, file, now, line, noted);
     let is_unsigned = has_failed::<M>(office, failures);
-    let micros = micros_since(machine, began);
+    let micros = machine.micros().saturating_sub(began);
     tally.count_line(now, reply.came.effects(is_unsigned), micros);
     log_line(alloc, machine, micros, now, line, &reply.text, is_unsigned);
     reply.text
 }
 
-/// Answers a line at the control socket, at a moment.
 fn tell_word<M: Machine>(
     alloc: Global,
     office: &mut M::Office,
@@ -122,28 +88,9 @@ fn tell_command<M: Machine>(
         office.old office.new }
     ensures came { TellsCame result.came result.text.items }
 {
-    match Vec::with_capacity(alloc, LONGEST_REPLY) {
-        Ok(room) => tell_in::<M>(alloc, office, now, line, room, noted),
-        Err(_) => ControlReply::fault(alloc, Fault::Memory),
-    }
-}
-
-/// The same in a room that is empty.
-fn tell_in<M: Machine>(
-    alloc: Global,
-    office: &mut M::Office,
-    now: Moment,
-    line: &[u8],
-    room: Vec<u8>,
-    noted: &mut Vec<u8>,
-) -> ControlReply
-    requires empty { room.items ≡ [] }
-    requires room { 84 ≤ vec_capacity room }
-    ensures moves { Leads M.Office.is_clean M.Office.stands
-        (λ identity before after. Replied (ComesTo (Lines M.Office.signs identity) now) before line.now result.text.items after)
-        office.old office.new }
-    ensures came { TellsCame result.came result.text.items }
-{
+    let Ok(room) = Vec::with_capacity(alloc, LONGEST_REPLY) else {
+        return ControlReply::fault(alloc, Fault::Memory);
+    };
     let answered = run_line(alloc, office, now, line);
     let refused = answered.refused();
     let reply = ControlReply::of(answered, room);
@@ -153,7 +100,6 @@ fn tell_in<M: Machine>(
     reply
 }
 
-/// Sets another schedule, of these steps. Why it was refused, if it was, is noted.
 fn tell_schedule<M: Machine>(
     alloc: Global,
     office: &mut M::Office,
@@ -172,7 +118,6 @@ fn tell_schedule<M: Machine>(
     reply
 }
 
-/// Sets the schedule of these steps, which are looked at before the register is.
 fn set_steps<M: Machine>(
     alloc: Global,
     office: &mut M::Office,
@@ -185,13 +130,9 @@ fn set_steps<M: Machine>(
         Ok(schedule) => schedule,
         Err(why) => return Err(why),
     };
-    match office.set_schedule(alloc, schedule) {
-        Ok(()) => Ok(()),
-        Err(fault) => Err(Failure::from(fault)),
-    }
+    ended(office.set_schedule(alloc, schedule))
 }
 
-/// The reply to a line that sets a schedule.
 fn set_reply(alloc: Global, set: Result<(), Failure>) -> ControlReply
     ensures text { TellsSetting set result.text.items }
     ensures came { TellsCame result.came result.text.items }
@@ -202,13 +143,9 @@ fn set_reply(alloc: Global, set: Result<(), Failure>) -> ControlReply
     }
 }
 
-/// Whether a signature did not come since the counts of those were these: of a CRL, or of an OCSP answer.
 fn has_failed<M: Machine>(office: &M::Office, failures: (u64, u64)) -> bool
     ensures { IsTrue result ↔ ((failures.0 < M.Office.failures office.now) ⊎ (failures.1 < M.Office.answer_failures office.now)) }
 {
     let (crls, answers) = office.failure_counts();
-    if failures.0 < crls {
-        return true;
-    }
-    failures.1 < answers
+    failures.0 < crls || failures.1 < answers
 }

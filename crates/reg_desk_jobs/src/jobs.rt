@@ -2,12 +2,11 @@
 
 ghost use Rattle.std.specs.Prelude.{◌≡◌, Result, IfErr, false};
 ghost use Rattle.reg_office_api.specs.Items.{items_of};
-ghost use Rattle.reg_office_api.specs.CallSteps.{Crls};
 ghost use Rattle.reg_office_api.specs.Leads.{Leads};
 ghost use Rattle.reg_lines.specs.ByCalls.{Lines};
 ghost use Rattle.reg_lines.specs.Strict.{StrictEnds};
 ghost use Rattle.reg_desk_jobs.specs.Ends.{AuditAt, CrlAt, ImportAt, InitAt, KeyIdAt, MakesAt, ScheduleAt, ScriptAt, StrictImportAt};
-ghost use Rattle.reg_desk_jobs.specs.Ends.{SaysGiven, TellsBroken, TellsSet, TellsLine, TellsVerdict};
+ghost use Rattle.reg_desk_jobs.specs.Ends.{SaysGiven, TellsBroken, TellsLine, TellsSet, TellsVerdict};
 ghost use Rattle.reg_desk_jobs.specs.Visits.{ending_of, ending_of_run};
 ghost use Rattle.reg_office_api.specs.LookUps.{IsOfStore};
 ghost use Rattle.reg_audit_rows.specs.FindingLines.{broken_text, sound_text};
@@ -78,7 +77,6 @@ pub fn init<M: Machine, W: Write>(
     }
 }
 
-/// Makes a register at a path, and tells it.
 fn make_at<M: Machine, W: Write>(
     machine: &mut M,
     path: &str,
@@ -134,7 +132,6 @@ pub fn import_rows<M: Machine, R: Read, W: Write>(
     import_all(alloc, machine, path, rows.moment, reader, writer)
 }
 
-/// Imports standard input into the register at a path, up to the first refusal or fault.
 fn import_to_refusal<M: Machine, R: Read, W: Write>(
     alloc: Global,
     machine: &mut M,
@@ -153,7 +150,6 @@ fn import_to_refusal<M: Machine, R: Read, W: Write>(
     run_ended(imported)
 }
 
-/// Imports rows up to the first refusal or fault, and keeps why the last one was refused, if it was.
 fn import_kept<M: Machine, R: Read, W: Write>(
     alloc: Global,
     office: &mut M::Office,
@@ -171,7 +167,6 @@ fn import_kept<M: Machine, R: Read, W: Write>(
     imported
 }
 
-/// How a job ends whose run of lines or rows ended so.
 pub(crate) fn run_ended(ran: Result<Ended, Fault>) -> Result<(), Failure>
     ensures { result ≡ ending_of_run ran }
 {
@@ -183,7 +178,6 @@ pub(crate) fn run_ended(ran: Result<Ended, Fault>) -> Result<(), Failure>
     }
 }
 
-/// Imports standard input into the register at a path, also what is behind a refusal or a fault.
 fn import_all<M: Machine, R: Read, W: Write>(
     alloc: Global,
     machine: &mut M,
@@ -213,23 +207,11 @@ pub fn crl<M: Machine, W: Write>(
         result }
 {
     let mut register = open_unsigned(machine, path)?;
-    let given = given_crl(alloc, &mut register, number);
+    let given = register.crl_bytes(alloc, number);
     machine.close(path, register);
     say_given(writer, given)
 }
 
-/// The bytes of a CRL of a register.
-fn given_crl<O: Office>(
-    alloc: Global,
-    register: &mut O,
-    number: Option<u64>,
-) -> Result<Vec<u8>, Fault>
-    ensures { Leads O.is_clean O.stands (λ identity before after. Crls before number (items_of result) after) register.old register.new }
-{
-    register.crl_bytes(alloc, number)
-}
-
-/// Says the bytes that are given.
 pub(crate) fn say_given<W: Write>(
     writer: &mut W,
     given: Result<Vec<u8>, Fault>,
@@ -279,7 +261,6 @@ pub fn key_identifier<M: Machine, W: Write>(
     tell_set(writer, b"key-id set\n", set)
 }
 
-/// Tells by this text that something was set.
 fn tell_set<W: Write>(writer: &mut W, text: &[u8], set: Result<(), Fault>) -> Result<(), Failure>
     requires { IfErr set IsOfStore }
     ensures { TellsSet text.now W.contents writer.old writer.new set result }
@@ -303,7 +284,6 @@ pub fn audit<M: Machine, W: Write>(
     tell_verdict(alloc, writer, verdict)
 }
 
-/// Tells what an audit found.
 fn tell_verdict<W: Write>(alloc: Global, writer: &mut W, verdict: Verdict) -> Result<(), Failure>
     ensures { TellsVerdict W.contents writer.old writer.new verdict result }
 {
@@ -315,7 +295,6 @@ fn tell_verdict<W: Write>(alloc: Global, writer: &mut W, verdict: Verdict) -> Re
     }
 }
 
-/// Tells that all rows are sound.
 fn tell_sound<W: Write>(alloc: Global, writer: &mut W, found: Audited) -> Result<(), Failure>
     ensures { TellsLine (sound_text found) W.contents writer.old writer.new result }
 {
@@ -325,7 +304,6 @@ fn tell_sound<W: Write>(alloc: Global, writer: &mut W, found: Audited) -> Result
     }
 }
 
-/// Tells a row that breaks a rule.
 fn tell_broken<W: Write>(alloc: Global, writer: &mut W, broken: BrokenRow) -> Result<(), Failure>
     ensures { TellsBroken (broken_text broken) W.contents writer.old writer.new result }
 {
@@ -335,12 +313,9 @@ fn tell_broken<W: Write>(alloc: Global, writer: &mut W, broken: BrokenRow) -> Re
     }
 }
 
-/// Says the line of what is broken: the job is not done.
 fn say_broken<W: Write>(writer: &mut W, line: &[u8]) -> Result<(), Failure>
     ensures { TellsBroken line.now W.contents writer.old writer.new result }
 {
-    match say(writer, line) {
-        Ok(()) => Err(Failure::Broken),
-        Err(why) => Err(why),
-    }
+    say(writer, line)?;
+    Err(Failure::Broken)
 }

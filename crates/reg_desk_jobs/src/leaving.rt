@@ -1,15 +1,14 @@
 //! An OCSP response that is left to be signed, and how it is finished.
 
-ghost use Rattle.std.specs.Prelude.{◌≡◌, ◌≤◌, IfOk, IfSome, length, option_map};
+ghost use Rattle.std.specs.Prelude.{◌≡◌, ◌≤◌, IfSome, length, option_map};
 ghost use Rattle.reg_desk_jobs.specs.Counted.{CountsFinished};
 ghost use Rattle.reg_desk_jobs.specs.Deferring.{socket_for};
-ghost use Rattle.reg_desk_jobs.specs.Given.{AtTold, GaveAt};
-ghost use Rattle.reg_desk_jobs.specs.Leaving.{FinishesUnsigned, IsFinished, IsSignatureOf, fate_of};
+ghost use Rattle.reg_desk_jobs.specs.Given.{GaveAt};
+ghost use Rattle.reg_desk_jobs.specs.Leaving.{IsFinished, IsSignatureOf, fate_of};
 ghost use Rattle.reg_desk_jobs.specs.WhoSigns.{answer_socket};
-ghost use Rattle.reg_crl_signer.specs.Asking.{IsAsking};
 
 use crate::deferring::{Wanted, socket_of};
-use crate::logging::{log_exchange, micros_since};
+use crate::logging::log_exchange;
 use crate::machine::Machine;
 use reg_core::Moment;
 use reg_crl_signer::{Asking, has_form};
@@ -20,8 +19,6 @@ use reg_http_head::Collected;
 use reg_ocsp::{Draft, slice_of};
 use reg_office_api::SignatureFate;
 use std::alloc::Global;
-use std::io;
-use std::io::ErrorKind;
 use std::net::SocketAddr;
 
 /// How many bytes of what was asked are kept for the log: as many as it tells of a text.
@@ -81,22 +78,6 @@ fn kept_of<M: Machine>(alloc: Global, machine: &M, request: &[u8]) -> Vec<u8> {
     }
 }
 
-/// Asks what signs answers, as it was told, and waits for nothing.
-pub(crate) fn ask_for<M: Machine>(
-    machine: &M,
-    signer: &Option<KeyHolder<'_>>,
-    answerer: &Answerer<'_>,
-    unsigned: &Unsigned,
-) -> io::Result<Asking>
-    ensures { IfOk result (λ asking. AtTold (answer_socket signer.now answerer.now)
-        (λ path. M.asked path unsigned.now.draft.message × IsAsking path unsigned.now.draft.message asking)) }
-{
-    match socket_of(signer, answerer, Wanted::Answer) {
-        Some(socket) => machine.ask(socket, unsigned.draft.message()),
-        None => Err(io::Error::from(ErrorKind::NotFound)),
-    }
-}
-
 /// The text that finishes an answer, with what came on a connection, or without a signature. It is counted by the moment and the route of the
 /// answer, and put into the log, where there is one.
 pub(crate) fn finish_visit<M: Machine>(
@@ -108,12 +89,11 @@ pub(crate) fn finish_visit<M: Machine>(
     unsigned: Unsigned,
     link: Option<Asking>,
 ) -> Vec<u8>
-    ensures finished { FinishesUnsigned (GaveAt M.gave (answer_socket signer.now answerer.now)) unsigned result.items }
-    ensures counted { CountsFinished (GaveAt M.gave (answer_socket signer.now answerer.now)) unsigned result.items tally.old tally.new }
+    ensures { CountsFinished (GaveAt M.gave (answer_socket signer.now answerer.now)) unsigned result.items tally.old tally.new }
 {
     let signature = signature_of::<M>(alloc, signer, answerer, &unsigned.draft, link);
     let exchange = finish(alloc, &unsigned, &signature);
-    let micros = micros_since(machine, unsigned.began);
+    let micros = machine.micros().saturating_sub(unsigned.began);
     tally.count_exchange(unsigned.moment, &exchange, micros);
     log_exchange(
         alloc,
@@ -127,7 +107,6 @@ pub(crate) fn finish_visit<M: Machine>(
     exchange.text
 }
 
-/// The signature of an answer that came on a connection, where one did and it has the form of one by who is to sign.
 fn signature_of<M: Machine>(
     alloc: Global,
     signer: &Option<KeyHolder<'_>>,
@@ -176,7 +155,6 @@ pub(crate) fn heard_for<M: Machine>(
     }
 }
 
-/// The exchange that finishes an answer, with this signature or without one.
 fn finish(alloc: Global, unsigned: &Unsigned, signature: &Option<Vec<u8>>) -> Exchange
     requires { IfSome signature.now (λ signature. length signature.items ≤ 4096) }
     ensures finished { IsFinished unsigned.now.draft unsigned.now.moment (option_map (λ signature. signature.items) signature.now) result }
@@ -187,7 +165,6 @@ fn finish(alloc: Global, unsigned: &Unsigned, signature: &Option<Vec<u8>>) -> Ex
     Exchange::finished(alloc, unsigned.route, unsigned.moment, response, fate)
 }
 
-/// Whether a signature was made.
 fn fate_by(signature: &Option<Vec<u8>>) -> SignatureFate
     ensures { result ≡ fate_of (option_map (λ signature. signature.items) signature.now) }
 {

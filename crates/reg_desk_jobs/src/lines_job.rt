@@ -80,7 +80,6 @@ pub fn script_by_lines<M: Machine, R: Read, W: Write>(
     run_ended(ran)
 }
 
-/// Runs a script over an office of the machine. Whether a digest stands in for signatures is told.
 pub(crate) fn run_script_over<M: Machine, R: Read, W: Write>(
     alloc: Global,
     machine: &M,
@@ -102,7 +101,6 @@ pub(crate) fn run_script_over<M: Machine, R: Read, W: Write>(
     run_script_for(alloc, reader, writer, office, &host)
 }
 
-/// Runs lines over an office of the machine, in this way.
 fn run_over<M: Machine, R: Read, W: Write>(
     alloc: Global,
     machine: &M,
@@ -125,7 +123,6 @@ fn run_over<M: Machine, R: Read, W: Write>(
     run_lines(alloc, reader, writer, office, &host, way.is_strict)
 }
 
-/// Whether a line came to the first CRL of its register.
 fn is_first_crl(answered: &Answered) -> bool
     ensures { IsTrue result ↔ IsFirstCrl answered.now }
 {
@@ -135,7 +132,6 @@ fn is_first_crl(answered: &Answered) -> bool
     }
 }
 
-/// Says that the first CRL is no signature.
 #[tactic(auto, unfolding(crate::specs::Sealing::sealed_line))]
 fn warn<M: Machine>(machine: &M)
     ensures { M.warned sealed_line }

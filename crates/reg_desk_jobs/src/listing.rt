@@ -17,7 +17,6 @@ use reg_office_api::Office;
 use std::alloc::Global;
 use std::io::Write;
 
-/// The rows that each page looks at.
 const MOST_ROWS: u64 = 1_000;
 
 /// Writes a list of the register at a path, at a moment that is told, or else at that of the clock. Nothing is written unless
@@ -38,7 +37,6 @@ pub fn list<M: Machine, W: Write>(
     say_given(writer, given)
 }
 
-/// The moment that is told, or else that of the clock.
 fn moment_of<M: Machine>(machine: &M, told: Option<Moment>) -> Result<Moment, Failure>
     ensures ok { IfOk result (IsMomentOf M.told told) }
     ensures err { IfErr result (λ why. why ≡ Failure.Fault Fault.Read) }
@@ -52,7 +50,6 @@ fn moment_of<M: Machine>(machine: &M, told: Option<Moment>) -> Result<Moment, Fa
     }
 }
 
-/// The text of a list of a register, page by page.
 fn given_list<M: Machine>(
     alloc: Global,
     register: &mut M::Office,
@@ -79,7 +76,6 @@ fn given_list<M: Machine>(
     Err(Fault::Store)
 }
 
-/// What stands before the rows of a list.
 fn opening(alloc: Global, form: Form, from: Cursor) -> Result<Vec<u8>, Fault>
     ensures ok { IfOk result (λ text. text.items ≡ opening_text form from) }
     ensures err { IfErr result (λ fault. fault ≡ Fault.Memory) }
@@ -94,7 +90,6 @@ fn opening(alloc: Global, form: Form, from: Cursor) -> Result<Vec<u8>, Fault>
     }
 }
 
-/// Puts rows behind a text.
 fn put(alloc: Global, text: &mut Vec<u8>, form: Form, rows: &[Row]) -> Result<(), Fault>
     ensures ok { OnOk result (text.new.items ≡ text.old.items ++ flat_map (row_text form) rows.now) }
     ensures err { IfErr result (λ fault. fault ≡ Fault.Memory) }

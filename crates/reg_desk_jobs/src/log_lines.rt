@@ -7,7 +7,6 @@ ghost use Rattle.reg_desk_jobs.specs.Log.{digit as hexadecimal, is_plain as plai
 use reg_core::{Decimal, Moment};
 use std::alloc::{AllocError, Global};
 
-/// How many bytes of a text are told.
 const MOST_TOLD: usize = 256;
 
 /// The line of an exchange, with no LF behind it. Who asked stands there as it is; what was asked and answered puts no control character and
@@ -50,7 +49,6 @@ pub(crate) fn lost_line(
     Ok(line)
 }
 
-/// Puts a space and a word behind a line.
 fn put_word(line: &mut Vec<u8>, word: &[u8]) -> Result<(), AllocError>
     ensures { OnOk result (line.new.items ≡ line.old.items ++ (32 ∷ word.now)) }
 {
@@ -58,7 +56,6 @@ fn put_word(line: &mut Vec<u8>, word: &[u8]) -> Result<(), AllocError>
     line.extend_from_slice(word)
 }
 
-/// Puts a space and a number behind a line.
 fn put_number(line: &mut Vec<u8>, number: u64) -> Result<(), AllocError>
     ensures { OnOk result (line.new.items ≡ line.old.items ++ (32 ∷ decimal number)) }
 {
@@ -66,7 +63,6 @@ fn put_number(line: &mut Vec<u8>, number: u64) -> Result<(), AllocError>
     put_word(line, digits.as_bytes())
 }
 
-/// Puts the word behind a line that tells of a signature that did not come, where one did not.
 fn put_unsigned(line: &mut Vec<u8>, is_unsigned: bool) -> Result<(), AllocError>
     ensures { OnOk result (line.new.items ≡ line.old.items ++ unsigned_end is_unsigned) }
 {
@@ -76,7 +72,6 @@ fn put_unsigned(line: &mut Vec<u8>, is_unsigned: bool) -> Result<(), AllocError>
     line.extend_from_slice(b" signer")
 }
 
-/// Puts a space and what a text is told as behind a line.
 fn put_told(line: &mut Vec<u8>, text: &[u8]) -> Result<(), AllocError>
     ensures { OnOk result (line.new.items ≡ line.old.items ++ (32 ∷ told_text text.now)) }
 {
@@ -86,7 +81,6 @@ fn put_told(line: &mut Vec<u8>, text: &[u8]) -> Result<(), AllocError>
     Ok(())
 }
 
-/// The first line of a text, or all of it where no line ends.
 fn first_line(text: &[u8]) -> &[u8]
     ensures { result.now ≡ first_line_of text.now }
 {
@@ -96,7 +90,6 @@ fn first_line(text: &[u8]) -> &[u8]
     }
 }
 
-/// Where the first line of a text ends.
 fn line_end(text: &[u8]) -> Option<usize>
     ensures place { result ≡ position ends_line text.now }
     ensures within { IfSome result (λ end. end ≤ length text.now) }
@@ -105,7 +98,6 @@ fn line_end(text: &[u8]) -> Option<usize>
         .position(|byte| *byte == b'\r' || *byte == b'\n')
 }
 
-/// As much of a text as is told.
 fn front_of(text: &[u8]) -> &[u8]
     ensures { result.now ≡ take 256 text.now }
 {
@@ -116,7 +108,6 @@ fn front_of(text: &[u8]) -> &[u8]
     }
 }
 
-/// Puts the bytes of a text behind a line, each as it is told.
 fn put_plainly(line: &mut Vec<u8>, text: &[u8]) -> Result<(), AllocError>
     ensures { OnOk result (line.new.items ≡ line.old.items ++ flat_map told_byte text.now) }
 {
@@ -126,7 +117,6 @@ fn put_plainly(line: &mut Vec<u8>, text: &[u8]) -> Result<(), AllocError>
     Ok(())
 }
 
-/// Puts a byte behind a line, as it is told.
 #[tactic(auto, unfolding(crate::specs::Log::told_byte))]
 fn put_byte(line: &mut Vec<u8>, byte: u8) -> Result<(), AllocError>
     ensures { OnOk result (line.new.items ≡ line.old.items ++ told_byte byte) }
@@ -139,23 +129,12 @@ fn put_byte(line: &mut Vec<u8>, byte: u8) -> Result<(), AllocError>
     line.extend_from_slice(&escape)
 }
 
-/// Whether a byte is told as it is.
 fn is_plain(byte: u8) -> bool
     ensures { result ≡ plain byte }
 {
-    if byte == b'"' {
-        return false;
-    }
-    if byte == b'\\' {
-        return false;
-    }
-    if byte < b' ' {
-        return false;
-    }
-    byte < 127
+    byte != b'"' && byte != b'\\' && byte >= b' ' && byte < 127
 }
 
-/// The hexadecimal digit of a number below 16.
 fn digit(number: u8) -> u8
     requires { number < 16 }
     ensures { result ≡ hexadecimal number }

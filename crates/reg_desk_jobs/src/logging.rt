@@ -12,12 +12,6 @@ use std::net::{IpAddr, SocketAddr};
 /// Who sends lines to the control socket: it has no address.
 const COUNTER: &[u8] = b"counter";
 
-/// How many microseconds passed since an exchange began.
-pub(crate) fn micros_since<M: Machine>(machine: &M, began: u64) -> u64 {
-    machine.micros().saturating_sub(began)
-}
-
-/// Logs an exchange of a moment, whose text was made in so many microseconds.
 pub(crate) fn log_exchange<M: Machine>(
     alloc: Global,
     machine: &M,
@@ -68,7 +62,6 @@ pub(crate) fn log_line<M: Machine>(
     );
 }
 
-/// Logs that a connection ended by a fault.
 pub(crate) fn log_lost<M: Machine>(
     alloc: Global,
     machine: &M,
@@ -87,7 +80,6 @@ pub(crate) fn log_lost<M: Machine>(
     put(machine, lost_line(alloc, now, &who, word_of(why)));
 }
 
-/// Puts a line into the log, where there was memory for it.
 fn put<M: Machine>(machine: &M, line: Result<Vec<u8>, AllocError>) {
     let Ok(mut line) = line else {
         return;
@@ -97,7 +89,6 @@ fn put<M: Machine>(machine: &M, line: Result<Vec<u8>, AllocError>) {
     }
 }
 
-/// The word that tells why a connection ended.
 fn word_of(why: PeerFault) -> &'static [u8] {
     match why {
         PeerFault::Broken => b"broken",
@@ -107,7 +98,6 @@ fn word_of(why: PeerFault) -> &'static [u8] {
     }
 }
 
-/// The name of a client: its address, or the word for one at the control socket.
 fn name_of(alloc: Global, peer: Option<SocketAddr>) -> Result<Vec<u8>, AllocError> {
     match peer {
         Some(peer) => address(alloc, peer),
@@ -128,7 +118,6 @@ fn address(alloc: Global, peer: SocketAddr) -> Result<Vec<u8>, AllocError> {
     Ok(text)
 }
 
-/// Puts the four numbers of an address behind a text.
 fn put_octets(text: &mut Vec<u8>, octets: [u8; 4]) -> Result<(), AllocError> {
     for (index, octet) in octets.into_iter().enumerate() {
         if index > 0 {

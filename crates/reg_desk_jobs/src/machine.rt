@@ -15,13 +15,11 @@ use std::alloc::Global;
 use std::io;
 use std::os::unix::net::UnixStream;
 
-/// The machine that a job runs on. A job is handed the machine and nothing else of the system, so only a call of it can say that a file was
-/// opened, a port bound or the clock read. A call that may change a file is stated by a relation of the machine before and after it: a clause
-/// that leads from one machine to another by such calls says that no other file was touched.
-///
-/// Each method is one call of the system with the arguments that it was given. That the call does what its relation says, no clause can say.
-/// What takes more than one call is written over any machine ([`registers`](crate::registers), [`control_socket`](crate::control_socket)),
-/// so the prover refuses there another path, port, mode or moment.
+/// The machine that a job runs on. A job is handed nothing else of the system, so only a call of it can say that a file was opened, a port bound or
+/// the clock read; a clause that leads from one machine to another by such calls says that no other file was touched. Each method is one call of
+/// the system with the arguments that it was given: that the call does what its relation says, no clause can say. What takes more than one call is
+/// written over any machine ([`registers`](crate::registers), [`control_socket`](crate::control_socket)). Where no errors are named, they are what
+/// the system says.
 pub trait Machine {
     ghost use Rattle.std.specs.Prelude.{◌≡◌, ◌≤◌, ◌⊎◌, ℕ, List, [], IsTrue, IsFalse, MatchBool, OnOk, OnErr, IfOk, IfErr, IfSome, length};
     ghost use Rattle.reg_office_api.specs.Leads.{Leads};
@@ -56,55 +54,38 @@ pub trait Machine {
 
     /// Something lies at the path, or may.
     ghost lies: { Self → List ℕ → Type 0 };
-
     /// Nothing is found at the path.
     ghost absent: { Self → List ℕ → Type 0 };
-
     /// Nothing lay at the path, an empty file was created there, and the machine after it.
     ghost claimed: { Self → List ℕ → Self → Type 0 };
-
     /// The file at the path was removed, and the machine after it.
     ghost removed: { Self → List ℕ → Self → Type 0 };
-
     /// A database was begun in the files at the path.
     ghost begun: { Self → List ℕ → Type 0 };
-
     /// For this reason the files at the path could not be read.
     ghost unread: { Self → List ℕ → Failing → Type 0 };
-
     /// The file at the path was opened as this database, and the machine after it.
     ghost connected: { Self → List ℕ → Self.Database → Self → Type 0 };
-
     /// For this reason the file at the path could not be opened as a database, and the machine after it.
     ghost unconnected: { Self → List ℕ → Failing → Self → Type 0 };
-
     /// No statement ran over the database yet.
     ghost fresh: { Self.Database → Type 0 };
-
     /// This is who answers, as the words say, once the certificates are read.
     ghost certified: { Answering → Self.Responder → Type 0 };
-
     /// The register of the database was opened as this office, with this signer of CRLs and this responder.
     ghost opened: { Self.Database → SignsCrls → Self.Responder → Self.Office → Type 0 };
-
     /// A register was made in the database, and is this office.
     ghost made: { Self.Database → Self.Office → Type 0 };
-
     /// The office whose file lies at the path was closed, and the machine after it.
     ghost closed: { Self → List ℕ → Self.Office → Self → Type 0 };
-
     /// The files at the path were opened for reading alone.
     ghost read: { Self → List ℕ → Self.Sources → Type 0 };
-
     /// An audit of the register in the files said this.
     ghost audited: { Self.Sources → Verdicts → Type 0 };
-
     /// A copy of so many bytes of the register at the path was created at another path, at which nothing lay, and the machine after it.
     ghost copied: { Self → List ℕ → List ℕ → ℕ → Self → Type 0 };
-
     /// For this reason no copy of the register at the path was created at another path, and the machine after it.
     ghost uncopied: { Self → List ℕ → List ℕ → Failing → Self → Type 0 };
-
     /// A copy of so many bytes of the open register whose file lies at a path was created.
     ghost copied_open: { List ℕ → ℕ → Type 0 };
 
@@ -112,44 +93,29 @@ pub trait Machine {
 
     /// The clock stood at so many whole seconds since 1970 began; at 0 also before that.
     ghost stood: { ℕ → Type 0 };
-
     /// The clock stood at this moment, or was past it.
     ghost told: { ℕ → Type 0 };
-
     /// This port of this address was bound (four bytes, RFC 791 3.1).
     ghost bound: { List ℕ → ℕ → Type 0 };
-
     /// A socket was created at this path.
     ghost laid: { List ℕ → Type 0 };
-
     /// What lies at this path was given this mode.
     ghost moded: { List ℕ → ℕ → Type 0 };
-
     /// No program listened any more at the socket at this path.
     ghost deserted: { List ℕ → Type 0 };
-
     /// The program connected to the socket at this path.
     ghost met: { List ℕ → Type 0 };
-
     /// The signer at the socket at this path was asked to sign this message.
     ghost asked: { List ℕ → List ℕ → Type 0 };
-
     /// The program connected to the signer at the socket at this path.
     ghost reached: { List ℕ → Type 0 };
-
     /// The signer at this path gave this answer to this message.
     ghost gave: { List ℕ → List ℕ → List ℕ → Type 0 };
-
     /// This line was written to standard error.
     ghost warned: { List ℕ → Type 0 };
 
-    /// Creates an empty file at a path where nothing lies, and no log either, in one step, so that of two programs that do so at once one
-    /// has it; and answers whether it did. Only its owner may read and write it. A link that leads nowhere is something that lies there, and
-    /// so is anything that can't be looked at.
-    ///
-    /// # Errors
-    ///
-    /// [`Memory`], and the machine is as it was.
+    /// Creates an empty file, for its owner alone, at a path where nothing lies, and no log either, in one step: of two programs that do so at once
+    /// one has it. Answers whether it did: also a link that leads nowhere lies there, and what can't be looked at.
     fn claim(&mut self, path: &str) -> Result<bool, Memory>
         ensures ours { IfOk result (λ is_ours. IsTrue is_ours → claimed self.old path.now self.new) }
         ensures lies { IfOk result (λ is_ours. IsFalse is_ours → lies self.old path.now) }
@@ -164,45 +130,29 @@ pub trait Machine {
     fn remove(&mut self, path: &str)
         ensures { removed self.old path.now self.new };
 
-    /// Looks whether a database was begun in the files at a path. They are opened for reading alone, and each byte of them stays.
-    ///
-    /// # Errors
-    ///
-    /// `NotARegister` where none was begun; `Fault` of `Memory`, and of `Store` where there is no file or it can't be read.
+    /// Looks, for reading alone, whether a database was begun in the files at a path; `NotARegister` where none was, `Store` where there is no
+    /// file.
     fn look_at(&self, path: &str) -> Result<(), Failure>
         ensures begun { OnOk result (begun self.now path.now) }
         ensures unread { IfErr result (unread self.now path.now) }
         ensures faults { IfErr result IsOpening };
 
-    /// Opens the file at a path as a database. Where no file is, one is made.
-    ///
-    /// # Errors
-    ///
-    /// `Fault` of `Memory`, and of `Store` where the file can't be opened or is no database.
+    /// Opens the file at a path as a database, and creates one where none is; `Store` where that can't be done.
     fn connect(&mut self, path: &str) -> Result<Self::Database, Failure>
         ensures connected { IfOk result (λ database. connected self.old path.now database self.new) }
         ensures fresh { IfOk result fresh }
         ensures unconnected { IfErr result (λ why. unconnected self.old path.now why self.new) }
         ensures faults { IfErr result (λ why. (why ≡ Failure.Fault Fault.Memory) ⊎ (why ≡ Failure.Fault Fault.Store)) };
 
-    /// Reads the certificates of who answers OCSP requests.
-    ///
-    /// # Errors
-    ///
-    /// `BadResponder` where a certificate can't be read, is none, or has a key of another algorithm; `Fault` of `Memory`.
+    /// Reads the certificates of who answers OCSP requests; `BadResponder` where one can't be read, is none, or has a key of another algorithm.
     fn certify(&self, answerer: &Answerer<'_>) -> Result<Self::Responder, Failure>
         ensures certified { IfOk result (certified answerer.now) }
         ensures told { OnErr result (HasCertificate answerer.now) }
         ensures faults { IfErr result IsOpening };
 
-    /// Opens the register of a database, with the signer of its CRLs and the responder of its OCSP answers. The database is closed where that
-    /// fails.
-    ///
-    /// # Errors
-    ///
-    /// `NotARegister` and `NewVersion` for other tables; `BadSigner` where the latest CRL was signed under another algorithm or one that this
-    /// program does not know, or the issuer's key is none of the algorithm; `BadResponder` where the issuer's certificate has another key;
-    /// `Fault` of `Memory` and of `Store`.
+    /// Opens the register of a database, which is closed where that fails: `NotARegister` and `NewVersion` for other tables; `BadSigner` where the
+    /// latest CRL was signed under an algorithm that may not be followed, or the issuer's key is none of the algorithm; `BadResponder` where the
+    /// issuer's certificate has another key.
     fn open_in(
         &self,
         database: Self::Database,
@@ -213,11 +163,7 @@ pub trait Machine {
         ensures opened { IfOk result (opened database crls.now responder) }
         ensures faults { IfErr result IsOpening };
 
-    /// Makes a register with no records in a database that has no tables. The database is closed where that fails.
-    ///
-    /// # Errors
-    ///
-    /// `NotEmpty` where there are tables already; `Fault` of `Memory` and of `Store`.
+    /// Makes a register with no records in a database, which is closed where that fails: `NotEmpty` where there are tables already.
     fn make_in(
         &self,
         database: Self::Database,
@@ -233,53 +179,32 @@ pub trait Machine {
     fn close(&mut self, path: &str, office: Self::Office)
         ensures { closed self.old path.now office self.new };
 
-    /// Opens the files at a path for reading alone. Each byte of them stays, and nothing is created beside them.
-    ///
-    /// # Errors
-    ///
-    /// `Fault` of `Memory`, and of `Store` where there is no file or it can't be read.
+    /// Opens the files at a path for reading alone: each byte of them stays, and nothing is created beside them.
     fn read(&self, path: &str) -> Result<Self::Sources, Failure>
         ensures read { IfOk result (read self.now path.now) }
         ensures unread { IfErr result (unread self.now path.now) }
         ensures faults { IfErr result IsOpening };
 
-    /// Audits the register in files. One of an older version is not made newer.
-    ///
-    /// # Errors
-    ///
-    /// `NotARegister` and `NewVersion` for other tables; `Fault` of `Memory` and of `Store`.
+    /// Audits the register in files, without making an older version newer; `NotARegister` and `NewVersion` for other tables.
     fn audit_in(&self, sources: Self::Sources) -> Result<Verdict, Failure>
         ensures audited { IfOk result (audited sources) }
         ensures faults { IfErr result IsOpening };
 
-    /// Copies the register at a path, which is not open, to a path at which nothing lies: a file that only its owner may read and write,
-    /// synced with its folder, with each page as an opening finds it; one of an older version stays so. The first file is only read. Gives how
-    /// many bytes the copy has. A copy that is not whole never has the name.
-    ///
-    /// # Errors
-    ///
-    /// `NotARegister` where no database was begun; `Fault` of `Memory`, and of `Store` where there is no file or it can't be read, something
-    /// lies at the second path or beside it, or the copy can't be written.
+    /// Copies the register at a path, which is not open and is only read, to a path at which nothing lies, and gives the bytes of the copy: a file
+    /// for its owner alone, synced with its folder, that never has the name before it is whole. `Store` also where something lies at the second
+    /// path or beside it.
     fn copy(&mut self, path: &str, to: &str) -> Result<u64, Failure>
         ensures ok { IfOk result (λ bytes. copied self.old path.now to.now bytes self.new) }
         ensures err { IfErr result (λ why. uncopied self.old path.now to.now why self.new) }
         ensures faults { IfErr result IsOpening };
 
-    /// Copies the register that this program has open, whose file lies at a path, to a path at which nothing lies, as [`Machine::copy`]
-    /// does: as it is between two calls of it. Gives how many bytes the copy has.
-    ///
-    /// # Errors
-    ///
-    /// As [`Machine::copy`]; also where the file at the path is not the one that this program has open.
+    /// Copies the register that this program has open in the same way, as it is between two calls of it; a fault of the store also where the file
+    /// at the path is not the one that is open.
     fn copy_open(&self, path: &str, to: &str) -> Result<u64, Uncopied>
         ensures ok { IfOk result (copied_open path.now) }
         ensures err { IfErr result (λ why. IsOfStore why.fault) };
 
     /// The whole seconds of the clock since 1970 began; 0 where it stands before that.
-    ///
-    /// # Errors
-    ///
-    /// What the system says where the clock can't be read.
     fn seconds(&self) -> io::Result<u64>
         ensures stood { IfOk result stood }
         ensures told { IfOk result (λ seconds. (now : ℕ) → now ≤ seconds → told now) };
@@ -288,34 +213,18 @@ pub trait Machine {
     fn micros(&self) -> u64;
 
     /// Listens at a port of an address, and never waits for a client.
-    ///
-    /// # Errors
-    ///
-    /// What the system says where the port can't be bound.
     fn listen(&self, address: [u8; 4], port: u16) -> io::Result<TcpListener>
         ensures { OnOk result (bound address port) };
 
-    /// Creates a socket at a path, and listens there without waiting.
-    ///
-    /// # Errors
-    ///
-    /// What the system says; `AddrInUse` where something lies there.
+    /// Creates a socket at a path, and listens there without waiting; `AddrInUse` where something lies there.
     fn lay(&self, path: &str) -> io::Result<UnixListener>
         ensures { OnOk result (laid path.now) };
 
     /// Sets the mode of the file at a path.
-    ///
-    /// # Errors
-    ///
-    /// What the system says.
     fn set_mode(&self, path: &str, mode: u32) -> io::Result<()>
         ensures { OnOk result (moded path.now mode) };
 
     /// Whether the file at a path is a socket.
-    ///
-    /// # Errors
-    ///
-    /// What the system says.
     fn is_socket(&self, path: &str) -> io::Result<bool>;
 
     /// Whether no program listens any more at the socket at a path: it refuses connections.
@@ -323,48 +232,31 @@ pub trait Machine {
         ensures { IsTrue result → deserted path.now };
 
     /// Removes a socket at which no program listens any more.
-    ///
-    /// # Errors
-    ///
-    /// What the system says.
     fn unlink(&self, path: &str) -> io::Result<()>
         requires { deserted path.now };
 
     /// Connects to the socket at a path.
-    ///
-    /// # Errors
-    ///
-    /// What the system says where no program listens there.
     fn meet(&self, path: &str) -> io::Result<UnixStream>
         ensures { OnOk result (met path.now) };
 
-    /// Asks the signer at the socket at a path to sign a message, and waits for nothing: the connection on which the answer
-    /// will come, up to its end.
-    ///
-    /// # Errors
-    ///
-    /// `WouldBlock` where the socket has no room for one more; what else the system says where nothing can be asked there.
+    /// Asks the signer at the socket at a path to sign a message, and waits for nothing: the connection on which the answer comes, up to its end;
+    /// `WouldBlock` where the socket has no room for one more.
     fn ask(&self, path: &str, message: &[u8]) -> io::Result<Asking>
         ensures asked { OnOk result (asked path.now message.now) }
         ensures kept { IfOk result (IsAsking path.now message.now) };
 
-    /// Connects to the signer at the socket at a path, and waits for nothing. No message went out on the connection yet.
-    ///
-    /// # Errors
-    ///
-    /// `WouldBlock` where the socket has no room for one more; what else the system says where it can't be connected to.
+    /// Connects to a signer in the same way, with no message on the connection yet.
     fn reach(&self, path: &str) -> io::Result<Asking>
         ensures reached { OnOk result (reached path.now) }
         ensures kept { IfOk result (IsAsking path.now []) };
 
-    /// The answer on a connection to a signer, once it is whole. `None` where its end has not come or it is longer than 4,096 bytes, and where
-    /// memory is refused.
+    /// The answer on a connection to a signer, once it is whole. `None` where it is not, is longer than 4,096 bytes, or memory is refused.
     fn hear(alloc: Global, link: &mut Asking) -> Option<Vec<u8>>
         ensures given { IfSome result (λ answer. (path message : List ℕ) → IsAsking path message link.old → gave path message answer.items) }
         ensures short { IfSome result (λ answer. length answer.items ≤ 4096) };
 
-    /// Presets the next signature of an office: what a signer gave for a message, or that it gave nothing. The signer is not asked then. `None`
-    /// has it asked again.
+    /// Presets the next signature of an office: what a signer gave for a message, or that it gave nothing. The signer is not asked then. `None` has
+    /// it asked again.
     fn prime(office: &mut Self::Office, wanted: Wanted, primed: Option<Primed>)
         requires { IfSome primed (λ known. IfSome known.answer (λ answer. WasGiven gave known.message.items answer.items)) }
         ensures { Leads Self.Office.is_clean Self.Office.stands (λ identity before after. after ≡ before) office.old office.new };
@@ -385,11 +277,7 @@ pub trait Machine {
     /// Why the call failed that failed last, where that is known.
     fn noted(&self) -> Option<Cause>;
 
-    /// The moment of the clock: the last one where it is past that.
-    ///
-    /// # Errors
-    ///
-    /// `Read` where the clock can't be read.
+    /// The moment of the clock, the last one where it is past that; `Read` where it can't be read.
     final fn moment(&self) -> Result<Moment, Fault>
         ensures told { IfOk result told }
         ensures exact { IfOk result (Tells stood) }

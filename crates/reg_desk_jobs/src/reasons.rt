@@ -13,7 +13,6 @@ use reg_office_api::Office;
 use std::alloc::{AllocError, Global};
 use std::cell::Cell;
 
-/// The seconds of a day.
 const DAY: u64 = 86_400;
 
 /// Why a registration was refused, where more is told of that than the refusal.
@@ -27,14 +26,12 @@ pub enum Reason {
     Latest(Moment),
 }
 
-/// The reply that tells what is noted of a connection.
 pub(crate) fn told_why(alloc: Global, noted: &[u8]) -> ControlReply
     ensures { TellsCame result.came result.text.items }
 {
     ControlReply::made(alloc, why_reply(alloc, noted), Came::Done)
 }
 
-/// Its text.
 #[tactic(auto, unfolding(crate::specs::Reasons::noted_why_text))]
 fn why_reply(alloc: Global, noted: &[u8]) -> Result<Vec<u8>, AllocError>
     ensures { IfOk result (λ text. text.items ≡ noted_why_text noted.now) }
@@ -62,21 +59,20 @@ pub(crate) fn note<M: Machine>(
     match refused {
         Some(refused) => {
             let reason = reason_of::<M>(office, &refused);
-            note_reason(alloc, reason, reply, noted);
+            note_text(reason_line(alloc, b"", reason), reply, noted);
         }
         None => note_reply(reply, noted),
     }
 }
 
-/// Notes a reason in place of what was noted; where there is none, or no memory for it, the reply.
-fn note_reason(alloc: Global, reason: Option<Reason>, reply: &[u8], noted: &mut Vec<u8>) {
-    match reason_line(alloc, b"", reason) {
+/// Notes a text in place of what was noted; where there is none, or no memory for it, the reply.
+pub(crate) fn note_text(text: Option<Vec<u8>>, reply: &[u8], noted: &mut Vec<u8>) {
+    match text {
         Some(text) => *noted = text,
         None => note_reply(reply, noted),
     }
 }
 
-/// Notes a reply in place of what was noted. What there is no memory for is left out.
 pub(crate) fn note_reply(reply: &[u8], noted: &mut Vec<u8>) {
     noted.clear();
     let _ = noted.extend_from_slice(reply);
@@ -86,26 +82,15 @@ pub(crate) fn note_reply(reply: &[u8], noted: &mut Vec<u8>) {
 fn reason_of<M: Machine>(office: &mut M::Office, refused: &RefusedCommand) -> Option<Reason>
     ensures { Leads M.Office.is_clean M.Office.stands (λ identity before after. after ≡ before) office.old office.new }
 {
-    match refused.command {
-        Command::Register {
-            order,
-            not_before,
-            ..
-        } => reason_for::<M>(office, order, not_before, refused.why),
-        _ => None,
-    }
-}
-
-/// Why a registration was refused, of a certificate that is valid from a moment on.
-fn reason_for<M: Machine>(
-    office: &mut M::Office,
-    order: u64,
-    not_before: Moment,
-    why: Refusal,
-) -> Option<Reason>
-    ensures { Leads M.Office.is_clean M.Office.stands (λ identity before after. after ≡ before) office.old office.new }
-{
-    match why {
+    let Command::Register {
+        order,
+        not_before,
+        ..
+    } = refused.command
+    else {
+        return None;
+    };
+    match refused.why {
         Refusal::NoOrder => Some(Reason::NoOrder(order)),
         Refusal::OrderFilled => Some(Reason::Filled(order)),
         Refusal::TooLong => latest_of::<M>(office, order, not_before),
@@ -118,15 +103,9 @@ fn latest_of<M: Machine>(office: &mut M::Office, order: u64, not_before: Moment)
     ensures { Leads M.Office.is_clean M.Office.stands (λ identity before after. after ≡ before) office.old office.new }
 {
     match office.longest(order, not_before) {
-        Ok(Some(days)) => latest_in(not_before, days),
-        Ok(None) => None,
-        Err(_) => None,
+        Ok(Some(days)) => Some(Reason::Latest(last_of(not_before, days)?)),
+        _ => None,
     }
-}
-
-/// The same by the days that it may be valid.
-fn latest_in(not_before: Moment, days: u64) -> Option<Reason> {
-    Some(Reason::Latest(last_of(not_before, days)?))
 }
 
 /// Keeps why the last command of a run was refused, if the run ended at that and it was a registration.
@@ -159,7 +138,6 @@ pub(crate) fn reason_line(alloc: Global, front: &[u8], reason: Option<Reason>) -
     front_and_end(alloc, front, &words).ok()
 }
 
-/// A text, words behind it and an LF.
 pub(crate) fn front_and_end(
     alloc: Global,
     front: &[u8],
@@ -173,7 +151,6 @@ pub(crate) fn front_and_end(
     Ok(text)
 }
 
-/// The words of a reason.
 fn reason_words(alloc: Global, reason: Reason) -> Result<Vec<u8>, AllocError>
     ensures { IfOk result (λ text. text.items ≡ reason_text reason) }
 {
@@ -184,7 +161,6 @@ fn reason_words(alloc: Global, reason: Reason) -> Result<Vec<u8>, AllocError>
     }
 }
 
-/// The text that tells the latest notAfter.
 #[tactic(auto, unfolding(crate::specs::Reasons::latest_text))]
 fn latest_text_of(alloc: Global, at: Moment) -> Result<Vec<u8>, AllocError>
     ensures { IfOk result (λ text. text.items ≡ latest_text at) }
@@ -194,7 +170,6 @@ fn latest_text_of(alloc: Global, at: Moment) -> Result<Vec<u8>, AllocError>
     Ok(text)
 }
 
-/// A text that tells of an order.
 fn order_text_of(alloc: Global, front: &[u8], order: u64, end: &[u8]) -> Result<Vec<u8>, AllocError>
     ensures { IfOk result (λ text. text.items ≡ order_text front.now order end.now) }
 {

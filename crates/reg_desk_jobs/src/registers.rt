@@ -15,10 +15,6 @@ use reg_der::Issuer;
 use reg_desk_cli::{Answerer, Failure, KeyHolder};
 
 /// Opens the register at a path, where nothing will be signed.
-///
-/// # Errors
-///
-/// As [`open_signed`].
 pub(crate) fn open_unsigned<M: Machine>(machine: &mut M, path: &str) -> Result<M::Office, Failure>
     ensures ok { IfOk result (λ office. Opened M.Machine machine.old path.now unsigned office machine.new) }
     ensures err { IfErr result (λ why. Unopened M.Machine machine.old path.now unsigned why machine.new) }
@@ -30,13 +26,6 @@ pub(crate) fn open_unsigned<M: Machine>(machine: &mut M, path: &str) -> Result<M
 
 /// Opens the register at a path with the signer of its CRLs, or else a digest, and with the responder of its OCSP answers. Where that is one
 /// with a key of its own and there is no signer for the issuer's, no CRL is signed.
-///
-/// # Errors
-///
-/// `BadResponder` before the path is looked at, where a certificate of the responder can't be read, is none, or has a key of another
-/// algorithm. `NotARegister` and `NewVersion` for other tables; `BadSigner` where the latest CRL was signed under another algorithm or one that
-/// this program does not know, or the issuer's key is none of the algorithm; `BadResponder` where the issuer's certificate has another key;
-/// `Fault` of `Memory`, and of `Store` where there is no file or it can't be opened.
 pub(crate) fn open_signed<M: Machine>(
     machine: &mut M,
     path: &str,
@@ -50,8 +39,7 @@ pub(crate) fn open_signed<M: Machine>(
     open_by(machine, path, &CrlSigner::told(signer, answerer), answerer)
 }
 
-/// Opens the register at a path with who signs its CRLs, and who answers OCSP requests. To open a path where no database is would make one,
-/// so the path is looked at before.
+/// To open a path where no database is would make one, so the path is looked at before.
 fn open_by<M: Machine>(
     machine: &mut M,
     path: &str,
@@ -69,10 +57,6 @@ fn open_by<M: Machine>(
 }
 
 /// Makes a register with no records at a path at which something lies. Where that fails, a file without a register may be left there.
-///
-/// # Errors
-///
-/// `NotEmpty` where there are tables already; `Fault` of `Memory`, and of `Store` where there is no file or it can't be opened.
 pub(crate) fn make<M: Machine>(
     machine: &mut M,
     path: &str,
@@ -95,10 +79,6 @@ pub(crate) fn make<M: Machine>(
 
 /// Audits the register at a path. It only reads: each byte of the files stays, nothing is created beside them, and one of an older version is
 /// not made newer.
-///
-/// # Errors
-///
-/// `NotARegister` and `NewVersion` for other tables; `Fault` of `Memory`, and of `Store` where there is no file or it can't be opened.
 pub(crate) fn audit_at<M: Machine>(machine: &M, path: &str) -> Result<Verdict, Failure>
     ensures ok { IfOk result (Audits M.Machine machine.now path.now) }
     ensures err { IfErr result (Unaudited M.Machine machine.now path.now) }

@@ -1,27 +1,36 @@
 //! What a job says.
 
-ghost use Rattle.std.specs.Prelude.{◌∷◌, []};
-ghost use Rattle.reg_core.specs.Causes.{cause_line};
-ghost use Rattle.reg_desk_jobs.specs.Ends.{SaysText};
+ghost use Rattle.std.specs.Prelude.{◌≡◌, ◌∷◌, [], ℕ, List, IfOk};
+ghost use Rattle.reg_desk_jobs.specs.Ends.{SaysText, TellsLine};
 ghost use Rattle.reg_desk_jobs.specs.Told.{Adds, Explains, IsToldLine, IsWritten, TellsEnding, TellsReason};
 
 use crate::reasons::{Reason, reason_line};
 use reg_core::{Cause, Fault};
 use reg_desk_cli::{Failure, status_of};
 use reg_io::write_whole;
-use std::alloc::Global;
+use std::alloc::{AllocError, Global};
 use std::io::Write;
 
-/// Says a text of the job.
-///
-/// # Errors
-/// `Write` where the writer fails, or takes no byte of what is left.
+/// Says a text of the job; `Write` where the writer fails, or takes no byte of what is left.
 pub(crate) fn say<W: Write>(writer: &mut W, text: &[u8]) -> Result<(), Failure>
     ensures { SaysText text.now (W.contents writer.old) (W.contents writer.new) result }
 {
     match write_whole(writer, text) {
         Ok(()) => Ok(()),
         Err(_) => Err(Failure::Fault(Fault::Write)),
+    }
+}
+
+/// Says a line, or that there was no memory for it.
+pub(crate) fn say_line<W: Write>(
+    writer: &mut W,
+    line: Result<Vec<u8>, AllocError>,
+) -> Result<(), Failure>
+    ensures { (text : List ℕ) → IfOk line (λ made. made.items ≡ text) → TellsLine text W.contents writer.old writer.new result }
+{
+    match line {
+        Ok(line) => say(writer, &line),
+        Err(_) => Err(Failure::Fault(Fault::Memory)),
     }
 }
 
@@ -41,7 +50,6 @@ pub fn tell_ending<W: Write>(
     explain(alloc, errors, is_asked, status_of(ending), cause, reason);
 }
 
-/// Tells why a job is not done, if it is not.
 fn tell_failure<W: Write>(errors: &mut W, ending: &Result<(), Failure>)
     ensures { TellsEnding ending.now (W.contents errors.old) (W.contents errors.new) }
 {
@@ -51,12 +59,20 @@ fn tell_failure<W: Write>(errors: &mut W, ending: &Result<(), Failure>)
     }
 }
 
-/// Tells a line, and ends it.
 fn tell_line<W: Write>(errors: &mut W, line: &[u8])
     ensures { IsToldLine (W.contents errors.old) (W.contents errors.new) line.now }
 {
     match write_whole(errors, line) {
-        Ok(()) => end_line(errors),
+        Ok(()) => put(errors, b"\n"),
+        Err(_) => {}
+    }
+}
+
+fn put<W: Write>(errors: &mut W, text: &[u8])
+    ensures { IsWritten (W.contents errors.old) (W.contents errors.new) text.now }
+{
+    match write_whole(errors, text) {
+        Ok(()) => {}
         Err(_) => {}
     }
 }
@@ -77,39 +93,20 @@ fn explain<W: Write>(
         return;
     }
     match (status, cause) {
-        (1, Some(cause)) => tell_cause(errors, cause),
+        (1, Some(cause)) => {
+            let line = cause.line();
+            tell_line(errors, line.as_bytes());
+        }
         (3, _) => tell_reason(alloc, errors, reason),
         _ => {}
     }
 }
 
-/// Tells a reason in one line, if there is one and memory for that.
 fn tell_reason<W: Write>(alloc: Global, errors: &mut W, reason: Option<Reason>)
     ensures { TellsReason (W.contents errors.old) (W.contents errors.new) }
 {
     match reason_line(alloc, b"  ", reason) {
-        Some(line) => match write_whole(errors, &line) {
-            Ok(()) => {}
-            Err(_) => {}
-        },
+        Some(line) => put(errors, &line),
         None => {}
-    }
-}
-
-/// Tells a cause in one line.
-fn tell_cause<W: Write>(errors: &mut W, cause: Cause)
-    ensures { IsToldLine (W.contents errors.old) (W.contents errors.new) (cause_line cause) }
-{
-    let line = cause.line();
-    tell_line(errors, line.as_bytes());
-}
-
-/// Ends a line.
-fn end_line<W: Write>(errors: &mut W)
-    ensures { IsWritten (W.contents errors.old) (W.contents errors.new) (10 ∷ []) }
-{
-    match write_whole(errors, b"\n") {
-        Ok(()) => {}
-        Err(_) => {}
     }
 }

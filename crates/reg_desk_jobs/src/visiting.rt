@@ -18,7 +18,7 @@ ghost use Rattle.reg_desk_metrics.specs.declared.tally.Tally.{Tally as Tallies};
 ghost use Rattle.reg_io.specs.declared.begun.Begun.{Begun as BegunOf};
 
 use crate::leaving::{Unsigned, unsigned_of};
-use crate::logging::{log_exchange, micros_since};
+use crate::logging::log_exchange;
 use crate::machine::Machine;
 use crate::watching::{answer_health, answer_metrics};
 use http::Method;
@@ -84,7 +84,7 @@ pub(crate) fn visit<M: Machine>(
     let began = machine.micros();
     match exchange_at::<M>(alloc, office, is_open, tally, heard, now, request) {
         Begun::Ready(exchange) => {
-            let micros = micros_since(machine, began);
+            let micros = machine.micros().saturating_sub(began);
             tally.count_exchange(now, &exchange, micros);
             log_exchange(
                 alloc,
@@ -148,7 +148,6 @@ fn exchange_at<M: Machine>(
     }
 }
 
-/// The exchange that answers nothing to what came.
 fn empty(alloc: Global, request: &Collected) -> Exchange
     ensures empty { IsEmpty result }
     ensures nothing { SaysNothing result }
@@ -158,7 +157,6 @@ fn empty(alloc: Global, request: &Collected) -> Exchange
     Exchange::empty(alloc, route, SignatureFate::NotAsked)
 }
 
-/// An answer that is ready.
 fn ready(answered: Result<Answered, Memory>) -> Result<Begun<Answered, Draft>, Memory>
     ensures { result ≡ ready_of answered }
 {
@@ -169,10 +167,6 @@ fn ready(answered: Result<Answered, Memory>) -> Result<Begun<Answered, Draft>, M
 }
 
 /// Answers what is asked at a route, at a moment, or leaves what is to be signed for it.
-///
-/// # Errors
-///
-/// [`Memory`] where memory is refused, and the records stay.
 fn begin_at<M: Machine>(
     alloc: Global,
     office: &mut M::Office,

@@ -1,11 +1,14 @@
 //! What an open desk tells of itself, at two routes of its own: `/health` and `/metrics`.
 
-ghost use Rattle.std.specs.Prelude.{◌≡◌, IfOk};
+ghost use Rattle.std.specs.Prelude.{◌≡◌, ℕ, IfOk};
+ghost use Rattle.reg_core.specs.Records.{Records};
+ghost use Rattle.reg_core.specs.declared.command.Query.TheVariants.{Counts as AskCounts, NextCrl as AskNextCrl, Overdue as AskOverdue};
+ghost use Rattle.reg_core.specs.declared.command.Reply.TheVariants.{Counts as CountsAre, NextCrl as NextCrlIs};
 ghost use Rattle.reg_office_api.specs.Answered.{IsAnswered};
-ghost use Rattle.reg_office_api.specs.Leads.{Leads};
+ghost use Rattle.reg_office_api.specs.Leads.{Looks};
 ghost use Rattle.reg_http.specs.Told.{plain, told};
-ghost use Rattle.reg_desk_jobs.specs.Watched.{ByGet, HasFound, HasRequests, IsRecounted, Recounts, SaysHealth, SaysMetrics, counts_in, due_in};
-ghost use Rattle.reg_desk_jobs.specs.Watched.{health_response, health_status as status_told, many_in, metrics_response, overdue_in};
+ghost use Rattle.reg_desk_jobs.specs.Watched.{ByGet, Has, HasFound, HasOverdue, HasRequests, IsRecounted, Recounts, SaysHealth, SaysMetrics};
+ghost use Rattle.reg_desk_jobs.specs.Watched.{health_response, health_status as status_told, many_in, metrics_response};
 ghost use Rattle.reg_desk_metrics.specs.Metrics.{metrics_text};
 
 use crate::machine::Machine;
@@ -17,14 +20,9 @@ use reg_http_head::{Answer, status};
 use reg_office_api::Office;
 use std::alloc::Global;
 
-/// The media type of the text form of Prometheus.
 const PROMETHEUS: &str = "text/plain; version=0.0.4; charset=utf-8";
 
-/// Tells whether all is well, at a moment. The records stay.
-///
-/// # Errors
-///
-/// [`Memory`] where memory is refused.
+/// Tells whether all is well, at a moment.
 pub(crate) fn answer_health<M: Machine>(
     alloc: Global,
     office: &mut M::Office,
@@ -32,9 +30,8 @@ pub(crate) fn answer_health<M: Machine>(
     now: Moment,
     tally: &Tally,
 ) -> Result<Answered, Memory>
-    ensures { Leads M.Office.is_clean M.Office.stands
-        (λ who before after. IfOk result (λ answered. ByGet method.now (SaysHealth now before) (told answered)) × (after ≡ before))
-        office.old office.new }
+    ensures { Looks M.Office.is_clean M.Office.stands
+        (λ records. IfOk result (λ answered. ByGet method.now (SaysHealth now records) (told answered))) office.old office.new }
 {
     if method.as_str() != "GET" {
         return only_get(alloc);
@@ -43,11 +40,7 @@ pub(crate) fn answer_health<M: Machine>(
     health_answer(alloc, &Health::of(now, &found, tally))
 }
 
-/// Tells the metrics, at a moment. Requests for revocation that were not counted for a minute are counted for them. The records stay.
-///
-/// # Errors
-///
-/// [`Memory`] where memory is refused.
+/// Tells the metrics, at a moment. Requests for revocation that were not counted for a minute are counted for them.
 pub(crate) fn answer_metrics<M: Machine>(
     alloc: Global,
     office: &mut M::Office,
@@ -56,9 +49,8 @@ pub(crate) fn answer_metrics<M: Machine>(
     tally: &mut Tally,
     heard: Heard,
 ) -> Result<Answered, Memory>
-    ensures moves { Leads M.Office.is_clean M.Office.stands
-        (λ who before after. IfOk result (λ answered. ByGet method.now (SaysMetrics now before) (told answered)) × (after ≡ before))
-        office.old office.new }
+    ensures moves { Looks M.Office.is_clean M.Office.stands
+        (λ records. IfOk result (λ answered. ByGet method.now (SaysMetrics now records) (told answered))) office.old office.new }
     ensures recounted { IsRecounted tally.old tally.new }
 {
     if method.as_str() != "GET" {
@@ -67,7 +59,6 @@ pub(crate) fn answer_metrics<M: Machine>(
     metrics_at::<M>(alloc, office, now, tally, heard)
 }
 
-/// The answer with the metrics.
 fn metrics_at<M: Machine>(
     alloc: Global,
     office: &mut M::Office,
@@ -75,9 +66,8 @@ fn metrics_at<M: Machine>(
     tally: &mut Tally,
     heard: Heard,
 ) -> Result<Answered, Memory>
-    ensures moves { Leads M.Office.is_clean M.Office.stands
-        (λ who before after. IfOk result (λ answered. SaysMetrics now before (told answered)) × (after ≡ before))
-        office.old office.new }
+    ensures moves { Looks M.Office.is_clean M.Office.stands
+        (λ records. IfOk result (λ answered. SaysMetrics now records (told answered))) office.old office.new }
     ensures recounted { IsRecounted tally.old tally.new }
 {
     recount::<M>(alloc, office, now, tally);
@@ -85,16 +75,15 @@ fn metrics_at<M: Machine>(
     metrics_answer(alloc, now, &found, tally, heard)
 }
 
-/// What a register has at a moment.
 fn found_at<M: Machine>(alloc: Global, office: &mut M::Office, now: Moment) -> Found
-    ensures { Leads M.Office.is_clean M.Office.stands (λ identity before after. HasFound before now result × (after ≡ before)) office.old office.new }
+    ensures { Looks M.Office.is_clean M.Office.stands (λ records. HasFound records now result) office.old office.new }
 {
-    let counted = ask_at(alloc, office, now, &Query::Counts);
+    let counted = office.ask(alloc, now, &Query::Counts);
     let counts = match counts_of(counted) {
         Ok(counts) => counts,
         Err(fault) => return Err(fault),
     };
-    let asked = ask_at(alloc, office, now, &Query::NextCrl);
+    let asked = office.ask(alloc, now, &Query::NextCrl);
     let due = match due_of(asked) {
         Ok(due) => due,
         Err(fault) => return Err(fault),
@@ -109,21 +98,8 @@ fn found_at<M: Machine>(alloc: Global, office: &mut M::Office, now: Moment) -> F
     }
 }
 
-/// Asks a query at a moment.
-pub(crate) fn ask_at<O: Office>(
-    alloc: Global,
-    office: &mut O,
-    now: Moment,
-    query: &Query,
-) -> Outcome
-    ensures { Leads O.is_clean O.stands (λ identity before after. IsAnswered before now query.now result × (after ≡ before)) office.old office.new }
-{
-    office.ask(alloc, now, query)
-}
-
-/// The counts that an outcome tells.
 fn counts_of(outcome: Outcome) -> Result<Counts, Fault>
-    ensures { result ≡ counts_in outcome }
+    ensures { (records : Records) (now : ℕ) → IsAnswered records now AskCounts outcome → Has AskCounts CountsAre records now result }
 {
     match outcome {
         Ok(Reply::Counts(counts)) => Ok(counts),
@@ -132,9 +108,8 @@ fn counts_of(outcome: Outcome) -> Result<Counts, Fault>
     }
 }
 
-/// When the next CRL is due, as an outcome tells it.
 fn due_of(outcome: Outcome) -> Result<Option<Moment>, Fault>
-    ensures { result ≡ due_in outcome }
+    ensures { (records : Records) (now : ℕ) → IsAnswered records now AskNextCrl outcome → Has AskNextCrl NextCrlIs records now result }
 {
     match outcome {
         Ok(Reply::NextCrl(due)) => Ok(due),
@@ -143,9 +118,8 @@ fn due_of(outcome: Outcome) -> Result<Option<Moment>, Fault>
     }
 }
 
-/// How many requests for revocation an outcome tells to be overdue.
 fn overdue_of(outcome: Outcome) -> Result<u64, Fault>
-    ensures { result ≡ overdue_in outcome }
+    ensures { (records : Records) (now : ℕ) → IsAnswered records now AskOverdue outcome → HasOverdue records now result }
 {
     match outcome {
         Ok(Reply::Overdue(overdue)) => Ok(many_of(overdue)),
@@ -154,7 +128,6 @@ fn overdue_of(outcome: Outcome) -> Result<u64, Fault>
     }
 }
 
-/// How many are overdue.
 fn many_of(overdue: Option<Overdue>) -> u64
     ensures { result ≡ many_in overdue }
 {
@@ -166,36 +139,26 @@ fn many_of(overdue: Option<Overdue>) -> u64
 
 /// Counts the requests for revocation anew, where they were not counted within a minute.
 fn recount<M: Machine>(alloc: Global, office: &mut M::Office, now: Moment, tally: &mut Tally)
-    ensures moves { Leads M.Office.is_clean M.Office.stands (λ identity before after. Recounts before now tally.old tally.new × (after ≡ before))
-        office.old office.new }
+    ensures moves { Looks M.Office.is_clean M.Office.stands (λ records. Recounts records now tally.old tally.new) office.old office.new }
     ensures recounted { IsRecounted tally.old tally.new }
 {
-    if tally.wants_requests(now) {
-        recount_now::<M>(alloc, office, now, tally);
+    if !tally.wants_requests(now) {
+        return;
     }
-}
-
-/// Counts the requests for revocation anew. Where that fails, what was counted stays.
-fn recount_now<M: Machine>(alloc: Global, office: &mut M::Office, now: Moment, tally: &mut Tally)
-    ensures moves { Leads M.Office.is_clean M.Office.stands (λ identity before after. Recounts before now tally.old tally.new × (after ≡ before))
-        office.old office.new }
-    ensures recounted { IsRecounted tally.old tally.new }
-{
     match requests_at::<M>(alloc, office, now) {
         Ok(requests) => tally.note_requests(requests),
         Err(_) => {}
     }
 }
 
-/// The requests for revocation at a moment.
 fn requests_at<M: Machine>(
     alloc: Global,
     office: &mut M::Office,
     now: Moment,
 ) -> Result<Requests, Fault>
-    ensures { Leads M.Office.is_clean M.Office.stands (λ identity before after. HasRequests before now result × (after ≡ before)) office.old office.new }
+    ensures { Looks M.Office.is_clean M.Office.stands (λ records. HasRequests records now result) office.old office.new }
 {
-    let asked = ask_at(alloc, office, now, &Query::Overdue);
+    let asked = office.ask(alloc, now, &Query::Overdue);
     let overdue = overdue_of(asked)?;
     let waiting = office.open_count(now)?;
     Ok(Requests {
@@ -205,7 +168,6 @@ fn requests_at<M: Machine>(
     })
 }
 
-/// The answer that tells whether all is well: 200, or 503.
 fn health_answer(alloc: Global, health: &Health) -> Result<Answered, Memory>
     ensures { IfOk result (λ answered. told answered ≡ plain (health_response health.now)) }
 {
@@ -215,7 +177,6 @@ fn health_answer(alloc: Global, health: &Health) -> Result<Answered, Memory>
     }
 }
 
-/// The status that tells whether all is well.
 fn status_of(is_well: bool) -> u16
     ensures { result ≡ status_told is_well }
 {
@@ -226,7 +187,6 @@ fn status_of(is_well: bool) -> u16
     }
 }
 
-/// The answer that tells the metrics.
 fn metrics_answer(
     alloc: Global,
     now: Moment,

@@ -1,6 +1,6 @@
 //! What a line at the control socket says.
 
-ghost use Rattle.std.specs.Prelude.{◌≡◌, ◌∷◌, IfOk, codes};
+ghost use Rattle.std.specs.Prelude.{◌≡◌, IfOk};
 ghost use Rattle.reg_desk_cli.specs.WordValues.{steps_of};
 ghost use Rattle.reg_desk_jobs.specs.CounterWords.{IsWord, steps_set};
 ghost use Rattle.reg_lines.specs.Fields.{fields_of};
@@ -23,7 +23,6 @@ pub(crate) enum ControlWord<'a> {
     Line(Option<&'a [u8]>),
 }
 
-/// Reads a line at the control socket.
 pub(crate) fn read_word(alloc: Global, line: &[u8]) -> Result<ControlWord<'_>, AllocError>
     ensures { IfOk result (IsWord line.now) }
 {
@@ -41,28 +40,18 @@ pub(crate) fn read_word(alloc: Global, line: &[u8]) -> Result<ControlWord<'_>, A
     }
 }
 
-/// The steps that a line without its end sets as a schedule, if it does.
 fn steps_in(alloc: Global, text: &[u8]) -> Result<Option<Steps>, AllocError>
     ensures { IfOk result (λ steps. steps ≡ steps_set (fields_of text.now)) }
 {
     let mut fields = Fields::of(text);
     match fields.next() {
-        Some(word) if word == b"schedule".as_slice() => read_some(alloc, fields),
+        Some(word) if word == b"schedule".as_slice() && !fields.is_empty() => {
+            read_steps(alloc, fields)
+        }
         _ => Ok(None),
     }
 }
 
-/// The steps that are left, if one is left at least and each is one.
-fn read_some(alloc: Global, fields: Fields<'_>) -> Result<Option<Steps>, AllocError>
-    ensures { IfOk result (λ steps. steps ≡ steps_set (codes "schedule" ∷ fields.entry)) }
-{
-    if fields.is_empty() {
-        return Ok(None);
-    }
-    read_steps(alloc, fields)
-}
-
-/// The steps that are left, if each is one.
 fn read_steps(alloc: Global, mut fields: Fields<'_>) -> Result<Option<Steps>, AllocError>
     ensures { IfOk result (λ steps. steps ≡ steps_of fields.entry) }
 {

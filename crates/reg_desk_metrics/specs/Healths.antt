@@ -1,11 +1,11 @@
 -- Whether all is well with an open register, and the text that tells it.
 use Rattle.std.specs.Prelude.{ℕ, Bool, true, false, cond, not, ◌&&◌, nat_lt, List, [], ◌∷◌, ◌++◌, codes, Some, None, Result, Ok, Err}
+use Rattle.std.specs.Option.{option_or}
 use Rattle.std.specs.declared.option.Option.{Option}
 use Rattle.reg_core.specs.Calendar.{moment_text}
 use Rattle.reg_core.specs.declared.refusal.Fault.{Fault}
 use Rattle.reg_core.specs.declared.refusal.Fault.TheVariants.{Refused}
 use Rattle.reg_core.specs.declared.refusal.Refusal.TheVariants.{ClockBack}
-use Rattle.reg_desk_metrics.specs.Tallies.{or_now}
 use Rattle.reg_desk_metrics.specs.declared.health.Health.{Health}
 use Rattle.reg_desk_metrics.specs.declared.numbers.Numbers.{Numbers}
 use Rattle.reg_desk_metrics.specs.declared.tally.Tally.{Tally}
@@ -40,7 +40,7 @@ crl_since now (Err fault) = None
 abbrev pub store_since_at : ℕ → Result Numbers Fault → Option ℕ → Option ℕ
 store_since_at now (Ok numbers) since = since
 store_since_at now (Err (Refused why)) since = since
-store_since_at now (Err other) since = or_now since now
+store_since_at now (Err other) since = option_or since (Some now)
 
 -- the health of a register at a moment, by what was found there and what was counted
 abbrev pub health_of : ℕ → Result Numbers Fault → Tally → Health
@@ -58,14 +58,14 @@ abbrev pub is_well : Health → Bool
 is_well health =
     is_none health.clock && (not health.has_no_crl && (is_none health.crl && (is_none health.crl_signer && (is_none health.ocsp_signer && is_none health.store))))
 
--- a moment in quotation marks
-abbrev pub quoted : ℕ → List ℕ
-quoted at = 34 ∷ moment_text at ++ 34 ∷ []
-
 -- a moment in quotation marks, or null
 abbrev pub since_text : Option ℕ → List ℕ
-since_text (Some at) = quoted at
+since_text (Some at) = 34 ∷ moment_text at ++ 34 ∷ []
 since_text None = codes "null"
+
+-- a member: its name, and since when
+abbrev pub member : List ℕ → Option ℕ → List ℕ
+member name since = name ++ since_text since
 
 -- the member of the CRL: since when it is due, or at once where there is none yet
 unfoldable pub crl_text : Bool → Option ℕ → List ℕ
@@ -73,7 +73,7 @@ crl_text has_no_crl crl = codes ",\"crl\":" ++ cond has_no_crl (codes "\"at-once
 
 -- the members of who signs
 unfoldable pub signers_text : Option ℕ → Option ℕ → List ℕ
-signers_text crl ocsp = codes ",\"crl_signer\":" ++ since_text crl ++ codes ",\"ocsp_signer\":" ++ since_text ocsp
+signers_text crl ocsp = member (codes ",\"crl_signer\":") crl ++ member (codes ",\"ocsp_signer\":") ocsp
 
 -- the member that tells whether all is well, and the name of the last
 unfoldable pub health_member : Bool → List ℕ

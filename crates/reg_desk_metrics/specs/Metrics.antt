@@ -51,14 +51,10 @@ unfoldable pub register_text : ℕ → Result Numbers Fault → List ℕ
 register_text now (Ok numbers) = numbers_text now numbers
 register_text now (Err fault) = sample READABLE.now 0
 
--- requests for revocation that were counted
-unfoldable pub counted_text : Requests → List ℕ
-counted_text counted = sample OPEN.now counted.waiting ++ sample OVERDUE.now counted.overdue ++ sample COUNTED.now counted.at
-
--- the same, where they were
+-- requests for revocation, where they were counted
 unfoldable pub requests_text : Option Requests → List ℕ
 requests_text None = []
-requests_text (Some counted) = counted_text counted
+requests_text (Some counted) = sample OPEN.now counted.waiting ++ sample OVERDUE.now counted.overdue ++ sample COUNTED.now counted.at
 
 -- the name of a route, and of a status, by its place
 unfoldable pub route_name : ℕ → List ℕ
@@ -89,13 +85,11 @@ code_name place =
     else if place == 9 then codes "503"
     else codes "none"
 
--- how often there was an answer of a route and a status
-abbrev pub named_answer_text : List ℕ → List ℕ → ℕ → List ℕ
-named_answer_text route code count = ANSWER.now ++ route ++ ANSWER_CODE.now ++ code ++ sample LABEL_END.now count
-
--- the same of a place; nothing of one that there was not
+-- how often there was an answer of the route and the status of a place; nothing of one that there was not
 abbrev pub answer_text : ℕ → ℕ → List ℕ
-answer_text place count = if count == 0 then [] else named_answer_text (route_name (place / 11)) (code_name (place % 11)) count
+answer_text place count =
+    if count == 0 then []
+    else ANSWER.now ++ route_name (place / 11) ++ ANSWER_CODE.now ++ code_name (place % 11) ++ sample LABEL_END.now count
 
 -- the first so many places, in their order
 unfoldable pub answers_front : List ℕ → ℕ → List ℕ

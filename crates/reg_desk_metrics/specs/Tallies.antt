@@ -1,5 +1,6 @@
 -- What is counted: each exchange once, and sums that stop at the greatest number of 64 bits.
-use Rattle.std.specs.Prelude.{◌≡◌, ℕ, Bool, true, false, cond, ◌||◌, ◌==◌, ◌+◌, ◌-◌, ◌*◌, ◌^◌, min, nat_lt, nat_le, List, [], ◌∷◌, replicate, slice_set, slice_index_or, if◌then◌else◌, Some, None}
+use Rattle.std.specs.Prelude.{◌≡◌, ℕ, Bool, true, ◌||◌, ◌==◌, ◌+◌, ◌-◌, ◌*◌, ◌^◌, min, nat_lt, nat_le, List, replicate, slice_set, slice_index_or, if◌then◌else◌, Some, None}
+use Rattle.std.specs.Option.{option_or}
 use Rattle.std.specs.declared.option.Option.{Option}
 use Rattle.reg_office_api.specs.declared.effects.LineEffects.{LineEffects}
 use Rattle.reg_office_api.specs.declared.effects.LineReply.{LineReply}
@@ -41,8 +42,10 @@ route_number routes.Health = 8
 route_number routes.Metrics = 9
 route_number routes.Other = 10
 
-unfoldable pub code_place : ℕ → ℕ
-code_place code =
+-- the last place is that of no answer, and of a status that no answer has
+unfoldable pub code_number : Option ℕ → ℕ
+code_number None = 10
+code_number (Some code) =
     if code == 200 then 0
     else if code == 400 then 1
     else if code == 404 then 2
@@ -54,11 +57,6 @@ code_place code =
     else if code == 500 then 8
     else if code == 503 then 9
     else 10
-
--- the last place is that of no answer, and of a status that no answer has
-abbrev pub code_number : Option ℕ → ℕ
-code_number (Some code) = code_place code
-code_number None = 10
 
 -- the range of so many microseconds: the first whose end is not below it
 unfoldable pub bucket_of : ℕ → ℕ
@@ -76,51 +74,29 @@ bucket_of micros =
     else if nat_le micros 10000000 then 10
     else 11
 
--- a moment that was noted, or this one
-abbrev pub or_now : Option ℕ → ℕ → Option ℕ
-or_now (Some at) now = Some at
-or_now None now = Some now
-
 -- no signature was asked for yet
 abbrev pub nothing_signed : Signing
 nothing_signed = record { came = 0; failed = 0; last = None; last_failed = None; failing_since = None }
 
--- a signature came at a moment: nothing fails any more
-abbrev pub signed : ℕ → Signing → Signing
-signed now before =
-    record { came = one_more before.came; failed = before.failed; last = Some now; last_failed = before.last_failed; failing_since = None }
-
--- a signature did not come at a moment: since then, or since one before it that no other came after
-abbrev pub with_failed_signature : ℕ → Signing → Signing
-with_failed_signature now before = record {
-  came = before.came;
-  failed = one_more before.failed;
-  last = before.last;
-  last_failed = Some now;
-  failing_since = or_now before.failing_since now;
-}
-
--- signatures of one kind after an exchange at a moment
+-- signatures of one kind after an exchange at a moment: one came, and nothing fails any more; or one did not, and they fail since then, or since one
+-- before it that no other came after
 abbrev pub signing_after : SignatureFate → ℕ → Signing → Signing
 signing_after signature.NotAsked now before = before
-signing_after signature.Made now before = signed now before
-signing_after signature.Failed now before = with_failed_signature now before
+signing_after signature.Made now before = record before { came = one_more before.came; last = Some now; failing_since = None }
+signing_after signature.Failed now before =
+    record before { failed = one_more before.failed; last_failed = Some now; failing_since = option_or before.failing_since (Some now) }
 
 -- since when the store fails, after an exchange at a moment: up to a command that is entered
 abbrev pub store_after : StoreEffect → ℕ → Option ℕ → Option ℕ
 store_after store.Unwritten now since = since
 store_after store.Written now since = None
-store_after store.Failed now since = or_now since now
+store_after store.Failed now since = option_or since (Some now)
 
 -- nothing was counted yet
 abbrev pub is_new : Tally → Type 0
 is_new tally =
     (tally.answers ≡ replicate 121 0) × (tally.accepted ≡ 0) × (tally.refused ≡ 0) × (tally.faults ≡ 0) × (tally.buckets ≡ replicate 12 0)
     × (tally.micros ≡ 0) × (tally.crls ≡ nothing_signed) × (tally.ocsp ≡ nothing_signed) × (tally.store_since ≡ None) × (tally.requests ≡ None)
-
--- one answer more of a route and a status
-abbrev pub with_answer : Route → Option ℕ → Tally → Tally
-with_answer route status tally = record tally { answers = bumped tally.answers (route_number route * 11 + code_number status) }
 
 -- one exchange more, by how long it took
 abbrev pub with_seconds : ℕ → Tally → Tally
@@ -143,7 +119,7 @@ heard_as now crl ocsp effect tally = record tally {
 -- an exchange of a moment is counted: by its route and its status, how long it took, and what became of its signature and of the store
 abbrev pub with_exchange : ℕ → Exchange → ℕ → Tally → Tally
 with_exchange now exchange micros tally =
-    heard_as now signature.NotAsked exchange.signature exchange.store (with_seconds micros (with_answer exchange.route exchange.status tally))
+    heard_as now signature.NotAsked exchange.signature exchange.store (with_seconds micros (record tally { answers = bumped tally.answers (route_number exchange.route * 11 + code_number exchange.status) }))
 
 -- a line is counted: by how it was answered, how long it took, and what became of its signatures and of the store
 abbrev pub with_line : ℕ → LineEffects → ℕ → Tally → Tally
@@ -153,11 +129,7 @@ with_line now line micros tally = heard_as now line.crl line.ocsp line.store (wi
 abbrev pub with_counted : Requests → Tally → Tally
 with_counted requests tally = record tally { requests = Some requests }
 
--- whether what was counted at a moment is old at another: a minute passed, or it lies ahead
-abbrev pub is_old : ℕ → ℕ → Bool
-is_old now counted = nat_lt now counted || nat_le 60 (now - counted)
-
--- whether requests for revocation are to be counted at a moment
+-- whether requests for revocation are to be counted at a moment: they never were, or a minute before it, or the moment at which they were lies ahead
 abbrev pub wants_requests : ℕ → Option Requests → Bool
 wants_requests now None = true
-wants_requests now (Some counted) = is_old now counted.at
+wants_requests now (Some counted) = nat_lt now counted.at || nat_le 60 (now - counted.at)

@@ -1,7 +1,7 @@
 //! The metrics of an open register, in the text form of Prometheus, version 0.0.4.
 
 ghost use Rattle.std.specs.Prelude.{◌≡◌, ◌++◌, IfOk, OnOk};
-ghost use Rattle.reg_desk_metrics.specs.Metrics.{answer_text, answers_text, seconds_behind as behind_told, bucket_name as bucket_named, bucket_text, buckets_text, certificates_text, clock_text, code_name as code_named, connections_text, counted_text, crl_text as crl_told, issued_text, last_text, lines_text, lost_text, metrics_text, named_answer_text, numbers_text, register_text, requests_text, route_name as route_named, seconds_text, signers_text, signed_text, sum_of};
+ghost use Rattle.reg_desk_metrics.specs.Metrics.{answer_text, answers_text, seconds_behind as behind_told, bucket_name as bucket_named, bucket_text, buckets_text, certificates_text, clock_text, code_name as code_named, connections_text, crl_text as crl_told, issued_text, last_text, lines_text, lost_text, metrics_text, numbers_text, register_text, requests_text, route_name as route_named, seconds_text, signers_text, signed_text, sum_of};
 
 use crate::names::{
     ACCEPTED, ACCEPTED_LINES, ANSWER, ANSWER_CODE, ANSWERED, BEHIND, BROKEN, CLOCK, COUNTED,
@@ -60,7 +60,6 @@ fn behind(now: Moment, found: &Found) -> u64
     }
 }
 
-/// Puts the clock behind a text.
 #[tactic(auto, unfolding(crate::specs::Metrics::clock_text))]
 fn put_clock(text: &mut Vec<u8>, now: Moment, found: &Found) -> Result<(), AllocError>
     ensures { OnOk result (text.new.items ≡ text.old.items ++ clock_text now found.now) }
@@ -69,7 +68,6 @@ fn put_clock(text: &mut Vec<u8>, now: Moment, found: &Found) -> Result<(), Alloc
     put_sample(text, BEHIND, behind(now, found))
 }
 
-/// Puts what the register has behind a text, or that it tells nothing.
 #[tactic(auto, unfolding(crate::specs::Metrics::register_text))]
 fn put_register(text: &mut Vec<u8>, now: Moment, found: &Found) -> Result<(), AllocError>
     ensures { OnOk result (text.new.items ≡ text.old.items ++ register_text now found.now) }
@@ -80,7 +78,6 @@ fn put_register(text: &mut Vec<u8>, now: Moment, found: &Found) -> Result<(), Al
     }
 }
 
-/// Puts what the register has behind a text.
 #[tactic(auto, unfolding(crate::specs::Metrics::numbers_text))]
 fn put_numbers(text: &mut Vec<u8>, now: Moment, numbers: &Numbers) -> Result<(), AllocError>
     ensures { OnOk result (text.new.items ≡ text.old.items ++ numbers_text now numbers.now) }
@@ -98,7 +95,6 @@ fn put_numbers(text: &mut Vec<u8>, now: Moment, numbers: &Numbers) -> Result<(),
     Ok(())
 }
 
-/// Puts how many certificates have each status behind a text.
 #[tactic(auto, unfolding(crate::specs::Metrics::certificates_text))]
 fn put_certificates(text: &mut Vec<u8>, counts: Counts) -> Result<(), AllocError>
     ensures { OnOk result (text.new.items ≡ text.old.items ++ certificates_text counts) }
@@ -108,7 +104,6 @@ fn put_certificates(text: &mut Vec<u8>, counts: Counts) -> Result<(), AllocError
     put_sample(text, EXPIRED, counts.expired)
 }
 
-/// Puts the latest CRL, of a life in seconds, behind a text.
 fn put_crl(
     text: &mut Vec<u8>,
     now: Moment,
@@ -123,7 +118,6 @@ fn put_crl(
     }
 }
 
-/// Puts a CRL behind a text.
 #[tactic(auto, unfolding(crate::specs::Metrics::issued_text))]
 fn put_issued(text: &mut Vec<u8>, now: Moment, crl: CrlRow, life: u64) -> Result<(), AllocError>
     ensures { OnOk result (text.new.items ≡ text.old.items ++ issued_text now crl life) }
@@ -136,29 +130,19 @@ fn put_issued(text: &mut Vec<u8>, now: Moment, crl: CrlRow, life: u64) -> Result
     Ok(())
 }
 
-/// Puts the requests for revocation behind a text, where they were counted.
 #[tactic(auto, unfolding(crate::specs::Metrics::requests_text))]
 fn put_requests(text: &mut Vec<u8>, requests: Option<Requests>) -> Result<(), AllocError>
     ensures { OnOk result (text.new.items ≡ text.old.items ++ requests_text requests) }
 {
-    match requests {
-        Some(counted) => put_counted(text, counted),
-        None => Ok(()),
-    }
-}
-
-/// Puts requests for revocation that were counted behind a text.
-#[tactic(auto, unfolding(crate::specs::Metrics::counted_text))]
-fn put_counted(text: &mut Vec<u8>, counted: Requests) -> Result<(), AllocError>
-    ensures { OnOk result (text.new.items ≡ text.old.items ++ counted_text counted) }
-{
+    let Some(counted) = requests else {
+        return Ok(());
+    };
     put_sample(text, OPEN, counted.waiting)?;
     put_sample(text, OVERDUE, counted.overdue)?;
     put_moment(text, COUNTED, Some(counted.at))?;
     Ok(())
 }
 
-/// The name of a route, by its place.
 #[tactic(auto, unfolding(crate::specs::Metrics::route_name))]
 fn route_name(place: usize) -> &'static str
     ensures { result.now ≡ route_named place }
@@ -178,7 +162,6 @@ fn route_name(place: usize) -> &'static str
     }
 }
 
-/// The name of a status, by its place.
 #[tactic(auto, unfolding(crate::specs::Metrics::code_name))]
 fn code_name(place: usize) -> &'static str
     ensures { result.now ≡ code_named place }
@@ -198,7 +181,6 @@ fn code_name(place: usize) -> &'static str
     }
 }
 
-/// Puts the answers behind a text: those routes and statuses that there were.
 fn put_answers(text: &mut Vec<u8>, answers: &[u64; ANSWERS]) -> Result<(), AllocError>
     ensures { OnOk result (text.new.items ≡ text.old.items ++ answers_text answers.now) }
 {
@@ -209,38 +191,19 @@ fn put_answers(text: &mut Vec<u8>, answers: &[u64; ANSWERS]) -> Result<(), Alloc
     Ok(())
 }
 
-/// Puts how often there was the answer of a place behind a text, where there was one.
 fn put_answer(text: &mut Vec<u8>, place: usize, count: u64) -> Result<(), AllocError>
     ensures { OnOk result (text.new.items ≡ text.old.items ++ answer_text place count) }
 {
     if count == 0 {
         return Ok(());
     }
-    put_named_answer(
-        text,
-        route_name(place / CODES),
-        code_name(place % CODES),
-        count,
-    )
-}
-
-/// Puts how often there was an answer of a route and a status behind a text.
-fn put_named_answer(
-    text: &mut Vec<u8>,
-    route: &str,
-    code: &str,
-    count: u64,
-) -> Result<(), AllocError>
-    ensures { OnOk result (text.new.items ≡ text.old.items ++ named_answer_text route.now code.now count) }
-{
     text.extend_from_slice(ANSWER.as_bytes())?;
-    text.extend_from_slice(route.as_bytes())?;
+    text.extend_from_slice(route_name(place / CODES).as_bytes())?;
     text.extend_from_slice(ANSWER_CODE.as_bytes())?;
-    text.extend_from_slice(code.as_bytes())?;
+    text.extend_from_slice(code_name(place % CODES).as_bytes())?;
     put_sample(text, LABEL_END, count)
 }
 
-/// Puts the lines at the counter behind a text.
 #[tactic(auto, unfolding(crate::specs::Metrics::lines_text))]
 fn put_lines(text: &mut Vec<u8>, tally: &Tally) -> Result<(), AllocError>
     ensures { OnOk result (text.new.items ≡ text.old.items ++ lines_text tally.now) }
@@ -250,7 +213,6 @@ fn put_lines(text: &mut Vec<u8>, tally: &Tally) -> Result<(), AllocError>
     put_sample(text, FAULTS, tally.faults)
 }
 
-/// Puts the signatures behind a text: how many came, and how many did not.
 #[tactic(auto, unfolding(crate::specs::Metrics::signed_text))]
 fn put_signed(text: &mut Vec<u8>, crls: Signing, ocsp: Signing) -> Result<(), AllocError>
     ensures { OnOk result (text.new.items ≡ text.old.items ++ signed_text crls ocsp) }
@@ -261,7 +223,6 @@ fn put_signed(text: &mut Vec<u8>, crls: Signing, ocsp: Signing) -> Result<(), Al
     put_sample(text, OCSP_UNSIGNED, ocsp.failed)
 }
 
-/// Puts behind a text when the last one came, and when one did not come last.
 #[tactic(auto, unfolding(crate::specs::Metrics::last_text))]
 fn put_last(text: &mut Vec<u8>, crls: Signing, ocsp: Signing) -> Result<(), AllocError>
     ensures { OnOk result (text.new.items ≡ text.old.items ++ last_text crls ocsp) }
@@ -272,7 +233,6 @@ fn put_last(text: &mut Vec<u8>, crls: Signing, ocsp: Signing) -> Result<(), Allo
     put_moment(text, OCSP_LAST_FAILED, ocsp.last_failed)
 }
 
-/// Puts since when nothing is signed behind a text, and since when the store fails.
 #[tactic(auto, unfolding(crate::specs::Metrics::signers_text))]
 fn put_signers(text: &mut Vec<u8>, tally: &Tally) -> Result<(), AllocError>
     ensures { OnOk result (text.new.items ≡ text.old.items ++ signers_text tally.now) }
@@ -282,7 +242,6 @@ fn put_signers(text: &mut Vec<u8>, tally: &Tally) -> Result<(), AllocError>
     put_moment(text, STORE_FAILING, tally.store_since)
 }
 
-/// Puts the connections behind a text.
 #[tactic(auto, unfolding(crate::specs::Metrics::connections_text))]
 fn put_connections(text: &mut Vec<u8>, heard: Heard) -> Result<(), AllocError>
     ensures { OnOk result (text.new.items ≡ text.old.items ++ connections_text heard) }
@@ -292,7 +251,6 @@ fn put_connections(text: &mut Vec<u8>, heard: Heard) -> Result<(), AllocError>
     put_sample(text, ACCEPTED, heard.accepted)
 }
 
-/// Puts those that ended by a fault behind a text.
 #[tactic(auto, unfolding(crate::specs::Metrics::lost_text))]
 fn put_lost(text: &mut Vec<u8>, heard: Heard) -> Result<(), AllocError>
     ensures { OnOk result (text.new.items ≡ text.old.items ++ lost_text heard) }
@@ -324,7 +282,6 @@ fn bucket_name(place: usize) -> &'static str
     }
 }
 
-/// Puts the seconds of exchanges behind a text: their ranges, their sum, and how many there were.
 #[tactic(auto, unfolding(crate::specs::Metrics::seconds_text))]
 fn put_times(text: &mut Vec<u8>, tally: &Tally) -> Result<(), AllocError>
     ensures { OnOk result (text.new.items ≡ text.old.items ++ seconds_text tally.now) }
@@ -335,7 +292,6 @@ fn put_times(text: &mut Vec<u8>, tally: &Tally) -> Result<(), AllocError>
     put_sample(text, SECONDS_COUNT, count)
 }
 
-/// Puts the ranges behind a text, each with those below it; how many exchanges there were.
 fn put_buckets(text: &mut Vec<u8>, buckets: &[u64; BUCKETS]) -> Result<u64, AllocError>
     ensures { IfOk result (λ count. (count ≡ sum_of buckets.now 12)
         × (text.new.items ≡ text.old.items ++ buckets_text buckets.now 12)) }
@@ -348,7 +304,6 @@ fn put_buckets(text: &mut Vec<u8>, buckets: &[u64; BUCKETS]) -> Result<u64, Allo
     Ok(sum)
 }
 
-/// Puts how many exchanges took no longer than a range's end behind a text.
 fn put_bucket(text: &mut Vec<u8>, name: &str, count: u64) -> Result<(), AllocError>
     ensures { OnOk result (text.new.items ≡ text.old.items ++ bucket_text name.now count) }
 {

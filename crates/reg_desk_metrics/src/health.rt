@@ -1,8 +1,7 @@
 //! Whether all is well with an open register, and since when what is not.
 
 ghost use Rattle.std.specs.Prelude.{◌≡◌, ◌++◌, IfOk, OnOk};
-ghost use Rattle.reg_desk_metrics.specs.Tallies.{or_now};
-ghost use Rattle.reg_desk_metrics.specs.Healths.{clock_of as clock_told, crl_since as crl_told, crl_text as crl_said, has_no_crl as lacks_crl, health_of, health_text, is_none as is_without, is_well as all_well, if_past as past_told, quoted, signers_text, since_text, health_member, store_since_at as store_told};
+ghost use Rattle.reg_desk_metrics.specs.Healths.{clock_of as clock_told, crl_since as crl_told, crl_text as crl_said, has_no_crl as lacks_crl, health_of, health_text, is_none as is_without, is_well as all_well, if_past as past_told, member, signers_text, since_text, health_member, store_since_at as store_told};
 
 use crate::numbers::Found;
 use crate::tally::Tally;
@@ -73,7 +72,6 @@ impl Health {
     }
 }
 
-/// Whether there is no moment.
 fn is_none(moment: Option<Moment>) -> bool
     ensures { result ≡ is_without moment }
 {
@@ -94,7 +92,6 @@ fn clock_of(now: Moment, found: &Found) -> Option<Moment>
     }
 }
 
-/// Whether there is no CRL yet.
 fn has_no_crl(found: &Found) -> bool
     ensures { result ≡ lacks_crl found.now }
 {
@@ -114,7 +111,6 @@ fn crl_since(now: Moment, found: &Found) -> Option<Moment>
     }
 }
 
-/// A moment that is past.
 fn past(now: Moment, due: Option<Moment>) -> Option<Moment>
     ensures { result ≡ past_told now due }
 {
@@ -131,17 +127,7 @@ fn store_of(now: Moment, found: &Found, since: Option<Moment>) -> Option<Moment>
     match *found {
         Ok(_) => since,
         Err(Fault::Refused(_)) => since,
-        Err(_) => failing(now, since),
-    }
-}
-
-/// A moment that was noted, or now.
-fn failing(now: Moment, since: Option<Moment>) -> Option<Moment>
-    ensures { result ≡ or_now since now }
-{
-    match since {
-        Some(at) => Some(at),
-        None => Some(now),
+        Err(_) => since.or(Some(now)),
     }
 }
 
@@ -150,22 +136,16 @@ fn put_since(text: &mut Vec<u8>, since: Option<Moment>) -> Result<(), AllocError
     ensures { OnOk result (text.new.items ≡ text.old.items ++ since_text since) }
 {
     match since {
-        Some(at) => put_moment(text, at),
         None => text.extend_from_slice(b"null"),
+        Some(at) => {
+            text.push(b'"')?;
+            text.extend_from_slice(&at.text())?;
+            text.push(b'"')?;
+            Ok(())
+        }
     }
 }
 
-/// Puts a moment behind a text, in quotation marks.
-fn put_moment(text: &mut Vec<u8>, at: Moment) -> Result<(), AllocError>
-    ensures { OnOk result (text.new.items ≡ text.old.items ++ quoted at) }
-{
-    text.push(b'"')?;
-    text.extend_from_slice(&at.text())?;
-    text.push(b'"')?;
-    Ok(())
-}
-
-/// Puts the member of the CRL behind a text.
 #[tactic(auto, unfolding(crate::specs::Healths::crl_text))]
 fn put_crl(text: &mut Vec<u8>, has_no_crl: bool, crl: Option<Moment>) -> Result<(), AllocError>
     ensures { OnOk result (text.new.items ≡ text.old.items ++ crl_said has_no_crl crl) }
@@ -177,7 +157,6 @@ fn put_crl(text: &mut Vec<u8>, has_no_crl: bool, crl: Option<Moment>) -> Result<
     put_since(text, crl)
 }
 
-/// Puts the members of who signs behind a text.
 #[tactic(auto, unfolding(crate::specs::Healths::signers_text))]
 fn put_signers(
     text: &mut Vec<u8>,
@@ -187,13 +166,11 @@ fn put_signers(
     ensures { OnOk result (text.new.items ≡ text.old.items ++ signers_text crl ocsp) }
 {
     put_member(text, b",\"crl_signer\":", crl)?;
-    put_member(text, b",\"ocsp_signer\":", ocsp)?;
-    Ok(())
+    put_member(text, b",\"ocsp_signer\":", ocsp)
 }
 
-/// Puts a member behind a text: its name, and a moment or null.
 fn put_member(text: &mut Vec<u8>, name: &[u8], since: Option<Moment>) -> Result<(), AllocError>
-    ensures { OnOk result (text.new.items ≡ text.old.items ++ (name.now ++ since_text since)) }
+    ensures { OnOk result (text.new.items ≡ text.old.items ++ member name.now since) }
 {
     text.extend_from_slice(name)?;
     put_since(text, since)

@@ -6,7 +6,6 @@ use reg_office_api::Standing;
 /// What a register has at a moment.
 #[derive(Clone, Copy, PartialEq, Eq)]
 pub struct Numbers {
-    /// How many certificates have each status.
     pub counts: Counts,
     /// When the next CRL is due; `None`: at once.
     pub due: Option<Moment>,
@@ -30,24 +29,18 @@ pub struct Requests {
 /// What is heard of connections.
 #[derive(Clone, Copy, PartialEq, Eq)]
 pub struct Heard {
-    /// How many peers there are.
+    /// Connections at the port, and at the control socket.
     pub peers: u64,
-    /// How many counters there are.
     pub counters: u64,
-    /// How many peers were accepted.
     pub accepted: u64,
-    /// How many connections failed.
+    /// Connections that ended by a fault, and why.
     pub broken: u64,
-    /// How many came to the end of their time.
     pub late: u64,
-    /// How many were let go for others.
     pub crowded: u64,
-    /// For how many there was no memory.
     pub memory: u64,
 }
 
 impl Heard {
-    /// Nothing was heard yet.
     pub fn nothing() -> Heard {
         Heard {
             peers: 0,

@@ -1,21 +1,19 @@
 //! What a desk counts while it is open: each exchange once. Sums stop at the greatest number.
 
 ghost use Rattle.std.specs.Prelude.{◌≡◌, ◌<◌};
-ghost use Rattle.reg_desk_metrics.specs.Tallies.{is_new, bumped, bucket_of as bucket_told, route_number as number_of_route, code_number as number_of_code, code_place, with_answer, with_seconds as timed, with_exchange, with_line, heard_as, with_reply_to_line, with_counted, wants_requests as wants_counted, is_old as old_at};
+ghost use Rattle.reg_desk_metrics.specs.Tallies.{is_new, bumped, bucket_of as bucket_told, route_number as number_of_route, code_number as number_of_code, with_seconds as timed, with_exchange, with_line, heard_as, with_reply_to_line, with_counted, wants_requests as wants_counted};
 
 use crate::numbers::Requests;
-use crate::signing::{Signing, one_more, store_after};
+use crate::signing::{Signing, store_after};
 use reg_core::Moment;
 use reg_http::{Exchange, Route};
 use reg_office_api::{LineEffects, LineReply, SignatureFate, StoreEffect};
 
-/// How many statuses answers are counted by.
+/// How many statuses answers are counted by, how many pairs of a route and a status there are, and how many ranges of seconds.
 pub(crate) const CODES: usize = 11;
 
-/// How many pairs of a route and a status there are.
 pub(crate) const ANSWERS: usize = 121;
 
-/// How many ranges of seconds there are.
 pub(crate) const BUCKETS: usize = 12;
 
 /// What was counted.
@@ -31,25 +29,20 @@ pub struct Tally {
     pub(crate) buckets: [u64; BUCKETS],
     /// How long all of them took, in microseconds.
     pub(crate) micros: u64,
-    /// Signatures of CRLs.
     pub(crate) crls: Signing,
-    /// Signatures of OCSP answers.
     pub(crate) ocsp: Signing,
-    /// Since when the store fails.
     pub(crate) store_since: Option<Moment>,
     /// The requests for revocation, when they were counted last.
     pub(crate) requests: Option<Requests>,
 }
 
-/// Adds one at a place.
 fn bump<const N: usize>(counts: &mut [u64; N], place: usize)
     requires { place < N }
     ensures { counts.new ≡ bumped counts.old place }
 {
-    counts[place] = one_more(counts[place]);
+    counts[place] = counts[place].saturating_add(1);
 }
 
-/// The number of a route.
 fn route_number(route: Route) -> usize
     ensures number { result ≡ number_of_route route }
     ensures within { result < 11 }
@@ -70,22 +63,14 @@ fn route_number(route: Route) -> usize
 }
 
 /// The number of a status; the last one is that of no answer, and of a status that no answer has.
+#[tactic(auto, unfolding(crate::specs::Tallies::code_number))]
 fn code_number(status: Option<u16>) -> usize
     ensures number { result ≡ number_of_code status }
     ensures within { result < 11 }
 {
-    match status {
-        Some(code) => number_of(code),
-        None => 10,
-    }
-}
-
-/// The number of a status code.
-#[tactic(auto, unfolding(crate::specs::Tallies::code_place))]
-fn number_of(code: u16) -> usize
-    ensures number { result ≡ code_place code }
-    ensures within { result < 11 }
-{
+    let Some(code) = status else {
+        return 10;
+    };
     match code {
         200 => 0,
         400 => 1,
@@ -101,7 +86,6 @@ fn number_of(code: u16) -> usize
     }
 }
 
-/// The range of so many microseconds.
 #[tactic(auto, unfolding(crate::specs::Tallies::bucket_of))]
 fn bucket_of(micros: u64) -> usize
     ensures bucket { result ≡ bucket_told micros }
@@ -146,7 +130,8 @@ impl Tally {
     pub fn count_exchange(&mut self, now: Moment, exchange: &Exchange, micros: u64)
         ensures { self.new ≡ with_exchange now exchange.now micros self.old }
     {
-        self.add_answer(exchange.route, exchange.status);
+        let place = route_number(exchange.route) * CODES + code_number(exchange.status);
+        bump(&mut self.answers, place);
         self.add_seconds(micros);
         self.hear(
             now,
@@ -171,7 +156,7 @@ impl Tally {
     {
         match self.requests {
             None => true,
-            Some(counted) => is_old(counted.at, now),
+            Some(counted) => now < counted.at || now.secs() - counted.at.secs() >= 60,
         }
     }
 
@@ -182,26 +167,16 @@ impl Tally {
         self.requests = Some(requests);
     }
 
-    /// Adds an answer by its route and its status.
-    fn add_answer(&mut self, route: Route, status: Option<u16>)
-        ensures { self.new ≡ with_answer route status self.old }
-    {
-        let place = route_number(route) * CODES + code_number(status);
-        bump(&mut self.answers, place);
-    }
-
-    /// Adds a line by how it was answered.
     fn add_line(&mut self, reply: LineReply)
         ensures { self.new ≡ with_reply_to_line reply self.old }
     {
         match reply {
-            LineReply::Accepted => self.accepted = one_more(self.accepted),
-            LineReply::Refused => self.refused = one_more(self.refused),
-            LineReply::Fault => self.faults = one_more(self.faults),
+            LineReply::Accepted => self.accepted = self.accepted.saturating_add(1),
+            LineReply::Refused => self.refused = self.refused.saturating_add(1),
+            LineReply::Fault => self.faults = self.faults.saturating_add(1),
         }
     }
 
-    /// Adds how long an exchange took.
     fn add_seconds(&mut self, micros: u64)
         ensures { self.new ≡ timed micros self.old }
     {
@@ -209,7 +184,6 @@ impl Tally {
         self.micros = self.micros.saturating_add(micros);
     }
 
-    /// Hears what an exchange said of signatures and of the store.
     fn hear(&mut self, now: Moment, crl: SignatureFate, ocsp: SignatureFate, store: StoreEffect)
         ensures { self.new ≡ heard_as now crl ocsp store self.old }
     {
@@ -217,11 +191,4 @@ impl Tally {
         self.ocsp = self.ocsp.after(ocsp, now);
         self.store_since = store_after(self.store_since, store, now);
     }
-}
-
-/// Whether what was counted at a moment is old at another: a minute passed, or it lies ahead.
-fn is_old(counted: Moment, now: Moment) -> bool
-    ensures { result ≡ old_at now counted }
-{
-    now < counted || now.secs() - counted.secs() >= 60
 }

@@ -1,3 +1,4 @@
+pub mod Audits
 pub mod Clean
 pub mod Holding
 pub mod Misfitting

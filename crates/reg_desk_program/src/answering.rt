@@ -7,57 +7,39 @@ ghost use Rattle.reg_desk_jobs.specs.WhoSigns.{EmbedsOwn, HasCertificate, IsAnsw
 ghost use Rattle.reg_office.specs.Answering.{answers_by, signatory_of};
 ghost use Rattle.reg_desk_cli.specs.declared.job.Answerer.TheVariants.{Issuer};
 
-use crate::file_signer::FileSigner;
+use crate::file_office::FileSigner;
 use crate::host::Host;
 use crate::signing::key_signer;
 use reg_core::{Fault, of_io};
 use reg_crl::Signer;
 use reg_crl_signer::is_key_identifier;
-use reg_desk_cli::{Answerer, Failure, KeyHolder, Word};
+use reg_desk_cli::{Failure, KeyHolder, Word};
 use reg_desk_jobs::Machine;
 use reg_ocsp::{Certificate, CertificateFault};
 use reg_office::Responder;
 use std::fs;
 use std::io::ErrorKind;
 
-/// Who answers, as it is told: certificates are read, and nothing is opened.
-///
-/// # Errors
-/// `BadResponder` where a certificate can't be read, is none, or has a key that is none of the algorithm; `Memory`.
-pub(crate) fn responder_told(
+/// The signer of CRLs answers, with the certificate in the file at a path, where one is told.
+pub(crate) fn issuer_told(
     host: &Host<'_>,
-    answerer: &Answerer<'_>,
+    path: &Option<Word<'_>>,
 ) -> Result<Responder<FileSigner>, Failure>
-    ensures ok { IfOk result (λ responder. (crls : Identity) → IsAnswering answerer.now (signatory_of ⟦<FileSigner as Signer>⟧.identity crls responder)) }
-    ensures certified { OnErr result (HasCertificate answerer.now) }
-    ensures faults { IfErr result IsOpening }
-{
-    match answerer {
-        Answerer::Issuer { certificate } => issuer_told(host, certificate),
-        Answerer::Delegate {
-            certificate,
-            holder,
-        } => delegate_told(host, certificate, holder),
-    }
-}
-
-/// Who signs CRLs answers, with the certificate in the file at a path, where one is told.
-fn issuer_told(host: &Host<'_>, path: &Option<Word<'_>>) -> Result<Responder<FileSigner>, Failure>
     ensures ok { IfOk result (λ responder. (crls : Identity) → IsAnswering (Issuer path.now) (signatory_of ⟦<FileSigner as Signer>⟧.identity crls responder)) }
     ensures certified { OnErr result (HasCertificate (Issuer path.now)) }
     ensures faults { IfErr result IsOpening }
 {
     match path {
         None => Ok(Responder::Issuer(None)),
-        Some(path) => match certificate_at(host, path.as_str()) {
-            Ok(certificate) => Ok(Responder::Issuer(Some(certificate))),
-            Err(why) => Err(why),
-        },
+        Some(path) => {
+            let certificate = certificate_at(host, path.as_str())?;
+            Ok(Responder::Issuer(Some(certificate)))
+        }
     }
 }
 
-/// What holds a key of its own answers, by the certificate in the file at a path.
-fn delegate_told(
+/// A responder with a key of its own answers, by the certificate in the file at a path.
+pub(crate) fn delegate_told(
     host: &Host<'_>,
     path: &Word<'_>,
     holder: &KeyHolder<'_>,
@@ -65,10 +47,7 @@ fn delegate_told(
     ensures ok { IfOk result (λ responder. (crls : Identity) → IsDelegate holder.now (answers_by ⟦<FileSigner as Signer>⟧.identity crls responder)) }
     ensures faults { IfErr result IsOpening }
 {
-    let certificate = match certificate_at(host, path.as_str()) {
-        Ok(certificate) => certificate,
-        Err(why) => return Err(why),
-    };
+    let certificate = certificate_at(host, path.as_str())?;
     if !is_key_identifier(holder.algorithm, certificate.algorithm()) {
         return Err(Failure::BadResponder);
     }
@@ -105,7 +84,6 @@ fn certificate_at(host: &Host<'_>, path: &str) -> Result<Certificate, Failure>
     }
 }
 
-/// Whether a certificate that stands with the answers of an issuer is of its key.
 pub(crate) fn embeds_own(responder: &Responder<FileSigner>, key: &[u8]) -> bool
     ensures { IsTrue result → (crls : Identity) → EmbedsOwn key.now (answers_by ⟦<FileSigner as Signer>⟧.identity crls responder.now) }
 {

@@ -4,20 +4,17 @@ use crate::host::Host;
 use crate::progress::seconds;
 use reg_audit::Watch;
 
-/// Who watches an audit: at most once a second it tells how many rows were read and how many CRLs compared, where that is to
-/// be told.
+/// Tells at most once a second how many rows an audit read and how many CRLs it compared, where that is to be told.
 #[derive(Drop)]
 pub(crate) struct AuditProgress {
     rt: HostRuntime,
     is_told: bool,
     rows: usize,
     crls: usize,
-    /// The seconds of the clock when it told last, or began.
     told: u64,
 }
 
 impl AuditProgress {
-    /// Who watches an audit on a machine.
     pub(crate) fn of(host: &Host<'_>) -> AuditProgress {
         AuditProgress {
             rt: host.rt,
@@ -28,7 +25,6 @@ impl AuditProgress {
         }
     }
 
-    /// Tells how far the audit is, where a second has gone by.
     fn tell(&mut self) {
         if !self.is_told {
             return;

@@ -111,15 +111,13 @@ fn run<M: Machine, R: Read, W: Write>(
     }
 }
 
-/// Keeps which of the terms that a job is told make no policy, where it ended by that.
 fn note_terms<M: Machine>(machine: &M, job: &Job<'_>, ending: &Result<(), Failure>) {
-    match ending {
-        Err(Failure::BadPolicy) => machine.note(wrong_terms(job)),
-        _ => {}
+    if let Err(Failure::BadPolicy) = ending {
+        machine.note(wrong_terms(job));
     }
 }
 
-/// Which of the terms that a job is told make no policy.
+/// The terms of a job that make no policy.
 fn wrong_terms(job: &Job<'_>) -> Option<Cause> {
     match job {
         Job::Init(new) => of_terms(new.days, new.crl_life, new.ocsp_life, new.cap),

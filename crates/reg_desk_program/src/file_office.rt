@@ -1,8 +1,8 @@
 //! The office of a register in a file.
 
-use crate::file_signer::FileSigner;
 use reg_core::{Command, Fault, Label, Memory, Moment, Outcome, Query, Schedule};
 use reg_core_lists::{Cursor, Page};
+use reg_crl_signer::{BackoffDevice, KeyOrDigest, SocketDevice, UnixConnection};
 use reg_io::Begun;
 use reg_ocsp::Draft;
 use reg_office::Office;
@@ -11,13 +11,17 @@ use sqlite::{FileFrom, FileStore};
 use sqlite_disk::Unknown;
 use std::alloc::Global;
 
-/// An office over a file, with its checks for damage, and the holder of a key or a digest as its signer.
+/// A signer's process behind a socket of the machine, which is not asked for a while after a timeout.
+pub type FileDevice = BackoffDevice<SocketDevice<UnixConnection>, HostRuntime>;
+
+/// The signer of a register in a file: what holds the key behind a socket, or the digest.
+pub type FileSigner = KeyOrDigest<FileDevice>;
+
+/// An office over a file, with its checks for damage.
 pub(crate) type OfficeInFile = Office<FileStore<FileFrom<Unknown>>, FileSigner>;
 
-/// The office of a register in a file. Each call is the one of [`reg_office::Office`].
-///
-/// It is a type without parameters: where the jobs are given the program's machine, the prover compares the machine's office by its name. By all
-/// the types that the office is made of, that one check takes more steps than the prover allows.
+/// The office of a register in a file. Each call is the one of [`reg_office::Office`]. It is a type without parameters, so that the prover
+/// compares it by its name: by all the types that the office is made of, a check takes more steps than the prover allows.
 #[derive(Drop)]
 pub struct FileOffice {
     pub(crate) office: OfficeInFile,

@@ -10,21 +10,20 @@ ghost use Rattle.reg_desk_program.specs.Calls.{Unsaid, is_claimed};
 ghost use Rattle.reg_desk_program.specs.Files.{failure_of};
 ghost use Rattle.reg_crl_signer.specs.Asking.{IsAsking};
 
-use crate::answering::responder_told;
-use crate::file_audit::audit_sources;
-use crate::file_office::FileOffice;
-use crate::file_signer::FileSigner;
-use crate::offices::{FileConnection, close, connection_of, make_in, open_in, prime_in};
+use crate::answering::{delegate_told, issuer_told};
+use crate::file_audit::audit_over;
+use crate::file_office::{FileOffice, FileSigner};
+use crate::offices::{FileConnection, close, connection_of, made_over, office_over, prime_wanted};
 use mio::net::{TcpListener, UnixListener, UnixStream as UnwaitingStream};
 use reg_audit_rows::Verdict;
 use reg_core::{Cause, Fault, Memory, Policy, of_io, of_port};
 use reg_crl::{DigestSeal, Signer};
-use reg_crl_signer::{Asking, DeviceConnection, KeyOrDigest, Primed};
+use reg_crl_signer::{Asking, DeviceConnection, KeyOrDigest, Primed, read_answer};
 use reg_der::Issuer;
 use reg_desk_cli::{Answerer, Failure};
 use reg_desk_files::{
     ClaimFault, FileFault, Overlay, ReadFile, Source, Sources, Unread, claim_file, copy_closed,
-    copy_open, look_at, open_file, read_at, remove_file,
+    copy_open, look_at, open_file, open_sources, read_at, remove_file,
 };
 use reg_desk_jobs::{CrlSigner, Machine, Uncopied, Wanted};
 use reg_io::write_whole;
@@ -40,7 +39,6 @@ use std::os::unix::net::UnixStream;
 use std::time::{Clock, Duration};
 use std::{fs, io};
 
-/// The mode of a log that its owner alone may read and write.
 const OWNER_ALONE: u32 = 0o600;
 
 /// What the system says where too many files are open, in this process or in all (EMFILE, ENFILE).
@@ -63,7 +61,6 @@ pub struct Host<'a> {
 }
 
 impl<'a> Host<'a> {
-    /// Keeps why files can't be read, and gives how that is told.
     pub(crate) fn unread(&self, why: Unread) -> Failure
         requires { IsUnread why }
         ensures told { result ≡ failure_of why }
@@ -75,7 +72,6 @@ impl<'a> Host<'a> {
         }
     }
 
-    /// Keeps why a file is not opened, and gives the fault.
     fn fault_of(&self, why: FileFault) -> Fault
         ensures { result ≡ why.fault }
     {
@@ -83,7 +79,6 @@ impl<'a> Host<'a> {
         why.fault
     }
 
-    /// Keeps why a path was not claimed, and gives whether it was.
     fn is_claimed(&self, claim: Result<(), ClaimFault>) -> Result<bool, Memory>
         ensures { result ≡ is_claimed claim }
     {
@@ -205,7 +200,13 @@ impl<'a> Machine for Host<'a> {
     }
 
     fn certify(&self, answerer: &Answerer<'_>) -> Result<Responder<FileSigner>, Failure> {
-        responder_told(self, answerer)
+        match answerer {
+            Answerer::Issuer { certificate } => issuer_told(self, certificate),
+            Answerer::Delegate {
+                certificate,
+                holder,
+            } => delegate_told(self, certificate, holder),
+        }
     }
 
     fn open_in(
@@ -214,9 +215,12 @@ impl<'a> Machine for Host<'a> {
         crls: &CrlSigner<'_>,
         responder: Responder<FileSigner>,
     ) -> Result<FileOffice, Failure> {
-        match open_in(self, database, crls, responder) {
+        match office_over(self, database, crls, responder) {
             Ok(office) => Ok(FileOffice { office }),
-            Err(why) => Err(why),
+            Err((why, connection)) => {
+                close(connection);
+                Err(why)
+            }
         }
     }
 
@@ -226,12 +230,13 @@ impl<'a> Machine for Host<'a> {
         issuer: Issuer,
         policy: Policy,
     ) -> Result<FileOffice, Failure> {
-        let signer = FileSigner {
-            signer: KeyOrDigest::Digest(DigestSeal),
-        };
-        match make_in(database, issuer, policy, signer) {
+        let signer: FileSigner = KeyOrDigest::Digest(DigestSeal);
+        match made_over(database, issuer, policy, signer) {
             Ok(office) => Ok(FileOffice { office }),
-            Err(why) => Err(why),
+            Err((why, connection)) => {
+                close(connection);
+                Err(why)
+            }
         }
     }
 
@@ -247,7 +252,10 @@ impl<'a> Machine for Host<'a> {
     }
 
     fn audit_in(&self, sources: Sources<ReadFile>) -> Result<Verdict, Failure> {
-        audit_sources(self, sources)
+        match open_sources(self.rt.alloc(), sources) {
+            Ok(connection) => audit_over(self, connection),
+            Err(why) => Err(self.unread(why)),
+        }
     }
 
     fn copy(&mut self, path: &str, to: &str) -> Result<u64, Failure> {
@@ -337,13 +345,18 @@ impl<'a> Machine for Host<'a> {
         ensures given { IfSome result (λ answer. (path message : List ℕ) → IsAsking path message link.old → Unsaid path) }
         ensures short { IfSome result (λ answer. length answer.items ≤ 4096) }
     {
-        link.answer(alloc)
+        read_answer(alloc, link)
     }
 
     fn prime(office: &mut FileOffice, wanted: Wanted, primed: Option<Primed>)
         ensures { Leads ⟦<FileOffice as reg_office_api::Office>⟧.is_clean ⟦<FileOffice as reg_office_api::Office>⟧.stands (λ identity before after. after ≡ before) office.old office.new }
     {
-        prime_in(&mut office.office, wanted, primed);
+        prime_wanted(
+            &mut office.office.signer,
+            &mut office.office.responder,
+            wanted,
+            primed,
+        );
     }
 
     fn has_log(&self) -> bool {
@@ -391,10 +404,6 @@ fn uncopied_by(why: Unread) -> Uncopied
 }
 
 /// The whole seconds of a time since 1970 began; 0 where the clock stands before that.
-///
-/// # Errors
-///
-/// What the system says where the clock can't be read.
 fn seconds_of(time: io::Result<Duration>) -> io::Result<u64>
     ensures { IfOk time (λ time. result ≡ Ok (as_nanos time / 1000000000)) }
 {
@@ -405,7 +414,6 @@ fn seconds_of(time: io::Result<Duration>) -> io::Result<u64>
     }
 }
 
-/// A time in microseconds.
 fn micros_of(passed: Duration) -> u64 {
     passed
         .as_secs()
@@ -415,34 +423,20 @@ fn micros_of(passed: Duration) -> u64 {
 
 /// Why a signer can't be asked. Where too many files are open, a connection that is closed gives it room.
 fn for_room(error: io::Error) -> io::Error {
-    if is_crowded(&error) {
-        return io::Error::from(ErrorKind::WouldBlock);
-    }
-    error
-}
-
-/// Whether no socket could be had since too many files are open.
-fn is_crowded(error: &io::Error) -> bool {
     match error.raw_os_error() {
-        Some(code) => code == TOO_MANY_HERE || code == TOO_MANY,
-        None => false,
+        Some(TOO_MANY_HERE | TOO_MANY) => io::Error::from(ErrorKind::WouldBlock),
+        _ => error,
     }
 }
 
-/// Writes a line behind a log, which is opened for it alone: so a log that was renamed is followed by a new one at its path. A line that can't
-/// be written is left out.
+/// Appends a line to a log, which is opened for it alone: so a renamed log is followed by a new one at its path.
 fn append(rt: &HostRuntime, path: &str, line: &[u8]) {
     if let Ok(mut file) = open_log(rt, path) {
         let _ = write_whole(&mut file, line);
     }
 }
 
-/// The file of a log, opened so that what is written goes behind what is there. Where none is, one is made that its owner alone may read and
-/// write.
-///
-/// # Errors
-///
-/// What the system says where it can't be opened.
+/// Opens the file of a log to append to it, or makes one that its owner alone may read and write.
 pub(crate) fn open_log(rt: &HostRuntime, path: &str) -> io::Result<File> {
     let mut options = OpenOptions::new();
     options.append(true).create(true).mode(OWNER_ALONE);

@@ -1,11 +1,10 @@
-//! What a job reads.
+//! Standard input, or the file whose rows a job reads.
 
 use reg_desk_cli::Job;
 use std::fs::File;
 use std::io;
 use std::io::{Read, Stdin};
 
-/// What a job reads: standard input, or the file whose rows it tells.
 #[derive(Drop)]
 pub(crate) enum Input {
     Standard(Stdin),
@@ -13,10 +12,6 @@ pub(crate) enum Input {
 }
 
 impl Input {
-    /// What a job reads.
-    ///
-    /// # Errors
-    /// What the system says where the file of its rows can't be opened.
     pub(crate) fn of(rt: &HostRuntime, job: &Job<'_>) -> io::Result<Input> {
         match job {
             Job::At {

@@ -7,7 +7,6 @@ mod desk;
 mod dispatch;
 mod file_audit;
 mod file_office;
-mod file_signer;
 mod host;
 mod input;
 pub mod laws;
@@ -18,7 +17,6 @@ mod signing;
 
 pub use desk::run_desk;
 pub use dispatch::perform;
-pub use file_office::FileOffice;
-pub use file_signer::FileSigner;
+pub use file_office::{FileDevice, FileOffice, FileSigner};
 pub use host::Host;
 pub use offices::FileConnection;

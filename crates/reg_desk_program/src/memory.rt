@@ -1,15 +1,12 @@
 //! A script over a new register in memory.
 
 ghost use Rattle.std.specs.Prelude.{◌≡◌, None, IfErr, IfOk};
-ghost use Rattle.reg_core.specs.Records.{Records};
-ghost use Rattle.reg_lines.specs.ByCalls.{Lines};
-ghost use Rattle.reg_lines.specs.Script.{ScriptEnds};
 ghost use Rattle.reg_desk_jobs.specs.Ends.{ScriptInMemory};
 ghost use Rattle.sqlite.specs.Steps.{over_memory};
 ghost use Rattle.reg_office.specs.AfterStoppedCommand.{LeavesTold};
 ghost use Rattle.reg_office.specs.Stands.{Stands};
 ghost use Rattle.reg_office.specs.declared.responder.Responder.TheVariants.{Issuer as ByIssuer};
-ghost use Rattle.reg_desk_jobs.specs.Digest.{digest_alone, digests};
+ghost use Rattle.reg_desk_jobs.specs.Digest.{digests};
 ghost use Rattle.reg_desk_jobs.specs.RegisterFailures.{IsMaking};
 ghost use Rattle.reg_desk_jobs.specs.Sample.{sample_records};
 ghost use Rattle.reg_crl_signer.specs.Both.{digest};
@@ -29,13 +26,11 @@ use std::io::{Read, Write};
 /// The Name of a sample issuer: the common name CA (RFC 5280 4.1.2.4).
 const NAME: [u8; 15] = *b"\x30\x0D\x31\x0B\x30\x09\x06\x03\x55\x04\x03\x0C\x02CA";
 
-/// The bytes of the sample issuer's public key.
 const KEY: [u8; 3] = *b"abc";
 
-/// The office over a register in memory, with the digest as its signer.
 type MemoryOffice = Office<MemStore, DigestSeal>;
 
-/// Runs the script of standard input over a new register in memory, of a sample issuer whose key nothing holds.
+/// Runs the script of standard input over a new register in memory, of a sample issuer whose key no signer holds.
 pub(crate) fn script_in_memory<R: Read, W: Write>(
     alloc: Global,
     reader: &mut R,
@@ -44,30 +39,10 @@ pub(crate) fn script_in_memory<R: Read, W: Write>(
     ensures { ScriptInMemory R.remaining W.contents reader.old reader.new writer.old writer.new result }
 {
     let mut fresh = office_in_memory(alloc)?;
-    let ran = run_in_memory(alloc, reader, writer, &mut fresh);
-    ended(ran)
-}
-
-/// Runs the script of standard input over a register in memory that has the sample's records.
-fn run_in_memory<R: Read, W: Write>(
-    alloc: Global,
-    reader: &mut R,
-    writer: &mut W,
-    office: &mut MemoryOffice,
-) -> Result<(), Fault>
-    requires stands { Stands over_memory digests office.old.store digest sample_records }
-    requires leaves { LeavesTold over_memory digests office.old.store digest sample_records }
-    requires alone { office.old.responder ≡ ByIssuer None }
-    ensures { (after : Records) × ScriptEnds (Lines digests digest_alone) R.remaining W.contents sample_records after
-        reader.old reader.new writer.old writer.new result }
-{
-    run_script(alloc, reader, writer, office)
+    ended(run_script(alloc, reader, writer, &mut fresh))
 }
 
 /// The office over a new register in memory, of a sample issuer and under the usual policy.
-///
-/// # Errors
-/// `Memory`, and `Store` where the database fails.
 fn office_in_memory(alloc: Global) -> Result<MemoryOffice, Failure>
     ensures ok { IfOk result (λ office. Stands over_memory digests office.store digest sample_records) }
     ensures leaves { IfOk result (λ office. LeavesTold over_memory digests office.store digest sample_records) }

@@ -1,15 +1,14 @@
 //! A register in a file is opened, made and closed.
 
 ghost use Rattle.std.specs.Prelude.{◌≡◌, None, false, IfOk, IfErr};
-ghost use Rattle.sqlite.specs.Files.{over_files};
-ghost use Rattle.reg_office_api.specs.Signatories.{Signatory};
 ghost use Rattle.reg_core.specs.Records.{no_records};
 ghost use Rattle.reg_desk_jobs.specs.RegisterFailures.{IsMaking, IsOpening};
-ghost use Rattle.reg_office.specs.Calls.{StandsFor, seen};
+ghost use Rattle.reg_office.specs.Answering.{signatory_of};
+ghost use Rattle.reg_office.specs.Calls.{seen};
 ghost use Rattle.reg_office.specs.declared.responder.Responder.TheVariants.{Issuer as ByIssuer};
-ghost use Rattle.reg_desk_program.specs.Files.{IsConnection, IsMadeFrom, MakesOver, OpensFor, OpensOver};
+ghost use Rattle.reg_desk_program.specs.Files.{MakesOver, OpensOver};
 
-use crate::file_signer::FileSigner;
+use crate::file_office::FileSigner;
 use crate::host::Host;
 use crate::signing::signer_for;
 use reg_core::Policy;
@@ -25,48 +24,6 @@ use sqlite_disk::{Disk, Unknown};
 
 /// A file as a database, with its checks for damage.
 pub type FileConnection = Connection<FileStore<FileFrom<Unknown>>>;
-
-/// Makes a register in the database of a connection, which is closed where that fails.
-pub(crate) fn make_in<D: Disk + Drop, S: Signer + Drop>(
-    connection: Connection<FileStore<D>>,
-    issuer: Issuer,
-    policy: Policy,
-    signer: S,
-) -> Result<Office<FileStore<D>, S>, Failure>
-    requires idle { connection.in_transaction ≡ false }
-    requires connects { IsConnection connection }
-    ensures ok { IfOk result (λ office. IsMadeFrom connection office.store) }
-    ensures stands { IfOk result (λ office. (who : Signatory) × StandsFor over_files S.signs (seen S.Signer office) who (no_records issuer policy)) }
-    ensures err { IfErr result IsMaking }
-{
-    match made_over(connection, issuer, policy, signer) {
-        Ok(office) => Ok(office),
-        Err((why, connection)) => {
-            close(connection);
-            Err(why)
-        }
-    }
-}
-
-/// Opens the register in the database of a connection, which is closed where that fails.
-pub(crate) fn open_in<D: Disk + Drop>(
-    host: &Host<'_>,
-    connection: Connection<FileStore<D>>,
-    crls: &CrlSigner<'_>,
-    responder: Responder<FileSigner>,
-) -> Result<Office<FileStore<D>, FileSigner>, Failure>
-    requires idle { connection.in_transaction ≡ false }
-    ensures ok { IfOk result (OpensFor ⟦<FileSigner as Signer>⟧ connection crls.now responder) }
-    ensures err { IfErr result IsOpening }
-{
-    match office_over(host, connection, crls, responder) {
-        Ok(office) => Ok(office),
-        Err((why, connection)) => {
-            close(connection);
-            Err(why)
-        }
-    }
-}
 
 /// The office over a register that is made in a database; where it can't be made, why, and the connection back.
 pub(crate) fn made_over<C: Alter, S: Signer + Drop>(
@@ -89,7 +46,7 @@ pub(crate) fn made_over<C: Alter, S: Signer + Drop>(
 
 /// The office over the register of a database, with this signer of CRLs and this responder; where there is none, why, and the connection back.
 /// The cause of `BadSigner` is noted.
-fn office_over<C: Alter>(
+pub(crate) fn office_over<C: Alter>(
     host: &Host<'_>,
     connection: Connection<C>,
     crls: &CrlSigner<'_>,
@@ -112,7 +69,6 @@ fn office_over<C: Alter>(
     }
 }
 
-/// The connection of an office, without those who sign for it.
 pub(crate) fn connection_of<C: Alter, S: Signer + Drop>(office: Office<C, S>) -> Connection<C> {
     let (store, _signer) = office.into_parts();
     store.into_connection()
@@ -123,18 +79,19 @@ pub(crate) fn close<D: Disk + Drop>(connection: Connection<FileStore<D>>) {
     drop(connection.close());
 }
 
-/// Presets the next signature of the signer of CRLs, or of the responder.
+/// Presets the next signature of the signer of CRLs, or of the responder. No contract says what a socket gave, so any answer may be preset.
 #[tactic(auto, using(crate::proofs::Priming::given_anyhow))]
-pub(crate) fn prime_in<C: Alter>(
-    office: &mut Office<C, FileSigner>,
+pub(crate) fn prime_wanted(
+    signer: &mut FileSigner,
+    responder: &mut Responder<FileSigner>,
     wanted: Wanted,
     primed: Option<Primed>,
 )
-    ensures store { office.new.store ≡ office.old.store }
-    ensures same { seen ⟦<FileSigner as Signer>⟧ office.new ≡ seen ⟦<FileSigner as Signer>⟧ office.old }
+    ensures { signatory_of ⟦<FileSigner as Signer>⟧.identity (⟦<FileSigner as Signer>⟧.identity signer.new) responder.new
+        ≡ signatory_of ⟦<FileSigner as Signer>⟧.identity (⟦<FileSigner as Signer>⟧.identity signer.old) responder.old }
 {
-    match (wanted, &mut office.responder) {
+    match (wanted, responder) {
         (Wanted::Answer, Responder::Delegate(own, _)) => own.prime(primed),
-        _ => office.signer.prime(primed),
+        _ => signer.prime(primed),
     }
 }

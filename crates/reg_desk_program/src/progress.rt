@@ -7,14 +7,12 @@ use std::io::{IsTerminal, Stdout, Write};
 use std::time::Clock;
 use std::{fs, io};
 
-/// The bytes of a file from which on its opening is told.
+/// The size of a file from which on its opening is told.
 const LARGE: u64 = 67_108_864;
 
-/// The bytes of a megabyte.
 const MEGABYTE: u64 = 1_000_000;
 
-/// Standard output, to which a script or an import writes a line for each line or row that is done; once a second it tells how many
-/// were. The cause of a write that fails is noted.
+/// Standard output, to which a script or an import writes a line for each line or row that is done. Once a second it tells how many were.
 #[derive(Drop)]
 pub(crate) struct CountedOutput<'a> {
     rt: &'a HostRuntime,
@@ -28,8 +26,7 @@ pub(crate) struct CountedOutput<'a> {
 }
 
 impl<'a> CountedOutput<'a> {
-    /// Standard output for a job. What it writes is counted where standard error is a terminal, and standard output is none: who reads
-    /// the replies there sees them.
+    /// Lines are counted where standard error is a terminal and standard output is none: an operator sees the replies there.
     pub(crate) fn of(
         rt: &'a HostRuntime,
         job: &Job<'_>,
@@ -49,7 +46,6 @@ impl<'a> CountedOutput<'a> {
         }
     }
 
-    /// Counts a reply, and tells how many there were, where a second has gone by.
     fn count(&mut self) {
         self.lines = self.lines.saturating_add(1);
         let now = seconds(self.rt);
@@ -105,7 +101,6 @@ pub(crate) fn seconds(rt: &HostRuntime) -> u64 {
     }
 }
 
-/// Whether a job writes a line for each that it reads, and may read many.
 fn is_long(job: &Job<'_>) -> bool {
     matches!(
         job,
@@ -113,7 +108,6 @@ fn is_long(job: &Job<'_>) -> bool {
     )
 }
 
-/// The path of the register that a job opens, if it opens one.
 fn file_of<'a>(job: &Job<'a>) -> Option<&'a str> {
     match job {
         Job::Script { file, .. } => Some(file.as_ref()?.as_str()),

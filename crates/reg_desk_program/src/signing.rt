@@ -19,7 +19,7 @@ ghost use Rattle.reg_desk_cli.specs.declared.job.KeyHolder.{KeyHolder};
 ghost use Rattle.reg_store_tables.specs.Stays.{Looked};
 
 use crate::answering::embeds_own;
-use crate::file_signer::{FileDevice, FileSigner};
+use crate::file_office::{FileDevice, FileSigner};
 use crate::host::Host;
 use reg_core::{Cause, Fault};
 use reg_crl::{DigestSeal, Signer};
@@ -33,14 +33,13 @@ use reg_office::Responder;
 use reg_store::{DatabaseFault, Tables};
 use sqlite::Alter;
 
-/// The signer of CRLs for the register in these tables. Where nobody signs, it is as the latest CRL tells, and asks nobody: so a CRL comes to a
-/// fault of the signer. A certificate that stands with the answers of the issuer is looked at.
+/// The signer of CRLs for the register in these tables. Where nobody signs, it is as the latest CRL tells, and no process is asked: so a CRL comes
+/// to a fault of the signer.
 ///
 /// # Errors
 ///
-/// `BadSigner` where the latest CRL is signed by a key under another algorithm, or under one that is not known here, or the issuer's key
-/// is none of the algorithm: which of these is noted, the key first; `BadResponder` where the issuer's certificate has another key,
-/// before these; `Memory`, `Store`.
+/// `BadResponder` where the issuer's certificate has another key; else `BadSigner` where the issuer's key is none of the algorithm, or the latest
+/// CRL is signed under another one, or under one that is not known here: the cause is noted; `Memory`, `Store`.
 #[tactic(auto, using(crate::proofs::Missing::opens_faulty))]
 pub(crate) fn signer_for<C: Alter>(
     host: &Host<'_>,
@@ -50,7 +49,7 @@ pub(crate) fn signer_for<C: Alter>(
 ) -> Result<FileSigner, Failure>
     ensures signs { IfOk result (λ signer. SignsFor C.Store tables.old tables.new
         (λ who. answers_by ⟦<FileSigner as Signer>⟧.identity who responder.now) (⟦<FileSigner as Signer>⟧.identity signer) crls.now) }
-    ensures asks { IfOk result (λ signer. IsAskedAt crls.now (either_place ⟦<FileDevice as Device>⟧ signer.signer)) }
+    ensures asks { IfOk result (λ signer. IsAskedAt crls.now (either_place ⟦<FileDevice as Device>⟧ signer)) }
     ensures looked { Looked C.Store tables.old tables.new }
     ensures faults { IfErr result IsOpening }
 {
@@ -93,7 +92,6 @@ fn holder_of(latest: &Option<Vec<u8>>) -> Option<KeyHolder<'static>> {
     })
 }
 
-/// The signer for the register in these tables, as it is told, after its latest CRL.
 #[tactic(auto, using(crate::proofs::Missing::opens_faulty))]
 fn signer_after<C: Alter>(
     host: &Host<'_>,
@@ -106,7 +104,7 @@ fn signer_after<C: Alter>(
         (λ who. answers_by ⟦<FileSigner as Signer>⟧.identity who responder.now) (⟦<FileSigner as Signer>⟧.identity signer)
         (option_copied told.entry) (option_map (λ bytes. bytes.items) latest.now)) }
     ensures asks { IfOk result (λ signer.
-        either_place ⟦<FileDevice as Device>⟧ signer.signer ≡ option_map (λ holder. holder.socket) (option_copied told.entry)) }
+        either_place ⟦<FileDevice as Device>⟧ signer ≡ option_map (λ holder. holder.socket) (option_copied told.entry)) }
     ensures looked { Looked C.Store tables.old tables.new }
     ensures faults { IfErr result IsOpening }
 {
@@ -132,13 +130,11 @@ fn signer_told(
 ) -> Result<FileSigner, Failure>
     ensures ok { IfOk result (λ signer. ⟦<FileSigner as Signer>⟧.identity signer ≡ identity_told (option_copied told.entry) key.now) }
     ensures asks { IfOk result (λ signer.
-        either_place ⟦<FileDevice as Device>⟧ signer.signer ≡ option_map (λ holder. holder.socket) (option_copied told.entry)) }
+        either_place ⟦<FileDevice as Device>⟧ signer ≡ option_map (λ holder. holder.socket) (option_copied told.entry)) }
     ensures faults { IfErr result IsOpening }
 {
     let Some(holder) = told else {
-        return Ok(FileSigner {
-            signer: KeyOrDigest::Digest(DigestSeal),
-        });
+        return Ok(KeyOrDigest::Digest(DigestSeal));
     };
     match key_signer(&host.rt, holder.socket.as_str(), holder.algorithm, key) {
         Ok(signer) => Ok(signer),
@@ -150,7 +146,6 @@ fn signer_told(
     }
 }
 
-/// What holds a key behind a socket, as who signs.
 pub(crate) fn key_signer(
     rt: &HostRuntime,
     socket: &str,
@@ -158,7 +153,7 @@ pub(crate) fn key_signer(
     key: &[u8],
 ) -> Result<FileSigner, Failure>
     ensures ok { IfOk result (λ signer. ⟦<FileSigner as Signer>⟧.identity signer ≡ identity_of algorithm key.now) }
-    ensures asks { IfOk result (λ signer. either_place ⟦<FileDevice as Device>⟧ signer.signer ≡ Some socket.now) }
+    ensures asks { IfOk result (λ signer. either_place ⟦<FileDevice as Device>⟧ signer ≡ Some socket.now) }
     ensures faults { IfErr result (λ why. (why ≡ Failure.Fault Fault.Memory) ⊎ (why ≡ Failure.BadSigner)) }
 {
     let (Ok(path), Ok(key)) = (
@@ -169,14 +164,11 @@ pub(crate) fn key_signer(
     };
     let device = BackoffDevice::new(SocketDevice::new(*rt, path, key), *rt);
     match DeviceSigner::new(device, algorithm) {
-        Ok(signer) => Ok(FileSigner {
-            signer: KeyOrDigest::Key(signer),
-        }),
+        Ok(signer) => Ok(KeyOrDigest::Key(signer)),
         Err(KeyFault) => Err(Failure::BadSigner),
     }
 }
 
-/// The DER of the CRL that was issued last.
 fn latest_crl<C: Alter>(tables: &mut Tables<C>) -> Result<Option<Vec<u8>>, DatabaseFault>
     ensures found { (records : Records) → Shows C.Store tables.old records → SoundRows records → HasCleanDisk (state C.Store tables.new)
         → IfOk result (λ crl. option_map (λ bytes. bytes.items) crl ≡ option_map (λ crl. crl.bytes) (latest records.crls)) }
@@ -201,7 +193,6 @@ fn misfit(latest: &Option<Vec<u8>>, algorithm: &[u8]) -> Option<Cause>
     }
 }
 
-/// Why no CRL under an algorithm follows this one. `None` where it follows.
 fn misfit_of(crl: &[u8], algorithm: &[u8]) -> Option<Cause>
     ensures { MatchOption result ((other : List ℕ) → IsCrlUnder crl.now other → MayFollow algorithm.now other)
         (IsMisfit crl.now algorithm.now) }
@@ -212,7 +203,6 @@ fn misfit_of(crl: &[u8], algorithm: &[u8]) -> Option<Cause>
     }
 }
 
-/// How the algorithm of a CRL differs from another, which does not follow it. `None` where it follows.
 fn difference(found: &[u8], algorithm: &[u8]) -> Option<Cause>
     ensures { MatchOption result (MayFollow algorithm.now found.now) (Differs found.now algorithm.now) }
 {
@@ -237,7 +227,6 @@ fn may_follow(algorithm: &[u8], earlier: &[u8]) -> bool
     is_same(earlier, algorithm)
 }
 
-/// Whether an algorithm of a key is known here.
 fn is_known(algorithm: &[u8]) -> bool
     ensures { IsTrue result ↔ IsKnownAlgorithm algorithm.now }
 {
@@ -247,7 +236,6 @@ fn is_known(algorithm: &[u8]) -> bool
     }
 }
 
-/// Whether the bytes are the same.
 fn is_same(bytes: &[u8], other: &[u8]) -> bool
     ensures { IsTrue result ↔ (bytes.now ≡ other.now) }
 {

@@ -5,7 +5,7 @@ use Rattle.std.specs.Prelude.{Result, Ok, Err, OnOk, OnErr, take}
 use Rattle.reg_desk_server.specs.CounterLines.{Deferring, Telling, TellingLater}
 use Rattle.reg_desk_server.specs.Exchange.{Input, request, line, Outcome, said, later, asked_in, Handles, Exchanged}
 use Rattle.reg_desk_server.specs.Handling.{Handled}
-use Rattle.reg_desk_server.specs.Unsent.{unsent_of}
+use Rattle.reg_desk_server.specs.Held.{unsent_of}
 use Rattle.reg_desk_server.specs.declared.counter_peer.CounterPeer.{CounterPeer}
 use Rattle.reg_desk_server.specs.declared.handler.Handler.{Ghosts}
 

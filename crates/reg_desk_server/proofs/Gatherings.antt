@@ -4,9 +4,8 @@ use Rattle.std.specs.Prelude.{Option, Some, None, true, false}
 use Rattle.std.specs.Io.KnownBytes.{Consumes}
 use Rattle.std.proofs.KnownBytes.{Consumes-nil, Consumes-trans}
 use Rattle.std.proofs.lemmas.List.{append-nil, append_assoc}
-use Rattle.reg_desk_server.specs.Held.{Receives}
+use Rattle.reg_desk_server.specs.Held.{Receives, SendsUnsent, unsent_of}
 use Rattle.reg_desk_server.specs.CounterLines.{Advances, Gathers, StaysEnded}
-use Rattle.reg_desk_server.specs.Unsent.{SendsUnsent, unsent_of}
 use Rattle.reg_desk_server.specs.declared.counter_peer.CounterPeer.{CounterPeer}
 use Rattle.reg_desk_server.specs.declared.receiving.Received.{Received}
 use Rattle.reg_desk_server.specs.declared.receiving.Received.TheVariants as received
@@ -17,23 +16,15 @@ use Rattle.reg_desk_server.specs.declared.unsent.Sent.{Sent}
 pub gathers_none : (input : Option (List ℕ)) (held : List ℕ) (ended : Bool) → Gathers input input held held ended
 gathers_none input held ended = record { kept = []; lost = []; consumed = Consumes-nil input; held = sym (append-nil held); whole = inl refl }
 
--- bytes came, and all are held
-pub gathers_all : (a b : Option (List ℕ)) (x y came : List ℕ) (ended : Bool) → Consumes a b came → y ≡ x ++ came → Gathers a b x y ended
-gathers_all a b x y came ended consumed held = record {
-  kept = came;
-  lost = [];
-  consumed = subst (Consumes a b) (sym (append-nil came)) consumed;
-  held = held;
-  whole = inl refl;
-}
-
 -- what one read gave
 pub gathers_taken : (a b : Option (List ℕ)) (x y : List ℕ) (t : Received) (ended : Bool) → (t ≡ received.OutOfMemory → ended ≡ true) → Receives a b x y t
     → Gathers a b x y ended
 gathers_taken a b x y received.OutOfMemory ended is took =
     let (kept, lost, parted, after) = took.held in
     record { kept = kept; lost = lost; consumed = subst (Consumes a b) parted took.consumed; held = after; whole = inr (is refl) }
-gathers_taken a b x y other ended is took = gathers_all a b x y took.came ended took.consumed took.held
+gathers_taken a b x y other ended is took =
+    let all = subst (Consumes a b) (sym (append-nil took.came)) took.consumed in
+    record { kept = took.came; lost = []; consumed = all; held = took.held; whole = inl refl }
 
 -- what goes on has not ended
 pub goes_on : (ended : Bool) → ended ≡ false → ended ≡ true → ⊥
@@ -64,21 +55,7 @@ gathers_then a b c x y z ended ended' goes first rest = record {
   whole = rest.whole;
 }
 
--- a reply was sent on, and nothing was received
-pub advances_sent : {S : Type 0} (contents remaining : S → Option (List ℕ)) (old new : CounterPeer S) (rests : Sent)
-    → SendsUnsent contents old.link new.link old.unsent new.unsent rests → new.came.items ≡ old.came.items → new.has_ended ≡ old.has_ended
-    → Advances contents remaining old new
-advances_sent contents remaining old new rests sent came ended = record {
-  between = new.link;
-  went = sent.went;
-  appended = sent.appended;
-  parted = sent.parted;
-  gathered = subst (λ (held : List ℕ). Gathers (remaining new.link) (remaining new.link) held new.came.items new.has_ended) came
-      (gathers_none (remaining new.link) new.came.items new.has_ended);
-  over = λ was. (came, ended ∙ was);
-}
-
--- a reply was sent on to its end, and then what came was received
+-- a reply was sent on, and then what came was received
 pub advances_taken : {S : Type 0} (contents remaining : S → Option (List ℕ)) (old new : CounterPeer S) (m : S) (u : Unsent) (rests : Sent)
     → SendsUnsent contents old.link m old.unsent u rests → new.unsent ≡ u
     → Gathers (remaining m) (remaining new.link) old.came.items new.came.items new.has_ended

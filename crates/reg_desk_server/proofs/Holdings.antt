@@ -50,7 +50,7 @@ sends_piece old new text at end count few appended = record {
   went = take count (drop at text);
   appended = subst (Appends old new) (take-take count (end - at) (drop at text) few) appended;
   parted = sym (take-append-drop count (drop at text)) ∙ ap (λ (l : List ℕ). take count (drop at text) ++ l) (drop-drop count at text);
-  all = tt;
+  all = λ is. let bad : ⊥ = cc in absurd bad;
 }
 
 -- the end of the first line, or none

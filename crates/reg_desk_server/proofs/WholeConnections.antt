@@ -14,7 +14,7 @@ use Rattle.reg_desk_server.specs.Connections.{FinishesOnce, HasServed, HasTold, 
 use Rattle.reg_desk_server.specs.CounterLines.{Deferring, Gathers, IsFresh, SameLines, SameLinkAndEnd, Telling, TellingLater}
 use Rattle.reg_desk_server.specs.Exchange.{Outcome, said, pending, later}
 use Rattle.reg_desk_server.specs.Stages.{Answering, Finishing, HasReceived, HoldsAnswer, HoldsRest, IsDraining, IsDropped, IsHeld, AwaitsSignature, KeepsSigning}
-use Rattle.reg_desk_server.specs.Unsent.{unsent_of}
+use Rattle.reg_desk_server.specs.Held.{unsent_of}
 use Rattle.reg_desk_server.specs.declared.counter_peer.CounterPeer.{CounterPeer}
 use Rattle.reg_desk_server.specs.declared.handler.Handler.{Ghosts}
 use Rattle.reg_desk_server.specs.declared.http_peer.HttpPeer.{HttpPeer}

@@ -8,7 +8,7 @@ use Rattle.reg_http_head.specs.Bytes.{collected_bytes}
 use Rattle.reg_desk_server.specs.Exchange.{Outcome, said, pending}
 use Rattle.reg_desk_server.specs.CounterLines.{Advances, SameLinkAndEnd}
 use Rattle.reg_desk_server.specs.Stages.{Drops, Sends, ReceivesMore}
-use Rattle.reg_desk_server.specs.Unsent.{unsent_of}
+use Rattle.reg_desk_server.specs.Held.{unsent_of}
 use Rattle.reg_desk_server.specs.declared.counter_peer.CounterPeer.{CounterPeer}
 use Rattle.reg_desk_server.specs.declared.handler.Handler.{Ghosts}
 use Rattle.reg_desk_server.specs.declared.http_peer.HttpPeer.{HttpPeer}
@@ -23,100 +23,84 @@ pub data SinceAccepted {S : Type 0} (contents remaining : S → Option (List ℕ
   more_went : (came gone more : List ℕ) (s t : S) → SinceAccepted contents remaining first came gone s → Appends (contents s) (contents t) more
       → SinceAccepted contents remaining first came (gone ++ more) t
 
--- other bytes, and then LF
-abbrev pub IsLineWithLf : List ℕ → Type 0
-IsLineWithLf line = (front : List ℕ) × (line ≡ front ++ 10 ∷ []) × All (λ byte. byte ≢ 10) front
-
--- this line was answered, and this is the handler's reply to it
+-- this line, which is other bytes and then LF, was answered, and this is the handler's reply to it
 abbrev pub IsToldBy : {H : Type 0} → (H → List ℕ → List ℕ → H → Type 0) → List ℕ → List ℕ → Type 0
-IsToldBy {H = H} tells line reply = IsLineWithLf line × ((s : H) × (t : H) × tells s line reply t)
+IsToldBy {H = H} tells line reply =
+    ((front : List ℕ) × (line ≡ front ++ 10 ∷ []) × All (λ byte. byte ≢ 10) front) × ((s : H) × (t : H) × tells s line reply t)
 
--- These lines of a control connection were answered, each once: the bytes that came are they, one after the other, and then what is held, of a
--- line that is not whole or is answered next. The bytes that went out, and behind them what is unsent, are their replies, in the same order,
--- each once. Nothing is lost but the last that came, where there was no memory for it, and then the connection has ended.
-pub record HasTold {S H : Type 0} (contents remaining : S → Option (List ℕ)) (tells : H → List ℕ → List ℕ → H → Type 0) (first : S)
-    (peer : CounterPeer S) (lines replies : List (List ℕ)) : Type 0 where
-  pub came : List ℕ
-  pub gone : List ℕ
-  pub lost : List ℕ
-  pub since : SinceAccepted contents remaining first came gone peer.link
-  pub told : came ≡ concat lines ++ peer.came.items ++ lost
-  pub answered : concat replies ≡ gone ++ unsent_of peer.unsent
-  pub each : AllZip (IsToldBy tells) lines replies
-  pub whole : (lost ≡ []) ⊎ (peer.has_ended ≡ true)
+module _ {S H : Type 0} (contents remaining : S → Option (List ℕ)) (tells : H → List ℕ → List ℕ → H → Type 0) where
+  -- These lines of a control connection were answered, each once: the bytes that came are they, one after the other, and then what is held,
+  -- of a line that is not whole or is answered next. The bytes that went out, and behind them what is unsent, are their replies, in the same
+  -- order, each once. Nothing is lost but the last that came, where there was no memory for it, and then the connection has ended.
+  pub record HasTold (first : S) (peer : CounterPeer S) (lines replies : List (List ℕ)) : Type 0 where
+    pub came : List ℕ
+    pub gone : List ℕ
+    pub lost : List ℕ
+    pub since : SinceAccepted contents remaining first came gone peer.link
+    pub told : came ≡ concat lines ++ peer.came.items ++ lost
+    pub answered : concat replies ≡ gone ++ unsent_of peer.unsent
+    pub each : AllZip (IsToldBy tells) lines replies
+    pub whole : (lost ≡ []) ⊎ (peer.has_ended ≡ true)
+
+  -- where a control connection goes on, the same lines were answered
+  abbrev pub TellsNoneAnew : Type 0
+  TellsNoneAnew =
+      (first : S) (old new : CounterPeer S) (lines replies : List (List ℕ)) → HasTold first old lines replies
+      → Advances contents remaining old new → HasTold first new lines replies
+
+  -- where a line may be answered, by a step of the handler and of the connection: one more was, and this is its reply; or none was, and the
+  -- handler did nothing
+  abbrev pub TellsOneAnew : (H → H → CounterPeer S → CounterPeer S → Type 0) → (H → H → CounterPeer S → Type 0) → Type 0
+  TellsOneAnew step rests =
+      (first : S) (s t : H) (old new : CounterPeer S) (lines replies : List (List ℕ))
+      → HasTold first old lines replies → SameLinkAndEnd old new → step s t old new
+      → ((line : List ℕ) × tells s line (unsent_of new.unsent) t
+      × HasTold first new (lines ++ line ∷ []) (replies ++ unsent_of new.unsent ∷ []))
+      ⊎ (rests s t old × HasTold first new lines replies)
 
 -- this text finishes what was left of an answer, as the handler finishes it at some time
 abbrev pub FinishesOnce : {H T : Type 0} → (H → T → List ℕ → Type 0) → T → List ℕ → Type 0
 FinishesOnce {H = H} finishes ticket text = (s : H) × finishes s ticket text
 
--- a front of what came was left to be signed, once, and what came behind it is dropped
-abbrev pub WasLeft : {H T : Type 0} → (H → List ℕ → Outcome T → H → Type 0) → List ℕ → T → Type 0
-WasLeft {H = H} answers came ticket =
-    (asked : List ℕ) × (dropped : List ℕ) × (came ≡ asked ++ dropped) × ((s : H) × (t : H) × answers s asked (pending ticket) t)
+module _ {H T : Type 0} (answers : H → List ℕ → Outcome T → H → Type 0) where
+  -- a front of what came was left to be signed, once, and what came behind it is dropped
+  abbrev pub WasLeft : List ℕ → T → Type 0
+  WasLeft came ticket =
+      (asked : List ℕ) × (dropped : List ℕ) × (came ≡ asked ++ dropped) × ((s : H) × (t : H) × answers s asked (pending ticket) t)
 
--- this text is what the handler said to these bytes, or finishes what it left of their answer
-abbrev pub IsAnsweredBy : {H T : Type 0} → (H → List ℕ → Outcome T → H → Type 0) → (T → List ℕ → Type 0) → List ℕ → List ℕ → Type 0
-IsAnsweredBy {H = H} {T = T} answers finishes asked text =
-    ((s : H) × (t : H) × answers s asked (said text) t)
-    ⊎ ((ticket : T) × finishes ticket text × ((s : H) × (t : H) × answers s asked (pending ticket) t))
+  -- a front of what came was answered by this text, once, and what came behind it is dropped: the handler said the text to it, or finished
+  -- by it what it had left
+  abbrev pub WasAnswered : (T → List ℕ → Type 0) → List ℕ → List ℕ → Type 0
+  WasAnswered finishes came text =
+      (asked : List ℕ) × (dropped : List ℕ) × (came ≡ asked ++ dropped)
+      × (((s : H) × (t : H) × answers s asked (said text) t)
+      ⊎ ((ticket : T) × finishes ticket text × ((s : H) × (t : H) × answers s asked (pending ticket) t)))
 
--- a front of what came was answered by this text, once, and what came behind it is dropped
-abbrev pub WasAnswered : {H T : Type 0} → (H → List ℕ → Outcome T → H → Type 0) → (T → List ℕ → Type 0) → List ℕ → List ℕ → Type 0
-WasAnswered answers finishes came text =
-    (asked : List ℕ) × (dropped : List ℕ) × (came ≡ asked ++ dropped) × IsAnsweredBy answers finishes asked text
+  -- by the bytes that came and that went out on an HTTP connection: until it is answered what came is held, but for what there was no
+  -- memory for, and nothing went out; from then on what went out, and behind it what is unsent, is its answer, and nothing else is
+  abbrev pub IsAnsweredOnce : (T → List ℕ → Type 0) → List ℕ → List ℕ → Stage T → Bool → Type 0
+  IsAnsweredOnce finishes came gone (stage.Receiving collected) ended =
+      (gone ≡ []) × (lost : List ℕ) × (came ≡ collected_bytes collected ++ lost) × ((lost ≡ []) ⊎ (ended ≡ true))
+  IsAnsweredOnce finishes came gone (stage.Signing ticket link exact) ended = (gone ≡ []) × WasLeft came ticket
+  IsAnsweredOnce finishes came gone (stage.Sending unsent exact) ended = WasAnswered finishes came (gone ++ unsent_of unsent)
+  IsAnsweredOnce finishes came gone stage.Draining ended = WasAnswered finishes came gone
 
--- by the bytes that came and that went out on an HTTP connection: until it is answered what came is held, but for what there was no memory
--- for, and nothing went out; from then on what went out, and behind it what is unsent, is its answer, and nothing else is
-abbrev pub IsAnsweredOnce
-    : {H T : Type 0} → (H → List ℕ → Outcome T → H → Type 0) → (T → List ℕ → Type 0) → List ℕ → List ℕ → Stage T → Bool → Type 0
-IsAnsweredOnce answers finishes came gone (stage.Receiving collected) ended =
-    (gone ≡ []) × (lost : List ℕ) × (came ≡ collected_bytes collected ++ lost) × ((lost ≡ []) ⊎ (ended ≡ true))
-IsAnsweredOnce answers finishes came gone (stage.Signing ticket link exact) ended = (gone ≡ []) × WasLeft answers came ticket
-IsAnsweredOnce answers finishes came gone (stage.Sending unsent exact) ended = WasAnswered answers finishes came (gone ++ unsent_of unsent)
-IsAnsweredOnce answers finishes came gone stage.Draining ended = WasAnswered answers finishes came gone
+module _ {S H T L : Type 0} (contents remaining : S → Option (List ℕ)) (g : Ghosts H T L) where
+  -- an HTTP connection of whose request no more is waited for, or more may come: it is answered once
+  pub record HasServed (first : S) (peer : HttpPeer S H T L) : Type 0 where
+    pub came : List ℕ
+    pub gone : List ℕ
+    pub since : SinceAccepted contents remaining first came gone peer.link
+    pub once : IsAnsweredOnce g.answers (FinishesOnce g.finishes) came gone peer.stage (is_some peer.fault)
 
--- an HTTP connection of whose request no more is waited for, or more may come: it is answered once
-pub record HasServed {S H T L : Type 0} (contents remaining : S → Option (List ℕ)) (g : Ghosts H T L) (first : S) (peer : HttpPeer S H T L)
-    : Type 0 where
-  pub came : List ℕ
-  pub gone : List ℕ
-  pub since : SinceAccepted contents remaining first came gone peer.link
-  pub once : IsAnsweredOnce g.answers (FinishesOnce g.finishes) came gone peer.stage (is_some peer.fault)
+  -- where an HTTP connection goes on, that stays so
+  abbrev pub ServesOn : Type 0
+  ServesOn =
+      (first : S) (old new : HttpPeer S H T L) → HasServed first old
+      → ReceivesMore remaining old new → Sends contents old new → Drops remaining old new → HasServed first new
 
--- ---- laws
-
--- where a control connection goes on, the same lines were answered
-abbrev pub TellsNoneAnew : {S H : Type 0} → (S → Option (List ℕ)) → (S → Option (List ℕ)) → (H → List ℕ → List ℕ → H → Type 0) → Type 0
-TellsNoneAnew {S = S} contents remaining tells =
-    (first : S) (old new : CounterPeer S) (lines replies : List (List ℕ)) → HasTold contents remaining tells first old lines replies
-    → Advances contents remaining old new → HasTold contents remaining tells first new lines replies
-
--- where a line may be answered, by a step of the handler and of the connection: one more was, and this is its reply; or none was, and the
--- handler did nothing
-abbrev pub TellsOneAnew
-    : {S H : Type 0}
-    → (S → Option (List ℕ))
-    → (S → Option (List ℕ))
-    → (H → List ℕ → List ℕ → H → Type 0)
-    → (H → H → CounterPeer S → CounterPeer S → Type 0)
-    → (H → H → CounterPeer S → Type 0)
-    → Type 0
-TellsOneAnew {S = S} {H = H} contents remaining tells step rests =
-    (first : S) (s t : H) (old new : CounterPeer S) (lines replies : List (List ℕ))
-    → HasTold contents remaining tells first old lines replies → SameLinkAndEnd old new → step s t old new
-    → ((line : List ℕ) × tells s line (unsent_of new.unsent) t
-    × HasTold contents remaining tells first new (lines ++ line ∷ []) (replies ++ unsent_of new.unsent ∷ []))
-    ⊎ (rests s t old × HasTold contents remaining tells first new lines replies)
-
--- where an HTTP connection goes on, that stays so
-abbrev pub ServesOn : {S H T L : Type 0} → (S → Option (List ℕ)) → (S → Option (List ℕ)) → Ghosts H T L → Type 0
-ServesOn {S = S} {H = H} {T = T} {L = L} contents remaining g =
-    (first : S) (old new : HttpPeer S H T L) → HasServed contents remaining g first old
-    → ReceivesMore remaining old new → Sends contents old new → Drops remaining old new → HasServed contents remaining g first new
-
--- what changes its stage alone keeps that, also where from then on no more of its request is waited for
-abbrev pub KeepsServed
-    : {S H T L : Type 0} → (S → Option (List ℕ)) → (S → Option (List ℕ)) → Ghosts H T L → (Stage T → Stage T → Type 0) → Type 0
-KeepsServed {S = S} {H = H} {T = T} {L = L} contents remaining g step =
-    (first : S) (old new : HttpPeer S H T L) → HasServed contents remaining g first old → new.link ≡ old.link → step old.stage new.stage
-    → (is_some old.fault ≡ true → is_some new.fault ≡ true) → HasServed contents remaining g first new
+  -- what changes its stage alone keeps that, also where from then on no more of its request is waited for
+  abbrev pub KeepsServed : (Stage T → Stage T → Type 0) → Type 0
+  KeepsServed step =
+      (first : S) (old new : HttpPeer S H T L) → HasServed first old → new.link ≡ old.link → step old.stage new.stage
+      → (is_some old.fault ≡ true → is_some new.fault ≡ true) → HasServed first new

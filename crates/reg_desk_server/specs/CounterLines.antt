@@ -2,7 +2,7 @@
 use Rattle.std.specs.Prelude.{◌≡◌, ℕ, Bool, true, false, List, [], ◌∷◌, ◌++◌, ◌⊎◌, Option, take, drop}
 use Rattle.std.specs.Io.KnownBytes.{Appends, Consumes}
 use Rattle.reg_io.specs.Mark.{FirstMark, HasNoMark}
-use Rattle.reg_desk_server.specs.Unsent.{unsent_of}
+use Rattle.reg_desk_server.specs.Held.{unsent_of}
 use Rattle.reg_desk_server.specs.declared.counter_peer.CounterPeer.{CounterPeer}
 use Rattle.reg_desk_server.specs.declared.receiving.Received.{Received}
 use Rattle.reg_desk_server.specs.declared.receiving.Received.TheVariants as received
@@ -15,46 +15,39 @@ HasNoLine bytes = HasNoMark (10 ∷ []) bytes
 abbrev pub FirstLineEnds : List ℕ → ℕ → Type 0
 FirstLineEnds bytes end = FirstMark (10 ∷ []) bytes end
 
--- it was just accepted: nothing came, and nothing goes out
-abbrev pub IsFresh : {S : Type 0} → CounterPeer S → Type 0
-IsFresh peer = (peer.came.items ≡ []) × (unsent_of peer.unsent ≡ []) × (peer.has_ended ≡ false)
+module _ {S : Type 0} where
+  -- it was just accepted: nothing came, and nothing goes out
+  abbrev pub IsFresh : CounterPeer S → Type 0
+  IsFresh peer = (peer.came.items ≡ []) × (unsent_of peer.unsent ≡ []) × (peer.has_ended ≡ false)
 
--- its link is as it was, and it has ended if it had
-abbrev pub SameLinkAndEnd : {S : Type 0} → CounterPeer S → CounterPeer S → Type 0
-SameLinkAndEnd old new = (new.link ≡ old.link) × (new.has_ended ≡ old.has_ended)
+  -- its link is as it was, and it has ended if it had
+  abbrev pub SameLinkAndEnd : CounterPeer S → CounterPeer S → Type 0
+  SameLinkAndEnd old new = (new.link ≡ old.link) × (new.has_ended ≡ old.has_ended)
 
--- where it has ended nothing more is held, and it stays so
-abbrev pub StaysEnded : {S : Type 0} → CounterPeer S → CounterPeer S → Type 0
-StaysEnded old new = old.has_ended ≡ true → (new.came.items ≡ old.came.items) × (new.has_ended ≡ true)
+  -- where it has ended nothing more is held, and it stays so
+  abbrev pub StaysEnded : CounterPeer S → CounterPeer S → Type 0
+  StaysEnded old new = old.has_ended ≡ true → (new.came.items ≡ old.came.items) × (new.has_ended ≡ true)
 
--- what came is held as it was, and so is what goes out
-abbrev pub SameLines : {S : Type 0} → CounterPeer S → CounterPeer S → Type 0
-SameLines old new = (new.came.items ≡ old.came.items) × (unsent_of new.unsent ≡ unsent_of old.unsent)
+  -- what came is held as it was, and so is what goes out
+  abbrev pub SameLines : CounterPeer S → CounterPeer S → Type 0
+  SameLines old new = (new.came.items ≡ old.came.items) × (unsent_of new.unsent ≡ unsent_of old.unsent)
 
--- The first line of what came was answered by this text, and is gone from what is held, where nothing of an older text was left; where
--- no line was whole, or something was left, nothing was answered.
-abbrev pub Telling : {H S : Type 0} → (H → List ℕ → List ℕ → H → Type 0) → H → H → CounterPeer S → CounterPeer S → Type 0
-Telling tells s t old new =
-    ((end : ℕ) × FirstLineEnds old.came.items end × (unsent_of old.unsent ≡ [])
-    × tells s (take end old.came.items) (unsent_of new.unsent) t × (new.came.items ≡ drop end old.came.items))
-    ⊎ ((unsent_of old.unsent ≡ [] → HasNoLine old.came.items) × (t ≡ s) × SameLines old new)
+module _ {H S : Type 0} where
+  -- The first line of what came was answered by this text, and is gone from what is held, where nothing of an older text was left; where
+  -- no line was whole, or something was left, nothing was answered.
+  abbrev pub Telling : (H → List ℕ → List ℕ → H → Type 0) → H → H → CounterPeer S → CounterPeer S → Type 0
+  Telling tells s t old new =
+      ((end : ℕ) × FirstLineEnds old.came.items end × (unsent_of old.unsent ≡ [])
+      × tells s (take end old.came.items) (unsent_of new.unsent) t × (new.came.items ≡ drop end old.came.items))
+      ⊎ ((unsent_of old.unsent ≡ [] → HasNoLine old.came.items) × (t ≡ s) × SameLines old new)
 
--- the first line of what came was looked at, and not answered; or none was looked at
-abbrev pub Deferring : {H S : Type 0} → (H → List ℕ → H → Type 0) → H → H → CounterPeer S → Type 0
-Deferring defers s t old =
-    ((end : ℕ) × FirstLineEnds old.came.items end × defers s (take end old.came.items) t) ⊎ (t ≡ s)
+  -- the first line of what came was looked at, and not answered; or none was looked at
+  abbrev pub Deferring : (H → List ℕ → H → Type 0) → H → H → CounterPeer S → Type 0
+  Deferring defers s t old = ((end : ℕ) × FirstLineEnds old.came.items end × defers s (take end old.came.items) t) ⊎ (t ≡ s)
 
--- the same line was then answered, as any is; or it was looked at once more, and all that is held is as it was
-abbrev pub TellingLater
-    : {H S : Type 0}
-    → (H → List ℕ → List ℕ → H → Type 0)
-    → (H → List ℕ → H → Type 0)
-    → H
-    → H
-    → CounterPeer S
-    → CounterPeer S
-    → Type 0
-TellingLater tells defers s t old new = Telling tells s t old new ⊎ (Deferring defers s t old × SameLines old new)
+  -- the same line was then answered, as any is; or it was looked at once more, and all that is held is as it was
+  abbrev pub TellingLater : (H → List ℕ → List ℕ → H → Type 0) → (H → List ℕ → H → Type 0) → H → H → CounterPeer S → CounterPeer S → Type 0
+  TellingLater tells defers s t old new = Telling tells s t old new ⊎ (Deferring defers s t old × SameLines old new)
 
 -- What came next on a connection is held behind what was, in its order and whole. Where memory is out the last of it may be lost,
 -- and then the connection has ended.

@@ -20,33 +20,18 @@ asked_in [] = zero
 asked_in (request bytes ∷ inputs) = suc (asked_in inputs)
 asked_in (line bytes ∷ inputs) = asked_in inputs
 
--- the relation of a handler before and after it to what came and what came of it: a line is answered at once, or only looked at
-abbrev pub Handles
-    : {S T : Type 0}
-    → (S → List ℕ → Outcome T → S → Type 0)
-    → (S → List ℕ → List ℕ → S → Type 0)
-    → (S → List ℕ → S → Type 0)
-    → S
-    → Input
-    → Outcome T
-    → S
-    → Type 0
-Handles answers tells defers s (request bytes) outcome t = answers s bytes outcome t
-Handles answers tells defers s (line bytes) (said text) t = tells s bytes text t
-Handles answers tells defers s (line bytes) (pending ticket) t = ⊥
-Handles answers tells defers s (line bytes) later t = defers s bytes t
+module _ {S T : Type 0} (answers : S → List ℕ → Outcome T → S → Type 0) (tells : S → List ℕ → List ℕ → S → Type 0) (defers : S → List ℕ → S → Type 0) where
+  -- the relation of a handler before and after it to what came and what came of it: a line is answered at once, or only looked at
+  abbrev pub Handles : S → Input → Outcome T → S → Type 0
+  Handles s (request bytes) outcome t = answers s bytes outcome t
+  Handles s (line bytes) (said text) t = tells s bytes text t
+  Handles s (line bytes) (pending ticket) t = ⊥
+  Handles s (line bytes) later t = defers s bytes t
 
--- s became t by these exchanges and nothing else, and their requests were counted; each that was left to be signed stands where its answer
--- was begun
-pub record Exchanged
-    {S T : Type 0}
-    (answers : S → List ℕ → Outcome T → S → Type 0)
-    (tells : S → List ℕ → List ℕ → S → Type 0)
-    (defers : S → List ℕ → S → Type 0)
-    (s t : S)
-    (made made' : ℕ)
-    : Type 0 where
-  pub inputs : List Input
-  pub outcomes : List (Outcome T)
-  pub run : Answered (Handles answers tells defers) s inputs outcomes t
-  pub counted : made' ≡ made + asked_in inputs
+  -- s became t by these exchanges and nothing else, and their requests were counted; each that was left to be signed stands where its
+  -- answer was begun
+  pub record Exchanged (s t : S) (made made' : ℕ) : Type 0 where
+    pub inputs : List Input
+    pub outcomes : List (Outcome T)
+    pub run : Answered Handles s inputs outcomes t
+    pub counted : made' ≡ made + asked_in inputs

@@ -3,7 +3,5 @@ pub mod CounterLines
 pub mod Exchange
 pub mod Handling
 pub mod Held
-pub mod Notes
 pub mod Outcomes
 pub mod Stages
-pub mod Unsent

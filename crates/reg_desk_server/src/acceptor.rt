@@ -13,7 +13,6 @@ use std::io;
 use std::io::ErrorKind;
 use std::net::SocketAddr;
 
-/// The most connections that are accepted in an iteration.
 const MOST_ACCEPTED: usize = 64;
 
 /// A listener, and the connection that it gave last.
@@ -26,16 +25,10 @@ pub(crate) struct Acceptor {
     may_have_more: bool,
     /// Whether it has one for sure: it was ready, and none was accepted since.
     has_more: bool,
-    /// How many connections were accepted.
     pub(crate) accepted: u64,
 }
 
 impl Acceptor {
-    /// An acceptor over a listener that does not wait.
-    ///
-    /// # Errors
-    ///
-    /// What the system says where the listener can't be polled.
     pub(crate) fn new(mut listener: TcpListener, poller: &Poller) -> io::Result<Acceptor>
         ensures { IfOk result (λ acceptor. acceptor.accepted ≡ 0) }
     {
@@ -49,7 +42,6 @@ impl Acceptor {
         })
     }
 
-    /// Notes that a connection waits to be accepted.
     pub(crate) fn note_ready(&mut self)
         ensures { self.new.has_more ≡ true }
     {
@@ -62,11 +54,8 @@ impl Acceptor {
         self.next.is_some() || (self.may_have_more && self.accepted < most)
     }
 
-    /// Accepts connections, as long as there are any, at most so many in all.
-    ///
-    /// # Errors
-    ///
-    /// [`HubFault`], where the system gives no connection and none is there whose end could help.
+    /// Accepts connections, as long as there are any, at most so many in all. It is a [`HubFault`] where the system gives none, and there
+    /// is none whose end could help.
     pub(crate) fn accept_all<H: Handler>(
         &mut self,
         most: u64,
@@ -77,10 +66,8 @@ impl Acceptor {
         ensures { self.old.accepted ≤ most → self.new.accepted ≤ most }
     {
         for _ in 0..MOST_ACCEPTED {
-            match self.accept(most, connections, shared, now) {
-                Ok(true) => {}
-                Ok(false) => return Ok(()),
-                Err(stopped) => return Err(stopped),
+            if !self.accept(most, connections, shared, now)? {
+                return Ok(());
             }
         }
         Ok(())
@@ -104,14 +91,15 @@ impl Acceptor {
         match self.next.take() {
             Some((link, peer)) => {
                 let connection = HttpPeer::new(shared.alloc, link, peer, self.accepted, now);
-                connections.add(connection, shared, now);
+                if let Some(slot) = connections.slots.free.pop() {
+                    connections.drive(slot, connection, shared, now);
+                }
                 Ok(true)
             }
             None => Ok(false),
         }
     }
 
-    /// Accepts the next connection, if there is one and none waits for a slot.
     fn accept_next<H: Handler>(
         &mut self,
         most: u64,
@@ -135,7 +123,6 @@ impl Acceptor {
         }
     }
 
-    /// No connection was accepted. One is evicted only if another one is waiting.
     fn after_fault<H: Handler>(
         &mut self,
         why: ErrorKind,

@@ -7,9 +7,8 @@ use crate::counter_peer::CounterPeer;
 use crate::handler::{Handler, HubFault, PeerFault};
 use crate::http_connections::SWEEP;
 use crate::http_peer::Next;
-use crate::lost_connections::LostConnection;
 use crate::poller::{CONTROL_LISTENER, FIRST_CONTROL, Poller};
-use crate::shared::Shared;
+use crate::shared::{LostConnection, Shared};
 use crate::signature_requests::PAUSE;
 use crate::slots::Slots;
 use crate::waiting_line::WaitingLine;
@@ -20,28 +19,20 @@ use std::io;
 use std::io::ErrorKind;
 use std::time::Duration;
 
-/// How many control connections there may be at once.
 const MOST_CONTROL_CONNECTIONS: usize = 8;
 
-/// The control connections, each in its slot.
 #[derive(Drop)]
 pub(crate) struct ControlConnections<H: Handler> {
     listener: Option<UnixListener>,
     pub(crate) slots: Slots<CounterPeer<UnixStream>>,
     /// The line that waits for a signature, if one does. Until it is answered no other line is.
     pub(crate) waiting: Option<WaitingLine<H>>,
-    /// Whether the listener may have one more connection.
     pub(crate) may_accept: bool,
     /// Whether a connection may have a line that was not answered yet.
     has_lines: bool,
 }
 
 impl<H: Handler> ControlConnections<H> {
-    /// No connection yet, where they come by a listener that does not wait, or not at all.
-    ///
-    /// # Errors
-    ///
-    /// What the system says where the listener can't be polled, and `OutOfMemory`.
     pub(crate) fn new(
         alloc: Global,
         mut listener: Option<UnixListener>,
@@ -60,7 +51,6 @@ impl<H: Handler> ControlConnections<H> {
         })
     }
 
-    /// Whether something is to be done without waiting: a line to be answered, or a connection to be accepted.
     pub(crate) fn is_ready(&self) -> bool {
         let has_work = match &self.waiting {
             Some(waiting) => waiting.has_ended(),
@@ -72,13 +62,12 @@ impl<H: Handler> ControlConnections<H> {
     /// How long may be waited at the longest, where a line waits for a signature.
     pub(crate) fn longest_wait(&self) -> Duration {
         match &self.waiting {
-            Some(waiting) if waiting.is_unconnected() => Duration::from_millis(PAUSE),
+            Some(waiting) if waiting.link.is_none() => Duration::from_millis(PAUSE),
             Some(_) => Duration::from_millis(SWEEP),
             None => Duration::MAX,
         }
     }
 
-    /// No line is answered any more.
     pub(crate) fn stop(&mut self) {
         self.has_lines = false;
         self.waiting = None;
@@ -93,13 +82,12 @@ impl<H: Handler> ControlConnections<H> {
             let Some(connection) = self.accept(shared.alloc) else {
                 return;
             };
-            if let Some(slot) = self.slots.reserve() {
+            if let Some(slot) = self.slots.free.pop() {
                 self.drive(slot, connection, shared);
             }
         }
     }
 
-    /// Accepts the next connection, if there is one.
     fn accept(&mut self, alloc: Global) -> Option<CounterPeer<UnixStream>> {
         let Some(listener) = &self.listener else {
             return None;
@@ -113,7 +101,6 @@ impl<H: Handler> ControlConnections<H> {
         }
     }
 
-    /// Goes on with the connection of a slot.
     pub(crate) fn advance(&mut self, slot: usize, shared: &mut Shared) {
         if let Some(connection) = self.slots.take(slot) {
             self.drive(slot, connection, shared);
@@ -127,7 +114,22 @@ impl<H: Handler> ControlConnections<H> {
                 self.has_lines = true;
                 self.slots.put(slot, connection);
             }
-            Next::Poll(interest) => self.poll_for(slot, connection, shared, interest),
+            Next::Poll(interest) => {
+                let token = slot.saturating_add(FIRST_CONTROL);
+                let CounterPeer {
+                    link,
+                    is_registered,
+                    ..
+                } = &mut connection;
+                if shared
+                    .poller
+                    .register_noted(link, token, interest, is_registered)
+                {
+                    self.slots.put(slot, connection);
+                } else {
+                    self.close(slot, connection);
+                }
+            }
             Next::Park => self.slots.put(slot, connection),
             Next::Close => {
                 if connection.unsent.len() > 0 {
@@ -139,29 +141,6 @@ impl<H: Handler> ControlConnections<H> {
         }
     }
 
-    /// Has a connection polled.
-    fn poll_for(
-        &mut self,
-        slot: usize,
-        mut connection: CounterPeer<UnixStream>,
-        shared: &Shared,
-        interest: Interest,
-    ) {
-        let token = slot.saturating_add(FIRST_CONTROL);
-        let is_polled = shared.poller.register_noted(
-            &mut connection.link,
-            token,
-            interest,
-            &mut connection.is_registered,
-        );
-        if is_polled {
-            self.slots.put(slot, connection);
-        } else {
-            self.close(slot, connection);
-        }
-    }
-
-    /// Closes a connection that was taken out of a slot.
     fn close(&mut self, slot: usize, connection: CounterPeer<UnixStream>)
         ensures { self.new.has_lines ≡ self.old.has_lines }
     {
@@ -170,10 +149,7 @@ impl<H: Handler> ControlConnections<H> {
     }
 
     /// Answers one line of each connection; or goes on with the one that waits for a signature, until which no other is answered.
-    ///
-    /// # Errors
-    ///
-    /// [`HubFault`], where the handler is.
+    #[tactic(auto, using(crate::proofs::Exchanges::exchanged_none))]
     pub(crate) fn tell_all(
         &mut self,
         shared: &mut Shared,
@@ -182,10 +158,17 @@ impl<H: Handler> ControlConnections<H> {
     ) -> Result<(), HubFault>
         ensures { ToldLines H.Handler handler.old handler.new }
     {
-        match self.waiting.take() {
-            Some(waiting) => self.go_on(waiting, shared, handler, now),
-            None => self.tell_lines(shared, handler, now),
+        if let Some(waiting) = self.waiting.take() {
+            return self.go_on(waiting, shared, handler, now);
         }
+        if !self.has_lines {
+            return Ok(());
+        }
+        self.has_lines = false;
+        for slot in 0..MOST_CONTROL_CONNECTIONS {
+            self.tell_at(slot, shared, handler, now)?;
+        }
+        Ok(())
     }
 
     /// Goes on with a line that waits for a signature, and answers it where it waits no more.
@@ -207,24 +190,6 @@ impl<H: Handler> ControlConnections<H> {
         }
         waiting.begin(handler, &shared.poller);
         self.waiting = Some(waiting);
-        Ok(())
-    }
-
-    /// Answers one line of each connection.
-    #[tactic(auto, using(crate::proofs::Exchanges::exchanged_none))]
-    fn tell_lines(&mut self, shared: &mut Shared, handler: &mut H, now: u64) -> Result<(), HubFault>
-        ensures { ToldLines H.Handler handler.old handler.new }
-    {
-        if !self.has_lines {
-            return Ok(());
-        }
-        self.has_lines = false;
-        for slot in 0..MOST_CONTROL_CONNECTIONS {
-            match self.tell_at(slot, shared, handler, now) {
-                Ok(()) => {}
-                Err(stopped) => return Err(stopped),
-            }
-        }
         Ok(())
     }
 

@@ -1,12 +1,10 @@
 //! One control connection, whose lines are answered in turn.
 
 ghost use Rattle.std.specs.Prelude.{◌≡◌, ◌≤◌, ◌⊎◌, [], length, drop, Some, false, MatchOption, IfNone, OnOk, OnErr};
-ghost use Rattle.reg_desk_server.specs.Held.{AddsTo, Receives};
+ghost use Rattle.reg_desk_server.specs.Held.{AddsTo, Receives, unsent_of};
 ghost use Rattle.reg_desk_server.specs.CounterLines.{Advances, Deferring, FirstLineEnds, GathersOn, HasNoLine, IsFresh, SameLinkAndEnd, StaysEnded, Telling, TellingLater, ends_by};
-ghost use Rattle.reg_desk_server.specs.Unsent.{unsent_of};
 
-use crate::given::Deferred;
-use crate::handler::{Handler, HubFault};
+use crate::handler::{Deferred, Handler, HubFault};
 use crate::http_peer::Next;
 use crate::link::Link;
 use crate::receiving::Received;
@@ -17,16 +15,13 @@ use reg_io::first_mark;
 use std::alloc::Global;
 use std::io::{ErrorKind, Read};
 
-/// The most bytes of a line, with its LF.
 const LONGEST_LINE: usize = 8_194;
 
-/// The most reads of a control connection in an iteration.
 const MOST_READS: usize = 4;
 
 /// How often a line is looked at before it is answered, at the most: then it is answered as it is, and its signer is waited for.
 const MOST_LOOKS: u32 = 3;
 
-/// A control connection.
 #[derive(Drop)]
 pub struct CounterPeer<S: Link> {
     pub(crate) link: S,
@@ -36,11 +31,10 @@ pub struct CounterPeer<S: Link> {
     pub(crate) is_registered: bool,
     /// How often the first line was looked at, and is not answered yet.
     pub(crate) looks: u32,
-    /// What the handler notes of this connection.
     pub(crate) noted: Vec<u8>,
 }
 
-/// Where the first line ends, behind its LF.
+#[tactic(auto, using(crate::proofs::Holdings::found_or_none))]
 fn line_end(bytes: &[u8]) -> Option<usize>
     ensures { MatchOption result (HasNoLine bytes.now) (λ end. FirstLineEnds bytes.now end) }
 {
@@ -48,7 +42,6 @@ fn line_end(bytes: &[u8]) -> Option<usize>
 }
 
 impl<S: Link> CounterPeer<S> {
-    /// A connection that was accepted.
     pub fn new(alloc: Global, link: S) -> CounterPeer<S>
         ensures link { result.link ≡ link }
         ensures fresh { IsFresh result }
@@ -64,7 +57,6 @@ impl<S: Link> CounterPeer<S> {
         }
     }
 
-    /// Goes on as far as the connection does without waiting.
     pub fn advance(&mut self, room: &mut [u8]) -> Next
         ensures advances { Advances S.Write.contents S.Read.remaining self.old self.new }
 
@@ -116,7 +108,7 @@ impl<S: Link> CounterPeer<S> {
         }
     }
 
-    /// Receives what one read gives; whether more may have come.
+    /// Whether more may have come behind what one read gave.
     fn receive_once(&mut self, room: &mut [u8]) -> bool
         ensures gathers { GathersOn S.Read.remaining self.old self.new }
         ensures unsent { self.new.unsent ≡ self.old.unsent }
@@ -127,7 +119,6 @@ impl<S: Link> CounterPeer<S> {
         !matches!(received, Received::Blocked)
     }
 
-    /// Where the first line ends, if one is whole and the reply before it was sent.
     fn due_line(&self) -> Option<usize>
         ensures { MatchOption result (unsent_of self.now.unsent ≡ [] → HasNoLine self.now.came.items)
             (λ end. (unsent_of self.now.unsent ≡ []) × FirstLineEnds self.now.came.items end) }
@@ -139,10 +130,6 @@ impl<S: Link> CounterPeer<S> {
     }
 
     /// Answers the first line, if one is whole and the reply before it was sent.
-    ///
-    /// # Errors
-    ///
-    /// [`HubFault`], and nothing was answered.
     pub fn tell<H: Handler>(&mut self, handler: &mut H) -> Result<(), HubFault>
         ensures ok { OnOk result (Telling H.tells handler.old handler.new self.old self.new) }
         ensures kept { SameLinkAndEnd self.old self.new }
@@ -158,7 +145,6 @@ impl<S: Link> CounterPeer<S> {
         }
     }
 
-    /// Holds the reply to the first line, which ends here, and drops the line.
     fn reply(&mut self, text: Vec<u8>, end: usize)
         requires { end ≤ length self.old.came.items }
         ensures reply { unsent_of self.new.unsent ≡ text.items }
@@ -169,10 +155,7 @@ impl<S: Link> CounterPeer<S> {
         drop_front(&mut self.came, end);
         self.looks = 0;
     }
-}
 
-/// A line for which something is to be signed.
-impl<S: Link> CounterPeer<S> {
     /// Looks at the first line, once the reply before it was sent: what is to be signed before it is answered. `None` where none is whole,
     /// where it is answered at once, and where it was looked at often enough.
     pub fn defer<H: Handler>(&mut self, handler: &mut H) -> Option<Deferred<H::Line>>
@@ -195,10 +178,6 @@ impl<S: Link> CounterPeer<S> {
 
     /// Answers the first line, which was looked at, with what came on a connection for what is to be signed, or without it; or has it looked
     /// at once more.
-    ///
-    /// # Errors
-    ///
-    /// [`HubFault`], and nothing was answered.
     pub fn tell_deferred<H: Handler>(
         &mut self,
         handler: &mut H,
@@ -230,7 +209,6 @@ impl<S: Link> CounterPeer<S> {
     }
 }
 
-/// Receives what one read gives.
 fn gather<R: Read>(reader: &mut R, held: &mut Vec<u8>, room: &mut [u8]) -> Received
     ensures receives { Receives (R.remaining reader.old) (R.remaining reader.new)
         held.old.items held.new.items result }
@@ -247,7 +225,6 @@ fn gather<R: Read>(reader: &mut R, held: &mut Vec<u8>, room: &mut [u8]) -> Recei
     }
 }
 
-/// Holds bytes that came behind the others.
 fn hold(held: &mut Vec<u8>, came: &[u8]) -> Received
     ensures adds { AddsTo held.old.items came.now held.new.items result }
     ensures goes { ¬ (result ≡ Received.Blocked) }
@@ -258,7 +235,6 @@ fn hold(held: &mut Vec<u8>, came: &[u8]) -> Received
     }
 }
 
-/// Whether nothing more comes where receiving ended so.
 fn is_end(received: Received) -> bool
     ensures { result ≡ ends_by received }
 {
@@ -272,7 +248,6 @@ fn is_end(received: Received) -> bool
     }
 }
 
-/// Drops so many bytes from the front.
 fn drop_front(bytes: &mut Vec<u8>, count: usize)
     requires { count ≤ length bytes.old.items }
     ensures { bytes.new.items ≡ drop count bytes.old.items }

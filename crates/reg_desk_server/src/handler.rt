@@ -1,10 +1,5 @@
 //! The handler, which answers requests and lines.
 
-ghost use Rattle.std.specs.Prelude.{◌≡◌, ◌+◌, IfOk, OnOk, OnErr};
-ghost use Rattle.reg_http_head.specs.Bytes.{collected_bytes};
-ghost use Rattle.reg_desk_server.specs.Outcomes.{outcome_of};
-
-use crate::given::Deferred;
 use reg_crl_signer::Asking;
 use reg_http_head::Collected;
 use reg_io::Begun;
@@ -18,7 +13,7 @@ pub struct HubFault;
 /// Why a connection ended by a fault.
 #[derive(Clone, Copy, Debug, PartialEq, Eq)]
 pub enum PeerFault {
-    /// It failed: the client broke it off, or it can't be polled.
+    /// The client broke it off, or it can't be polled.
     Broken,
     /// Its time was over: its request was not whole, or its answer not taken.
     Late,
@@ -28,15 +23,19 @@ pub enum PeerFault {
     Memory,
 }
 
-/// How many connections there are.
+/// How many connections there are, and how many HTTP connections were accepted up to now.
 #[derive(Clone, Copy, Debug, PartialEq, Eq)]
 pub struct Crowd {
-    /// How many HTTP connections there are.
     pub peers: usize,
-    /// How many control connections there are.
     pub counters: usize,
-    /// How many HTTP connections were accepted up to now.
     pub accepted: u64,
+}
+
+/// What is to be signed before a line of a control connection is answered, and what is kept of the line until then.
+#[derive(Drop)]
+pub struct Deferred<T> {
+    pub message: Vec<u8>,
+    pub ticket: T,
 }
 
 /// Answers requests and lines, one after the other. A signature for an answer or for a line is requested while others are answered.
@@ -65,12 +64,7 @@ pub trait Handler {
     // This text finishes what was left of an answer, as the handler finishes it.
     ghost finishes: { Self → Self.Ticket → List ℕ → Type 0 };
 
-    /// Answers what came from the client at an address, or leaves what is to be signed for the answer. Where that is no whole request, the
-    /// text may be empty.
-    ///
-    /// # Errors
-    ///
-    /// [`HubFault`], and the handler is as it was.
+    /// Answers what came from the client at an address, or leaves what is to be signed. The text for no whole request may be empty.
     fn answer(
         &mut self,
         peer: SocketAddr,
@@ -80,46 +74,29 @@ pub trait Handler {
             answers self.old (collected_bytes request.now) (outcome_of begun) self.new) }
         ensures err { OnErr result (self.new ≡ self.old) };
 
-    /// Requests the signature of what was left, and waits for nothing: the connection on which it will come, up to its end.
-    ///
-    /// # Errors
-    ///
-    /// `WouldBlock` where the signer has no room for one more; what else the system says where it can't be asked.
+    /// Requests the signature of what was left, and waits for nothing: the connection on which it will come, up to its end. An error
+    /// is `WouldBlock` where the signer has no room for one more.
     fn ask(&self, ticket: &Self::Ticket) -> io::Result<Asking>;
 
-    /// The text that finishes what was left: with what came on the connection on which its signature was requested, which is at its end; or
-    /// without a signature.
+    /// The text that finishes what was left: with what came on the connection on which its signature was requested, which is at its
+    /// end; or without a signature.
     fn finish(&self, ticket: Self::Ticket, link: Option<Asking>) -> Vec<u8>
         ensures { finishes self.now ticket result.items };
 
     /// Answers one line of a control connection. What is noted of that connection is written here alone, and is empty where it begins.
-    ///
-    /// # Errors
-    ///
-    /// [`HubFault`], and the handler and what is noted are as they were.
     fn tell(&mut self, line: &[u8], noted: &mut Vec<u8>) -> Result<Vec<u8>, HubFault>
         ensures ok { IfOk result (λ text. tells self.old line.now text.items self.new) }
         ensures err { OnErr result ((self.new ≡ self.old) × (noted.new ≡ noted.old)) };
 
-    /// Looks at a line of a control connection before it is answered: what is to be signed for it, where the signer would be waited for.
-    /// `None` where no signer is waited for.
+    /// Looks at a line before it is answered: what is to be signed for it, or `None` where no signer would be waited for.
     fn defer(&mut self, line: &[u8]) -> Option<Deferred<Self::Line>>
         ensures { defers self.old line.now self.new };
 
-    /// Connects to the signer for a line, and waits for nothing.
-    ///
-    /// # Errors
-    ///
-    /// `WouldBlock` where the signer has no room for one more; what else the system says where it can't be connected to.
+    /// Connects to the signer for a line, and waits for nothing. An error is `WouldBlock` where the signer has no room for one more.
     fn reach(&self, ticket: &Self::Line) -> io::Result<Asking>;
 
-    /// Answers a line that was looked at: with what came on the connection on which its message went out, which is at its end; or without a
-    /// signature. `None` where what is to be signed for it is another message by now: nothing is answered then, and it is to be looked at
-    /// again.
-    ///
-    /// # Errors
-    ///
-    /// [`HubFault`], and the handler and what is noted are as they were.
+    /// Answers a line that was looked at: with what came on the connection on which its message went out, which is at its end; or
+    /// without a signature. `None` where another message is to be signed by now: the line is to be looked at again.
     fn tell_deferred(
         &mut self,
         line: &[u8],
@@ -131,29 +108,9 @@ pub trait Handler {
             (λ text. tells self.old line.now text.items self.new)) }
         ensures err { OnErr result ((self.new ≡ self.old) × (noted.new ≡ noted.old)) };
 
-    /// Is told that the connection from an address ended by a fault; a control connection has no address. Nothing changes by it.
+    /// Is told that the connection from an address ended by a fault; a control connection has no address.
     fn lose(&self, peer: Option<SocketAddr>, why: PeerFault);
 
-    /// Is told how many connections there are, before it answers any in an iteration. Nothing changes by it.
+    /// Is told how many connections there are, before it answers any in an iteration.
     fn hold(&self, crowd: Crowd);
-}
-
-/// Answers what came from one client, and counts it.
-pub(crate) fn answer_one<H: Handler>(
-    handler: &mut H,
-    made: &mut u64,
-    peer: SocketAddr,
-    request: &Collected,
-) -> Result<Begun<Vec<u8>, H::Ticket>, HubFault>
-    ensures ok { IfOk result (λ begun.
-        H.answers handler.old (collected_bytes request.now) (outcome_of begun) handler.new) }
-    ensures counted { OnOk result (made.new ≡ made.old + 1) }
-    ensures err { OnErr result ((handler.new ≡ handler.old) × (made.new ≡ made.old)) }
-{
-    let Some(count) = made.checked_add(1) else {
-        return Err(HubFault);
-    };
-    let begun = handler.answer(peer, request)?;
-    *made = count;
-    Ok(begun)
 }

@@ -1,17 +1,14 @@
 //! The HTTP connections, each in its slot.
 
 ghost use Rattle.std.specs.Prelude.{◌≡◌, ◌+◌, ◌-◌, ◌^◌, min, [], IfOk};
-ghost use Rattle.reg_desk_server.specs.Notes.{Notes};
+ghost use Rattle.reg_desk_server.specs.Held.{Notes};
 
 use crate::handler::{Handler, PeerFault};
 use crate::http_peer::{HttpPeer, Next};
-use crate::lost_connections::LostConnection;
 use crate::poller::{FIRST_HTTP, Poller};
-use crate::selection::Selection;
-use crate::shared::Shared;
+use crate::shared::{LostConnection, Shared};
 use crate::signature_requests::Requester;
 use crate::slots::Slots;
-use mio::Interest;
 use mio::net::TcpStream;
 use std::alloc::{AllocError, Global};
 use std::io;
@@ -20,26 +17,39 @@ use std::io::ErrorKind;
 /// How many HTTP connections there may be at once: with what else a program has open, that fits the usual limit of 1,024 descriptors.
 pub const MOST_HTTP_PEERS: usize = 1_000;
 
-/// The most bytes of answers that are not sent yet.
 const MOST_UNSENT: usize = 67_108_864;
 
 /// How many milliseconds pass between two looks for connections whose time is over.
 pub(crate) const SWEEP: u64 = 250;
 
-/// The HTTP connections, each in its slot.
+/// Which connections may be evicted: those without an answer, those with one, or those whose answer is not sent yet, but for one slot.
+#[derive(Clone, Copy)]
+enum Selection {
+    Unanswered,
+    Answered,
+    UnsentBut(usize),
+}
+
+impl Selection {
+    fn takes<H: Handler>(self, connection: &HttpPeer<TcpStream, H>, slot: usize) -> bool {
+        match self {
+            Selection::Unanswered => !connection.has_answer(),
+            Selection::Answered => connection.has_answer(),
+            Selection::UnsentBut(newest) => connection.unsent() > 0 && slot != newest,
+        }
+    }
+}
+
 #[derive(Drop)]
 pub(crate) struct HttpConnections<H: Handler> {
     pub(crate) slots: Slots<HttpPeer<TcpStream, H>>,
     /// Those that are to be answered in this iteration.
     pub(crate) due: Vec<usize>,
-    /// How many bytes of the answers are not sent yet.
     unsent: usize,
-    /// When the times were looked at last.
     swept: u64,
 }
 
 impl<H: Handler> HttpConnections<H> {
-    /// So many free slots.
     pub(crate) fn new(alloc: Global, count: usize) -> Result<HttpConnections<H>, AllocError>
         ensures { IfOk result (λ connections. connections.due.items ≡ []) }
     {
@@ -53,30 +63,13 @@ impl<H: Handler> HttpConnections<H> {
         })
     }
 
-    /// Counts the bytes of an answer that are not sent yet: so many before, and so many now.
     pub(crate) fn count_unsent(&mut self, before: usize, after: usize)
         ensures count { self.new.unsent ≡ min (self.old.unsent - before + after) (2 ^ 64 - 1) }
         ensures due { self.new.due ≡ self.old.due }
     {
         self.unsent = self.unsent.saturating_sub(before).saturating_add(after);
     }
-}
 
-/// How they go on.
-impl<H: Handler> HttpConnections<H> {
-    /// Puts a connection into a free slot, and goes on with it: most requests are whole when it was accepted.
-    pub(crate) fn add(
-        &mut self,
-        connection: HttpPeer<TcpStream, H>,
-        shared: &mut Shared,
-        now: u64,
-    ) {
-        if let Some(slot) = self.slots.reserve() {
-            self.drive(slot, connection, shared, now);
-        }
-    }
-
-    /// Goes on with the connection of a slot.
     pub(crate) fn advance(&mut self, slot: usize, shared: &mut Shared, now: u64) {
         if let Some(connection) = self.slots.take(slot) {
             self.drive(slot, connection, shared, now);
@@ -96,44 +89,33 @@ impl<H: Handler> HttpConnections<H> {
         self.count_unsent(before, connection.unsent());
         match next {
             Next::Due => self.put_due(slot, connection),
-            Next::Poll(interest) => self.poll_for(slot, connection, shared, interest),
+            Next::Poll(interest) => {
+                let token = slot.saturating_add(FIRST_HTTP);
+                let HttpPeer {
+                    link,
+                    is_registered,
+                    ..
+                } = &mut connection;
+                if shared
+                    .poller
+                    .register_noted(link, token, interest, is_registered)
+                {
+                    self.slots.put(slot, connection);
+                } else {
+                    self.close(slot, connection, shared, PeerFault::Broken);
+                }
+            }
             Next::Park => self.slots.put(slot, connection),
             Next::Close => self.close(slot, connection, shared, PeerFault::Broken),
         }
     }
 
-    /// Puts back a connection that is to be answered.
     fn put_due(&mut self, slot: usize, connection: HttpPeer<TcpStream, H>)
         ensures { Notes slot self.old.due.items self.new.due.items }
     {
         self.slots.put(slot, connection);
-        match self.due.push(slot) {
-            Ok(()) => {}
-            // Where there is no memory for it, the end of its time comes again.
-            Err(_) => {}
-        }
-    }
-
-    /// Has a connection polled.
-    fn poll_for(
-        &mut self,
-        slot: usize,
-        mut connection: HttpPeer<TcpStream, H>,
-        shared: &mut Shared,
-        interest: Interest,
-    ) {
-        let token = slot.saturating_add(FIRST_HTTP);
-        let is_polled = shared.poller.register_noted(
-            &mut connection.link,
-            token,
-            interest,
-            &mut connection.is_registered,
-        );
-        if is_polled {
-            self.slots.put(slot, connection);
-        } else {
-            self.close(slot, connection, shared, PeerFault::Broken);
-        }
+        // Where there is no memory for it, the end of its time comes again.
+        let _ = self.due.push(slot);
     }
 
     /// Closes a connection that was taken out of a slot. Why is reported where its answer is not sent, and no fault was reported of it
@@ -156,35 +138,26 @@ impl<H: Handler> HttpConnections<H> {
         drop(connection);
         self.slots.release(slot);
     }
-}
 
-/// Those that are closed for others, or whose time is over.
-impl<H: Handler> HttpConnections<H> {
     /// Closes one connection for others: the oldest that has its answer, or else the oldest, which is answered first as it is, unless its
     /// answer is left to be signed.
     pub(crate) fn evict(&mut self, shared: &mut Shared) {
-        if let Some(slot) = self.oldest(Selection::Answered) {
-            self.expire(slot, shared, PeerFault::Crowded);
-            return;
-        }
-        let Some(slot) = self.oldest(Selection::Unanswered) else {
+        let answered = self.oldest(Selection::Answered);
+        let Some(slot) = answered.or(self.oldest(Selection::Unanswered)) else {
             return;
         };
         if let Some(mut connection) = self.slots.take(slot) {
             if connection.is_receiving() {
                 connection.fault = Some(PeerFault::Crowded);
-                self.put_due(slot, connection);
-            } else {
-                self.close(slot, connection, shared, PeerFault::Crowded);
             }
+            self.expire(slot, connection, shared, PeerFault::Crowded);
         }
     }
 
-    /// The slot of the oldest of those that meet a criterion.
     fn oldest(&self, selection: Selection) -> Option<usize> {
         let mut found = None;
         let mut least = u64::MAX;
-        for slot in 0..self.slots.count() {
+        for slot in 0..self.slots.held.len() {
             let number = self.number_at(slot, selection);
             if number < least {
                 least = number;
@@ -208,29 +181,29 @@ impl<H: Handler> HttpConnections<H> {
             return;
         }
         self.swept = now;
-        for slot in 0..self.slots.count() {
-            if self.is_late(slot, now) {
-                self.expire(slot, shared, PeerFault::Late);
+        for slot in 0..self.slots.held.len() {
+            match self.slots.take(slot) {
+                Some(connection) if connection.is_late(now) => {
+                    self.expire(slot, connection, shared, PeerFault::Late);
+                }
+                Some(connection) => self.slots.put(slot, connection),
+                None => {}
             }
         }
     }
 
-    /// Whether the time of the connection of a slot is over.
-    fn is_late(&self, slot: usize, now: u64) -> bool {
-        match self.slots.get(slot) {
-            Some(connection) => connection.is_late(now),
-            None => false,
-        }
-    }
-
-    /// Ends the time of the connection of a slot.
-    fn expire(&mut self, slot: usize, shared: &mut Shared, why: PeerFault) {
-        if let Some(connection) = self.slots.take(slot) {
-            if connection.is_receiving() {
-                self.put_due(slot, connection);
-            } else {
-                self.close(slot, connection, shared, why);
-            }
+    /// Ends the time of a connection that was taken out of a slot.
+    fn expire(
+        &mut self,
+        slot: usize,
+        connection: HttpPeer<TcpStream, H>,
+        shared: &mut Shared,
+        why: PeerFault,
+    ) {
+        if connection.is_receiving() {
+            self.put_due(slot, connection);
+        } else {
+            self.close(slot, connection, shared, why);
         }
     }
 
@@ -240,21 +213,21 @@ impl<H: Handler> HttpConnections<H> {
             if self.unsent <= MOST_UNSENT {
                 return;
             }
-            match self.oldest(Selection::UnsentBut(newest)) {
-                Some(slot) => self.expire(slot, shared, PeerFault::Crowded),
-                None => return,
+            let Some(slot) = self.oldest(Selection::UnsentBut(newest)) else {
+                return;
+            };
+            if let Some(connection) = self.slots.take(slot) {
+                self.expire(slot, connection, shared, PeerFault::Crowded);
             }
         }
     }
 
-    /// Closes all that still receive.
     pub(crate) fn close_all(&mut self, shared: &mut Shared) {
-        for slot in 0..self.slots.count() {
+        for slot in 0..self.slots.held.len() {
             self.close_unanswered(slot, shared);
         }
     }
 
-    /// Closes those that are due.
     pub(crate) fn close_due(&mut self, shared: &mut Shared)
         ensures { self.new.due.items ≡ [] }
     {
@@ -266,7 +239,6 @@ impl<H: Handler> HttpConnections<H> {
         self.due.clear();
     }
 
-    /// Closes the connection of a slot, if it still receives.
     fn close_unanswered(&mut self, slot: usize, shared: &mut Shared) {
         if let Some(connection) = self.slots.take(slot) {
             if connection.is_receiving() {
@@ -276,10 +248,7 @@ impl<H: Handler> HttpConnections<H> {
             }
         }
     }
-}
 
-/// Those whose answers are left to be signed.
-impl<H: Handler> HttpConnections<H> {
     /// Whether the requester of a signature still waits for it.
     pub(crate) fn is_waiting(&self, requester: Requester) -> bool {
         match self.slots.get(requester.slot) {
@@ -288,8 +257,7 @@ impl<H: Handler> HttpConnections<H> {
         }
     }
 
-    /// Takes the requester of a signature out of its slot, if it still waits for it.
-    fn take_waiting(&mut self, requester: Requester) -> Option<HttpPeer<TcpStream, H>> {
+    pub(crate) fn take_waiting(&mut self, requester: Requester) -> Option<HttpPeer<TcpStream, H>> {
         if self.is_waiting(requester) {
             self.slots.take(requester.slot)
         } else {
@@ -297,11 +265,6 @@ impl<H: Handler> HttpConnections<H> {
         }
     }
 
-    /// Requests the signature for which a requester waits; it will come under a token.
-    ///
-    /// # Errors
-    ///
-    /// As [`HttpPeer::ask`].
     pub(crate) fn ask(
         &mut self,
         requester: Requester,
@@ -316,23 +279,6 @@ impl<H: Handler> HttpConnections<H> {
                 asked
             }
             None => Err(io::Error::from(ErrorKind::NotConnected)),
-        }
-    }
-
-    /// Finishes the answer for which a requester waits, with its signature where that has come, and sends it on.
-    pub(crate) fn complete(
-        &mut self,
-        requester: Requester,
-        has_come: bool,
-        handler: &H,
-        shared: &mut Shared,
-        now: u64,
-    ) {
-        if let Some(mut connection) = self.take_waiting(requester) {
-            connection.complete(handler, has_come, now);
-            self.count_unsent(0, connection.unsent());
-            self.drive(requester.slot, connection, shared, now);
-            self.limit_unsent(requester.slot, shared);
         }
     }
 

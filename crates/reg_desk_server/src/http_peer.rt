@@ -1,10 +1,10 @@
 //! One HTTP connection, whose request is answered once.
 
-ghost use Rattle.std.specs.Prelude.{◌≡◌, ◌≤◌, ◌+◌, [], OnOk, OnErr, is_some, IsSome, false};
+ghost use Rattle.std.specs.Prelude.{◌≡◌, ◌≤◌, ◌+◌, [], OnOk, OnErr, is_some, IsSome, IfNone, false};
 ghost use Rattle.reg_desk_server.specs.Handling.{Handled};
 ghost use Rattle.reg_desk_server.specs.Stages.{Answering, Drops, Finishing, HasReceived, HoldsAnswer, IsDropped, KeepsSigning, ReceivesMore, SameLinkAndFault, Sends};
 
-use crate::handler::{Handler, HubFault, PeerFault, answer_one};
+use crate::handler::{Handler, HubFault, PeerFault};
 use crate::link::Link;
 use crate::poller::Poller;
 use crate::receiving::{Received, receive};
@@ -24,76 +24,26 @@ const PATIENCE: u64 = 30_000;
 /// How many milliseconds what a client still sends is dropped, once it has its answer.
 const LINGER: u64 = 1_000;
 
-/// The most reads of what is dropped in an iteration.
 const MOST_DROPPED: usize = 32;
 
 /// How far a connection is.
 #[derive(Drop)]
 pub(crate) enum Stage<T> {
-    /// The request comes in.
     Receiving(Collected),
-    /// The request came, and this is left to be signed for its answer; the connection on which the signature was requested, once it was;
-    /// whether the connection is closed at once when the answer was sent.
+    /// This is left to be signed for the answer; the connection on which the signature was requested; whether to close once it was sent.
     Signing(T, Option<Asking>, bool),
-    /// The answer goes out; whether the connection is closed at once then.
+    /// The answer goes out; whether to close at once then.
     Sending(Unsent, bool),
-    /// The client has the answer, and what it still sends is dropped.
     Draining,
 }
 
-/// What is to be done with a connection next.
+/// What is to be done with a connection next: answer it, poll it, keep it unpolled, or close it.
 #[derive(Clone, Copy)]
 pub enum Next {
-    /// Answer it: no more of its request is waited for.
     Due,
-    /// Poll it.
     Poll(Interest),
-    /// Keep it, unpolled.
     Park,
-    /// Close it.
     Close,
-}
-
-/// What is to be done with a connection once its answer was sent on.
-#[derive(Clone, Copy)]
-enum AfterSending {
-    /// The client takes no more of it yet.
-    Blocked,
-    /// The client has it, and may still send.
-    Finished,
-    /// The client has it and sends no more, or is gone.
-    Close,
-}
-
-/// What is to be done where receiving ended so.
-fn after_receiving(received: Received) -> Next {
-    match received {
-        Received::Whole | Received::Ended | Received::Broken | Received::OutOfMemory => Next::Due,
-        Received::Blocked | Received::More => Next::Poll(Interest::READABLE),
-    }
-}
-
-/// The fault by which receiving ended so, if there is one.
-fn fault_of(received: Received) -> Option<PeerFault>
-    ensures { received ≡ Received.OutOfMemory → IsSome result }
-{
-    match received {
-        Received::Broken => Some(PeerFault::Broken),
-        Received::OutOfMemory => Some(PeerFault::Memory),
-        Received::Whole | Received::Ended | Received::Blocked | Received::More => None,
-    }
-}
-
-/// What is to be done where sending an answer ended so; the connection is closed at once behind the last answer.
-fn after_sending(sent: Sent, is_last: bool) -> AfterSending
-    ensures { result ≡ AfterSending.Finished → sent ≡ Sent.All }
-{
-    match sent {
-        Sent::All if is_last => AfterSending::Close,
-        Sent::All => AfterSending::Finished,
-        Sent::Blocked | Sent::More => AfterSending::Blocked,
-        Sent::Broken => AfterSending::Close,
-    }
 }
 
 /// Drops what has come, for so many reads.
@@ -109,7 +59,6 @@ fn drop_all<R: Read>(reader: &mut R, room: &mut [u8]) -> Received
     Received::More
 }
 
-/// Drops what one read gives.
 fn drop_once<R: Read>(reader: &mut R, room: &mut [u8]) -> Received
     ensures { IsDropped (R.remaining reader.old) (R.remaining reader.new) }
 {
@@ -156,38 +105,37 @@ impl<S: Link, H: Handler> HttpPeer<S, H> {
         }
     }
 
-    /// Whether the request still comes in.
     pub fn is_receiving(&self) -> bool {
         matches!(self.stage, Stage::Receiving(_))
     }
 
-    /// Whether the answer is left to be signed.
     pub fn is_signing(&self) -> bool {
         matches!(self.stage, Stage::Signing(..))
     }
 
-    /// Whether there is an answer.
     pub fn has_answer(&self) -> bool {
         !self.is_receiving() && !self.is_signing()
     }
 
-    /// Whether the time is over.
     pub fn is_late(&self, now: u64) -> bool {
         self.until <= now
     }
 
-    /// The fault by which it is answered at this moment before its request is whole, if there is one.
-    pub fn fault(&self, now: u64) -> Option<PeerFault> {
+    /// Notes by what fault it is answered at this moment before its request is whole, if by one, and gives it.
+    pub fn note_fault(&mut self, now: u64) -> Option<PeerFault>
+        ensures same_link { self.new.link ≡ self.old.link }
+        ensures same_stage { self.new.stage ≡ self.old.stage }
+        ensures noted { IsSome self.old.fault → IsSome self.new.fault }
+    {
         if !self.is_receiving() {
             return None;
         }
-        match self.fault {
-            None if self.is_late(now) => Some(PeerFault::Late),
-            fault => fault,
+        if self.fault.is_none() && self.is_late(now) {
+            self.fault = Some(PeerFault::Late);
         }
+        self.fault
     }
 
-    /// How many bytes of the answer are not sent yet.
     pub fn unsent(&self) -> usize {
         match &self.stage {
             Stage::Sending(unsent, _) => unsent.len(),
@@ -209,7 +157,7 @@ impl<S: Link, H: Handler> HttpPeer<S, H> {
         }
     }
 
-    /// Receives more of the request, as long as more of it is waited for.
+    #[tactic(auto, using(crate::proofs::Gatherings::gathers_none))]
     fn receive(&mut self, room: &mut [u8]) -> Next
         ensures { ReceivesMore S.Read.remaining self.old self.new }
     {
@@ -217,11 +165,20 @@ impl<S: Link, H: Handler> HttpPeer<S, H> {
             return Next::Due;
         }
         match &mut self.stage {
-            Stage::Receiving(collected) => {
-                let received = receive(&mut self.link, collected, room);
-                self.fault = fault_of(received);
-                after_receiving(received)
-            }
+            Stage::Receiving(collected) => match receive(&mut self.link, collected, room) {
+                Received::Blocked => Next::Poll(Interest::READABLE),
+                Received::More => Next::Poll(Interest::READABLE),
+                Received::Whole => Next::Due,
+                Received::Ended => Next::Due,
+                Received::Broken => {
+                    self.fault = Some(PeerFault::Broken);
+                    Next::Due
+                }
+                Received::OutOfMemory => {
+                    self.fault = Some(PeerFault::Memory);
+                    Next::Due
+                }
+            },
             Stage::Signing(..) => Next::Close,
             Stage::Sending(..) => Next::Close,
             Stage::Draining => Next::Close,
@@ -232,13 +189,12 @@ impl<S: Link, H: Handler> HttpPeer<S, H> {
     fn wait(&mut self, room: &mut [u8]) -> Next
         ensures { Drops S.Read.remaining self.old self.new }
     {
-        let received = drop_all(&mut self.link, room);
-        self.has_ended = self.has_ended || received == Received::Ended;
-        if received == Received::Broken {
-            Next::Close
-        } else {
-            Next::Park
+        match drop_all(&mut self.link, room) {
+            Received::Broken => return Next::Close,
+            Received::Ended => self.has_ended = true,
+            _ => {}
         }
+        Next::Park
     }
 
     /// Sends on the answer; once the client has all of it, it is told that no more is written.
@@ -246,25 +202,25 @@ impl<S: Link, H: Handler> HttpPeer<S, H> {
         ensures { Sends S.Write.contents self.old self.new }
     {
         match self.send() {
-            AfterSending::Blocked => Next::Poll(Interest::WRITABLE),
-            AfterSending::Finished => self.finish(now),
-            AfterSending::Close => Next::Close,
+            Some(next) => next,
+            None => self.finish(now),
         }
     }
 
-    /// Sends on the answer.
-    fn send(&mut self) -> AfterSending
+    fn send(&mut self) -> Option<Next>
         ensures sends { Sends S.Write.contents self.old self.new }
-        ensures all { result ≡ AfterSending.Finished → HoldsAnswer self.new.stage [] }
+        ensures all { IfNone result (HoldsAnswer self.new.stage []) }
     {
         match &mut self.stage {
-            Stage::Sending(unsent, is_last) => after_sending(
-                unsent.send_on(&mut self.link),
-                *is_last,
-            ),
-            Stage::Receiving(_) => AfterSending::Close,
-            Stage::Signing(..) => AfterSending::Close,
-            Stage::Draining => AfterSending::Close,
+            Stage::Sending(unsent, is_last) => match unsent.send_on(&mut self.link) {
+                Sent::All if *is_last => Some(Next::Close),
+                Sent::All => None,
+                Sent::Blocked | Sent::More => Some(Next::Poll(Interest::WRITABLE)),
+                Sent::Broken => Some(Next::Close),
+            },
+            Stage::Receiving(_) => Some(Next::Close),
+            Stage::Signing(..) => Some(Next::Close),
+            Stage::Draining => Some(Next::Close),
         }
     }
 
@@ -282,7 +238,6 @@ impl<S: Link, H: Handler> HttpPeer<S, H> {
         }
     }
 
-    /// Drops what the client still sends.
     fn drain(&mut self, room: &mut [u8]) -> Next
         ensures { Drops S.Read.remaining self.old self.new }
     {
@@ -292,20 +247,8 @@ impl<S: Link, H: Handler> HttpPeer<S, H> {
         }
     }
 
-    /// Whether one whole request came, and nothing behind it.
-    fn is_exact(&self) -> bool {
-        match &self.stage {
-            Stage::Receiving(collected) => collected.is_exact(),
-            _ => false,
-        }
-    }
-
     /// Answers what came of the request, whatever it is; whether something is left to be signed for the answer. A connection that has an
     /// answer, or waits for one, is not answered again.
-    ///
-    /// # Errors
-    ///
-    /// [`HubFault`], and nothing was answered.
     #[tactic(auto, using(crate::proofs::Exchanges::exchanged_none))]
     pub fn answer(&mut self, handler: &mut H, made: &mut u64, now: u64) -> Result<bool, HubFault>
         ensures exchanged { Handled H.Handler handler.old handler.new made.old made.new }
@@ -315,13 +258,19 @@ impl<S: Link, H: Handler> HttpPeer<S, H> {
         ensures kept { SameLinkAndFault self.old self.new }
         ensures err { OnErr result ((self.new ≡ self.old) × (handler.new ≡ handler.old)) }
     {
-        let begun = match &self.stage {
-            Stage::Receiving(collected) => answer_one(handler, made, self.peer, collected)?,
+        let (begun, is_exact) = match &self.stage {
+            Stage::Receiving(collected) => {
+                let Some(count) = made.checked_add(1) else {
+                    return Err(HubFault);
+                };
+                let begun = handler.answer(self.peer, collected)?;
+                *made = count;
+                (begun, collected.is_exact())
+            }
             Stage::Signing(..) => return Ok(false),
             Stage::Sending(..) => return Ok(false),
             Stage::Draining => return Ok(false),
         };
-        let is_exact = self.is_exact();
         match begun {
             Begun::Ready(text) => {
                 self.hold_answer(text, is_exact, now);
@@ -347,11 +296,7 @@ impl<S: Link, H: Handler> HttpPeer<S, H> {
     }
 
     /// Requests the signature of what is left of the answer, and waits for nothing: the connection on which it will come is polled under a
-    /// token.
-    ///
-    /// # Errors
-    ///
-    /// As [`Handler::ask`]; what the system says where the connection can't be polled; `NotConnected` where no answer is waited for.
+    /// token. An error is one of [`Handler::ask`] or of the system; `NotConnected` where no answer is waited for.
     pub(crate) fn ask(&mut self, handler: &H, poller: &Poller, token: usize) -> io::Result<()>
         ensures waits { KeepsSigning self.old.stage self.new.stage }
         ensures kept { SameLinkAndFault self.old self.new }

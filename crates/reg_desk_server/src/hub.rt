@@ -1,6 +1,6 @@
 //! The event loop: the listeners, the slots of the connections, and their turns.
 
-ghost use Rattle.std.specs.Prelude.{◌≡◌, ◌≤◌, ◌+◌, IsSome, OnOk};
+ghost use Rattle.std.specs.Prelude.{◌≡◌, ◌≤◌, ◌+◌, OnOk};
 ghost use Rattle.reg_desk_server.specs.Handling.{Handled};
 
 use crate::acceptor::Acceptor;
@@ -8,13 +8,12 @@ use crate::control_connections::ControlConnections;
 use crate::handler::{Crowd, Handler, HubFault};
 use crate::http_connections::{HttpConnections, MOST_HTTP_PEERS, SWEEP};
 use crate::http_peer::HttpPeer;
-use crate::lost_connections::{LostConnection, LostConnections};
 use crate::poller::{
     CONTROL_LISTENER, FIRST_CONTROL, FIRST_HTTP, FIRST_SIGNATURE, HTTP_LISTENER, LINE, LINE_ENDED,
     MOST_SIGNATURES,
 };
-use crate::shared::Shared;
-use crate::signature_requests::{Pending, Requester, SignatureRequests};
+use crate::shared::{LostConnection, Shared};
+use crate::signature_requests::{PATIENCE, Pending, Requester, SignatureRequests};
 use mio::net::{TcpListener, TcpStream, UnixListener};
 use std::alloc::AllocGlobal;
 use std::io;
@@ -22,7 +21,6 @@ use std::io::ErrorKind;
 use std::net::Net;
 use std::time::{Clock, Duration};
 
-/// How many seconds may be waited where there is no HTTP connection.
 const IDLE: u64 = 3_600;
 
 /// The event loop of one thread: the connections that a handler answers.
@@ -35,7 +33,6 @@ pub struct Hub<H: Handler> {
     signatures: SignatureRequests,
 }
 
-/// The time of a clock that never goes back, in milliseconds.
 fn now_of<C: Clock>(clock: &C) -> Result<u64, HubFault> {
     match clock.monotonic() {
         Ok(passed) => Ok(
@@ -49,12 +46,8 @@ fn now_of<C: Clock>(clock: &C) -> Result<u64, HubFault> {
 }
 
 impl<H: Handler> Hub<H> {
-    /// An event loop over a listener for HTTP connections, and one for control connections, neither of which waits, with slots for so many
-    /// HTTP connections.
-    ///
-    /// # Errors
-    ///
-    /// What the system says where the listeners can't be polled, and `OutOfMemory`.
+    /// An event loop over a listener for HTTP connections, and one for control connections, neither of which waits, with slots for so
+    /// many HTTP connections. An error is what the system says where the listeners can't be polled, or `OutOfMemory`.
     pub fn new(
         rt: &(impl Net + AllocGlobal),
         listener: TcpListener,
@@ -80,9 +73,9 @@ impl<H: Handler> Hub<H> {
     /// left to be signed for an answer is requested, and no other client waits for it: the answer is finished by [`Hub::finish`] at the
     /// latest.
     ///
-    /// # Errors
-    ///
-    /// [`HubFault`], where the handler or the sockets are.
+    /// In an iteration each connection gets on a little, each answer whose signature came is finished, each control connection has at most
+    /// one line answered, and each request that is whole is answered.
+    #[tactic(auto, using(crate::proofs::Exchanges::exchanged_none))]
     pub fn serve_all<C: Clock>(
         &mut self,
         clock: &C,
@@ -98,49 +91,20 @@ impl<H: Handler> Hub<H> {
             if *made == most {
                 return Ok(());
             }
-            match self.poll_once(clock, handler, made, most) {
-                Ok(()) => {}
-                Err(stopped) => return Err(stopped),
-            }
+            let now = self.poll(clock, most)?;
+            self.shared.lost.report(handler);
+            handler.hold(self.connections());
+            self.finish_all(handler, now);
+            self.control.tell_all(&mut self.shared, handler, now)?;
+            let answered = self.answer_all(handler, made, most, now);
+            self.request_all(handler, now);
+            answered?;
         }
         Err(HubFault)
     }
 
-    /// One iteration: waits until something is to be done, and does it. Each connection gets on a little, each answer whose signature came
-    /// is finished, each control connection has at most one line answered, each request that is whole is answered, and what is left to be
-    /// signed is requested.
-    ///
-    /// # Errors
-    ///
-    /// [`HubFault`], where the handler or the sockets are.
-    #[tactic(auto, using(crate::proofs::Exchanges::exchanged_none))]
-    fn poll_once<C: Clock>(
-        &mut self,
-        clock: &C,
-        handler: &mut H,
-        made: &mut u64,
-        most: u64,
-    ) -> Result<(), HubFault>
-        requires { made.old ≤ most }
-        ensures exchanged { Handled H.Handler handler.old handler.new made.old made.new }
-        ensures within { made.new ≤ most }
-    {
-        let now = self.poll(clock, most)?;
-        self.shared.lost.report(handler);
-        handler.hold(self.connections());
-        self.finish_all(handler, now);
-        self.control.tell_all(&mut self.shared, handler, now)?;
-        let answered = self.answer_all(handler, made, most, now);
-        self.request_all(handler, now);
-        answered
-    }
-
-    /// Sends on what was answered, finishes what is left to be signed, and closes all connections, until none is left or the time of each is
-    /// over. Those that end by a fault are reported to the handler.
-    ///
-    /// # Errors
-    ///
-    /// [`HubFault`], where the sockets are.
+    /// Sends on what was answered, finishes what is left to be signed, and closes all connections, until none is left or the time of each
+    /// is over. Those that end by a fault are reported to the handler.
     pub fn finish<C: Clock>(&mut self, clock: &C, handler: &H) -> Result<(), HubFault> {
         let most = self.acceptor.accepted;
         self.http.close_all(&mut self.shared);
@@ -157,11 +121,7 @@ impl<H: Handler> Hub<H> {
         }
         Ok(())
     }
-}
 
-/// What is done without the handler.
-impl<H: Handler> Hub<H> {
-    /// How many connections there are.
     fn connections(&self) -> Crowd {
         Crowd {
             peers: self.http.slots.reserved(),
@@ -175,7 +135,11 @@ impl<H: Handler> Hub<H> {
         let longest = self.longest_wait(most);
         self.shared.poller.poll(longest)?;
         let now = now_of(clock)?;
-        self.advance_all(now);
+        for index in 0..self.shared.poller.tokens.len() {
+            if let Some(token) = self.shared.poller.tokens.get(index).copied() {
+                self.advance(token, now);
+            }
+        }
         self.control.accept_all(&mut self.shared);
         self.acceptor
             .accept_all(most, &mut self.http, &mut self.shared, now)?;
@@ -183,13 +147,13 @@ impl<H: Handler> Hub<H> {
         Ok(now)
     }
 
-    /// How long may be waited.
     fn longest_wait(&mut self, most: u64) -> Duration {
         let for_signatures = self
             .signatures
             .longest_wait()
             .min(self.control.longest_wait());
-        if self.acceptor.is_ready(most) || self.control.is_ready() || self.has_work() {
+        let has_work = !self.http.due.is_empty() || !self.shared.lost.unreported.is_empty();
+        if self.acceptor.is_ready(most) || self.control.is_ready() || has_work {
             return Duration::ZERO;
         }
         let idle = if self.http.slots.reserved() == 0 {
@@ -200,21 +164,6 @@ impl<H: Handler> Hub<H> {
         idle.min(for_signatures)
     }
 
-    /// Whether a connection is due, or a lost one is to be reported.
-    fn has_work(&self) -> bool {
-        !self.http.due.is_empty() || !self.shared.lost.is_empty()
-    }
-
-    /// Goes on with each that is ready.
-    fn advance_all(&mut self, now: u64) {
-        for index in 0..self.shared.poller.count() {
-            if let Some(token) = self.shared.poller.token_at(index) {
-                self.advance(token, now);
-            }
-        }
-    }
-
-    /// Goes on with what is ready under a token.
     fn advance(&mut self, token: usize, now: u64) {
         if token == HTTP_LISTENER {
             self.acceptor.note_ready();
@@ -244,11 +193,7 @@ impl<H: Handler> Hub<H> {
             }
         }
     }
-}
 
-/// What is done with the handler.
-impl<H: Handler> Hub<H> {
-    /// Answers each connection that is due.
     fn answer_all(
         &mut self,
         handler: &mut H,
@@ -264,17 +209,14 @@ impl<H: Handler> Hub<H> {
             if *made == most {
                 return Ok(());
             }
-            match self.answer_due(index, handler, made, now) {
-                Ok(()) => {}
-                Err(stopped) => return Err(stopped),
-            }
+            self.answer_due(index, handler, made, now)?;
         }
         self.http.due.clear();
         Ok(())
     }
 
-    /// Answers one of the connections that are due, if it still receives, and sends on its answer. What is left to be signed of it waits for
-    /// its turn.
+    /// Answers one of the connections that are due, if it still receives, and sends on its answer. What is left to be signed of it waits
+    /// for its turn.
     #[tactic(auto, using(crate::proofs::Exchanges::exchanged_none))]
     fn answer_due(
         &mut self,
@@ -293,7 +235,10 @@ impl<H: Handler> Hub<H> {
             return Ok(());
         };
         let before = connection.unsent();
-        note_fault(&mut connection, &mut self.shared.lost, now);
+        if let Some(why) = connection.note_fault(now) {
+            let peer = Some(connection.peer);
+            self.shared.lost.note(LostConnection { peer, why });
+        }
         match connection.answer(handler, made, now) {
             Ok(true) => {
                 self.wait_for_signature(slot, connection, handler, now);
@@ -322,10 +267,7 @@ impl<H: Handler> Hub<H> {
         self.http.drive(slot, connection, &mut self.shared, now);
         self.http.limit_unsent(slot, &mut self.shared);
     }
-}
 
-/// What is left to be signed.
-impl<H: Handler> Hub<H> {
     /// Has a connection that was taken out of a slot wait for the signature of its answer, which is requested once it is its turn.
     fn wait_for_signature(
         &mut self,
@@ -343,26 +285,22 @@ impl<H: Handler> Hub<H> {
         }
     }
 
-    /// Requests what is left to be signed, as far as there is room.
     fn request_all(&mut self, handler: &H, now: u64) {
         for _ in 0..MOST_HTTP_PEERS {
             match self.signatures.next(now) {
-                Some(pending) => self.request(pending, handler, now),
+                Some((pending, index)) => self.request(pending, index, handler, now),
                 None => return,
             }
         }
     }
 
-    /// Requests the next signature, unless a requester that had to wait for its turn has gone.
-    fn request(&mut self, pending: Pending, handler: &H, now: u64) {
+    /// Requests a signature at a free index, unless a requester that had to wait for its turn has gone.
+    fn request(&mut self, pending: Pending, index: usize, handler: &H, now: u64) {
         let requester = pending.requester;
-        if pending.has_waited(now) && self.http.has_gone(requester, &mut self.shared, now) {
+        let has_waited = pending.until < now.saturating_add(PATIENCE);
+        if has_waited && self.http.has_gone(requester, &mut self.shared, now) {
             return;
         }
-        let Some(index) = self.signatures.free_index() else {
-            self.signatures.put_off(pending, now);
-            return;
-        };
         let token = index.saturating_add(FIRST_SIGNATURE);
         match self
             .http
@@ -393,40 +331,22 @@ impl<H: Handler> Hub<H> {
         }
     }
 
-    /// The same of the one at an index.
     fn finish_at(&mut self, index: usize, handler: &H, now: u64) {
-        let Some(requester) = self.signatures.requester_at(index) else {
+        let Some(requested) = self.signatures.at(index) else {
             return;
         };
-        if !self.http.is_waiting(requester) {
+        let Pending { requester, until } = requested.pending;
+        if requested.has_come || until <= now || !self.http.is_waiting(requester) {
             self.signatures.drop_at(index);
-            return;
-        }
-        if let Some(has_come) = self.signatures.take_done(index, now) {
-            self.complete(requester, has_come, handler, now);
+            self.complete(requester, requested.has_come, handler, now);
         }
     }
 
-    /// Finishes the answer for which a requester waits, with its signature where that has come.
+    /// Finishes the answer for which a requester waits, with its signature where that has come, and sends it on.
     fn complete(&mut self, requester: Requester, has_come: bool, handler: &H, now: u64) {
-        self.http
-            .complete(requester, has_come, handler, &mut self.shared, now);
-    }
-}
-
-/// Notes by what fault a request is answered at this moment before it is whole, if by one.
-fn note_fault<H: Handler>(
-    connection: &mut HttpPeer<TcpStream, H>,
-    lost: &mut LostConnections,
-    now: u64,
-)
-    ensures same_link { connection.new.link ≡ connection.old.link }
-    ensures same_stage { connection.new.stage ≡ connection.old.stage }
-    ensures noted { IsSome connection.old.fault → IsSome connection.new.fault }
-{
-    if let Some(why) = connection.fault(now) {
-        connection.fault = Some(why);
-        let peer = Some(connection.peer);
-        lost.note(LostConnection { peer, why });
+        if let Some(mut connection) = self.http.take_waiting(requester) {
+            connection.complete(handler, has_come, now);
+            self.send_on(requester.slot, connection, 0, now);
+        }
     }
 }

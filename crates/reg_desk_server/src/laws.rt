@@ -12,13 +12,9 @@ use crate::link::Link;
 
 /// On a control connection each line is answered once, in order, and so is each reply.
 ///
-/// Take a control connection, from when it was accepted, over any steps. What came on it are the lines that were answered, one after the
-/// other, and then what is held, of a line that is not whole or is answered next; what went out on it, and behind it what is unsent, are the
-/// replies to these lines (`HasTold`). It begins so, with no line ([`CounterPeer::new`](crate::CounterPeer::new)). Where it goes on
-/// ([`CounterPeer::advance`](crate::CounterPeer::advance)), the same lines were answered. Where it is told
-/// ([`CounterPeer::tell`](crate::CounterPeer::tell), [`CounterPeer::tell_deferred`](crate::CounterPeer::tell_deferred)), one line more
-/// was, with its reply, or none. What else is done with it leaves as they are what is held and unsent, and the connection. The bytes are
-/// those of a link that tells them: of a socket no clause does.
+/// Over any steps from when it was accepted, what came on it are the lines that were answered, and then what is held; what went out on it, and
+/// behind it what is unsent, are the replies to these lines (`HasTold`). It begins so. `CounterPeer::advance` answers no line; `tell` and
+/// `tell_deferred` answer one, or none. The bytes are those of a link that tells them: of a socket no clause does.
 pub fn a_counter_is_told_line_by_line<S: Link, H: Handler>()
     ensures begins { (peer : CounterPeer S) → IsFresh peer
         → HasTold S.Write.contents S.Read.remaining H.tells peer.link peer [] [] }
@@ -31,12 +27,10 @@ pub fn a_counter_is_told_line_by_line<S: Link, H: Handler>()
 
 /// A request is answered once.
 ///
-/// Take an HTTP connection, from when it was accepted, over any steps. Until it is answered, what came on it is held, and nothing went
-/// out; from then on what went out, and behind it what is unsent, is the answer to a front of what came, which is asked of the handler
-/// once, and what came behind that is dropped (`HasServed`). It begins so ([`HttpPeer::new`](crate::HttpPeer::new)), and stays so where it
-/// goes on ([`HttpPeer::advance`](crate::HttpPeer::advance)), is answered ([`HttpPeer::answer`](crate::HttpPeer::answer)), has its answer
-/// finished ([`HttpPeer::complete`](crate::HttpPeer::complete)), and where a signature is requested, or no more of its request is waited
-/// for.
+/// Over any steps from when an HTTP connection was accepted, what came on it is held until it is answered, and nothing went out; from then on
+/// what went out, and behind it what is unsent, is the answer to a front of what came, which is asked of the handler once, and what came behind
+/// that is dropped (`HasServed`). It begins so, and `HttpPeer::advance`, `answer` and `complete` keep it, also where a signature is requested,
+/// or no more of its request is waited for.
 pub fn a_peer_is_answered_once<S: Link, H: Handler>()
     ensures begins { (peer : HttpPeer S H H.Ticket H.Line) → HasReceived peer.stage []
         → HasServed S.Write.contents S.Read.remaining H.Handler peer.link peer }

@@ -5,17 +5,14 @@
 mod acceptor;
 mod control_connections;
 mod counter_peer;
-mod given;
 mod handler;
 mod http_connections;
 mod http_peer;
 mod hub;
 pub mod laws;
 mod link;
-mod lost_connections;
 mod poller;
 mod receiving;
-mod selection;
 mod shared;
 mod signature_requests;
 mod slots;
@@ -23,8 +20,7 @@ mod unsent;
 mod waiting_line;
 
 pub use counter_peer::CounterPeer;
-pub use given::Deferred;
-pub use handler::{Crowd, Handler, HubFault, PeerFault};
+pub use handler::{Crowd, Deferred, Handler, HubFault, PeerFault};
 pub use http_connections::MOST_HTTP_PEERS;
 pub use http_peer::{HttpPeer, Next};
 pub use hub::Hub;

@@ -9,10 +9,6 @@ use std::net::Shutdown;
 /// A connection whose reads and writes never wait.
 pub trait Link: Read + Write + Source {
     /// Tells the client that no more is written.
-    ///
-    /// # Errors
-    ///
-    /// What the system says, where the client can't be told.
     fn finish(&self) -> io::Result<()>;
 }
 

@@ -1,6 +1,6 @@
 //! The poller, which tells which connections are ready.
 
-ghost use Rattle.std.specs.Prelude.{◌≡◌, [], IfOk, slice_get, true, vec_len};
+ghost use Rattle.std.specs.Prelude.{◌≡◌, [], IfOk, true};
 
 use crate::handler::HubFault;
 use mio::event::Source;
@@ -10,10 +10,8 @@ use std::io;
 use std::net::Net;
 use std::time::Duration;
 
-/// The most events of an iteration.
 const MOST_EVENTS: usize = 1_024;
 
-/// How many signatures are requested at once.
 pub(crate) const MOST_SIGNATURES: usize = 32;
 
 /// The tokens of the listeners; behind them come those of the control connections, of the signature requests, of the one for a line, and of
@@ -38,11 +36,10 @@ pub(crate) const FIRST_HTTP: usize = LINE + 2;
 pub(crate) struct Poller {
     poll: Poll,
     events: Events,
-    tokens: Vec<usize>,
+    pub(crate) tokens: Vec<usize>,
 }
 
 impl Poller {
-    /// Polls nothing yet.
     pub(crate) fn new(rt: &(impl Net + AllocGlobal)) -> io::Result<Poller>
         ensures { IfOk result (λ poller. poller.tokens.items ≡ []) }
     {
@@ -57,11 +54,6 @@ impl Poller {
         })
     }
 
-    /// Registers a connection under a token, or once more where it was registered.
-    ///
-    /// # Errors
-    ///
-    /// What the system says where it can't be polled.
     pub(crate) fn register<S: Source>(
         &self,
         source: &mut S,
@@ -96,21 +88,11 @@ impl Poller {
             .is_ok()
     }
 
-    /// Waits until something is ready, no longer than this.
-    ///
-    /// # Errors
-    ///
-    /// [`HubFault`], where the system can't tell what is ready.
+    /// Waits until something is ready, no longer than this. Then `tokens` has what is: a signature is, where all of it is there.
     pub(crate) fn poll(&mut self, longest: Duration) -> Result<(), HubFault> {
         if self.poll.poll(&mut self.events, Some(longest)).is_err() {
             return Err(HubFault);
         }
-        self.copy_tokens();
-        Ok(())
-    }
-
-    /// Copies the tokens of what is ready. A signature is, where all of it is there.
-    fn copy_tokens(&mut self) {
         self.tokens.clear();
         for event in &self.events {
             let Token(token) = event.token();
@@ -119,20 +101,7 @@ impl Poller {
                 let _ = self.tokens.push(token);
             }
         }
-    }
-
-    /// How many are ready.
-    pub(crate) fn count(&self) -> usize
-        ensures { result ≡ vec_len self.now.tokens }
-    {
-        self.tokens.len()
-    }
-
-    /// The token of one that is ready.
-    pub(crate) fn token_at(&self, index: usize) -> Option<usize>
-        ensures { result ≡ slice_get self.now.tokens.items index }
-    {
-        self.tokens.get(index).copied()
+        Ok(())
     }
 }
 

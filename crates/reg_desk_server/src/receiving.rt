@@ -2,28 +2,23 @@
 
 ghost use Rattle.std.specs.Prelude.{◌≡◌, ◌⊎◌};
 ghost use Rattle.reg_http_head.specs.Bytes.{collected_bytes};
-ghost use Rattle.reg_desk_server.specs.Held.{AddsTo, Collects, IsWholeAt};
+ghost use Rattle.reg_http_head.specs.Collected.{IsWholeRequest};
+ghost use Rattle.reg_desk_server.specs.Held.{AddsTo, Collects};
 
 use reg_http_head::Collected;
 use std::io::{ErrorKind, Read};
 
-/// The most reads of one connection in an iteration.
 const MOST_READS: usize = 32;
 
-/// How receiving on a connection ended.
-#[derive(Clone, Copy, Debug, PartialEq, Eq)]
+/// How receiving ended: a whole request is held, nothing more has come yet, more may have come, nothing more comes, the connection fails, or
+/// there was no memory for the last bytes that came.
+#[derive(Clone, Copy)]
 pub(crate) enum Received {
-    /// The bytes begin with a whole request.
     Whole,
-    /// Nothing more has come yet.
     Blocked,
-    /// More may have come.
     More,
-    /// Nothing more comes.
     Ended,
-    /// The connection fails.
     Broken,
-    /// There was no memory for the last bytes that came.
     OutOfMemory,
 }
 
@@ -45,7 +40,6 @@ pub(crate) fn receive<R: Read>(
     Received::More
 }
 
-/// Receives what one read gives.
 fn receive_once<R: Read>(reader: &mut R, collected: &mut Collected, room: &mut [u8]) -> Received
     ensures { Collects (R.remaining reader.old) (R.remaining reader.new)
         collected.old collected.new result }
@@ -61,10 +55,9 @@ fn receive_once<R: Read>(reader: &mut R, collected: &mut Collected, room: &mut [
     }
 }
 
-/// Adds bytes that came.
 fn add(collected: &mut Collected, came: &[u8]) -> Received
     ensures kept { AddsTo (collected_bytes collected.old) came.now (collected_bytes collected.new) result }
-    ensures whole { IsWholeAt (collected_bytes collected.new) result }
+    ensures whole { result ≡ Received.Whole → ∥ IsWholeRequest (collected_bytes collected.new) ∥₁ }
 {
     match collected.add(came) {
         Ok(()) => told(collected),
@@ -72,11 +65,10 @@ fn add(collected: &mut Collected, came: &[u8]) -> Received
     }
 }
 
-/// Whether what was collected is whole.
 fn told(collected: &mut Collected) -> Received
     ensures same { collected_bytes collected.new ≡ collected_bytes collected.old }
     ensures rests { (result ≡ Received.Whole) ⊎ (result ≡ Received.More) }
-    ensures whole { IsWholeAt (collected_bytes collected.new) result }
+    ensures whole { result ≡ Received.Whole → ∥ IsWholeRequest (collected_bytes collected.new) ∥₁ }
 {
     if collected.is_whole() {
         Received::Whole

@@ -1,15 +1,17 @@
 //! What all connections of an event loop have in common.
 
-use crate::lost_connections::LostConnections;
-use crate::poller::Poller;
-use std::alloc::{AllocGlobal, Global};
-use std::io;
-use std::net::Net;
+ghost use Rattle.std.specs.Prelude.{◌≡◌, [], IfOk};
+ghost use Rattle.reg_desk_server.specs.Held.{Notes};
 
-/// The room for one read.
+use crate::handler::{Handler, PeerFault};
+use crate::poller::Poller;
+use std::alloc::{AllocError, AllocGlobal, Global};
+use std::io;
+use std::net::{Net, SocketAddr};
+
 const ROOM: usize = 65_536;
 
-/// What all connections of an event loop have in common: the poller, the faults that were not reported yet, and the room for one read.
+/// The poller, the lost connections, and the room for one read.
 #[derive(Drop)]
 pub(crate) struct Shared {
     pub(crate) alloc: Global,
@@ -19,7 +21,6 @@ pub(crate) struct Shared {
 }
 
 impl Shared {
-    /// Nothing is polled and nothing was lost yet; there is room for so many lost connections.
     pub(crate) fn new(rt: &(impl Net + AllocGlobal), connections: usize) -> io::Result<Shared> {
         let alloc = rt.alloc();
         let room = vec![in alloc; 0u8; ROOM]?;
@@ -31,5 +32,43 @@ impl Shared {
             lost,
             room,
         })
+    }
+}
+
+/// A connection that ended by a fault; a control connection has no address.
+#[derive(Clone, Copy)]
+pub(crate) struct LostConnection {
+    pub(crate) peer: Option<SocketAddr>,
+    pub(crate) why: PeerFault,
+}
+
+/// The connections that ended by a fault and were not reported yet, in the order in which they ended.
+#[derive(Drop)]
+pub(crate) struct LostConnections {
+    pub(crate) unreported: Vec<LostConnection>,
+}
+
+impl LostConnections {
+    fn new(alloc: Global, count: usize) -> Result<LostConnections, AllocError>
+        ensures { IfOk result (λ lost. lost.unreported.items ≡ []) }
+    {
+        let unreported = Vec::with_capacity(alloc, count)?;
+        Ok(LostConnections { unreported })
+    }
+
+    pub(crate) fn note(&mut self, lost: LostConnection)
+        ensures { Notes lost self.old.unreported.items self.new.unreported.items }
+    {
+        // Where there is no memory for it, it is not reported.
+        let _ = self.unreported.push(lost);
+    }
+
+    pub(crate) fn report<H: Handler>(&mut self, handler: &H)
+        ensures { self.new.unreported.items ≡ [] }
+    {
+        for lost in &self.unreported {
+            handler.lose(lost.peer, lost.why);
+        }
+        self.unreported.clear();
     }
 }

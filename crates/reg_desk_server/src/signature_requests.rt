@@ -6,7 +6,7 @@ use std::collections::VecDeque;
 use std::time::Duration;
 
 /// How many milliseconds a signature may take, from when its answer was begun.
-const PATIENCE: u64 = 10_000;
+pub(crate) const PATIENCE: u64 = 10_000;
 
 /// How many milliseconds pass before a signer is asked again that had no room for one more request.
 pub(crate) const PAUSE: u64 = 10;
@@ -22,26 +22,19 @@ pub(crate) struct Requester {
     pub(crate) number: u64,
 }
 
-/// A signature that is not requested yet, and until when it may be.
+/// A signature that is to be requested, and until when it may come.
 #[derive(Clone, Copy)]
 pub(crate) struct Pending {
     pub(crate) requester: Requester,
-    until: u64,
-}
-
-impl Pending {
-    /// Whether it had to wait for its turn: what was begun at this moment did not.
-    pub(crate) fn has_waited(&self, now: u64) -> bool {
-        self.until < now.saturating_add(PATIENCE)
-    }
+    pub(crate) until: u64,
 }
 
 /// A signature that was requested on a connection, which its requester holds.
 #[derive(Clone, Copy)]
-struct Requested {
-    pending: Pending,
+pub(crate) struct Requested {
+    pub(crate) pending: Pending,
     /// Whether the connection is at its end: what came on it is there.
-    has_come: bool,
+    pub(crate) has_come: bool,
 }
 
 /// The signatures that were requested, each on a connection of its own, and those that wait for their turn.
@@ -56,7 +49,6 @@ pub(crate) struct SignatureRequests {
 }
 
 impl SignatureRequests {
-    /// None yet.
     pub(crate) fn new(alloc: Global) -> SignatureRequests {
         SignatureRequests {
             queue: VecDeque::new(alloc),
@@ -84,18 +76,16 @@ impl SignatureRequests {
         }
     }
 
-    /// The next whose turn it is, where there is room for one more request.
-    pub(crate) fn next(&mut self, now: u64) -> Option<Pending> {
+    /// The next whose turn it is, and a free index for it, where there is room for one more request.
+    pub(crate) fn next(&mut self, now: u64) -> Option<(Pending, usize)> {
         if let Some(paused) = self.paused {
             if now < paused {
                 return None;
             }
         }
         self.paused = None;
-        if self.free_index().is_none() {
-            return None;
-        }
-        self.queue.pop_front()
+        let index = self.free_index()?;
+        Some((self.queue.pop_front()?, index))
     }
 
     /// Puts one back to the front, for which the signer had no room at this moment.
@@ -105,27 +95,24 @@ impl SignatureRequests {
         let _ = self.queue.push_front(pending);
     }
 
-    /// The first of those that wait for their turn whose time is over.
     pub(crate) fn take_late(&mut self, now: u64) -> Option<Pending> {
         match self.queue.front() {
             Some(first) if first.until <= now => self.queue.pop_front(),
             _ => None,
         }
     }
-}
 
-/// Those that were requested.
-impl SignatureRequests {
-    /// A free index for one more.
-    pub(crate) fn free_index(&self) -> Option<usize> {
+    fn free_index(&self) -> Option<usize> {
         for index in 0..MOST_SIGNATURES {
-            match self.requested.get(index) {
-                Some(Some(_)) => {}
-                Some(None) => return Some(index),
-                None => return Some(index),
+            if self.at(index).is_none() {
+                return Some(index);
             }
         }
         None
+    }
+
+    pub(crate) fn at(&self, index: usize) -> Option<Requested> {
+        *self.requested.get(index)?
     }
 
     /// Waits for one at a free index; whether there was memory for it.
@@ -142,40 +129,15 @@ impl SignatureRequests {
         self.requested.push(Some(requested)).is_ok()
     }
 
-    /// The connection of the one at an index is at its end.
     pub(crate) fn note_end(&mut self, index: usize) {
         if let Some(Some(requested)) = self.requested.get_mut(index) {
             requested.has_come = true;
         }
     }
 
-    /// The requester of the one at an index.
-    pub(crate) fn requester_at(&self, index: usize) -> Option<Requester> {
-        match self.requested.get(index) {
-            Some(Some(requested)) => Some(requested.pending.requester),
-            _ => None,
-        }
-    }
-
-    /// Drops the one at an index: its requester waits no more.
     pub(crate) fn drop_at(&mut self, index: usize) {
         if let Some(held) = self.requested.get_mut(index) {
             *held = None;
-        }
-    }
-
-    /// Takes the one at an index, where it has come or its time is over; whether it has come.
-    pub(crate) fn take_done(&mut self, index: usize, now: u64) -> Option<bool> {
-        match self.requested.get_mut(index) {
-            Some(held) => {
-                let requested = (*held)?;
-                if !requested.has_come && requested.pending.until > now {
-                    return None;
-                }
-                *held = None;
-                Some(requested.has_come)
-            }
-            None => None,
         }
     }
 }

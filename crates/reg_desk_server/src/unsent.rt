@@ -7,19 +7,14 @@ use std::io::{ErrorKind, Write};
 /// The most bytes that one write is handed.
 const LONGEST_PIECE: usize = 65_536;
 
-/// The most writes to one connection in an iteration.
 const MOST_WRITES: usize = 4;
 
-/// How sending ended.
-#[derive(Clone, Copy, Debug, PartialEq, Eq)]
+/// How sending ended: all was taken, the client takes no more yet, it may take more, or it takes nothing more.
+#[derive(Clone, Copy)]
 pub(crate) enum Sent {
-    /// All of the text was taken.
     All,
-    /// The client takes no more yet.
     Blocked,
-    /// The client may take more.
     More,
-    /// The connection fails, or takes nothing more.
     Broken,
 }
 
@@ -33,24 +28,14 @@ pub(crate) struct Unsent {
 
 impl Unsent {
     ghost use Rattle.std.specs.Prelude.{◌≡◌};
-    ghost use Rattle.reg_desk_server.specs.Unsent.{SendsUnsent, unsent_of};
+    ghost use Rattle.reg_desk_server.specs.Held.{SendsUnsent, unsent_of};
 
-    /// The whole of a text.
     pub(crate) fn new(text: Vec<u8>) -> Unsent
         ensures { unsent_of result ≡ text.items }
     {
         Unsent { text, sent: 0 }
     }
 
-    /// The whole text again.
-    pub(crate) fn into_text(self) -> Vec<u8>
-        ensures { result ≡ self.text }
-    {
-        let Unsent { text, sent: _ } = self;
-        text
-    }
-
-    /// How many bytes are left.
     pub(crate) fn len(&self) -> usize
         ensures { result ≡ length (unsent_of self.now) }
     {
@@ -70,7 +55,6 @@ impl Unsent {
         Sent::More
     }
 
-    /// Sends the next piece.
     fn send_once<W: Write>(&mut self, writer: &mut W) -> Sent
         ensures { SendsUnsent W.contents writer.old writer.new self.old self.new result }
     {

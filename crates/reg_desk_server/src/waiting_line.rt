@@ -1,8 +1,7 @@
 //! A line of a control connection that waits for a signature.
 
 use crate::counter_peer::CounterPeer;
-use crate::given::Deferred;
-use crate::handler::Handler;
+use crate::handler::{Deferred, Handler};
 use crate::poller::{LINE, Poller};
 use crate::unsent::{Sent, Unsent};
 use mio::Interest;
@@ -13,16 +12,12 @@ use std::io::ErrorKind;
 /// How many milliseconds a signature may take, from when its line was looked at.
 const PATIENCE: u64 = 10_000;
 
-/// How far the signature is.
+/// How far the signature is: its message is going out, it is waited for, what came for it is there, or it does not come.
 #[derive(Clone, Copy)]
 enum Progress {
-    /// The message to be signed is going out.
     Sending,
-    /// The signature is waited for.
     Waiting,
-    /// What came for it is there.
     Come,
-    /// It does not come.
     Failed,
 }
 
@@ -35,15 +30,14 @@ pub(crate) struct WaitingLine<H: Handler> {
     ticket: H::Line,
     /// The message to be signed, with what of it is not sent yet.
     message: Unsent,
-    /// The connection to the signer.
-    link: Option<Asking>,
+    /// The connection to the signer, once there is one.
+    pub(crate) link: Option<Asking>,
     is_registered: bool,
     progress: Progress,
     until: u64,
 }
 
 impl<H: Handler> WaitingLine<H> {
-    /// A line of the connection of a slot, of which this is to be signed.
     pub(crate) fn new(
         slot: usize,
         connection: CounterPeer<UnixStream>,
@@ -62,19 +56,12 @@ impl<H: Handler> WaitingLine<H> {
         }
     }
 
-    /// Whether nothing is waited for any more: what came is there, or none comes.
     pub(crate) fn has_ended(&self) -> bool {
         matches!(self.progress, Progress::Come | Progress::Failed)
     }
 
-    /// Whether it is to be answered now: nothing is waited for, or its time is over.
     pub(crate) fn is_due(&self, now: u64) -> bool {
         self.has_ended() || self.until <= now
-    }
-
-    /// Whether there is no connection to the signer yet.
-    pub(crate) fn is_unconnected(&self) -> bool {
-        self.link.is_none()
     }
 
     /// The connection to the signer is at its end: what came on it is there, unless the message had not gone out.
@@ -100,7 +87,6 @@ impl<H: Handler> WaitingLine<H> {
         }
     }
 
-    /// Sends on the message, and waits for its signature.
     pub(crate) fn send_on(&mut self, poller: &Poller) {
         if !matches!(self.progress, Progress::Sending) {
             return;
@@ -108,37 +94,22 @@ impl<H: Handler> WaitingLine<H> {
         let Some(link) = &mut self.link else {
             return;
         };
-        match self.message.send_on(link) {
-            Sent::All => self.end_sending(poller),
-            Sent::Blocked | Sent::More => {
-                self.wait_for(poller, Progress::Sending, Interest::WRITABLE);
+        let sent = self.message.send_on(link);
+        let is_told = matches!(sent, Sent::All) && link.finish().is_ok();
+        let (progress, interest) = match sent {
+            Sent::All if is_told => (Progress::Waiting, Interest::READABLE),
+            Sent::Blocked | Sent::More => (Progress::Sending, Interest::WRITABLE),
+            Sent::All | Sent::Broken => {
+                self.progress = Progress::Failed;
+                return;
             }
-            Sent::Broken => self.progress = Progress::Failed,
-        }
-    }
-
-    /// Tells the signer that no more comes, and waits for the signature.
-    fn end_sending(&mut self, poller: &Poller) {
-        let is_told = match &mut self.link {
-            Some(link) => link.finish().is_ok(),
-            None => false,
         };
-        if is_told {
-            self.wait_for(poller, Progress::Waiting, Interest::READABLE);
+        let is_polled = poller.register_noted(link, LINE, interest, &mut self.is_registered);
+        self.progress = if is_polled {
+            progress
         } else {
-            self.progress = Progress::Failed;
-        }
-    }
-
-    /// Has the connection to the signer polled.
-    fn wait_for(&mut self, poller: &Poller, progress: Progress, interest: Interest) {
-        self.progress = progress;
-        let Some(link) = &mut self.link else {
-            return;
+            Progress::Failed
         };
-        if !poller.register_noted(link, LINE, interest, &mut self.is_registered) {
-            self.progress = Progress::Failed;
-        }
     }
 
     /// The connection, with its slot; what was to be signed for its line; and the connection to the signer, where what came on it is there.
@@ -156,19 +127,14 @@ impl<H: Handler> WaitingLine<H> {
             ticket,
             message,
             link,
-            is_registered: _,
             progress,
-            until: _,
+            ..
         } = self;
-        let deferred = Deferred {
-            message: message.into_text(),
-            ticket,
-        };
+        let message = message.text;
+        let deferred = Deferred { message, ticket };
         match progress {
             Progress::Come => (slot, connection, deferred, link),
-            Progress::Sending | Progress::Waiting | Progress::Failed => {
-                (slot, connection, deferred, None)
-            }
+            _ => (slot, connection, deferred, None),
         }
     }
 }

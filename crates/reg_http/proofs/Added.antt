@@ -14,16 +14,12 @@ use Rattle.reg_core.specs.declared.refusal.Fault.{Fault}
 use Rattle.reg_core.specs.declared.refusal.Fault.TheVariants.{Refused, Memory, Store, Signer, Read, Write}
 use Rattle.reg_core.specs.declared.rows.RequestRow.{RequestRow}
 use Rattle.reg_http.specs.Added.{AddsARequestAtMost}
-use Rattle.reg_http.specs.Answers.{Answers}
-use Rattle.reg_http.specs.RespondsTo.{of_any_kind}
-use Rattle.reg_http.specs.Told.{Told}
-use Rattle.reg_http.specs.Asked.{Asked, refused, only, unread, malformed, ocsp_of, crl_of, status_of, counts_of, request_of}
+use Rattle.reg_http.specs.Answers.{of_any_kind}
 use Rattle.reg_core_laws.specs.Run.{Happens}
-use Rattle.reg_office_api.specs.CallSteps.{Signs, Runs, Asks, Ocsps, Crls}
+use Rattle.reg_office_api.specs.CallSteps.{Signs, Ocsps}
 use Rattle.reg_office_api.specs.Responses.{Replies}
 use Rattle.reg_office_api.specs.Signatories.{Signatory}
 use Rattle.reg_office_api.specs.declared.response.ResponseKind.{ResponseKind}
-use Rattle.reg_crl.specs.Signing.{signed_by}
 
 -- records that stay
 pub nothing_added : (now : ℕ) (before after : Records) → after ≡ before → AddsARequestAtMost now before after
@@ -69,21 +65,3 @@ pub ocsps_stay : (signs : Signs) (who : Signatory) (before : Records) (now : ℕ
     (after : Records) → of_any_kind (Ocsps signs who) before now request given after → after ≡ before
 ocsps_stay signs who before now request (Ok response) after came = came.1
 ocsps_stay signs who before now request (Err memory) after came = came
-
--- any answer, whatever OCSP responses are
-pub answer_adds : (signs : Signs) (who : Signatory) (replies : Records → ℕ → List ℕ → Result (ResponseKind × List ℕ) NoMemory → Records → Type 0)
-    → ((before : Records) (now : ℕ) (request : List ℕ) (given : Result (ResponseKind × List ℕ) NoMemory) (after : Records)
-    → replies before now request given after → after ≡ before)
-    → (now : ℕ) (asked : Asked) (it : Told) (before after : Records)
-    → Answers (Runs signs who) Asks replies Crls now before asked it after → AddsARequestAtMost now before after
-answer_adds signs who replies stay now (refused status) it before after answered = nothing_added now before after answered.0
-answer_adds signs who replies stay now (only method) it before after answered = nothing_added now before after answered.0
-answer_adds signs who replies stay now unread it before after answered = nothing_added now before after answered.0
-answer_adds signs who replies stay now malformed it before after answered = nothing_added now before after answered.0
-answer_adds signs who replies stay now (ocsp_of request) it before after (given, came, is) =
-    nothing_added now before after (stay before now request given after came)
-answer_adds signs who replies stay now (crl_of number) it before after (given, came, is) = nothing_added now before after came.1
-answer_adds signs who replies stay now (status_of serial) it before after (given, came, is) = nothing_added now before after came.1
-answer_adds signs who replies stay now counts_of it before after (given, came, is) = nothing_added now before after came.1
-answer_adds signs who replies stay now (request_of serial word) it before after (given, came, is) =
-    request_adds (signed_by signs who.crls) now serial word before after given came

@@ -1,26 +1,26 @@
 -- What a request comes to, by the calls of an office, is a step of the records that stand in it.
-use Rattle.std.proofs.Common.{◌≡◌, ℕ, List}
-use Rattle.std.specs.Prelude.{Option, Result}
+use Rattle.std.proofs.Common.{◌≡◌, ℕ, List, refl, subst, sym, ◌∙◌}
+use Rattle.std.specs.Prelude.{Result, Ok, Err}
 use Rattle.reg_office_api.specs.CallSteps.{Runs, Asks, Ocsps, Crls}
-use Rattle.reg_office_api.specs.Calls.{RunsIn, AsksIn, CrlsIn}
-use Rattle.reg_office_api.specs.Drafts.{Drafts}
+use Rattle.reg_office_api.specs.Calls.{RunsIn, AsksIn, OcspsIn, RepliesIn, DraftsIn, CrlsIn}
+use Rattle.reg_office_api.specs.Drafts.{Begins, Drafts}
 use Rattle.reg_office_api.specs.Leads.{Leads}
 use Rattle.reg_office_api.specs.Responses.{Replies}
 use Rattle.reg_office_api.specs.Signatories.{Signatory}
 use Rattle.reg_office_api.specs.declared.office.Office.{Ghosts as Office}
+use Rattle.reg_office_api.specs.declared.response.OcspResponse.{OcspResponse}
 use Rattle.reg_office_api.specs.declared.response.ResponseKind.{ResponseKind}
 use Rattle.reg_office_api.proofs.PublicLaws.{stays, follows}
 use Rattle.reg_core.specs.Records.{Records}
 use Rattle.reg_core.specs.declared.memory.Memory.{Memory}
 use Rattle.reg_http_head.specs.Response.{Response}
 use Rattle.reg_http.specs.Added.{AddsARequestAtMost}
-use Rattle.reg_http.specs.Answers.{Answers}
+use Rattle.reg_http.specs.Answers.{Answers, BeginsTo, RespondsTo, TellsOcsp, of_any_kind}
 use Rattle.reg_http.specs.Asked.{Asked, refused, only, unread, malformed, ocsp_of, crl_of, status_of, counts_of, request_of}
-use Rattle.reg_http.specs.Beginning.{BeginsIn, BeginsTo}
-use Rattle.reg_http.specs.RespondsTo.{RespondsIn, RespondsTo, of_any_kind}
 use Rattle.reg_http.specs.Told.{Told, told}
 use Rattle.reg_http.specs.declared.answered.Answered.{Answered}
-use Rattle.reg_http.proofs.Added.{answer_adds, nothing_added, ocsps_stay, replies_stay}
+use Rattle.reg_crl.specs.Signing.{signed_by}
+use Rattle.reg_http.proofs.Added.{nothing_added, ocsps_stay, replies_stay, request_adds}
 use Rattle.reg_ocsp.specs.Drafts.{Drafted}
 use Rattle.reg_io.specs.declared.begun.Begun.{Begun}
 use Rattle.reg_io.specs.declared.begun.Begun.TheVariants.{Ready, Unsigned}
@@ -38,53 +38,73 @@ module _ {O : Type 0} (office : Office O) (now : ℕ) (s t : O) where
     Answer what it who before after =
         Answers (Runs office.signs who) Asks (replies who) Crls now before what it after × AddsARequestAtMost now before after
 
-    adds : (what : Asked) (it : Told) (who : Signatory) (before after : Records)
-        → Answers (Runs office.signs who) Asks (replies who) Crls now before what it after → Answer what it who before after
-    adds what it who before after made = (made, answer_adds office.signs who (replies who) (stay who) now what it before after made)
+    stayed : (what : Asked) (it : Told) → t ≡ s
+        → ((who : Signatory) (before after : Records) → after ≡ before → Answers (Runs office.signs who) Asks (replies who) Crls now before what it after)
+        → Leads office.is_clean office.stands (Answer what it) s t
+    stayed what it same from =
+        follows office.is_clean office.stands _ (Answer what it)
+        (λ who before after still. (from who before after still, nothing_added now before after still)) s t (stays office.is_clean office.stands s t same)
 
     pub answer_leads : (what : Asked) (it : Told) → Answers (RunsIn office) (AsksIn office) RepliesBy (CrlsIn office) now s what it t
         → Leads office.is_clean office.stands (Answer what it) s t
-    answer_leads (refused status) it (same, is) =
-        follows office.is_clean office.stands _ _ (λ who before after stayed. adds (refused status) it who before after (stayed, is)) s t
-        (stays office.is_clean office.stands s t same)
-    answer_leads (only method) it (same, is) =
-        follows office.is_clean office.stands _ _ (λ who before after stayed. adds (only method) it who before after (stayed, is)) s t
-        (stays office.is_clean office.stands s t same)
-    answer_leads unread it (same, is) =
-        follows office.is_clean office.stands _ _ (λ who before after stayed. adds unread it who before after (stayed, is)) s t
-        (stays office.is_clean office.stands s t same)
-    answer_leads malformed it (same, is) =
-        follows office.is_clean office.stands _ _ (λ who before after stayed. adds malformed it who before after (stayed, is)) s t
-        (stays office.is_clean office.stands s t same)
+    answer_leads (refused status) it (same, is) = stayed (refused status) it same (λ who before after still. (still, is))
+    answer_leads (only method) it (same, is) = stayed (only method) it same (λ who before after still. (still, is))
+    answer_leads unread it (same, is) = stayed unread it same (λ who before after still. (still, is))
+    answer_leads malformed it (same, is) = stayed malformed it same (λ who before after still. (still, is))
     answer_leads (ocsp_of request) it (given, came, is) =
-        follows office.is_clean office.stands _ _ (λ who before after made. adds (ocsp_of request) it who before after (given, made, is)) s t came
+        follows office.is_clean office.stands _ (Answer (ocsp_of request) it)
+        (λ who before after made. ((given, made, is), nothing_added now before after (stay who before now request given after made))) s t came
     answer_leads (crl_of number) it (given, came, is) =
-        follows office.is_clean office.stands _ _ (λ who before after made. adds (crl_of number) it who before after (given, made, is)) s t came
+        follows office.is_clean office.stands _ (Answer (crl_of number) it)
+        (λ who before after made. ((given, made, is), nothing_added now before after made.1)) s t came
     answer_leads (status_of serial) it (given, came, is) =
-        follows office.is_clean office.stands _ _ (λ who before after made. adds (status_of serial) it who before after (given, made, is)) s t came
+        follows office.is_clean office.stands _ (Answer (status_of serial) it)
+        (λ who before after made. ((given, made, is), nothing_added now before after made.1)) s t came
     answer_leads counts_of it (given, came, is) =
-        follows office.is_clean office.stands _ _ (λ who before after made. adds counts_of it who before after (given, made, is)) s t came
+        follows office.is_clean office.stands _ (Answer counts_of it)
+        (λ who before after made. ((given, made, is), nothing_added now before after made.1)) s t came
     answer_leads (request_of serial word) it (given, came, is) =
-        follows office.is_clean office.stands _ _ (λ who before after made. adds (request_of serial word) it who before after (given, made, is)) s t came
+        follows office.is_clean office.stands _ (Answer (request_of serial word) it)
+        (λ who before after made. ((given, made, is), request_adds (signed_by office.signs who.crls) now serial word before after given made)) s t came
 
-  -- the response alone
-  pub responds_leads : (what : Asked) (response : Response)
-      → RespondsIn office now s what response t
+  -- the response alone, to what is asked
+  pub responds_leads : (what asks : Asked) (response : Response) → what ≡ asks
+      → RespondsTo (RunsIn office) (AsksIn office) (OcspsIn office) (CrlsIn office) now s what response t
       → Leads office.is_clean office.stands
-      (λ who before after. RespondsTo (Runs office.signs who) Asks (Ocsps office.signs who) Crls now before what response after
+      (λ who before after. RespondsTo (Runs office.signs who) Asks (Ocsps office.signs who) Crls now before asks response after
       × AddsARequestAtMost now before after)
       s t
-  responds_leads what response (it, answered, is) =
-      follows office.is_clean office.stands _ _ (λ who before after made. ((it, made.0, is), made.1)) s t
-      (answer_leads (λ who. of_any_kind (Ocsps office.signs who)) (ocsps_stay office.signs) what it answered)
+  responds_leads what asks response is (it, answered, same) =
+      let P : Asked → Type 0 = λ a. Answers (RunsIn office) (AsksIn office) (of_any_kind (OcspsIn office)) (CrlsIn office) now s a it t in
+      follows office.is_clean office.stands _ _ (λ who before after made. ((it, made.0, same), made.1)) s t
+      (answer_leads (λ who. of_any_kind (Ocsps office.signs who)) (ocsps_stay office.signs) asks it (subst P is answered))
 
   -- the answer, or what is left to be signed for it
-  pub begin_leads : (what : Asked) (begun : Begun Answered Drafted) → BeginsIn office now s what begun t
-      → Leads office.is_clean office.stands
+  abbrev Begin : Asked → Begun Answered Drafted → Type 0
+  Begin what begun = Leads office.is_clean office.stands
       (λ who before after. BeginsTo (Runs office.signs who) Asks (Replies office.signs who) Crls (Drafts who) now before what begun after
       × AddsARequestAtMost now before after)
       s t
-  begin_leads what (Ready answered) made = answer_leads (Replies office.signs) (replies_stay office.signs) what (told answered) made
-  begin_leads what (Unsigned draft) (request, is, drafted) =
+
+  pub begin_leads : (what asks : Asked) (begun : Begun Answered Drafted) → what ≡ asks
+      → BeginsTo (RunsIn office) (AsksIn office) (RepliesIn office) (CrlsIn office) (DraftsIn office) now s what begun t → Begin asks begun
+  begin_leads what asks (Ready answered) is made =
+      let P : Asked → Type 0 = λ a. Answers (RunsIn office) (AsksIn office) (RepliesIn office) (CrlsIn office) now s a (told answered) t in
+      answer_leads (Replies office.signs) (replies_stay office.signs) asks (told answered) (subst P is made)
+  begin_leads what asks (Unsigned draft) same (request, is, drafted) =
       follows office.is_clean office.stands _ _
-      (λ who before after made. ((request, is, made), nothing_added now before after made.1)) s t drafted
+      (λ who before after made. ((request, sym same ∙ is, made), nothing_added now before after made.1)) s t drafted
+
+  -- the same of an OCSP request, as the office begins its response
+  pub ocsp_leads : (request : List ℕ) (asks : Asked) (given : Result (Begun OcspResponse Drafted) Memory) (begun : Begun Answered Drafted)
+      → ocsp_of request ≡ asks
+      → Leads office.is_clean office.stands (λ who before after. Begins (Replies office.signs who) (Drafts who) before now request given after) s t
+      → TellsOcsp given begun → Begin asks begun
+  ocsp_leads request asks (Ok (Ready response)) (Ready answered) is came it =
+      begin_leads (ocsp_of request) asks (Ready answered) is (Ok (response.kind, response.bytes.items), came, it)
+  ocsp_leads request asks (Ok (Unsigned draft)) (Unsigned left) is came it =
+      begin_leads (ocsp_of request) asks (Unsigned left) is (request, refl, subst (λ d. DraftsIn office s now request d t) (sym it) came)
+  ocsp_leads request asks (Err memory) (Ready answered) is came it = begin_leads (ocsp_of request) asks (Ready answered) is (Err memory, came, it)
+  ocsp_leads request asks (Ok (Ready response)) (Unsigned left) is came it = absurd it
+  ocsp_leads request asks (Ok (Unsigned draft)) (Ready answered) is came it = absurd it
+  ocsp_leads request asks (Err memory) (Unsigned left) is came it = absurd it

@@ -7,19 +7,18 @@ use Rattle.reg_core.specs.declared.command.Query.{Query}
 use Rattle.reg_core.specs.declared.command.Reply.{Reply}
 use Rattle.reg_core.specs.declared.memory.Memory.{Memory as NoMemory}
 use Rattle.reg_core.specs.declared.refusal.Fault.{Fault}
-use Rattle.reg_core.specs.declared.refusal.Fault.TheVariants.{Refused, Memory, Store, Signer, Read, Write}
+use Rattle.reg_core.specs.declared.refusal.Fault.TheVariants.{Memory, Write}
 use Rattle.reg_http_head.specs.Frame.{asked}
 use Rattle.reg_http_head.specs.Response.{IsText, Response}
 use Rattle.reg_office_api.specs.declared.response.ResponseKind.{ResponseKind}
 use Rattle.reg_office_api.specs.declared.response.ResponseKind.TheVariants.{Signed}
-use Rattle.reg_http.specs.Answers.{Answers}
+use Rattle.reg_http.specs.Answers.{Answers, RespondsTo}
 use Rattle.reg_http.specs.Asked.{ocsp_of, asked as asks_for}
 use Rattle.reg_http.specs.Bodies.{ocsp_reply}
 use Rattle.reg_http.specs.Parts.{call_asks}
 use Rattle.reg_http.specs.Told.{Told, ocsp_told}
 use Rattle.reg_http.specs.declared.parts.Call.{Call}
 use Rattle.reg_http.specs.declared.parts.Call.TheVariants as call
-use Rattle.reg_http.specs.RespondsTo.{RespondsTo}
 use Rattle.reg_http.specs.Served.{ReplyEnds}
 use Rattle.reg_io.specs.Put.{AppendsFront}
 
@@ -36,10 +35,7 @@ module _ {S : Type 0} (runs : S → ℕ → Command → Result Reply Fault → S
   reply_ends now s t method target body response out written (Err Write) made sent failed =
       (failed.1.0, inl (response, made, failed.1.1), failed.1.2)
   reply_ends now s t method target body response out written (Err Memory) made sent failed = tt
-  reply_ends now s t method target body response out written (Err Store) made sent failed = absurd (cc (failed.0))
-  reply_ends now s t method target body response out written (Err Signer) made sent failed = absurd (cc (failed.0))
-  reply_ends now s t method target body response out written (Err Read) made sent failed = absurd (cc (failed.0))
-  reply_ends now s t method target body response out written (Err (Refused why)) made sent failed = absurd (cc (failed.0))
+  reply_ends now s t method target body response out written (Err other) made sent failed = absurd (cc (failed.0))
 
   -- an OCSP response, as bytes
   pub ocsp_responds : (now : ℕ) (s t : S) (request : List ℕ) (given : Result (List ℕ) NoMemory) (response : Response)

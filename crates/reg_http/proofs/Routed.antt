@@ -1,85 +1,52 @@
 -- The router leads each path where the table says.
-use Rattle.std.proofs.Common.{◌≡◌, ℕ, ◌≤◌, List, [], ◌∷◌, ◌++◌, length, drop, codes, Option, Some, None, is_some, option_map, option_and_then, Bool, true, false, cond, ◌&&◌, refl, sym, ap, ◌∙◌, subst, arith, ◌==◌, All}
+use Rattle.std.proofs.Common.{◌≡◌, ℕ, ◌≤◌, List, [], ◌∷◌, ◌++◌, length, drop, codes, Option, Some, None, is_some, option_and_then, Bool, true, false, cond, ◌&&◌, refl, sym, ap, ◌∙◌, subst, arith, ◌==◌, All}
+use Rattle.std.specs.Prelude.{unwrap_or}
+use Rattle.std.proofs.Math.Seq.{drop-length}
 use Rattle.std.proofs.lemmas.Bool.{and_parts}
 use Rattle.matchit.specs.Rows.{RowsOf}
 use Rattle.matchit.specs.Router.{RouteOf, rename, map_key}
 use Rattle.matchit.specs.Seek.{seek, first, has_slash}
 use Rattle.matchit.proofs.RenameLemmas.{first-rename}
-use Rattle.reg_http.specs.RouterRows.{rows, IsLed, FindsRoute}
-use Rattle.reg_http.specs.Routes.{ocsp, ocsp_rest, crl, crl_number, status, counts, requests, nowhere, RouteLine, Ending, here, one, rest, route_line, path_after, ended, or_next, route_in, route}
+use Rattle.reg_http.specs.Routes.{RouteLine, Ending, here, one, rest, IsRoute, path_after, ended, left, mark, or_next, passed, route_in, route, rows_for, table}
 use Rattle.reg_http.specs.declared.route.Route.{Route}
-use Rattle.reg_http.specs.declared.route.Route.TheVariants.{Ocsp, OcspRest, Crl, CrlNumber, Status, Counts, Requests}
-use Rattle.reg_http.proofs.SeekOne.{mark, apart_all, all_bytes, is_byte, left, seek_one, seek_nothing}
-
--- the table, each line with what the router keeps of it
-abbrev pub keyed : List (RouteLine × Route)
-keyed =
-    (route_line (codes "/counts") here (λ _. counts), Counts)
-    ∷ (route_line (codes "/crl/") one crl_number, CrlNumber)
-    ∷ (route_line (codes "/crl") here (λ _. crl), Crl)
-    ∷ (route_line (codes "/ocsp/") rest ocsp_rest, OcspRest)
-    ∷ (route_line (codes "/ocsp") here (λ _. ocsp), Ocsp)
-    ∷ (route_line (codes "/requests") here (λ _. requests), Requests)
-    ∷ (route_line (codes "/status/") one status, Status)
-    ∷ []
-
-abbrev pub lines_of : List (RouteLine × Route) → List RouteLine
-lines_of [] = []
-lines_of (x ∷ xs) = x.0 ∷ lines_of xs
-
-abbrev pub rows_for : List (RouteLine × Route) → RowsOf Route
-rows_for [] = []
-rows_for (x ∷ xs) = (x.0.prefix ++ mark x.0.ending, x.1) ∷ rows_for xs
-
--- what the first line that takes the path keeps
-abbrev pub chain : List (RouteLine × Route) → List ℕ → Option Route
-chain [] path = None
-chain (x ∷ xs) path = cond (is_some (left x.0.prefix x.0.ending path)) (Some x.1) (chain xs path)
+use Rattle.reg_http.specs.declared.route.Route.TheVariants.{Ocsp, Other}
+use Rattle.reg_http.proofs.SeekOne.{apart_all, all_bytes, is_byte, seek_one, seek_nothing}
 
 -- prefixes are bytes, and no two rows catch one path
-abbrev pub all_apart : List (RouteLine × Route) → Bool
+abbrev all_apart : List RouteLine → Bool
 all_apart [] = true
-all_apart (x ∷ xs) = all_bytes x.0.prefix && (apart_all (x.0.prefix ++ mark x.0.ending) (rows_for xs) && all_apart xs)
+all_apart (l ∷ ls) = all_bytes l.prefix && (apart_all (l.prefix ++ mark l.ending) (rows_for ls) && all_apart ls)
 
-pub seek_chain : (ls : List (RouteLine × Route)) (path : List ℕ) → All is_byte path → all_apart ls ≡ true → seek 0 (rows_for ls) path ≡ chain ls path
-seek_chain [] path small parts = seek_nothing 0 path
-seek_chain (x ∷ xs) path small parts =
-    let (bytes, more) = and_parts (all_bytes x.0.prefix) (apart_all (x.0.prefix ++ mark x.0.ending) (rows_for xs) && all_apart xs) parts in
-    let (parted, others) = and_parts (apart_all (x.0.prefix ++ mark x.0.ending) (rows_for xs)) (all_apart xs) more in
-    seek_one x.0.prefix x.0.ending x.1 (rows_for xs) path small bytes parted
-    ∙ ap (λ (next : Option Route). cond (is_some (left x.0.prefix x.0.ending path)) (Some x.1) next) (seek_chain xs path small others)
-
-abbrev pub Fits : RouteLine → Route → Type 0
-Fits l which = (path text : List ℕ) → left l.prefix l.ending path ≡ Some text → IsLed which path (l.to text)
-
-abbrev pub AllFit : List (RouteLine × Route) → Type 0
-AllFit [] = Unit {0}
-AllFit (x ∷ xs) = Fits x.0 x.1 × AllFit xs
-
-pub led : (ls : List (RouteLine × Route)) (path : List ℕ) (which : Route) → AllFit ls → chain ls path ≡ Some which → IsLed which path (route_in (lines_of ls) path)
-led [] path which fit found = absurd (cc)
-led (x ∷ xs) path which fit found = by (left x.0.prefix x.0.ending path) refl found (led xs path which fit.1)
+-- the router finds the route of the first line that takes the path
+seek_route : (ls : List RouteLine) (path : List ℕ) → All is_byte path → all_apart ls ≡ true
+    → unwrap_or (seek 0 (rows_for ls) path) Other ≡ (route_in ls path).0
+seek_route [] path small parts = ap (λ (found : Option Route). unwrap_or found Other) (seek_nothing 0 path)
+seek_route (l ∷ ls) path small parts =
+    let (bytes, more) = and_parts (all_bytes l.prefix) (apart_all (l.prefix ++ mark l.ending) (rows_for ls) && all_apart ls) parts in
+    let (parted, others) = and_parts (apart_all (l.prefix ++ mark l.ending) (rows_for ls)) (all_apart ls) more in
+    ap (λ (found : Option Route). unwrap_or found Other) (seek_one l.prefix l.ending l.to (rows_for ls) path small bytes parted)
+    ∙ by (left l.prefix l.ending path) (seek_route ls path small others)
   where
-    by : (v : Option (List ℕ)) → left x.0.prefix x.0.ending path ≡ v → cond (is_some v) (Some x.1) (chain xs path) ≡ Some which
-        → (chain xs path ≡ Some which → IsLed which path (route_in (lines_of xs) path))
-        → IsLed which path (or_next (option_map x.0.to v) (route_in (lines_of xs) path))
-    by (Some text) e same next =
-        let key : x.1 ≡ which = cc in
-        let P : Route → Type 0 = λ k. IsLed k path (x.0.to text) in
-        subst P key (fit.0 path text e)
-    by None e same next = next same
+    by : (v : Option (List ℕ)) → unwrap_or (seek 0 (rows_for ls) path) Other ≡ (route_in ls path).0
+        → unwrap_or (cond (is_some v) (Some l.to) (seek 0 (rows_for ls) path)) Other ≡ (or_next l.to v (route_in ls path)).0
+    by (Some text) next = refl
+    by None next = next
 
-pub lost : (ls : List (RouteLine × Route)) (path : List ℕ) → chain ls path ≡ None → route_in (lines_of ls) path ≡ nowhere
-lost [] path none = refl
-lost (x ∷ xs) path none = by (left x.0.prefix x.0.ending path) none (lost xs path)
-  where
-    by : (v : Option (List ℕ)) → cond (is_some v) (Some x.1) (chain xs path) ≡ None → (chain xs path ≡ None → route_in (lines_of xs) path ≡ nowhere)
-        → or_next (option_map x.0.to v) (route_in (lines_of xs) path) ≡ nowhere
-    by (Some text) same next = absurd (cc)
-    by None same next = next same
+-- how many bytes of a path stand before what a line leaves open
+abbrev size : Ending → List ℕ → List ℕ → ℕ
+size here prefix path = length path
+size _ prefix path = length prefix
+
+abbrev AllSized : List ℕ → List RouteLine → Type 0
+AllSized path [] = Unit {0}
+AllSized path (l ∷ ls) = (size l.ending l.prefix path ≡ passed l.to path) × AllSized path ls
+
+-- what is left open of a path stands behind as many bytes
+abbrev Behind : List ℕ → ℕ → List ℕ → Type 0
+Behind path bytes over = (over ≡ drop bytes path) × (bytes ≤ length path)
 
 -- what is after a prefix
-pub after_is : (w path text : List ℕ) → path_after w path ≡ Some text → (text ≡ drop (length w) path) × (length w ≤ length path)
+after_is : (w path text : List ℕ) → path_after w path ≡ Some text → (text ≡ drop (length w) path) × (length w ≤ length path)
 after_is [] path text e = (let same : path ≡ text = cc in sym same, omega arith)
 after_is (x ∷ w) [] text e = absurd (cc)
 after_is (x ∷ w) (b ∷ path) text e = by (x == b) e (after_is w path text)
@@ -89,90 +56,58 @@ after_is (x ∷ w) (b ∷ path) text e = by (x == b) e (after_is w path text)
     by true e next = let found = next e in (found.0, omega (arith, found.1))
     by false e next = absurd (cc)
 
-pub one_takes : (left_over text : List ℕ) → ended one left_over ≡ Some text → left_over ≡ text
-one_takes [] text e = absurd (cc)
-one_takes (b ∷ more) text e = by (has_slash (b ∷ more)) e
+-- an ending leaves all of what it takes open
+ended_is : (e : Ending) (rest_of text : List ℕ) → ended e rest_of ≡ Some text → rest_of ≡ text
+ended_is here [] text e = cc e
+ended_is here (b ∷ more) text e = absurd (cc)
+ended_is one [] text e = absurd (cc)
+ended_is one (b ∷ more) text e = by (has_slash (b ∷ more)) e
   where
     by : (v : Bool) → cond v None (Some (b ∷ more)) ≡ Some text → (b ∷ more) ≡ text
     by true e = absurd (cc)
     by false e = cc
+ended_is rest [] text e = absurd (cc)
+ended_is rest (b ∷ more) text e = cc
 
-pub rest_takes : (left_over text : List ℕ) → ended rest left_over ≡ Some text → left_over ≡ text
-rest_takes [] text e = absurd (cc)
-rest_takes (b ∷ more) text e = cc
-
--- a line that ends in a segment, or in anything, takes what is after its prefix
-pub left_is : (w : List ℕ) (e : Ending) → ((left_over text : List ℕ) → ended e left_over ≡ Some text → left_over ≡ text)
-    → (path text : List ℕ) → left w e path ≡ Some text → (text ≡ drop (length w) path) × (length w ≤ length path)
-left_is w e exact path text found = by (path_after w path) refl found
+left_is : (e : Ending) (w path over : List ℕ) → left w e path ≡ Some over → Behind path (size e w path) over
+left_is e w path over found = by e (path_after w path) refl found
   where
-    by : (v : Option (List ℕ)) → path_after w path ≡ v → option_and_then (ended e) v ≡ Some text → (text ≡ drop (length w) path) × (length w ≤ length path)
-    by None same got = absurd (cc)
-    by (Some left_over) same got = let whole = exact left_over text got in after_is w path text (same ∙ ap (λ (t : List ℕ). Some t) whole)
+    by : (e : Ending) (v : Option (List ℕ)) → path_after w path ≡ v → option_and_then (ended e) v ≡ Some over → Behind path (size e w path) over
+    by e None same got = absurd (cc)
+    by here (Some []) same got = (let none : [] ≡ over = cc in sym none ∙ sym (drop-length path), omega arith)
+    by here (Some (b ∷ more)) same got = absurd (cc)
+    by one (Some text) same got = after_is w path over (same ∙ ap (λ (t : List ℕ). Some t) (ended_is one text over got))
+    by rest (Some text) same got = after_is w path over (same ∙ ap (λ (t : List ℕ). Some t) (ended_is rest text over got))
 
-pub keyed_fit : AllFit keyed
-keyed_fit = (
-  (λ path text e. record { route_is = refl; long = omega arith }),
-  (
-    (λ path text e. let (whole, long) = left_is (codes "/crl/") one one_takes path text e in record { route_is = ap crl_number whole; long = long }),
-    (
-      (λ path text e. record { route_is = refl; long = omega arith }),
-      (
-        (λ path text e. let (whole, long) = left_is (codes "/ocsp/") rest rest_takes path text e in record { route_is = ap ocsp_rest whole; long = long }),
-        (
-          (λ path text e. record { route_is = refl; long = omega arith }),
-          (
-            (λ path text e. record { route_is = refl; long = omega arith }),
-            (
-              (λ path text e. let (whole, long) = left_is (codes "/status/") one one_takes path text e in record { route_is = ap status whole; long = long }),
-              tt,
-            ),
-          ),
-        ),
-      ),
-    ),
-  ),
-)
-
--- a path that the router finds
-pub found_at : (router : RowsOf (RouteOf Route)) (path : List ℕ) (entry : RouteOf Route) → rename (λ e. e.value) router ≡ rows → All is_byte path
-    → first router path ≡ Some entry → IsLed entry.value path (route path)
-unfolding route
-found_at router path entry same small found =
-    led keyed path entry.value keyed_fit (
-    sym (seek_chain keyed path small refl)
-    ∙ ap (λ (rs : RowsOf Route). first rs path) (sym same)
-    ∙ first-rename (λ (e : RouteOf Route). e.value) router path
-    ∙ ap (map_key (λ (e : RouteOf Route). e.value)) found
-    )
-
--- a path that it does not find
-pub lost_at : (router : RowsOf (RouteOf Route)) (path : List ℕ) → rename (λ e. e.value) router ≡ rows → All is_byte path
-    → first router path ≡ None → route path ≡ nowhere
-unfolding route
-lost_at router path same small missing =
-    lost keyed path (
-    sym (seek_chain keyed path small refl)
-    ∙ ap (λ (rs : RowsOf Route). first rs path) (sym same)
-    ∙ first-rename (λ (e : RouteOf Route). e.value) router path
-    ∙ ap (map_key (λ (e : RouteOf Route). e.value)) missing
-    )
-
--- what the router finds, or that it finds nothing
-pub finds_at : (router : RowsOf (RouteOf Route)) (path : List ℕ) (found : Option Route) → rename (λ e. e.value) router ≡ rows → All is_byte path
-    → map_key (λ e. e.value) (first router path) ≡ found → FindsRoute path found
-finds_at router path found same small is = by (first router path) refl found is
+route_behind : (ls : List RouteLine) (path : List ℕ) → AllSized path ls → Behind path (passed (route_in ls path).0 path) (route_in ls path).1
+route_behind [] path sized = (sym (drop-length path), omega arith)
+route_behind (l ∷ ls) path sized = by (left l.prefix l.ending path) refl (route_behind ls path sized.1)
   where
-    by : (v : Option (RouteOf Route)) → first router path ≡ v → (found : Option Route) → map_key (λ e. e.value) v ≡ found → FindsRoute path found
-    by None e None same_found = lost_at router path same small e
-    by None e (Some which) same_found = absurd (cc)
-    by (Some entry) e None same_found = absurd (cc)
-    by (Some entry) e (Some which) same_found =
-        let key : entry.value ≡ which = cc in
-        let P : Route → Type 0 = λ k. IsLed k path (route path) in
-        subst P key (found_at router path entry same small e)
+    by : (v : Option (List ℕ)) → left l.prefix l.ending path ≡ v → Behind path (passed (route_in ls path).0 path) (route_in ls path).1
+        → Behind path (passed (or_next l.to v (route_in ls path)).0 path) (or_next l.to v (route_in ls path)).1
+    by (Some over) e next =
+        let P : ℕ → Type 0 = λ bytes. Behind path bytes over in
+        subst P sized.0 (left_is l.ending l.prefix path over e)
+    by None e next = next
+
+is_route : (path : List ℕ) (which : Route) → which ≡ (route_in table path).0 → IsRoute path which
+unfolding route
+is_route path which same =
+    let P : Route → Type 0 = λ it. IsRoute path it in
+    let fits = route_behind table path (refl, (refl, (refl, (refl, (refl, (refl, (refl, tt))))))) in
+    subst P (sym same) (record { route_is = ap (λ (over : List ℕ). ((route_in table path).0, over)) (sym fits.0); long = fits.1 })
+
+-- what the router finds
+pub finds_at : (router : RowsOf (RouteOf Route)) (path : List ℕ) (which : Route) → rename (λ e. e.value) router ≡ rows_for table → All is_byte path
+    → which ≡ unwrap_or (map_key (λ e. e.value) (first router path)) Other → IsRoute path which
+finds_at router path which same small is =
+    is_route path which (
+    is
+    ∙ ap (λ (found : Option Route). unwrap_or found Other) (
+    sym (first-rename (λ (e : RouteOf Route). e.value) router path) ∙ ap (λ (rs : RowsOf Route). first rs path) same)
+    ∙ seek_route table path small refl
+    )
 
 -- the path that is found without a router
-pub ocsp_at : (path : List ℕ) → path ≡ codes "/ocsp" → FindsRoute path (Some Ocsp)
-unfolding route
-ocsp_at path same = record { route_is = ap (λ (p : List ℕ). route_in (lines_of keyed) p) same; long = omega arith }
+pub ocsp_at : (path : List ℕ) → path ≡ codes "/ocsp" → IsRoute path Ocsp
+ocsp_at path same = is_route path Ocsp (ap (λ (p : List ℕ). (route_in table p).0) (sym same))

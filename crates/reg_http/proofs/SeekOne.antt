@@ -5,13 +5,7 @@ use Rattle.std.proofs.lemmas.Bool.{and_parts}
 use Rattle.std.proofs.lemmas.List.Elements.{All-head, All-tail}
 use Rattle.matchit.specs.Rows.{RowsOf}
 use Rattle.matchit.specs.Seek.{own, step, or_else, seek, param_step, has_slash}
-use Rattle.reg_http.specs.Routes.{Ending, here, one, rest, path_after, ended}
-
--- what stands for an ending among the tokens of a pattern
-abbrev pub mark : Ending → List ℕ
-mark here = []
-mark one = 256 ∷ []
-mark rest = 257 ∷ []
+use Rattle.reg_http.specs.Routes.{Ending, here, one, rest, path_after, ended, left, mark}
 
 -- two patterns part at two bytes, or one ends before the other
 abbrev pub apart : List ℕ → List ℕ → Bool
@@ -27,10 +21,6 @@ all_bytes (x ∷ t) = ltb x 256 && all_bytes t
 
 abbrev pub is_byte : ℕ → Type 0
 is_byte b = b < 256
-
--- what the ending takes of the path after a prefix
-abbrev pub left : List ℕ → Ending → List ℕ → Option (List ℕ)
-left prefix ending path = option_and_then (ended ending) (path_after prefix path)
 
 module _ {K : Type 0} where
   -- a pattern parts from each row

@@ -12,7 +12,9 @@ use Rattle.serde_json.specs.Read.{read}
 use Rattle.reg_core.specs.Number.{number_of}
 use Rattle.reg_core.specs.Serial.{serial_of}
 use Rattle.reg_core_lists.specs.Asked.{label_of}
-use Rattle.reg_http.specs.Routes.{PathRoute, ocsp, ocsp_rest, crl, crl_number, status, counts, requests, nowhere, route}
+use Rattle.reg_http.specs.Routes.{route}
+use Rattle.reg_http.specs.declared.route.Route.{Route}
+use Rattle.reg_http.specs.declared.route.Route.TheVariants.{Ocsp, OcspRest, Crl, CrlNumber, Status, Counts, Requests}
 
 -- what is asked: a refusal of HTTP, another method than the route's, what can't be read, an OCSP request that can't be
 -- decoded, or one of the five calls of the office
@@ -77,17 +79,18 @@ or_malformed None = malformed
 abbrev pub by_method : List ℕ → List ℕ → Asked → Asked
 by_method has method asks = if bytes_eq method has then asks else only has
 
--- what is asked at a route
-abbrev pub asked_at : List ℕ → PathRoute → List ℕ → Asked
-asked_at method ocsp body = by_method (codes "POST") method (ocsp_of body)
-asked_at method (ocsp_rest text) body = by_method (codes "GET") method (or_malformed (decoded text))
-asked_at method crl body = by_method (codes "GET") method (crl_of None)
-asked_at method (crl_number text) body = by_method (codes "GET") method (or_unread (λ n. crl_of (Some n)) (number_of text))
-asked_at method (status text) body = by_method (codes "GET") method (or_unread status_of (serial_of text))
-asked_at method counts body = by_method (codes "GET") method counts_of
-asked_at method requests body = by_method (codes "POST") method (asks_revocation (wanted body))
-asked_at method nowhere body = refused 404
+-- what is asked at a route, with what that leaves open of the path
+abbrev pub asked_at : List ℕ → Route → List ℕ → List ℕ → Asked
+asked_at method Ocsp over body = by_method (codes "POST") method (ocsp_of body)
+asked_at method OcspRest over body = by_method (codes "GET") method (or_malformed (decoded over))
+asked_at method Crl over body = by_method (codes "GET") method (crl_of None)
+asked_at method CrlNumber over body = by_method (codes "GET") method (or_unread (λ n. crl_of (Some n)) (number_of over))
+asked_at method Status over body = by_method (codes "GET") method (or_unread status_of (serial_of over))
+asked_at method Counts over body = by_method (codes "GET") method counts_of
+asked_at method Requests over body = by_method (codes "POST") method (asks_revocation (wanted body))
+asked_at method _ over body = refused 404
 
 -- what a request asks
 abbrev pub asked : List ℕ → List ℕ → List ℕ → Asked
-asked method target body = if is_rooted target then asked_at method (route (path_of target)) body else refused 400
+asked method target body =
+    if is_rooted target then asked_at method (route (path_of target)).0 (route (path_of target)).1 body else refused 400

@@ -1,17 +1,15 @@
 -- The bodies that are JSON (RFC 8259), and the response that each outcome is told by.
-use Rattle.std.specs.Prelude.{ℕ, List, [], ◌∷◌, ◌++◌, codes, decimal, Option, Some, None, Result, Ok, Err}
+use Rattle.std.specs.Prelude.{ℕ, List, [], ◌∷◌, ◌++◌, codes, decimal, Some, None, Result, Ok, Err}
 use Rattle.reg_core.specs.Calendar.{moment_text}
 use Rattle.reg_core.specs.Lines.{fault_line}
 use Rattle.reg_core.specs.declared.command.Status.{Status}
 use Rattle.reg_core.specs.declared.command.Status.TheVariants.{Unknown, Good, Expired, Revoked}
 use Rattle.reg_core.specs.declared.command.Counts.{Counts}
-use Rattle.reg_core.specs.declared.command.Reply.{Reply}
-use Rattle.reg_core.specs.declared.command.Reply.TheVariants.{Status as StatusIs, Counts as CountsAre, Request as RequestEntered}
 use Rattle.reg_core.specs.declared.memory.Memory.{Memory as NoMemory}
 use Rattle.reg_core.specs.declared.refusal.Refusal.{Refusal}
 use Rattle.reg_core.specs.declared.refusal.Refusal.TheVariants.{NoCrl, Syntax}
 use Rattle.reg_core.specs.declared.refusal.Fault.{Fault}
-use Rattle.reg_core.specs.declared.refusal.Fault.TheVariants.{Refused, Memory, Store}
+use Rattle.reg_core.specs.declared.refusal.Fault.TheVariants.{Refused, Memory}
 use Rattle.reg_http_head.specs.Response.{Response}
 
 -- `{"error":"LINE"}`
@@ -67,21 +65,6 @@ fault_status other = 500
 -- a refusal or a fault is told by its line
 unfoldable pub fault_response : Fault → Response
 fault_response fault = json (fault_status fault) (error_text (fault_line fault))
-
--- the body that tells a status; none for a reply of another kind
-abbrev pub status_reply : Reply → Option (List ℕ)
-status_reply (StatusIs status) = Some (status_text status)
-status_reply other = None
-
--- the body that tells counts; none for a reply of another kind
-abbrev pub counts_reply : Reply → Option (List ℕ)
-counts_reply (CountsAre counts) = Some (counts_text counts)
-counts_reply other = None
-
--- the body that tells a request that was entered; none for a reply of another kind
-abbrev pub due_reply : Reply → Option (List ℕ)
-due_reply (RequestEntered id due) = Some (due_text id due)
-due_reply other = None
 
 -- an OCSP response, of any status (RFC 6960 A.2); out of memory is a fault
 abbrev pub ocsp_reply : Result (List ℕ) NoMemory → Response

@@ -1,14 +1,11 @@
 pub mod Added
 pub mod Answers
 pub mod Asked
-pub mod Beginning
 pub mod Bodies
 pub mod Exchanges
 pub mod Lists
 pub mod Parts
-pub mod RespondsTo
 pub mod RouteNames
-pub mod RouterRows
 pub mod Routes
 pub mod Served
 pub mod Told

@@ -1,6 +1,6 @@
 -- Requests for lists, and what they are answered: the routes of an open desk alone.
-use Rattle.std.specs.Prelude.{◌≡◌, ℕ, ◌==◌, Bool, List, [], ◌∷◌, drop, codes, bytes_eq, if◌then◌else◌, Option, Some, None, Result, Ok, Err}
-use Rattle.std.specs.List.{before_first, after_first, position_or_len, starts_with}
+use Rattle.std.specs.Prelude.{◌≡◌, ℕ, ◌==◌, List, drop, codes, bytes_eq, if◌then◌else◌, Option, Some, None, Result, Ok, Err}
+use Rattle.std.specs.List.{before_first, after_first, starts_with}
 use Rattle.percent_encoding.specs.Percent.{percent_decode}
 use Rattle.reg_core.specs.Records.{Records}
 use Rattle.reg_core.specs.declared.refusal.Fault.{Fault}
@@ -14,19 +14,17 @@ use Rattle.reg_core_lists.specs.declared.rows.Page.{Page as PageOf}
 use Rattle.reg_http.specs.Bodies.{json, only}
 use Rattle.reg_http.specs.Told.{Told, plain, fault_told}
 use Rattle.reg_http.specs.declared.lists.ListAsked.{ListAsked}
-use Rattle.reg_http.specs.declared.lists.ListAsked.TheVariants.{Nothing, Page}
-use Rattle.reg_http.specs.declared.lists.NoPage.{NoPage}
-use Rattle.reg_http.specs.declared.lists.NoPage.TheVariants.{OnlyGet, Unread}
+use Rattle.reg_http.specs.declared.lists.ListAsked.TheVariants.{OnlyGet, Unread, Page}
 
 -- the page that was asked for, or that it can't be read
 abbrev pub or_unread : Option (Cursor × ℕ) → ListAsked
 or_unread (Some wanted) = Page wanted.0 wanted.1
-or_unread None = Nothing Unread
+or_unread None = Unread
 
 -- the page that a path `/list/WORD` and what is told behind it ask for
 abbrev pub page_told : List ℕ → List ℕ → ListAsked
 page_told path told =
-    if starts_with (λ a b. a == b) path (codes "/list/") then or_unread (page_asked (drop 6 path) told) else Nothing Unread
+    if starts_with (λ a b. a == b) path (codes "/list/") then or_unread (page_asked (drop 6 path) told) else Unread
 
 -- the same of a target (RFC 3986 3.3, 3.4): a path, and behind `?` what is told, percent-decoded
 unfoldable pub page_in : List ℕ → ListAsked
@@ -34,19 +32,15 @@ page_in target = page_told (before_first (λ b. b == 63) target) (percent_decode
 
 -- what a request for a list asks
 abbrev pub list_asked : List ℕ → List ℕ → ListAsked
-list_asked method target = if bytes_eq method (codes "GET") then page_in target else Nothing OnlyGet
+list_asked method target = if bytes_eq method (codes "GET") then page_in target else OnlyGet
 
 -- a page as it is told, or why there is none
 abbrev pub given_told : Cursor → Result PageOf Fault → Told
 given_told from (Ok given) = plain (json 200 (page_body from given.next given.rows.items))
 given_told from (Err why) = fault_told why
 
--- what is told to a request for a list that asks no page
-abbrev pub no_page_told : NoPage → Told
-no_page_told OnlyGet = plain (only (codes "GET"))
-no_page_told Unread = fault_told (fault.Refused Syntax)
-
 -- what a request for a list is told, of records at a moment
 abbrev pub RespondsList : Records → ℕ → ListAsked → Told → Type 0
 RespondsList records now (Page from most) it = (given : Result PageOf Fault) × IsPaged records now most from given × (it ≡ given_told from given)
-RespondsList records now (Nothing why) it = it ≡ no_page_told why
+RespondsList records now OnlyGet it = it ≡ plain (only (codes "GET"))
+RespondsList records now Unread it = it ≡ fault_told (fault.Refused Syntax)

@@ -1,5 +1,5 @@
 -- By which route a path is dispatched and counted.
-use Rattle.std.specs.Prelude.{ℕ, Bool, true, cond, ◌==◌, ◌+◌, nat_eq, List, [], take, drop, codes, bytes_eq, if◌then◌else◌, Some, None}
+use Rattle.std.specs.Prelude.{ℕ, Bool, ◌==◌, ◌||◌, ◌+◌, nat_eq, List, [], take, drop, codes, bytes_eq, if◌then◌else◌, Some, None}
 use Rattle.std.specs.List.{position, starts_with}
 use Rattle.std.specs.declared.option.Option.{Option}
 use Rattle.reg_http.specs.declared.route.Route.{Route}
@@ -26,7 +26,7 @@ is_space byte = byte == 32
 
 -- whether a byte ends a path: a space, `?`, CR or LF
 abbrev pub ends_path : ℕ → Bool
-ends_path byte = cond (byte == 32) true (cond (byte == 63) true (cond (byte == 13) true (byte == 10)))
+ends_path byte = byte == 32 || byte == 63 || byte == 13 || byte == 10
 
 -- what stands before this place, or all of a text where there is none
 abbrev pub before : Option ℕ → List ℕ → List ℕ

@@ -1,20 +1,10 @@
--- Which route a path has.
-use Rattle.std.specs.Prelude.{ℕ, ◌==◌, List, [], ◌∷◌, codes, if◌then◌else◌, Option, Some, None, option_map, option_and_then}
+-- Which route a path has, and how the router keeps it.
+use Rattle.std.specs.Prelude.{◌≡◌, ◌≤◌, ◌==◌, ℕ, List, [], ◌∷◌, ◌++◌, length, drop, codes, if◌then◌else◌, Option, Some, None, option_and_then}
+use Rattle.matchit.specs.Rows.{RowsOf, param_token, catch_all_token}
 use Rattle.matchit.specs.Seek.{has_slash}
 use Rattle.reg_http.specs.declared.paths.Found.{Found}
 use Rattle.reg_http.specs.declared.route.Route.{Route}
-use Rattle.reg_http.specs.declared.route.Route.TheVariants.{Ocsp, OcspRest, Crl, CrlNumber, Status, Counts, Requests}
-
--- the routes, with the part of the path that the route names
-pub data PathRoute : Type 0 where
-  ocsp : PathRoute
-  ocsp_rest : List ℕ → PathRoute
-  crl : PathRoute
-  crl_number : List ℕ → PathRoute
-  status : List ℕ → PathRoute
-  counts : PathRoute
-  requests : PathRoute
-  nowhere : PathRoute
+use Rattle.reg_http.specs.declared.route.Route.TheVariants.{Ocsp, OcspRest, Crl, CrlNumber, Status, Counts, Requests, Other}
 
 -- how a path goes on after its prefix: not at all, with one segment, or with anything, a slash too
 pub data Ending : Type 0 where
@@ -26,21 +16,21 @@ pub data Ending : Type 0 where
 pub record RouteLine : Type 0 where
   pub prefix : List ℕ
   pub ending : Ending
-  pub to : List ℕ → PathRoute
+  pub to : Route
 
-abbrev pub route_line : List ℕ → Ending → (List ℕ → PathRoute) → RouteLine
+abbrev pub route_line : List ℕ → Ending → Route → RouteLine
 route_line prefix ending to = record { prefix = prefix; ending = ending; to = to }
 
 -- the routes of the desk
 abbrev pub table : List RouteLine
 table =
-    route_line (codes "/counts") here (λ _. counts)
-    ∷ route_line (codes "/crl/") one crl_number
-    ∷ route_line (codes "/crl") here (λ _. crl)
-    ∷ route_line (codes "/ocsp/") rest ocsp_rest
-    ∷ route_line (codes "/ocsp") here (λ _. ocsp)
-    ∷ route_line (codes "/requests") here (λ _. requests)
-    ∷ route_line (codes "/status/") one status
+    route_line (codes "/counts") here Counts
+    ∷ route_line (codes "/crl/") one CrlNumber
+    ∷ route_line (codes "/crl") here Crl
+    ∷ route_line (codes "/ocsp/") rest OcspRest
+    ∷ route_line (codes "/ocsp") here Ocsp
+    ∷ route_line (codes "/requests") here Requests
+    ∷ route_line (codes "/status/") one Status
     ∷ []
 
 -- the path after a prefix, where it begins with it
@@ -58,35 +48,49 @@ ended one (b ∷ left) = if has_slash (b ∷ left) then None else Some (b ∷ le
 ended rest [] = None
 ended rest (b ∷ left) = Some (b ∷ left)
 
--- the route of a line, where the path is the line's
-abbrev pub route_taken : RouteLine → List ℕ → Option PathRoute
-route_taken l path = option_map l.to (option_and_then (ended l.ending) (path_after l.prefix path))
+-- what a prefix with its ending leaves open of a path, where it takes it
+abbrev pub left : List ℕ → Ending → List ℕ → Option (List ℕ)
+left prefix ending path = option_and_then (ended ending) (path_after prefix path)
 
--- the route that was found, or the next
-abbrev pub or_next : Option PathRoute → PathRoute → PathRoute
-or_next (Some found) next = found
-or_next None next = next
+-- a route with what it leaves open, or the next
+abbrev pub or_next : Route → Option (List ℕ) → Route × List ℕ → Route × List ℕ
+or_next to (Some over) next = (to, over)
+or_next to None next = next
 
--- the route of the first line that takes the path; nowhere where none does
-abbrev pub route_in : List RouteLine → List ℕ → PathRoute
-route_in [] path = nowhere
-route_in (l ∷ ls) path = or_next (route_taken l path) (route_in ls path)
+-- the route of the first line that takes the path, and what it leaves open
+abbrev pub route_in : List RouteLine → List ℕ → Route × List ℕ
+route_in [] path = (Other, [])
+route_in (l ∷ ls) path = or_next l.to (left l.prefix l.ending path) (route_in ls path)
 
 -- the route of a path
-unfoldable pub route : List ℕ → PathRoute
+unfoldable pub route : List ℕ → Route × List ℕ
 route path = route_in table path
 
--- a route that the router kept, with what it leaves open of the path
-abbrev pub route_with : Route → List ℕ → PathRoute
-route_with Ocsp text = ocsp
-route_with OcspRest text = ocsp_rest text
-route_with Crl text = crl
-route_with CrlNumber text = crl_number text
-route_with Status text = status text
-route_with Counts text = counts
-route_with Requests text = requests
-route_with _ text = nowhere
-
 -- the same of what the program found
-abbrev pub route_seen : Found → PathRoute
-route_seen found = route_with found.route found.rest.now
+abbrev pub route_seen : Found → Route × List ℕ
+route_seen found = (found.route, found.rest.now)
+
+-- ---- the router
+
+-- what stands for an ending among the tokens of a pattern
+abbrev pub mark : Ending → List ℕ
+mark here = []
+mark one = param_token ∷ []
+mark rest = catch_all_token ∷ []
+
+-- the rows of the router: each pattern as its tokens, with its route
+abbrev pub rows_for : List RouteLine → RowsOf Route
+rows_for [] = []
+rows_for (l ∷ ls) = (l.prefix ++ mark l.ending, l.to) ∷ rows_for ls
+
+-- how many bytes of the path a route passes over
+abbrev pub passed : Route → List ℕ → ℕ
+passed OcspRest path = 6
+passed CrlNumber path = 5
+passed Status path = 8
+passed _ path = length path
+
+-- the route is that of the path, which is long enough for it
+pub record IsRoute (path : List ℕ) (which : Route) : Type 0 where
+  pub route_is : (which, drop (passed which path) path) ≡ route path
+  pub long : passed which path ≤ length path

@@ -6,12 +6,12 @@ use Rattle.reg_core.specs.declared.command.Query.{Query}
 use Rattle.reg_core.specs.declared.command.Reply.{Reply}
 use Rattle.reg_core.specs.declared.memory.Memory.{Memory as NoMemory}
 use Rattle.reg_core.specs.declared.refusal.Fault.{Fault}
-use Rattle.reg_core.specs.declared.refusal.Fault.TheVariants.{Refused, Memory, Store, Signer, Read, Write}
+use Rattle.reg_core.specs.declared.refusal.Fault.TheVariants.{Memory, Read, Write}
 use Rattle.reg_io.specs.Put.{AppendsFront}
 use Rattle.reg_http_head.specs.Frame.{Part, refused, asked, Framed, IsUnfinished}
 use Rattle.reg_http_head.specs.Head.{longest_head, longest_body}
 use Rattle.reg_http_head.specs.Response.{Response, IsText, memory_text}
-use Rattle.reg_http.specs.RespondsTo.{RespondsTo}
+use Rattle.reg_http.specs.Answers.{RespondsTo}
 use Rattle.reg_http.specs.Asked.{asked as asks_for}
 use Rattle.reg_http.specs.Bodies.{http_refusal}
 
@@ -37,37 +37,23 @@ module _ {S : Type 0} (runs : S → ℕ → Command → Result Reply Fault → S
   ReplyEnds now s t part out written (Ok done) = (text : List ℕ) × Responds now s part text t × Appends out written text
   ReplyEnds now s t part out written (Err Write) = (text : List ℕ) × Responds now s part text t × AppendsFront out written text
   ReplyEnds now s t part out written (Err Memory) = Unit {0}
-  ReplyEnds now s t part out written (Err Read) = ⊥
-  ReplyEnds now s t part out written (Err Store) = ⊥
-  ReplyEnds now s t part out written (Err Signer) = ⊥
-  ReplyEnds now s t part out written (Err (Refused why)) = ⊥
+  ReplyEnds now s t part out written (Err other) = ⊥
 
-  -- one request was read, and its response was written whole
-  pub record Served (now : ℕ) (s t : S) (input left out written : Option (List ℕ)) : Type 0 where
+  -- one request was read, and of its response this was written
+  pub record Served (Wrote : List ℕ → Type 0) (now : ℕ) (s t : S) (input left : Option (List ℕ)) : Type 0 where
     pub took : List ℕ
     pub part : Part
     pub text : List ℕ
     pub takes : TakesRequest input left took
     pub framed : Framed took part
     pub responds : Responds now s part text t
-    pub wrote : Appends out written text
+    pub wrote : Wrote text
 
-  -- one request was read, and less than the whole of its response was written, from the front
-  pub record CutShort (now : ℕ) (s t : S) (input left out written : Option (List ℕ)) : Type 0 where
-    pub took : List ℕ
-    pub part : Part
-    pub text : List ℕ
-    pub takes : TakesRequest input left took
-    pub framed : Framed took part
-    pub responds : Responds now s part text t
-    pub wrote : AppendsFront out written text
-
-  -- served whole; cut short where the writer failed; else no whole request was there, or no memory for it
+  -- served whole; less than the whole of the response, from the front, where the writer failed; else no whole request was there, or no memory
+  -- for it
   abbrev pub ServingEnds : ℕ → S → S → Option (List ℕ) → Option (List ℕ) → Option (List ℕ) → Option (List ℕ) → Result (Unit {0}) Fault → Type 0
-  ServingEnds now s t input left out written (Ok done) = Served now s t input left out written
-  ServingEnds now s t input left out written (Err Write) = CutShort now s t input left out written
+  ServingEnds now s t input left out written (Ok done) = Served (Appends out written) now s t input left
+  ServingEnds now s t input left out written (Err Write) = Served (AppendsFront out written) now s t input left
   ServingEnds now s t input left out written (Err Read) = (took : List ℕ) × TakesRequest input left took × IsUnfinished took
   ServingEnds now s t input left out written (Err Memory) = (took : List ℕ) × TakesRequest input left took
-  ServingEnds now s t input left out written (Err Store) = ⊥
-  ServingEnds now s t input left out written (Err Signer) = ⊥
-  ServingEnds now s t input left out written (Err (Refused why)) = ⊥
+  ServingEnds now s t input left out written (Err other) = ⊥

@@ -1,5 +1,5 @@
 -- What a request is told: its response, with what became of its signature and what it says of the store.
-use Rattle.std.specs.Prelude.{ℕ, List, codes, Option, Some, None, Result, Ok, Err}
+use Rattle.std.specs.Prelude.{ℕ, List, codes, Result, Ok, Err}
 use Rattle.reg_office_api.specs.Responses.{signature_of, store_of, store_of_fault}
 use Rattle.reg_office_api.specs.declared.effects.SignatureFate.{SignatureFate}
 use Rattle.reg_office_api.specs.declared.effects.SignatureFate.TheVariants.{NotAsked}
@@ -7,11 +7,12 @@ use Rattle.reg_office_api.specs.declared.effects.StoreEffect.{StoreEffect}
 use Rattle.reg_office_api.specs.declared.effects.StoreEffect.TheVariants.{Unwritten, Written}
 use Rattle.reg_office_api.specs.declared.response.ResponseKind.{ResponseKind}
 use Rattle.reg_core.specs.declared.command.Reply.{Reply}
+use Rattle.reg_core.specs.declared.command.Reply.TheVariants.{Status, Counts, Request}
 use Rattle.reg_core.specs.declared.memory.Memory.{Memory as NoMemory}
 use Rattle.reg_core.specs.declared.refusal.Fault.{Fault}
 use Rattle.reg_core.specs.declared.refusal.Fault.TheVariants.{Memory, Store}
 use Rattle.reg_http_head.specs.Response.{Response, shown}
-use Rattle.reg_http.specs.Bodies.{der, fault_response, json}
+use Rattle.reg_http.specs.Bodies.{counts_text, der, due_text, fault_response, json, status_text}
 use Rattle.reg_http.specs.declared.answered.Answered.{Answered}
 
 pub record Told : Type 0 where
@@ -35,15 +36,16 @@ plain response = told_unsigned response Unwritten
 abbrev pub fault_told : Fault → Told
 fault_told fault = told_unsigned (fault_response fault) (store_of_fault fault)
 
--- 200 with its body; a reply of another kind, which no office gives, is a fault of the store
-abbrev pub told_or : StoreEffect → Option (List ℕ) → Told
-told_or effect (Some body) = told_unsigned (json 200 body) effect
-told_or effect None = fault_told Store
+-- a reply to what a request can ask: 200 with its body; any other, which no office gives, is a fault of the store
+abbrev pub reply_told : Reply → Told
+reply_told (Status status) = plain (json 200 (status_text status))
+reply_told (Counts counts) = plain (json 200 (counts_text counts))
+reply_told (Request id due) = told_unsigned (json 200 (due_text id due)) Written
+reply_told other = fault_told Store
 
--- an outcome, which says this of the store where it is a reply
-abbrev pub outcome_told : StoreEffect → (Reply → Option (List ℕ)) → Result Reply Fault → Told
-outcome_told effect body_of (Ok reply) = told_or effect (body_of reply)
-outcome_told effect body_of (Err fault) = fault_told fault
+abbrev pub outcome_told : Result Reply Fault → Told
+outcome_told (Ok reply) = reply_told reply
+outcome_told (Err fault) = fault_told fault
 
 -- a CRL (RFC 2585 4.2), or why there is none
 abbrev pub crl_told : Result (List ℕ) Fault → Told

@@ -1,17 +1,27 @@
 //! The bodies that are JSON, each written into room that was made for it, and the answers that carry them.
 
-ghost use Rattle.std.specs.Prelude.{◌≡◌, ◌+◌, ◌≤◌, ◌++◌, List, [], length, codes, decimal, Some, None, vec_capacity};
+ghost use Rattle.std.specs.Prelude.{◌≡◌, ◌≤◌, [], IfOk, length, vec_capacity};
 ghost use Rattle.reg_http_head.specs.Response.{shown};
-ghost use Rattle.reg_http.specs.Bodies.{counts_text, der, due_text, error_text, fault_response, fault_status, json, only as only_response, http_refusal as refusal_of, status_text};
+ghost use Rattle.reg_http.specs.Bodies.{counts_text, der, due_text, error_text, fault_response, fault_status, json, only, http_refusal as refusal_of, status_text};
 
-use reg_core::{Counts, Decimal, Fault, Moment, Refusal, Status};
+use reg_core::{Counts, Decimal, Fault, Memory, Moment, Refusal, Status};
 use reg_http_head::{Answer, put, status};
+use std::alloc::Global;
+
+/// The media types of JSON (RFC 8259 11), of an OCSP response (RFC 6960 A.2) and of a CRL (RFC 2585 4.2).
+const JSON: &str = "application/json";
+
+pub(crate) const OCSP_RESPONSE: &str = "application/ocsp-response";
+
+pub(crate) const PKIX_CRL: &str = "application/pkix-crl";
 
 /// Room for the longest body that is JSON.
-pub(crate) const JSON_ROOM: usize = 256;
-
-/// The media type of JSON (RFC 8259 11).
-const JSON: &str = "application/json";
+pub(crate) fn json_room(alloc: Global) -> Result<Vec<u8>, Memory>
+    ensures empty { IfOk result (λ room. room.items ≡ []) }
+    ensures room { IfOk result (λ room. 256 ≤ vec_capacity room) }
+{
+    Vec::with_capacity(alloc, 256).map_err(|_| Memory)
+}
 
 /// `{"error":"LINE"}`
 #[tactic(auto, unfolding(crate::specs::Bodies::error_text))]
@@ -26,7 +36,6 @@ fn put_error(room: &mut Vec<u8>, line: &[u8])
     put(room, b"\"}");
 }
 
-/// The status of a serial number, with the moment and the reason of its revocation.
 #[tactic(auto, unfolding(crate::specs::Bodies::status_text))]
 pub(crate) fn put_status(room: &mut Vec<u8>, status: Status)
     requires empty { room.old.items ≡ [] }
@@ -47,7 +56,6 @@ pub(crate) fn put_status(room: &mut Vec<u8>, status: Status)
     }
 }
 
-/// How many certificates have each status.
 #[tactic(auto, unfolding(crate::specs::Bodies::counts_text))]
 pub(crate) fn put_counts(room: &mut Vec<u8>, counts: Counts)
     requires empty { room.old.items ≡ [] }
@@ -63,7 +71,6 @@ pub(crate) fn put_counts(room: &mut Vec<u8>, counts: Counts)
     put(room, b"}");
 }
 
-/// The id of a request, and the moment up to which it is to be decided.
 #[tactic(auto, unfolding(crate::specs::Bodies::due_text))]
 pub(crate) fn put_due(room: &mut Vec<u8>, id: u64, due: Moment)
     requires empty { room.old.items ≡ [] }
@@ -90,33 +97,20 @@ pub fn json(code: u16, body: Vec<u8>) -> Answer
     }
 }
 
-/// An answer with an OCSP response in its body (RFC 6960 A.2).
+/// An answer with DER of a media type in its body.
 #[tactic(auto, unfolding(crate::specs::Bodies::der))]
-pub(crate) fn ocsp_response(body: Vec<u8>) -> Answer
-    ensures { shown result ≡ der (codes "application/ocsp-response") body.items }
+pub(crate) fn der(kind: &'static str, body: Vec<u8>) -> Answer
+    requires { length kind.now ≤ 64 }
+    ensures { shown result ≡ der kind.now body.items }
 {
     Answer {
         status: status::OK,
-        kind: "application/ocsp-response",
+        kind,
         allow: None,
         body,
     }
 }
 
-/// An answer with a CRL in its body (RFC 2585 4.2).
-#[tactic(auto, unfolding(crate::specs::Bodies::der))]
-pub(crate) fn crl(body: Vec<u8>) -> Answer
-    ensures { shown result ≡ der (codes "application/pkix-crl") body.items }
-{
-    Answer {
-        status: status::OK,
-        kind: "application/pkix-crl",
-        allow: None,
-        body,
-    }
-}
-
-/// The answer that refuses a request by a status of HTTP alone.
 #[tactic(auto, unfolding(crate::specs::Bodies::http_refusal))]
 pub(crate) fn refusal(mut room: Vec<u8>, code: u16) -> Answer
     requires empty { room.items ≡ [] }
@@ -127,12 +121,13 @@ pub(crate) fn refusal(mut room: Vec<u8>, code: u16) -> Answer
     json(code, room)
 }
 
-/// The answer to another method than GET (RFC 9110 15.5.6).
+/// The answer to a method that the route has not, with the one that it has (RFC 9110 15.5.6).
 #[tactic(auto, unfolding(crate::specs::Bodies::only))]
-pub(crate) fn only_get(mut room: Vec<u8>) -> Answer
+pub(crate) fn only(mut room: Vec<u8>, method: &'static str) -> Answer
     requires empty { room.items ≡ [] }
     requires room { 256 ≤ vec_capacity room }
-    ensures { shown result ≡ only_response (codes "GET") }
+    requires short { length method.now ≤ 64 }
+    ensures { shown result ≡ only method.now }
 {
     put_error(
         &mut room,
@@ -141,26 +136,7 @@ pub(crate) fn only_get(mut room: Vec<u8>) -> Answer
     Answer {
         status: status::METHOD_NOT_ALLOWED,
         kind: JSON,
-        allow: Some("GET"),
-        body: room,
-    }
-}
-
-/// The answer to another method than POST (RFC 9110 15.5.6).
-#[tactic(auto, unfolding(crate::specs::Bodies::only))]
-pub(crate) fn only_post(mut room: Vec<u8>) -> Answer
-    requires empty { room.items ≡ [] }
-    requires room { 256 ≤ vec_capacity room }
-    ensures { shown result ≡ only_response (codes "POST") }
-{
-    put_error(
-        &mut room,
-        Decimal::of(u64::from(status::METHOD_NOT_ALLOWED)).as_bytes(),
-    );
-    Answer {
-        status: status::METHOD_NOT_ALLOWED,
-        kind: JSON,
-        allow: Some("POST"),
+        allow: Some(method),
         body: room,
     }
 }
@@ -177,7 +153,6 @@ fn status_of(fault: Fault) -> u16
     }
 }
 
-/// The answer that tells a refusal or a fault by its line.
 #[tactic(auto, unfolding(crate::specs::Bodies::fault_response))]
 pub(crate) fn fault_answer(mut room: Vec<u8>, fault: Fault) -> Answer
     requires empty { room.items ≡ [] }

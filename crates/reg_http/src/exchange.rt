@@ -8,10 +8,10 @@ ghost use Rattle.reg_http.specs.Exchanges.{IsEmpty, IsUntold, PutsText, SaysNoth
 ghost use Rattle.reg_http.specs.Told.{told};
 
 use crate::answered::{Answered, ocsp_answer};
-use crate::bodies::JSON_ROOM;
+use crate::bodies::json_room;
 use crate::route::Route;
 use reg_core::{Memory, Moment};
-use reg_http_head::{Answer, put_answer, put_memory_fault, status};
+use reg_http_head::{Answer, memory_fault, put, put_answer, status};
 use reg_io::Begun;
 use reg_ocsp::Draft;
 use reg_office_api::{SignatureFate, StoreEffect};
@@ -22,32 +22,22 @@ use std::alloc::Global;
 const TEXT_ROOM: usize = 4_096;
 
 /// Room for the text of a response.
-///
-/// # Errors
-///
 /// [`Memory`] where memory is refused.
 pub fn text_room(alloc: Global) -> Result<Vec<u8>, Memory>
     ensures empty { IfOk result (λ room. room.items ≡ []) }
     ensures room { IfOk result (λ room. 512 ≤ vec_capacity room) }
 {
-    match Vec::with_capacity(alloc, TEXT_ROOM) {
-        Ok(room) => Ok(room),
-        Err(_) => Err(Memory),
-    }
+    Vec::with_capacity(alloc, TEXT_ROOM).map_err(|_| Memory)
 }
 
 /// One exchange, once its text is made.
 #[derive(Drop)]
 pub struct Exchange {
-    /// The route that was asked.
     pub route: Route,
     /// The status code of the text; `None` where that is empty.
     pub status: Option<u16>,
-    /// What became of its signature.
     pub signature: SignatureFate,
-    /// What it says of the store.
     pub store: StoreEffect,
-    /// The bytes of the response.
     pub text: Vec<u8>,
 }
 
@@ -75,7 +65,7 @@ impl Exchange {
         ensures effects { SaysNothing result }
         ensures route { result.route ≡ route }
     {
-        put_memory_fault(&mut room);
+        put(&mut room, memory_fault());
         Exchange {
             route,
             status: Some(status::INTERNAL_SERVER_ERROR),
@@ -119,7 +109,7 @@ impl Exchange {
         ensures effects { (result.signature ≡ signature) × (result.store ≡ StoreEffect.Unwritten) }
         ensures route { result.route ≡ route }
     {
-        let (Ok(text), Ok(body)) = (text_room(alloc), Vec::with_capacity(alloc, JSON_ROOM)) else {
+        let (Ok(text), Ok(body)) = (text_room(alloc), json_room(alloc)) else {
             return Exchange::empty(alloc, route, signature);
         };
         let answered = Answered {
@@ -134,9 +124,7 @@ impl Exchange {
 /// An OCSP response that is left to be signed, with the route that was asked.
 #[derive(Drop)]
 pub struct Left {
-    /// The route that was asked.
     pub route: Route,
-    /// What is to be signed.
     pub draft: Draft,
 }
 
@@ -168,7 +156,7 @@ fn put_text(text: &mut Vec<u8>, answer: &Answer, now: Moment) -> u16
         Ok(()) => answer.status,
         Err(_) => {
             text.clear();
-            put_memory_fault(text);
+            put(text, memory_fault());
             status::INTERNAL_SERVER_ERROR
         }
     }

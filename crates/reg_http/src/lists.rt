@@ -3,11 +3,11 @@
 
 ghost use Rattle.std.specs.Prelude.{◌≡◌, IfOk, OnErr};
 ghost use Rattle.reg_office_api.specs.Leads.{Looks};
-ghost use Rattle.reg_http.specs.Lists.{RespondsList, given_told, list_asked, no_page_told, or_unread, page_in, page_told};
-ghost use Rattle.reg_http.specs.Told.{told};
+ghost use Rattle.reg_http.specs.Lists.{RespondsList, given_told, list_asked, page_in, page_told};
+ghost use Rattle.reg_http.specs.Told.{fault_told, told};
 
 use crate::answered::{Answered, told_fault};
-use crate::bodies::{JSON_ROOM, json};
+use crate::bodies::{json, json_room};
 use crate::routes::only_get;
 use http::Method;
 use percent_encoding::percent_decode;
@@ -17,28 +17,18 @@ use reg_http_head::status;
 use reg_office_api::Office;
 use std::alloc::Global;
 
-/// Why a request for a list asks no page.
-#[derive(Clone, Copy)]
-pub(crate) enum NoPage {
-    /// The route has GET alone.
-    OnlyGet,
-    /// The word of the list, or what is told beside it, can't be read.
-    Unread,
-}
-
 /// What a request for a list asks.
 #[derive(Clone, Copy)]
 pub(crate) enum ListAsked {
-    /// No page.
-    Nothing(NoPage),
+    /// Nothing: the route has GET alone.
+    OnlyGet,
+    /// The word of the list, or what is told beside it, can't be read.
+    Unread,
     /// A page of a list: from where on, and how many rows it looks at.
     Page { from: Cursor, most: u64 },
 }
 
 /// Answers a request for a list, at a moment. The records stay.
-///
-/// # Errors
-///
 /// [`Memory`] where memory is refused.
 pub fn answer_list<O: Office>(
     alloc: Global,
@@ -58,22 +48,21 @@ pub fn answer_list<O: Office>(
             let given = office.page(alloc, now, at, most);
             tell_page(alloc, from, &given)
         }
-        Ok(ListAsked::Nothing(why)) => refuse_list(alloc, why),
+        Ok(ListAsked::OnlyGet) => only_get(alloc),
+        Ok(ListAsked::Unread) => tell_fault(alloc, Fault::Refused(Refusal::Syntax)),
         Err(memory) => Err(memory),
     }
 }
 
-/// Reads what a request for a list asks.
 fn read_list(alloc: Global, method: &Method, target: &str) -> Result<ListAsked, Memory>
     ensures { IfOk result (λ asked. asked ≡ list_asked method.now target.now) }
 {
     if method.as_str() != "GET" {
-        return Ok(ListAsked::Nothing(NoPage::OnlyGet));
+        return Ok(ListAsked::OnlyGet);
     }
     page_at(alloc, target)
 }
 
-/// The page that a target asks for.
 #[tactic(auto, unfolding(crate::specs::Lists::page_in))]
 fn page_at(alloc: Global, target: &str) -> Result<ListAsked, Memory>
     ensures { IfOk result (λ asked. asked ≡ page_in target.now) }
@@ -92,37 +81,15 @@ fn page_at(alloc: Global, target: &str) -> Result<ListAsked, Memory>
     Ok(page_behind(path.as_bytes(), &told))
 }
 
-/// The page that a path and what is told behind it ask for.
 fn page_behind(path: &[u8], told: &[u8]) -> ListAsked
     ensures { result ≡ page_told path.now told.now }
 {
-    if path.starts_with(b"/list/") {
-        page_of(read_page(&path[b"/list/".len()..], told))
-    } else {
-        ListAsked::Nothing(NoPage::Unread)
+    if !path.starts_with(b"/list/") {
+        return ListAsked::Unread;
     }
-}
-
-/// The page that was asked for, or that it can't be read.
-fn page_of(asked: Option<(Cursor, u64)>) -> ListAsked
-    ensures { result ≡ or_unread asked }
-{
-    match asked {
+    match read_page(&path[b"/list/".len()..], told) {
         Some((from, most)) => ListAsked::Page { from, most },
-        None => ListAsked::Nothing(NoPage::Unread),
-    }
-}
-
-/// The answer to a request for a list that asks no page.
-fn refuse_list(alloc: Global, why: NoPage) -> Result<Answered, Memory>
-    ensures { IfOk result (λ answered. told answered ≡ no_page_told why) }
-{
-    match why {
-        NoPage::OnlyGet => only_get(alloc),
-        NoPage::Unread => match Vec::with_capacity(alloc, JSON_ROOM) {
-            Ok(room) => Ok(told_fault(room, Fault::Refused(Refusal::Syntax))),
-            Err(_) => Err(Memory),
-        },
+        None => ListAsked::Unread,
     }
 }
 
@@ -135,9 +102,12 @@ fn tell_page(alloc: Global, from: Cursor, given: &Result<Page, Fault>) -> Result
             Ok(text) => Ok(Answered::plain(json(status::OK, text))),
             Err(_) => Err(Memory),
         },
-        Err(fault) => match Vec::with_capacity(alloc, JSON_ROOM) {
-            Ok(room) => Ok(told_fault(room, *fault)),
-            Err(_) => Err(Memory),
-        },
+        Err(fault) => tell_fault(alloc, *fault),
     }
+}
+
+fn tell_fault(alloc: Global, fault: Fault) -> Result<Answered, Memory>
+    ensures { IfOk result (λ answered. told answered ≡ fault_told fault) }
+{
+    Ok(told_fault(json_room(alloc)?, fault))
 }

@@ -1,7 +1,6 @@
 //! What a request asks: read from its method, its target and its body, before any call of the office.
 
 ghost use Rattle.std.specs.Prelude.{◌≡◌, ℕ, List, IfOk, Some, codes, option_map, option_and_then};
-ghost use Rattle.reg_http.specs.Routes.{route_seen};
 ghost use Rattle.reg_core.specs.Number.{number_of};
 ghost use Rattle.reg_core.specs.Serial.{serial_of};
 ghost use Rattle.reg_core_lists.specs.Asked.{label_of as label_in};
@@ -29,7 +28,6 @@ pub(crate) enum Part {
     Posted,
     /// The OCSP response to what was decoded from the path.
     Decoded(Vec<u8>),
-    /// Anything else.
     Other(Call),
 }
 
@@ -38,9 +36,7 @@ pub(crate) enum Part {
 pub(crate) enum Call {
     /// Refused by this status of HTTP.
     Refused(u16),
-    /// The route has GET alone.
     OnlyGet,
-    /// The route has POST alone.
     OnlyPost,
     /// A number, a serial number or a body can't be read.
     Unread,
@@ -48,15 +44,12 @@ pub(crate) enum Call {
     Malformed,
     /// The CRL of this number, or the latest.
     Crl(Option<u64>),
-    /// The status of this serial number.
     Status(Serial),
-    /// How many certificates have each status.
     Counts,
     /// The revocation of this serial number, on the ground that the word names.
     Request { serial: Serial, word: Label },
 }
 
-/// Whether a target begins with a slash (origin-form, RFC 9112 3.2.1).
 fn is_rooted(target: &str) -> bool
     ensures { result ≡ is_rooted_text target.now }
 {
@@ -79,7 +72,6 @@ fn decoded(alloc: Global, text: &[u8]) -> Result<Part, Memory>
     }
 }
 
-/// The CRL of this number.
 fn crl_call(text: &[u8]) -> Call
     ensures { call_asks result ≡ or_unread (λ n. crl_of (Some n)) (number_of text.now) }
 {
@@ -89,7 +81,6 @@ fn crl_call(text: &[u8]) -> Call
     }
 }
 
-/// The status of this serial number.
 fn status_call(text: &[u8]) -> Call
     ensures { call_asks result ≡ or_unread status_of (serial_of text.now) }
 {
@@ -99,35 +90,30 @@ fn status_call(text: &[u8]) -> Call
     }
 }
 
-/// The string of a member of a JSON object.
 fn string_at<'v>(value: &'v Value, name: &str) -> Option<&'v str>
     ensures { option_map (λ text. text.now) result ≡ text_at name.now (view value.entry.now) }
 {
     value.get(name)?.as_str()
 }
 
-/// The serial number of a request for revocation.
 fn serial_in(value: &Value) -> Option<Serial>
     ensures { result ≡ option_and_then serial_of (text_at (codes "serial") (view value.now)) }
 {
     Serial::read(string_at(value, "serial")?.as_bytes())
 }
 
-/// A text of 1 to 64 bytes.
 fn label_of(text: &[u8]) -> Option<Label>
     ensures { result ≡ label_in text.now }
 {
     Label::of(text)
 }
 
-/// The ground of a request for revocation, in its own word.
 fn word_in(value: &Value) -> Option<Label>
     ensures { result ≡ option_and_then label_in (text_at (codes "ground") (view value.now)) }
 {
     label_of(string_at(value, "ground")?.as_bytes())
 }
 
-/// The request for revocation in a JSON object.
 #[tactic(auto, unfolding(crate::specs::Asked::wanted_in))]
 fn request_in(value: &Value) -> Call
     ensures { call_asks result ≡ asks_revocation (wanted_of (view value.now)) }
@@ -151,7 +137,6 @@ fn unread(error: &Error) -> Result<Part, Memory>
     }
 }
 
-/// The request for revocation in a body.
 #[tactic(auto, unfolding(crate::specs::Asked::json_of))]
 fn request_part(alloc: Global, body: &[u8]) -> Result<Part, Memory>
     ensures { IfOk result (λ part. (posted : List ℕ) → part_asks posted part ≡ asks_revocation (wanted_by body.now)) }
@@ -165,9 +150,8 @@ fn request_part(alloc: Global, body: &[u8]) -> Result<Part, Memory>
     }
 }
 
-/// What is asked at a route.
 fn part_at(alloc: Global, method: &Method, found: Found<'_>, body: &[u8]) -> Result<Part, Memory>
-    ensures { IfOk result (λ part. part_asks body.now part ≡ asked_at method.now (route_seen found.entry) body.now) }
+    ensures { IfOk result (λ part. part_asks body.now part ≡ asked_at method.now found.entry.route found.entry.rest.now body.now) }
 {
     let is_get = method.as_str() == "GET";
     let is_post = method.as_str() == "POST";
@@ -188,9 +172,6 @@ fn part_at(alloc: Global, method: &Method, found: Found<'_>, body: &[u8]) -> Res
 }
 
 /// What a request asks.
-///
-/// # Errors
-///
 /// [`Memory`] where memory is refused.
 pub(crate) fn read_part(
     alloc: Global,
@@ -203,8 +184,6 @@ pub(crate) fn read_part(
     if !is_rooted(target) {
         return Ok(Part::Other(Call::Refused(status::BAD_REQUEST)));
     }
-    match find_route(alloc, path_of(target)) {
-        Ok(found) => part_at(alloc, method, found, body),
-        Err(fault) => Err(fault),
-    }
+    let found = find_route(alloc, path_of(target))?;
+    part_at(alloc, method, found, body)
 }

@@ -3,35 +3,28 @@
 ghost use Rattle.std.specs.Prelude.{◌≡◌, ◌≤◌, [], codes, vec_capacity};
 ghost use Rattle.reg_http_head.specs.Response.{shown};
 ghost use Rattle.reg_http.specs.Answers.{AnswersIn};
-ghost use Rattle.reg_http.specs.Asked.{ocsp_of};
-ghost use Rattle.reg_http.specs.Beginning.{BeginsIn};
 ghost use Rattle.reg_http.specs.Bodies.{der, malformed_text};
 ghost use Rattle.reg_http.specs.Parts.{call_asks};
 ghost use Rattle.reg_http.specs.Told.{told};
 
-use crate::answered::{
-    Answered, told_counts, told_crl, told_fault, told_ocsp, told_request, told_status,
-};
-use crate::bodies::{ocsp_response, only_get, only_post, refusal};
+use crate::answered::{Answered, told_crl, told_fault, told_outcome};
+use crate::bodies::{OCSP_RESPONSE, der, only, refusal};
 use crate::parts::Call;
 use reg_core::{Command, Fault, Moment, Query, Refusal};
 use reg_http_head::{Answer, put};
-use reg_io::Begun;
-use reg_ocsp::Draft;
 use reg_office_api::Office;
 use std::alloc::Global;
 
 /// The OCSPResponse of status malformedRequest (RFC 6960 4.2.1).
 const MALFORMED: &[u8] = b"\x30\x03\x0A\x01\x01";
 
-/// The answer to an OCSP request that can't be decoded.
 fn malformed(mut room: Vec<u8>) -> Answer
     requires empty { room.items ≡ [] }
     requires room { 256 ≤ vec_capacity room }
     ensures { shown result ≡ der (codes "application/ocsp-response") malformed_text }
 {
     put(&mut room, MALFORMED);
-    ocsp_response(room)
+    der(OCSP_RESPONSE, room)
 }
 
 /// Asks the office and tells its answer, in room that was made before, so that no memory is wanted after the call.
@@ -48,41 +41,22 @@ pub(crate) fn respond<O: Office>(
 {
     match call {
         Call::Refused(status) => Answered::plain(refusal(room, status)),
-        Call::OnlyGet => Answered::plain(only_get(room)),
-        Call::OnlyPost => Answered::plain(only_post(room)),
+        Call::OnlyGet => Answered::plain(only(room, "GET")),
+        Call::OnlyPost => Answered::plain(only(room, "POST")),
         Call::Unread => told_fault(room, Fault::Refused(Refusal::Syntax)),
         Call::Malformed => Answered::plain(malformed(room)),
         Call::Crl(number) => told_crl(room, office.crl_bytes(alloc, number)),
         Call::Status(serial) => {
             let query = Query::Status(serial);
-            told_status(room, office.ask(alloc, now, &query))
+            told_outcome(room, office.ask(alloc, now, &query))
         }
-        Call::Counts => told_counts(room, office.ask(alloc, now, &Query::Counts)),
+        Call::Counts => told_outcome(room, office.ask(alloc, now, &Query::Counts)),
         Call::Request { serial, word } => {
             let command = Command::Request {
                 serial,
                 ground: word,
             };
-            told_request(room, office.run_one(alloc, now, &command))
+            told_outcome(room, office.run_one(alloc, now, &command))
         }
-    }
-}
-
-/// Begins the OCSP response to a request.
-pub(crate) fn begin_ocsp<O: Office>(
-    alloc: Global,
-    room: Vec<u8>,
-    request: &[u8],
-    now: Moment,
-    office: &mut O,
-) -> Begun<Answered, Draft>
-    requires empty { room.items ≡ [] }
-    requires room { 256 ≤ vec_capacity room }
-    ensures { BeginsIn O.Office now office.old (ocsp_of request.now) result office.new }
-{
-    match office.begin_ocsp(alloc, now, request) {
-        Ok(Begun::Ready(response)) => Begun::Ready(told_ocsp(response)),
-        Ok(Begun::Unsigned(draft)) => Begun::Unsigned(draft),
-        Err(_) => Begun::Ready(told_fault(room, Fault::Memory)),
     }
 }

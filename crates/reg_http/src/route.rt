@@ -8,19 +8,15 @@ ghost use Rattle.reg_http.specs.RouteNames.{ends_path as ends_a_path, front_to, 
 /// A route, whatever stands at the part of the path that it leaves open.
 #[derive(Clone, Copy, PartialEq, Eq)]
 pub enum Route {
-    /// `/ocsp`
     Ocsp,
     /// `/ocsp/{*rest}`: the request in the path, slashes too.
     OcspRest,
-    /// `/crl`
     Crl,
     /// `/crl/{n}`
     CrlNumber,
     /// `/status/{serial}`
     Status,
-    /// `/counts`
     Counts,
-    /// `/requests`
     Requests,
     /// `/list/{word}`, at an open desk alone.
     List,
@@ -68,7 +64,6 @@ fn path_in(request: &[u8]) -> &[u8]
     }
 }
 
-/// Where the first space stands.
 fn space_in(text: &[u8]) -> Option<usize>
     ensures place { result ≡ position is_space text.now }
     ensures within { IfSome result (λ at. at < length text.now) }
@@ -76,7 +71,6 @@ fn space_in(text: &[u8]) -> Option<usize>
     text.iter().position(|byte| *byte == b' ')
 }
 
-/// A text up to the end of the path that it begins with.
 fn front_of(text: &[u8]) -> &[u8]
     ensures { result.now ≡ front_to text.now }
 {
@@ -86,7 +80,6 @@ fn front_of(text: &[u8]) -> &[u8]
     }
 }
 
-/// Where a path ends.
 fn path_end(text: &[u8]) -> Option<usize>
     ensures place { result ≡ position ends_a_path text.now }
     ensures within { IfSome result (λ at. at < length text.now) }
@@ -98,19 +91,9 @@ fn path_end(text: &[u8]) -> Option<usize>
 fn ends_path(byte: u8) -> bool
     ensures { result ≡ ends_a_path byte }
 {
-    if byte == b' ' {
-        return true;
-    }
-    if byte == b'?' {
-        return true;
-    }
-    if byte == b'\r' {
-        return true;
-    }
-    byte == b'\n'
+    byte == b' ' || byte == b'?' || byte == b'\r' || byte == b'\n'
 }
 
-/// The route of a path.
 #[tactic(auto, unfolding(crate::specs::RouteNames::route_at))]
 fn route_at(path: &[u8]) -> Route
     ensures { result ≡ route_of_path path.now }

@@ -1,24 +1,21 @@
 //! The answer to one request, by the route table.
 
-ghost use Rattle.std.specs.Prelude.{◌≡◌, ◌≤◌, [], IfOk, OnErr, codes, vec_capacity};
+ghost use Rattle.std.specs.Prelude.{◌≡◌, IfOk, OnErr, codes};
 ghost use Rattle.reg_office_api.specs.CallSteps.{Runs, Asks, Ocsps, Crls};
 ghost use Rattle.reg_office_api.specs.Drafts.{Drafts};
 ghost use Rattle.reg_office_api.specs.Leads.{Leads};
 ghost use Rattle.reg_office_api.specs.Responses.{Replies};
 ghost use Rattle.reg_http_head.specs.Response.{shown};
 ghost use Rattle.reg_http.specs.Added.{AddsARequestAtMost};
+ghost use Rattle.reg_http.specs.Answers.{BeginsTo, RespondsTo};
 ghost use Rattle.reg_http.specs.Asked.{asked};
-ghost use Rattle.reg_http.specs.Beginning.{BeginsIn, BeginsTo};
-ghost use Rattle.reg_http.specs.Bodies.{http_refusal, only};
-ghost use Rattle.reg_http.specs.Parts.{part_asks};
-ghost use Rattle.reg_http.specs.RespondsTo.{RespondsIn, RespondsTo};
+ghost use Rattle.reg_http.specs.Bodies.{http_refusal, only as only_response};
 ghost use Rattle.reg_http.specs.Told.{plain, told};
 
-use crate::answered::{Answered, ocsp_answer};
-use crate::bodies;
-use crate::bodies::{JSON_ROOM, refusal};
+use crate::answered::{Answered, ocsp_answer, told_begun};
+use crate::bodies::{json_room, only, refusal};
 use crate::parts::{Part, read_part};
-use crate::respond::{begin_ocsp, respond};
+use crate::respond::respond;
 use http::Method;
 use reg_core::{Memory, Moment};
 use reg_http_head::Answer;
@@ -49,41 +46,16 @@ pub fn answer<O: Office>(
         office.old office.new) }
     ensures memory { OnErr result (office.new ≡ office.old) }
 {
-    let Ok(room) = Vec::with_capacity(alloc, JSON_ROOM) else {
-        return Err(Memory);
-    };
-    match read_part(alloc, method, target, body) {
-        Ok(part) => Ok(answer_part(alloc, room, part, body, now, office)),
-        Err(memory) => Err(memory),
-    }
-}
-
-/// Answers what a request asks.
-fn answer_part<O: Office>(
-    alloc: Global,
-    room: Vec<u8>,
-    part: Part,
-    body: &[u8],
-    now: Moment,
-    office: &mut O,
-) -> Answer
-    requires empty { room.items ≡ [] }
-    requires room { 256 ≤ vec_capacity room }
-    ensures { RespondsIn O.Office now office.old (part_asks body.now part) (shown result) office.new }
-{
-    match part {
-        Part::Posted => ocsp_answer(room, office.ocsp(alloc, now, body)),
-        Part::Decoded(request) => ocsp_answer(room, office.ocsp(alloc, now, &request)),
-        Part::Other(call) => respond(alloc, room, call, now, office).answer,
+    let room = json_room(alloc)?;
+    match read_part(alloc, method, target, body)? {
+        Part::Posted => Ok(ocsp_answer(room, office.ocsp(alloc, now, body))),
+        Part::Decoded(request) => Ok(ocsp_answer(room, office.ocsp(alloc, now, &request))),
+        Part::Other(call) => Ok(respond(alloc, room, call, now, office).answer),
     }
 }
 
 /// Answers one request as [`answer`] does, with what the answer says of its signature and of the store; or leaves the signature of an OCSP
-/// response to be asked for.
-///
-/// # Errors
-///
-/// As of [`answer`].
+/// response to be asked for. Errors are those of [`answer`].
 pub fn begin<O: Office>(
     alloc: Global,
     method: &Method,
@@ -99,41 +71,26 @@ pub fn begin<O: Office>(
         office.old office.new) }
     ensures memory { OnErr result (office.new ≡ office.old) }
 {
-    let Ok(room) = Vec::with_capacity(alloc, JSON_ROOM) else {
-        return Err(Memory);
-    };
-    match read_part(alloc, method, target, body) {
-        Ok(Part::Posted) => Ok(begin_ocsp(alloc, room, body, now, office)),
-        Ok(Part::Decoded(request)) => Ok(begin_ocsp(alloc, room, &request, now, office)),
-        Ok(Part::Other(call)) => Ok(Begun::Ready(respond(alloc, room, call, now, office))),
-        Err(memory) => Err(memory),
+    let room = json_room(alloc)?;
+    match read_part(alloc, method, target, body)? {
+        Part::Posted => Ok(told_begun(room, office.begin_ocsp(alloc, now, body))),
+        Part::Decoded(request) => Ok(told_begun(room, office.begin_ocsp(alloc, now, &request))),
+        Part::Other(call) => Ok(Begun::Ready(respond(alloc, room, call, now, office))),
     }
 }
 
 /// The answer to a request that is refused by this status before any route.
-///
-/// # Errors
-///
 /// [`Memory`] where memory is refused.
 pub fn refuse(alloc: Global, status: u16) -> Result<Answered, Memory>
     ensures { IfOk result (λ answered. told answered ≡ plain (http_refusal status)) }
 {
-    match Vec::with_capacity(alloc, JSON_ROOM) {
-        Ok(room) => Ok(Answered::plain(refusal(room, status))),
-        Err(_) => Err(Memory),
-    }
+    Ok(Answered::plain(refusal(json_room(alloc)?, status)))
 }
 
 /// The answer to another method than GET at a route that has GET alone (RFC 9110 15.5.6).
-///
-/// # Errors
-///
 /// [`Memory`] where memory is refused.
 pub fn only_get(alloc: Global) -> Result<Answered, Memory>
-    ensures { IfOk result (λ answered. told answered ≡ plain (only (codes "GET"))) }
+    ensures { IfOk result (λ answered. told answered ≡ plain (only_response (codes "GET"))) }
 {
-    match Vec::with_capacity(alloc, JSON_ROOM) {
-        Ok(room) => Ok(Answered::plain(bodies::only_get(room))),
-        Err(_) => Err(Memory),
-    }
+    Ok(Answered::plain(only(json_room(alloc)?, "GET")))
 }

@@ -11,15 +11,15 @@ ghost use Rattle.reg_http.specs.Added.{AddsARequestAtMost};
 ghost use Rattle.reg_http.specs.Bodies.{http_refusal as refusal_of};
 ghost use Rattle.reg_http.specs.Served.{ReplyEnds, ServingEnds};
 
-use crate::bodies::{JSON_ROOM, refusal};
+use crate::bodies::{json_room, refusal};
 use crate::routes::answer;
 use reg_core::{Fault, Moment};
-use reg_http_head::{Answer, HEAD_ROOM, Request, read_request, write_answer, write_memory_fault};
+use reg_http_head::{Answer, HEAD_ROOM, Request, memory_fault, read_request, write_answer};
+use reg_io::write_whole;
 use reg_office_api::Office;
 use std::alloc::Global;
 use std::io::{Read, Write};
 
-/// Writes an answer.
 fn send<W: Write>(writer: &mut W, room: Vec<u8>, answer: &Answer, now: Moment) -> Result<(), Fault>
     requires empty { room.items ≡ [] }
     requires room { 512 ≤ vec_capacity room }
@@ -28,10 +28,7 @@ fn send<W: Write>(writer: &mut W, room: Vec<u8>, answer: &Answer, now: Moment) -
     ensures err { IfErr result (λ fault. (fault ≡ Fault.Write) × ((text : List ℕ) × IsText (shown answer.now) now text
         × AppendsFront (W.contents writer.old) (W.contents writer.new) text)) }
 {
-    match write_answer(writer, room, answer, now) {
-        Ok(()) => Ok(()),
-        Err(_) => Err(Fault::Write),
-    }
+    write_answer(writer, room, answer, now).map_err(|_| Fault::Write)
 }
 
 /// Writes the constant text that tells want of memory.
@@ -40,13 +37,12 @@ fn send_memory_fault<W: Write>(writer: &mut W) -> Result<(), Fault>
     ensures err { IfErr result (λ fault. (fault ≡ Fault.Write)
         × AppendsFront (W.contents writer.old) (W.contents writer.new) memory_text) }
 {
-    match write_memory_fault(writer) {
+    match write_whole(writer, memory_fault()) {
         Ok(()) => Ok(()),
         Err(_) => Err(Fault::Write),
     }
 }
 
-/// Writes the refusal of a request that reaches no route.
 fn refuse<W: Write>(
     alloc: Global,
     writer: &mut W,
@@ -62,13 +58,12 @@ fn refuse<W: Write>(
         × AppendsFront (W.contents writer.old) (W.contents writer.new) text))
         ⊎ ((fault ≡ Fault.Memory) × (writer.new ≡ writer.old))) }
 {
-    match Vec::with_capacity(alloc, JSON_ROOM) {
+    match json_room(alloc) {
         Ok(body) => send(writer, room, &refusal(body, status), now),
         Err(_) => Err(Fault::Memory),
     }
 }
 
-/// Answers a request that was read, and writes the response.
 fn reply<W: Write, O: Office>(
     alloc: Global,
     writer: &mut W,

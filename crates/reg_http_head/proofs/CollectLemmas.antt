@@ -6,11 +6,10 @@ use Rattle.std.proofs.lemmas.Bool.{cases_order}
 use Rattle.reg_io.specs.Mark.{HasNoMark}
 use Rattle.reg_io.proofs.PublicLaws.{first_mark_in_front, no_mark_in_front}
 use Rattle.httparse.specs.Spans.{span_bytes}
-use Rattle.reg_http_head.specs.Head.{blank_line, longest_head, RefusesHead}
+use Rattle.reg_http_head.specs.Head.{blank_line, longest_head, RefusesHead, IsHeadAt}
 use Rattle.reg_http_head.specs.Frame.{Part, refused, asked, AsksFor, Framed, HasHead, IsUnfinished}
 use Rattle.reg_http_head.specs.Bytes.{IsExact}
 use Rattle.reg_http_head.specs.Collected.{HoldsRequest, IsWholeRequest, IsUnmarked, IsRefusedRequest, NeedsBytes, Knows, IsAllKnown}
-use Rattle.reg_http_head.specs.Spans.{IsHeadAt}
 use Rattle.reg_http_head.specs.declared.known.HeadIn.{HeadIn}
 use Rattle.reg_http_head.specs.declared.known.Known.{Known}
 use Rattle.reg_http_head.specs.declared.known.Known.TheVariants.{Unmarked, Refused, Asked}

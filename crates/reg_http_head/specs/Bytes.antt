@@ -1,15 +1,11 @@
 -- The bytes that were collected on a connection.
-use Rattle.std.specs.Prelude.{◌≡◌, ℕ, ◌+◌, List, length, vec_capacity}
+use Rattle.std.specs.Prelude.{◌≡◌, ℕ, ◌+◌, List, length}
 use Rattle.reg_http_head.specs.Frame.{AsksFor}
 use Rattle.reg_http_head.specs.declared.collected.Collected.{Collected}
 
 -- these bytes
 abbrev pub collected_bytes : Collected → List ℕ
 collected_bytes collected = collected.bytes.items
-
--- how many bytes are held without more memory
-abbrev pub room_of : Collected → ℕ
-room_of collected = vec_capacity collected.bytes
 
 -- the bytes are one whole request that is asked, and nothing behind it
 pub record IsExact (bytes : List ℕ) : Type 0 where

@@ -2,9 +2,8 @@
 use Rattle.std.specs.Prelude.{◌≡◌, ℕ, ◌+◌, ◌<◌, ◌≤◌, List, ◌++◌, length, take}
 use Rattle.httparse.specs.Grammar.{RequestHead}
 use Rattle.reg_io.specs.Mark.{EndsWith}
-use Rattle.reg_http_head.specs.Head.{blank_line, longest_head}
+use Rattle.reg_http_head.specs.Head.{blank_line, longest_head, IsHeadAt}
 use Rattle.reg_http_head.specs.Frame.{Part, refused, Framed, HasHead}
-use Rattle.reg_http_head.specs.Spans.{IsHeadAt}
 use Rattle.reg_http_head.specs.declared.known.HeadIn.{HeadIn}
 use Rattle.reg_http_head.specs.declared.known.Known.{Known}
 use Rattle.reg_http_head.specs.declared.known.Known.TheVariants.{Unmarked, Refused, Asked}

@@ -1,6 +1,9 @@
 -- One request in the bytes that were taken from a connection (RFC 9112 2.1).
-use Rattle.std.specs.Prelude.{◌≡◌, ℕ, ◌+◌, ◌<◌, ◌≤◌, ◌⊎◌, List, length, take, drop, Ok, string_bytes}
+use Rattle.std.specs.Prelude.{◌≡◌, ℕ, ◌+◌, ◌<◌, ◌≤◌, ◌⊎◌, List, Option, length, take, drop, Ok, string_bytes}
+use Rattle.std.specs.Io.KnownBytes.{Consumes}
 use Rattle.httparse.specs.Grammar.{RequestHead}
+use Rattle.reg_core.specs.declared.refusal.Fault.{Fault}
+use Rattle.reg_core.specs.declared.refusal.Fault.TheVariants as fault
 use Rattle.reg_io.specs.Mark.{FirstMark, HasNoMark}
 use Rattle.reg_http_head.specs.Head.{blank_line, longest_head, IsHead, RefusesHead, body_size}
 use Rattle.reg_http_head.specs.declared.request.Request.{Request}
@@ -47,7 +50,15 @@ IsUnfinished took =
     ⊎ ((end : ℕ) × (head : RequestHead) × (size : ℕ) × HasHead took end × IsHead (take end took) head
     × (body_size head ≡ Ok size) × (length took < end + size))
 
--- the same of a request that was read
+-- a fault came over these bytes: the reader failed or ended within a request, or memory was refused
+abbrev pub IsCutBy : Fault → List ℕ → Type 0
+IsCutBy why took = ((why ≡ fault.Read) × IsUnfinished took) ⊎ (why ≡ fault.Memory)
+
+-- bytes were taken from a reader, no more than so many, and this is so of them
+abbrev pub TakesAtMost : Option (List ℕ) → Option (List ℕ) → ℕ → (List ℕ → Type 0) → Type 0
+TakesAtMost input left most IsSo = (took : List ℕ) × Consumes input left took × (length took ≤ most) × IsSo took
+
+-- what a request that was read comes to
 abbrev pub part_of : Request → Part
 part_of (Refused status) = refused status
 part_of (Asked method target body) = asked method (string_bytes target) body.items

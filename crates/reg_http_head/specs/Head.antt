@@ -3,7 +3,10 @@ use Rattle.std.specs.Prelude.{◌≡◌, ℕ, ◌≤◌, ◌⊎◌, Bool, List, 
 use Rattle.std.specs.Char.{to_ascii_lowercase}
 use Rattle.reg_core.specs.Number.{number_of}
 use Rattle.httparse.specs.Grammar.{RequestHead, ReadsRequest}
-use Rattle.httparse.specs.Spans.{name_and_value, RequestExceeds}
+use Rattle.httparse.specs.Spans.{IsWithin, span_bytes, name_and_value, RequestExceeds}
+use Rattle.reg_http_head.specs.declared.fields.Values.{Values}
+use Rattle.reg_http_head.specs.declared.fields.Values.TheVariants.{Absent, One, Several}
+use Rattle.reg_http_head.specs.declared.head.HeadSpans.{HeadSpans}
 
 -- CR LF CR LF: the end of the last line, and the empty line (RFC 9112 2.1)
 abbrev pub blank_line : List ℕ
@@ -63,3 +66,22 @@ RefusesHead bytes status =
     ((status ≡ 431) × RequestExceeds most_fields bytes)
     ⊎ (((status ≡ 400) × ((h : RequestHead) → ¬ (ReadsRequest bytes h [])))
     ⊎ ((h : RequestHead) × IsHead bytes h × (body_size h ≡ Err status)))
+
+-- the values of the fields of one name, as they were found: none, the one at its place in the head, or more than one
+abbrev pub HasFieldValues : List ℕ → List (List ℕ) → Values → Type 0
+HasFieldValues head values Absent = values ≡ []
+HasFieldValues head values (One span) = IsWithin (length head) span × (values ≡ span_bytes head span ∷ [])
+HasFieldValues head values Several = 2 ≤ length values
+
+-- the bytes are this head, and its parts stand in them so
+pub record IsHeadAt (bytes : List ℕ) (spans : HeadSpans) (h : RequestHead) : Type 0 where
+  pub reads : IsHead bytes h
+  pub method_within : IsWithin (length bytes) spans.method
+  pub target_within : IsWithin (length bytes) spans.target
+  pub method_is : span_bytes bytes spans.method ≡ h.method
+  pub target_is : span_bytes bytes spans.target ≡ h.target
+  pub size_is : body_size h ≡ Ok spans.size
+
+-- they are a head whose parts stand so
+abbrev pub HoldsHead : List ℕ → HeadSpans → Type 0
+HoldsHead bytes spans = (h : RequestHead) × IsHeadAt bytes spans h

@@ -1,9 +1,7 @@
 pub mod Allow
 pub mod Bytes
 pub mod Collected
-pub mod Fields
 pub mod Frame
 pub mod Head
 pub mod Response
-pub mod Spans
 pub mod Laws

@@ -6,13 +6,11 @@ ghost use Rattle.reg_http_head.specs.Allow.{allowed};
 /// The answer to one request. Contracts speak of its parts as bytes.
 #[derive(Drop)]
 pub struct Answer {
-    /// The status code.
     pub status: u16,
     /// The media type of the body, at most 64 bytes.
     pub kind: &'static str,
     /// Of a 405 the method that the route has, at most 64 bytes.
     pub allow: Option<&'static str>,
-    /// The bytes of the body.
     pub body: Vec<u8>,
     ghost short_kind: { length kind.now ≤ 64 },
     ghost short_allow: { length (allowed (option_map (λ method. method.now) allow)) ≤ 64 },

@@ -5,7 +5,7 @@ ghost use Rattle.reg_http_head.specs.Collected.{HoldsRequest, Knows, NeedsBytes}
 ghost use Rattle.reg_http_head.specs.Frame.{part_of_ref};
 
 use crate::known::{HeadIn, Known, told};
-use crate::request::{RequestRef, method_of};
+use crate::request::RequestRef;
 use reg_core::Fault;
 use std::alloc::{AllocError, Global};
 
@@ -19,12 +19,11 @@ pub struct Collected {
 }
 
 impl Collected {
-    ghost use Rattle.std.specs.Prelude.{◌≡◌, ◌⊎◌, ◌+◌, ◌<◌, ◌≤◌, ◌++◌, [], length, true, false, IfErr, IfOk, OnOk, OnErr};
-    ghost use Rattle.reg_http_head.specs.Bytes.{collected_bytes, room_of, IsExact};
+    ghost use Rattle.std.specs.Prelude.{◌≡◌, ◌⊎◌, ◌+◌, ◌<◌, ◌≤◌, ◌++◌, [], length, true, false, vec_capacity, IfErr, IfOk, OnOk, OnErr};
+    ghost use Rattle.reg_http_head.specs.Bytes.{collected_bytes, IsExact};
     ghost use Rattle.reg_http_head.specs.Collected.{HoldsRequest, IsWholeRequest};
     ghost use Rattle.reg_http_head.specs.Frame.{IsUnfinished, part_of_ref};
 
-    /// No bytes yet.
     pub fn new(alloc: Global) -> Collected
         ensures { collected_bytes result ≡ [] }
     {
@@ -34,29 +33,23 @@ impl Collected {
         }
     }
 
-    /// The bytes that came.
     pub fn as_slice(&self) -> &[u8]
         ensures { result.now ≡ collected_bytes self.now }
     {
         self.bytes.as_slice()
     }
 
-    /// Takes more bytes behind those that came before.
-    ///
-    /// # Errors
-    ///
-    /// `AllocError` only where what is held has no capacity for them. None of them was taken.
+    /// Takes more bytes behind those that came before. An error comes only where what is held has no capacity for them; none was taken then.
     pub fn add(&mut self, more: &[u8]) -> Result<(), AllocError>
         ensures ok { OnOk result (collected_bytes self.new ≡ collected_bytes self.old ++ more.now) }
         ensures err { OnErr result (collected_bytes self.new ≡ collected_bytes self.old) }
-        ensures full { OnErr result (room_of self.old < length (collected_bytes self.old) + length more.now) }
-        ensures room { room_of self.old ≤ room_of self.new }
+        ensures full { OnErr result (vec_capacity self.old.bytes < length (collected_bytes self.old) + length more.now) }
+        ensures room { vec_capacity self.old.bytes ≤ vec_capacity self.new.bytes }
     {
         self.bytes.extend_from_slice(more)
     }
 
-    /// Whether the bytes begin with a whole request (RFC 9112 2.1): one that is asked with all of its body, or one that
-    /// is refused by its head. Whoever reads it from these bytes is not kept waiting for more.
+    /// Whether the bytes begin with a whole request (RFC 9112 2.1): asked with all of its body, or refused by its head.
     pub fn is_whole(&mut self) -> bool
         ensures same { collected_bytes self.new ≡ collected_bytes self.old }
         ensures whole { result ≡ true → ∥ IsWholeRequest (collected_bytes self.old) ∥₁ }
@@ -80,11 +73,8 @@ impl Collected {
         }
     }
 
-    /// The request that the bytes begin with, in slices of them. Its head is not read again.
-    ///
-    /// # Errors
-    ///
-    /// [`Fault::Read`] where they hold no whole request, [`Fault::Memory`] where memory is refused.
+    /// The request that the bytes begin with, in slices of them. [`Fault::Read`] where they hold no whole request, [`Fault::Memory`] where
+    /// memory is refused.
     pub fn request(&self, alloc: Global) -> Result<RequestRef<'_>, Fault>
         ensures ok { IfOk result (λ request. ∥ HoldsRequest (collected_bytes self.now) (part_of_ref request) ∥₁) }
         ensures err { IfErr result (λ fault.
@@ -100,7 +90,6 @@ impl Collected {
     }
 }
 
-/// The request with this head and the whole of its body.
 fn asked_at(alloc: Global, bytes: &[u8], head: HeadIn) -> Result<RequestRef<'_>, Fault>
     requires head { ∥ NeedsBytes bytes.now head ∥₁ }
     requires ordered { head.end ≤ head.needed }
@@ -109,7 +98,7 @@ fn asked_at(alloc: Global, bytes: &[u8], head: HeadIn) -> Result<RequestRef<'_>,
     ensures err { IfErr result (λ fault. fault ≡ Fault.Memory) }
 {
     let front = &bytes[..head.end];
-    match method_of(alloc, head.spans.method_in(front)) {
+    match head.spans.method_in(alloc, front) {
         Ok(method) => Ok(RequestRef::Asked {
             method,
             target: head.spans.target_in(front),

@@ -2,14 +2,12 @@
 
 ghost use Rattle.std.specs.Prelude.{◌≡◌, ◌++◌, ◌∷◌, [], ℕ, List, codes, length, map, All};
 ghost use Rattle.httparse.specs.Spans.{header_bytes, IsHeaderWithin};
-ghost use Rattle.reg_http_head.specs.Head.{size_by, values_of};
-ghost use Rattle.reg_http_head.specs.Fields.{HasFieldValues};
+ghost use Rattle.reg_http_head.specs.Head.{size_by, values_of, HasFieldValues};
 
 use crate::status;
 use httparse::spans::{HeaderSpan, Span};
 use reg_core::read_number;
 
-/// The longest body of a request, in bytes.
 const LONGEST_BODY: u64 = 65_536;
 
 /// The values of the fields of one name: none, one, or more.
@@ -20,7 +18,6 @@ pub(crate) enum Values {
     Several,
 }
 
-/// The values, with that of one more field where it has the name.
 fn with_field(head: &[u8], field: &HeaderSpan, name: &[u8], values: Values) -> Values
     requires { IsHeaderWithin (length head.now) field.now }
     ensures { (before : List (List ℕ)) → HasFieldValues head.now before values
@@ -48,12 +45,7 @@ fn values_of(head: &[u8], fields: &[HeaderSpan], name: &[u8]) -> Values
     values
 }
 
-/// The length of the body of a POST, by its fields (RFC 9112 6.3).
-///
-/// # Errors
-///
-/// The status: 411 for any Transfer-Encoding, and for no Content-Length; 400 for more than one, and for one that is
-/// no number of 1 to 18 digits; 413 for a body above 65,536 bytes.
+/// The length of the body of a POST, by its fields (RFC 9112 6.3), or the status that refuses it: 411, 400 or 413.
 pub(crate) fn post_size(head: &[u8], fields: &[HeaderSpan]) -> Result<u64, u16>
     requires { All (IsHeaderWithin (length head.now)) fields.now }
     ensures { result ≡ size_by

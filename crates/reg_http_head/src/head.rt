@@ -2,39 +2,37 @@
 
 ghost use Rattle.std.specs.Prelude.{◌≡◌, ◌≤◌, ℕ, IfOk, IfErr, length, map, All, Ok};
 ghost use Rattle.httparse.specs.Spans.{header_bytes, span_bytes, IsHeaderWithin};
-ghost use Rattle.reg_http_head.specs.Head.{RefusesHead, longest_body, size_of as size_by_fields};
-ghost use Rattle.reg_http_head.specs.Spans.{HoldsHead};
+ghost use Rattle.reg_http_head.specs.Head.{RefusesHead, longest_body, size_of as size_by_fields, HoldsHead};
 
 use crate::fields::post_size;
 use crate::status;
+use http::Method;
 use httparse::spans::{EMPTY_HEADER_SPAN, HeaderSpan, RequestSpans, Span, parse_request};
 use httparse::{Error, Status};
+use reg_core::Memory;
+use std::alloc::Global;
 use std::str;
 
-/// The most fields of a head.
 const MOST_FIELDS: usize = 64;
 
 /// A head that was read: where its parts stand in its bytes, and how long the body is.
 #[derive(Clone, Copy)]
 pub(crate) struct HeadSpans {
-    /// The method (RFC 9110 9.1).
     pub(crate) method: Span,
-    /// The target, as it stands in the request line (RFC 9112 3.2).
     pub(crate) target: Span,
     /// The length in bytes of the body that follows, at most 65,536. Only a POST has one.
     pub(crate) size: u64,
 }
 
 impl HeadSpans {
-    /// The method.
-    pub(crate) fn method_in(self, head: &[u8]) -> &[u8]
+    /// The method: a token, so only memory can be refused.
+    pub(crate) fn method_in(self, alloc: Global, head: &[u8]) -> Result<Method, Memory>
         requires { ∥ HoldsHead head.now self ∥₁ }
-        ensures { result.now ≡ span_bytes head.now self.method }
+        ensures { IfOk result (λ method. method ≡ span_bytes head.now self.method) }
     {
-        self.method.of(head)
+        Method::from_bytes(alloc, self.method.of(head)).map_err(|_| Memory)
     }
 
-    /// The target.
     pub(crate) fn target_in(self, head: &[u8]) -> &str
         requires { ∥ HoldsHead head.now self ∥₁ }
         ensures { result.now ≡ span_bytes head.now self.target }
@@ -46,12 +44,8 @@ impl HeadSpans {
     }
 }
 
-/// Reads a head whole, with its empty line.
-///
-/// # Errors
-///
-/// The status that refuses it: 431 for more than 64 fields; 400 where the bytes are no head for another cause; for a
-/// POST 411, 400 or 413 by its Transfer-Encoding and Content-Length.
+/// Reads a head whole, with its empty line, or gives the status that refuses it: 431 for more than 64 fields, 400 where the bytes are no
+/// head for another cause, and for a POST those of its length.
 pub(crate) fn read_head(head: &[u8]) -> Result<HeadSpans, u16>
     ensures ok { IfOk result (HoldsHead head.now) }
     ensures small { IfOk result (λ spans. spans.size ≤ longest_body) }
@@ -60,14 +54,12 @@ pub(crate) fn read_head(head: &[u8]) -> Result<HeadSpans, u16>
     let mut fields = [EMPTY_HEADER_SPAN; MOST_FIELDS];
     match parse_request(head, &mut fields) {
         Ok(Status::Complete(parts)) if parts.len == head.len() => {
-            match size_of(parts.method.of(head), head, &fields[..parts.headers]) {
-                Ok(size) => Ok(HeadSpans {
-                    method: parts.method,
-                    target: parts.path,
-                    size,
-                }),
-                Err(refused) => Err(refused),
-            }
+            let size = size_of(parts.method.of(head), head, &fields[..parts.headers])?;
+            Ok(HeadSpans {
+                method: parts.method,
+                target: parts.path,
+                size,
+            })
         }
         // The head that was read ends before the empty line: at an empty line of LF alone.
         Ok(Status::Complete(_)) => Err(status::BAD_REQUEST),
@@ -77,7 +69,6 @@ pub(crate) fn read_head(head: &[u8]) -> Result<HeadSpans, u16>
     }
 }
 
-/// The length of the body that follows the fields: of any other method than POST 0.
 fn size_of(method: &[u8], head: &[u8], fields: &[HeaderSpan]) -> Result<u64, u16>
     requires { All (IsHeaderWithin (length head.now)) fields.now }
     ensures size { result ≡ size_by_fields method.now (map (header_bytes head.now) fields.now) }

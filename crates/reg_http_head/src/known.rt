@@ -15,17 +15,14 @@ pub(crate) enum Known {
     Unmarked(usize),
     /// So many bytes are refused with this status.
     Refused(usize, u16),
-    /// A head was read.
     Asked(HeadIn),
 }
 
-/// A head that stands at the front of the bytes.
+/// A head that stands at the front of the bytes, where it ends, and where the body behind it does.
 #[derive(Clone, Copy)]
 pub(crate) struct HeadIn {
     pub(crate) spans: HeadSpans,
-    /// Where it ends.
     pub(crate) end: usize,
-    /// Where the body behind it ends.
     pub(crate) needed: usize,
 }
 
@@ -54,7 +51,6 @@ fn searched_on(bytes: &[u8], searched: usize) -> Known
     }
 }
 
-/// What the head that ends at `end` tells.
 fn read_to(bytes: &[u8], end: usize) -> Known
     requires { HasHead bytes.now end }
     ensures { IsAllKnown bytes.now result }

@@ -14,6 +14,4 @@ pub mod status;
 pub use answer::Answer;
 pub use collected::Collected;
 pub use request::{Request, RequestRef, read_request};
-pub use response::{
-    HEAD_ROOM, put, put_answer, put_memory_fault, write_answer, write_memory_fault,
-};
+pub use response::{HEAD_ROOM, memory_fault, put, put_answer, write_answer};

@@ -1,6 +1,6 @@
 //! The text of a response (RFC 9112 4 to 6), and its way out.
 
-ghost use Rattle.std.specs.Prelude.{◌≡◌, ◌+◌, ◌≤◌, ◌++◌, ℕ, List, [], length, codes, decimal, OnOk, OnErr, option_map, vec_capacity};
+ghost use Rattle.std.specs.Prelude.{◌≡◌, ◌+◌, ◌≤◌, ◌++◌, ℕ, List, [], length, OnOk, OnErr, option_map, vec_capacity};
 ghost use Rattle.std.specs.Io.KnownBytes.{Appends};
 ghost use Rattle.reg_io.specs.Put.{AppendsFront};
 ghost use Rattle.reg_http_head.specs.Allow.{allowed};
@@ -17,10 +17,6 @@ use std::io::Write;
 /// The bytes of room that [`write_answer`] wants for the head of a response.
 pub const HEAD_ROOM: usize = 512;
 
-/// What is written where there was no memory for an answer.
-const MEMORY_TEXT: &[u8] =
-    b"HTTP/1.1 500 Internal Server Error\r\nConnection: close\r\nContent-Length: 0\r\n\r\n";
-
 /// Appends bytes for which there is room. It takes no memory.
 pub fn put(out: &mut Vec<u8>, bytes: &[u8])
     requires { length out.old.items + length bytes.now ≤ vec_capacity out.old }
@@ -30,7 +26,6 @@ pub fn put(out: &mut Vec<u8>, bytes: &[u8])
     let _ = out.extend_from_slice(bytes);
 }
 
-/// Appends one line: what it starts with, its value, and CR LF.
 #[tactic(auto, unfolding(crate::specs::Response::field_line))]
 fn put_line(out: &mut Vec<u8>, start: &[u8], value: &[u8])
     requires { length out.old.items + length start.now + length value.now + 2 ≤ vec_capacity out.old }
@@ -63,7 +58,6 @@ fn phrase(code: u16) -> &'static [u8]
     }
 }
 
-/// Appends the status line (RFC 9112 4).
 #[tactic(auto, unfolding(crate::specs::Response::status_line))]
 fn put_status_line(out: &mut Vec<u8>, code: u16)
     requires { length out.old.items + 64 ≤ vec_capacity out.old }
@@ -90,7 +84,6 @@ fn put_allow(out: &mut Vec<u8>, allow: Option<&'static str>)
     }
 }
 
-/// Writes the head of a response into an empty room.
 #[tactic(auto, unfolding(crate::specs::Response::head_text))]
 fn put_head(out: &mut Vec<u8>, answer: &Answer, date: &[u8])
     requires empty { out.old.items ≡ [] }
@@ -116,11 +109,7 @@ fn date_of(now: Moment) -> [u8; 29]
     HttpDate::from_unix_secs(now.secs()).unwrap().to_bytes()
 }
 
-/// Puts the response into an empty room.
-///
-/// # Errors
-///
-/// `AllocError` where memory for its body is refused. Its head stands in the room then.
+/// Puts the response into an empty room. Where memory for its body is refused, its head stands in the room.
 pub fn put_answer(text: &mut Vec<u8>, answer: &Answer, now: Moment) -> Result<(), AllocError>
     requires empty { text.old.items ≡ [] }
     requires room { HEAD_ROOM ≤ vec_capacity text.old }
@@ -134,21 +123,16 @@ pub fn put_answer(text: &mut Vec<u8>, answer: &Answer, now: Moment) -> Result<()
     }
 }
 
-/// Puts the constant response that says that there was no memory for an answer into an empty room.
-#[tactic(auto, unfolding(crate::specs::Response::memory_text))]
-pub fn put_memory_fault(text: &mut Vec<u8>)
-    requires empty { text.old.items ≡ [] }
-    requires room { HEAD_ROOM ≤ vec_capacity text.old }
-    ensures { text.new.items ≡ memory_text }
+/// The constant response that says that there was no memory for an answer.
+#[tactic(auto, unfolding(crate::specs::Response::memory_text, crate::specs::Response::field_line))]
+pub fn memory_fault() -> &'static [u8]
+    ensures text { result.now ≡ memory_text }
+    ensures short { length result.now ≤ HEAD_ROOM }
 {
-    put(text, MEMORY_TEXT);
+    b"HTTP/1.1 500 Internal Server Error\r\nConnection: close\r\nContent-Length: 0\r\n\r\n"
 }
 
-/// Writes the response: its head, made in the room, and the body.
-///
-/// # Errors
-///
-/// [`WriteFault`] where the writer fails or takes nothing more: less than the whole text went out, from the front.
+/// Writes the response: its head, made in the room, and the body. A [`WriteFault`] comes where the writer fails or takes nothing more.
 pub fn write_answer<W: Write>(
     writer: &mut W,
     mut room: Vec<u8>,
@@ -167,17 +151,4 @@ pub fn write_answer<W: Write>(
         Ok(()) => write_whole(writer, answer.body.as_slice()),
         Err(fault) => Err(fault),
     }
-}
-
-/// Writes the constant response that says that there was no memory for an answer.
-///
-/// # Errors
-///
-/// As [`write_answer`].
-#[tactic(auto, unfolding(crate::specs::Response::memory_text))]
-pub fn write_memory_fault<W: Write>(writer: &mut W) -> Result<(), WriteFault>
-    ensures ok { OnOk result (Appends (W.contents writer.old) (W.contents writer.new) memory_text) }
-    ensures err { OnErr result (AppendsFront (W.contents writer.old) (W.contents writer.new) memory_text) }
-{
-    write_whole(writer, MEMORY_TEXT)
 }

@@ -1,10 +1,8 @@
 //! What is ready, or left to be signed.
 
-/// What is ready, or left to be signed.
+/// What is ready, or what is left to be signed for it.
 #[derive(Drop)]
 pub enum Begun<R, U> {
-    /// It is ready.
     Ready(R),
-    /// This is left to be signed for it.
     Unsigned(U),
 }

@@ -11,24 +11,16 @@ use std::io::Read;
 #[derive(Clone, Copy, PartialEq, Eq)]
 pub struct ReadFault;
 
-/// Where a reading up to a mark came to rest. `held` counts the bytes at the front of the buffer.
+/// Where a reading up to a mark came to rest, with so many held bytes at the front of the buffer.
 #[derive(Clone, Copy, PartialEq, Eq)]
 pub enum Reached {
-    /// The first mark of the held bytes ends at `end`: the first `end` bytes end with it.
     Mark { end: usize, held: usize },
-    /// The held bytes fill the buffer, and no mark is in them.
     Full,
-    /// The reader is at its end. The held bytes leave room, and no mark is in them.
     End { held: usize },
 }
 
-/// Reads on behind the first `held` bytes of `buf` until the held bytes contain the mark or fill
-/// the buffer, or the reader is at its end. Once a mark is held, no more is read.
-///
-/// # Errors
-///
-/// [`ReadFault`] at the first read that fails, of whatever kind. What was read before is consumed,
-/// stands in the buffer, and has no mark in it.
+/// Reads on behind the first `held` bytes of `buf` until the held bytes contain the mark or fill the buffer, or the reader is at its end.
+/// [`ReadFault`] at the first read that fails, of whatever kind.
 pub fn fill_to_mark<R: Read>(
     reader: &mut R,
     buf: &mut [u8],
@@ -81,12 +73,8 @@ pub fn first_mark(buf: &[u8], held: usize, mark: &[u8], searched: usize) -> Opti
     None
 }
 
-/// Reads on behind the first `held` bytes of `buf` until the buffer is full.
-///
-/// # Errors
-///
-/// [`ReadFault`] at the first read that fails, of whatever kind, and where the reader ends before
-/// the buffer is full. What was read before is consumed and stands in the buffer.
+/// Reads on behind the first `held` bytes of `buf` until the buffer is full. [`ReadFault`] at the first read that fails, of whatever kind,
+/// and where the reader ends before.
 pub fn fill_whole<R: Read>(reader: &mut R, buf: &mut [u8], held: usize) -> Result<(), ReadFault>
     requires { held ≤ length buf.old }
     ensures ok { OnOk result ((took : List ℕ)
@@ -107,11 +95,8 @@ pub fn fill_whole<R: Read>(reader: &mut R, buf: &mut [u8], held: usize) -> Resul
     Ok(())
 }
 
-/// Reads until the reader is at its end, and returns how many bytes came. They stand at the front of `buf`, which is longer.
-///
-/// # Errors
-///
-/// [`ReadFault`] at the first read that fails, of whatever kind, and where the buffer is full before the reader is at its end.
+/// Reads until the reader is at its end, and returns how many bytes came. They stand at the front of `buf`, which is longer. [`ReadFault`] at
+/// the first read that fails, of whatever kind, and where the buffer is full before.
 pub fn fill_to_end<R: Read>(reader: &mut R, buf: &mut [u8]) -> Result<usize, ReadFault>
     ensures came { IfOk result (λ count.
         Consumes (R.remaining reader.old) (R.remaining reader.new) (take count buf.new)) }

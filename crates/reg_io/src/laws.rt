@@ -1,5 +1,4 @@
-//! Laws of marks, of what is read and written, and of runs. The functions do nothing: their contracts are the laws. Proofs above cite them
-//! by `proofs/PublicLaws.antt`.
+//! The functions do nothing: their contracts are laws, which proofs above cite by `proofs/PublicLaws.antt`.
 
 ghost use Rattle.reg_io.specs.Fill.{HoldsWhatCame, PartsAtMark};
 ghost use Rattle.reg_io.specs.Mark.{OneFirstMark, FirstMarkGoesOn, FirstMarkInFront, NoMarkInFront, FirstMarkOfByte, NoMarkOfByte};
@@ -20,26 +19,22 @@ pub fn marks_of_one_byte()
     ensures none { NoMarkOfByte }
 {}
 
-/// Where a reading came to rest, the bytes are held that were held before and that it took, and no others; at a mark they are those
-/// up to its end and those behind it.
+/// Where a reading came to rest, the bytes are held that were held before and that it took, and no others.
 pub fn held_is_what_came()
     ensures all { HoldsWhatCame }
     ensures parts { PartsAtMark }
 {}
 
-/// What went out of a text of two parts where the writing broke off: a front of the first part, or that part and a front of the second.
+/// A writing of two parts that broke off left a front of the first part, or that part and a front of the second.
 pub fn fronts_of_two_parts()
     ensures first { FrontOfFirst }
     ensures second { FrontOfSecond }
 {}
 
-/// What is asked one thing after the other, as the law of runs sees it: a relation between what stands before, what is asked, what is
-/// answered, and what stands afterwards. No type implements it: the law needs a relation to range over.
+/// What is asked one thing after the other. No type implements it: the law of runs needs a relation to range over.
 pub trait AnswersInTurn {
-    /// What it is asked.
     type Asked;
 
-    /// What it answers.
     type Given;
 
     // One thing is asked and answered.

@@ -1,5 +1,4 @@
-//! Bytes over any reader and any writer: whole writes with the exact front that went out at an
-//! error, and reads into a buffer up to a mark, to the buffer's end or to the reader's.
+//! Bytes over any reader and any writer: whole writes, and reads into a buffer up to a mark, to its end or to the reader's.
 #![tactic(auto)]
 
 mod begun;

@@ -10,12 +10,8 @@ use std::io::Write;
 #[derive(Clone, Copy, PartialEq, Eq)]
 pub struct WriteFault;
 
-/// Writes all of the bytes, in as many writes as the writer needs. No bytes need no write.
-///
-/// # Errors
-///
-/// [`WriteFault`] at the first write that fails, of whatever kind, or that takes 0 bytes. Exactly
-/// what the writes before it took went out, fewer than all. Nothing is written after it.
+/// Writes all of the bytes, in as many writes as the writer needs. [`WriteFault`] at the first write that fails, of whatever kind, or that
+/// takes 0 bytes: exactly what the writes before it took went out.
 pub fn write_whole<W: Write>(writer: &mut W, bytes: &[u8]) -> Result<(), WriteFault>
     ensures ok { OnOk result (Appends (W.contents writer.old) (W.contents writer.new) bytes.now) }
     ensures err { OnErr result

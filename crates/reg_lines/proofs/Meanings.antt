@@ -12,7 +12,7 @@ use Rattle.reg_core.specs.declared.command.Query.{Query}
 use Rattle.reg_core.specs.declared.command.Query.TheVariants.{Status, Counts, Listing, Overdue, NextCrl}
 use Rattle.reg_lines.specs.Fields.{fields_of}
 use Rattle.reg_lines.specs.Meaning.{Meaning, tells, asks, asks_ocsp, IsUnreadable, LineMeans, OneMeaning, SpellsCommand, SpellsOcsp, SpellsQuery, SpellsRegister, meaning_of}
-use Rattle.reg_lines.specs.LineReading.{alone, asked_by, decline_of, four, hex_of, label_field, listing_of, ocsp_of, one, order_of, register_by, register_of, request_of, revoke_of, revoking_by, said_by, said_of, status_of, subscriber_of, two}
+use Rattle.reg_lines.specs.LineReading.{alone, asked_by, four, hex_of, label_field, number_alone, ocsp_of, one, order_of, register_by, register_of, request_of, revoking_by, said_by, said_of, serial_alone, subscriber_of, two}
 use Rattle.reg_lines.specs.declared.line.CommandLine.{CommandLine}
 use Rattle.reg_lines.proofs.Readings.{hex_of-is, hex_of-some, label_of-is, label_of-some}
 
@@ -114,41 +114,38 @@ request_spelled fields c e =
     subst (λ v. SpellsCommand v (codes "request" ∷ fields)) made
     (p.0, ap (after (codes "request")) (two_is fields p is_two ∙ ap (λ (l : List ℕ). p.0 ∷ l ∷ []) found.0), serial_of-is p.0 serial first, found.1)
 
-decline_spelled : (fields : List (List ℕ)) (c : Command) → decline_of fields ≡ Some c → SpellsCommand c (codes "decline" ∷ fields)
-unfolding decline_of
+-- what is made of the only field, of which a number is read so
+alone_read : {A : Type 0} (read : List ℕ → Option ℕ) (Spells : List ℕ → ℕ → Type 0) → ((text : List ℕ) (n : ℕ) → read text ≡ Some n → Spells text n)
+    → (make : ℕ → A) (fields : List (List ℕ)) (v : A) → option_map make (option_and_then read (one fields)) ≡ Some v
+    → (a : List ℕ) × (n : ℕ) × (fields ≡ a ∷ []) × Spells a n × (make n ≡ v)
+alone_read read Spells is make fields v e =
+    let (n, both, made) = map_some make _ v e in
+    let (a, is_one, e1) = and_then_some read (one fields) n both in
+    (a, n, one_is fields a is_one, is a n e1, made)
+
+decline_spelled : (fields : List (List ℕ)) (c : Command) → option_map Decline (number_alone fields) ≡ Some c → SpellsCommand c (codes "decline" ∷ fields)
+unfolding number_alone
 decline_spelled fields c e =
-    let (a, is_one, e1) = and_then_some _ (one fields) c e in
-    let (request, first, e2) = and_then_some _ (number_of a) c e1 in
-    let made : Decline request ≡ c = cc in
-    subst (λ v. SpellsCommand v (codes "decline" ∷ fields)) made
-    (a, ap (after (codes "decline")) (one_is fields a is_one), number_of-is a request first)
+    let (a, request, is, spelled, made) = alone_read number_of IsNumberText number_of-is Decline fields c e in
+    subst (λ v. SpellsCommand v (codes "decline" ∷ fields)) made (a, ap (after (codes "decline")) is, spelled)
 
-revoke_spelled : (fields : List (List ℕ)) (c : Command) → revoke_of fields ≡ Some c → SpellsCommand c (codes "revoke" ∷ fields)
-unfolding revoke_of
+revoke_spelled : (fields : List (List ℕ)) (c : Command) → option_map Revoke (number_alone fields) ≡ Some c → SpellsCommand c (codes "revoke" ∷ fields)
+unfolding number_alone
 revoke_spelled fields c e =
-    let (a, is_one, e1) = and_then_some _ (one fields) c e in
-    let (request, first, e2) = and_then_some _ (number_of a) c e1 in
-    let made : Revoke request ≡ c = cc in
-    subst (λ v. SpellsCommand v (codes "revoke" ∷ fields)) made
-    (a, ap (after (codes "revoke")) (one_is fields a is_one), number_of-is a request first)
+    let (a, request, is, spelled, made) = alone_read number_of IsNumberText number_of-is Revoke fields c e in
+    subst (λ v. SpellsCommand v (codes "revoke" ∷ fields)) made (a, ap (after (codes "revoke")) is, spelled)
 
-status_spelled : (fields : List (List ℕ)) (q : Query) → status_of fields ≡ Some q → SpellsQuery q (codes "status" ∷ fields)
-unfolding status_of
+status_spelled : (fields : List (List ℕ)) (q : Query) → option_map Status (serial_alone fields) ≡ Some q → SpellsQuery q (codes "status" ∷ fields)
+unfolding serial_alone
 status_spelled fields q e =
-    let (a, is_one, e1) = and_then_some _ (one fields) q e in
-    let (serial, first, e2) = and_then_some _ (serial_of a) q e1 in
-    let made : Status serial ≡ q = cc in
-    subst (λ v. SpellsQuery v (codes "status" ∷ fields)) made
-    (a, ap (after (codes "status")) (one_is fields a is_one), serial_of-is a serial first)
+    let (a, serial, is, spelled, made) = alone_read serial_of IsSerialText serial_of-is Status fields q e in
+    subst (λ v. SpellsQuery v (codes "status" ∷ fields)) made (a, ap (after (codes "status")) is, spelled)
 
-listing_spelled : (fields : List (List ℕ)) (q : Query) → listing_of fields ≡ Some q → SpellsQuery q (codes "listing" ∷ fields)
-unfolding listing_of
+listing_spelled : (fields : List (List ℕ)) (q : Query) → option_map Listing (serial_alone fields) ≡ Some q → SpellsQuery q (codes "listing" ∷ fields)
+unfolding serial_alone
 listing_spelled fields q e =
-    let (a, is_one, e1) = and_then_some _ (one fields) q e in
-    let (serial, first, e2) = and_then_some _ (serial_of a) q e1 in
-    let made : Listing serial ≡ q = cc in
-    subst (λ v. SpellsQuery v (codes "listing" ∷ fields)) made
-    (a, ap (after (codes "listing")) (one_is fields a is_one), serial_of-is a serial first)
+    let (a, serial, is, spelled, made) = alone_read serial_of IsSerialText serial_of-is Listing fields q e in
+    subst (λ v. SpellsQuery v (codes "listing" ∷ fields)) made (a, ap (after (codes "listing")) is, spelled)
 
 ocsp_spelled : (fields : List (List ℕ)) (bytes : List ℕ) → ocsp_of fields ≡ Some bytes → SpellsOcsp bytes (codes "ocsp" ∷ fields)
 unfolding ocsp_of
@@ -187,9 +184,9 @@ lone Spells text value fields spelled v e =
 asked_spelled : (word : List ℕ) (fields : List (List ℕ)) (v : Meaning) → asked_by word fields ≡ Some v → Says (word ∷ fields) v
 unfolding asked_by
 asked_spelled word fields v =
-    word_or asks word (codes "status") fields (status_of fields) _ v (λ q e. status_spelled fields q e)
+    word_or asks word (codes "status") fields (option_map Status (serial_alone fields)) _ v (λ q e. status_spelled fields q e)
     (word_or asks word (codes "counts") fields (alone Counts fields) _ v (λ q e. lone SpellsQuery (codes "counts") Counts fields refl q e)
-    (word_or asks word (codes "listing") fields (listing_of fields) _ v (λ q e. listing_spelled fields q e)
+    (word_or asks word (codes "listing") fields (option_map Listing (serial_alone fields)) _ v (λ q e. listing_spelled fields q e)
     (word_or asks word (codes "overdue") fields (alone Overdue fields) _ v (λ q e. lone SpellsQuery (codes "overdue") Overdue fields refl q e)
     (word_or asks word (codes "next-crl") fields (alone NextCrl fields) _ v (λ q e. lone SpellsQuery (codes "next-crl") NextCrl fields refl q e)
     (word_or asks_ocsp word (codes "ocsp") fields (ocsp_of fields) None v (λ bytes e. ocsp_spelled fields bytes e) (λ none. absurd (cc none)))))))
@@ -198,8 +195,8 @@ revoking_spelled : (word : List ℕ) (fields : List (List ℕ)) (v : Meaning) �
 unfolding revoking_by
 revoking_spelled word fields v =
     word_or tells word (codes "request") fields (request_of fields) _ v (λ c e. request_spelled fields c e)
-    (word_or tells word (codes "decline") fields (decline_of fields) _ v (λ c e. decline_spelled fields c e)
-    (word_or tells word (codes "revoke") fields (revoke_of fields) _ v (λ c e. revoke_spelled fields c e)
+    (word_or tells word (codes "decline") fields (option_map Decline (number_alone fields)) _ v (λ c e. decline_spelled fields c e)
+    (word_or tells word (codes "revoke") fields (option_map Revoke (number_alone fields)) _ v (λ c e. revoke_spelled fields c e)
     (word_or tells word (codes "crl") fields (alone Crl fields) (asked_by word fields) v (λ c e. lone SpellsCommand (codes "crl") Crl fields refl c e) (asked_spelled word fields v))))
 
 said_spelled : (word : List ℕ) (fields : List (List ℕ)) (v : Meaning) → said_by word fields ≡ Some v → Says (word ∷ fields) v
@@ -224,7 +221,7 @@ register_read order serial not_before not_after fields (a, b, is, first, second,
     ) refl
 
 command_read : (c : Command) (fields : List (List ℕ)) → SpellsCommand c fields → said_of fields ≡ Some (tells c)
-unfolding said_of said_by revoking_by subscriber_of order_of request_of decline_of revoke_of
+unfolding said_of said_by revoking_by subscriber_of order_of request_of number_alone
 command_read (Subscriber name) fields (is, label) = rw (is, label_of-is name label) refl
 command_read (Order subscriber days) fields (a, b, is, first, second) =
     rw (is, number_of-some a subscriber first, number_of-some b days second) refl
@@ -236,7 +233,7 @@ command_read (Revoke request) fields (a, is, first) = rw (is, number_of-some a r
 command_read Crl fields is = rw is refl
 
 query_read : (q : Query) (fields : List (List ℕ)) → SpellsQuery q fields → said_of fields ≡ Some (asks q)
-unfolding said_of said_by revoking_by asked_by status_of listing_of
+unfolding said_of said_by revoking_by asked_by serial_alone
 query_read (Status serial) fields (a, is, first) = rw (is, serial_of-some a serial first) refl
 query_read Counts fields is = rw is refl
 query_read (Listing serial) fields (a, is, first) = rw (is, serial_of-some a serial first) refl

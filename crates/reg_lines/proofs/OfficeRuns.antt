@@ -1,10 +1,11 @@
 -- Runs of lines and imports over an office, by what is asked of it.
-use Rattle.std.proofs.Common.{ℕ, Bool, false, List}
+use Rattle.std.proofs.Common.{◌≡◌, ℕ, Bool, false, List}
 use Rattle.std.specs.Prelude.{Option, Result}
-use Rattle.std.specs.Result.{result_map_both}
 use Rattle.reg_office_api.specs.Leads.{Leads}
+use Rattle.reg_office_api.proofs.PublicLaws.{follows}
 use Rattle.reg_office_api.specs.declared.office.Office.{Ghosts as Office}
 use Rattle.reg_core.specs.declared.refusal.Fault.{Fault}
+use Rattle.reg_lines.specs.Accepted.{done_of}
 use Rattle.reg_lines.specs.Answer.{ComesTo}
 use Rattle.reg_lines.specs.declared.answered.Answered.{Answered as Came}
 use Rattle.reg_lines.specs.ByCalls.{CountsFailure, LineCalls, Lines}
@@ -12,7 +13,7 @@ use Rattle.reg_lines.specs.Import.{ImportEnds}
 use Rattle.reg_lines.specs.Script.{LinesEnd, ScriptEnds}
 use Rattle.reg_lines.specs.Strict.{StrictEnds}
 use Rattle.reg_lines.specs.declared.answered.Ended.{Ended}
-use Rattle.reg_lines.proofs.ScriptsAndImports.{comes_moves, import_moves, input_moves, script_follows, script_moves, strict_import_moves}
+use Rattle.reg_lines.proofs.ScriptsAndImports.{comes_moves, import_moves, input_moves, lines_follow, strict_import_moves}
 
 -- a command line leads from records to records
 pub line_leads : {O : Type 0} (office : Office O) (s t : O) (now : ℕ) (line : List ℕ) (came : Came) → ComesTo (LineCalls office) now s line came t
@@ -32,21 +33,21 @@ module _ {O E W : Type 0} (office : Office O) (remaining : E → Option (List �
       input_moves office.is_clean office.stands (LineCalls office) (Lines office.signs) (λ v now call w called. called.0)
       told is_clocked is_strict remaining contents s t reader reader' writer writer' result ends
 
-  -- a script, at which each fault of the signer that it tells was counted
-  module _ (told : ℕ → Type 0) (result : Result Ended Fault)
-      (ends : LinesEnd (LineCalls office) remaining contents s t reader reader' writer writer' told false false result) where
+  -- a script leads so too, and each fault of the signer that it tells was counted
+  module _ (told : ℕ → Type 0) (ran : Result Ended Fault) (result : Result (Unit {0}) Fault) (is : result ≡ done_of ran) where
     pub script_leads : Leads office.is_clean office.stands
-        (λ who before after. ScriptEnds (Lines office.signs who) remaining contents before after reader reader' writer writer'
-        (result_map_both (λ ended. tt) (λ fault. fault) result)) s t
-    script_leads =
-        script_moves (LineCalls office) told remaining contents s t reader reader' writer writer' result ends
-        office.is_clean office.stands (Lines office.signs) (λ v now call w called. called.0)
+        (λ who before after. LinesEnd (Lines office.signs who) remaining contents before after reader reader' writer writer' told false false ran) s t
+        → Leads office.is_clean office.stands
+        (λ who before after. ScriptEnds (Lines office.signs who) remaining contents before after reader reader' writer writer' result) s t
+    script_leads = follows office.is_clean office.stands _ _ (λ who before after ends. (ran, ends, is)) s t
 
-    pub script_counts : ScriptEnds (λ v now call w. CountsFailure (office.failures v) call (office.failures w))
-        remaining contents s t reader reader' writer writer' (result_map_both (λ ended. tt) (λ fault. fault) result)
-    script_counts =
-        script_follows (LineCalls office) told remaining contents s t reader reader' writer writer' result ends
-        (λ v now call w. CountsFailure (office.failures v) call (office.failures w)) (λ v now call w called. called.1)
+    pub script_counts : LinesEnd (LineCalls office) remaining contents s t reader reader' writer writer' told false false ran
+        → ScriptEnds (λ v now call w. CountsFailure (office.failures v) call (office.failures w)) remaining contents s t reader reader' writer writer' result
+    script_counts ends = (
+      ran,
+      lines_follow (LineCalls office) _ told false false remaining contents s t reader reader' writer writer' ran (λ v now call w called. called.1) ends,
+      is,
+    )
 
   -- an import
   pub import_leads : (now : ℕ) (result : Result (Unit {0}) Fault)

@@ -2,10 +2,9 @@
 use Rattle.std.proofs.Common.{◌≡◌, ℕ, ◌+◌, ◌==◌, ◌&&◌, Bool, Bor, true, false, List, [], ◌∷◌, ◌++◌, length, take, Option, None, Some, Ok, Err, is_some, option_map, refl, sym, ap, ◌∙◌, subst, arith, inl, inr, length-append, append-nil}
 use Rattle.std.specs.Prelude.{IsTrue, Result}
 use Rattle.std.specs.List.{AllByRecursion, concat}
-use Rattle.std.specs.Result.{result_map_both}
 use Rattle.std.specs.Io.KnownBytes.{Appends}
 use Rattle.std.proofs.KnownBytes.{Appends-nil, Appends-trans}
-use Rattle.std.proofs.lemmas.Bool.{and_parts, eqb-true, false≢true}
+use Rattle.std.proofs.lemmas.Bool.{and_parts, eqb-true}
 use Rattle.csv.specs.Reading.{Reached, ReadRecord, default_config, source_of, strip_bom}
 use Rattle.csv.specs.Records.{field_at}
 use Rattle.csv.specs.declared.parser.State.{State}
@@ -20,12 +19,9 @@ use Rattle.reg_core.specs.declared.refusal.Fault.{Fault}
 use Rattle.reg_core.specs.declared.refusal.Fault.TheVariants.{Memory, Read, Write}
 use Rattle.reg_lines.specs.Accepted.{IsAccepted}
 use Rattle.reg_lines.specs.ByCalls.{Call}
-use Rattle.reg_lines.specs.Import.{ImportEnds, Row, RowReplies, TookAll, RowsEnd, TextRead, TookRow, data_rows, is_header}
+use Rattle.reg_lines.specs.Import.{AreCsvRows, EndsBy, Row, RowReplies, RowsEnd, TextRead, TookRow, data_rows, is_header}
 use Rattle.reg_lines.specs.LineReading.{four, four_at}
-use Rattle.reg_lines.specs.Strict.{EndsBehind, StrictEnds, StrictRan, ended_part}
-use Rattle.reg_lines.specs.declared.answered.Ended.{Ended}
-use Rattle.reg_lines.specs.declared.answered.Ended.TheVariants as ended
-use Rattle.reg_lines.specs.declared.answered.Passed.{Passed}
+use Rattle.reg_lines.specs.Strict.{StrictRan, ended_part}
 use Rattle.reg_lines.specs.declared.answered.Passed.TheVariants as passed
 
 -- ---- the fields of a row
@@ -53,30 +49,53 @@ data_push (first ∷ rest) row data' = by (is_header first) refl
     by true e = rw e refl
     by false e = rw e refl
 
+-- ---- where a reader is
+
+-- it is behind these rows of a text
+pub record Place (text : List ℕ) (rows : List Row) (source : Option (List ℕ)) (state : State) (index : ℕ) : Type 0 where
+  pub left : List ℕ
+  pub known : source ≡ Some left
+  pub reached : Reached default_config st.StartRecord (strip_bom text) rows state left
+  pub counted : length rows ≡ index
+
+pub place_first : (text : List ℕ) (source : Option (List ℕ)) (state : State) → source ≡ Some (strip_bom text) → state ≡ st.StartRecord
+    → Place text [] source state 0
+unfolding Reached
+place_first text source state known is = record { left = strip_bom text; known = known; reached = (sym is, refl); counted = refl }
+
+module _ {R : Type 0} (text : List ℕ) (rem : R → Option (List ℕ)) (a b : Reader R) (row : Row) (rows : List Row) (index : ℕ)
+    (place : Place text rows (source_of rem a) a.state index) (config : a.config ≡ default_config) where
+  -- one row more was read
+  pub place_next : ReadRecord rem a b true row → Place text (rows ++ row ∷ []) (source_of rem b) b.state (index + 1)
+  place_next read =
+      let next = rows-more rem a b row default_config st.StartRecord (strip_bom text) place.left rows config place.known place.reached read in record {
+        left = next.0;
+        known = next.1;
+        reached = next.2;
+        counted = length-append rows (row ∷ []) ∙ ap (λ (n : ℕ). n + 1) place.counted;
+      }
+
+  -- no row is left
+  pub rows_all : ReadRecord rem a b false row → AreCsvRows text rows
+  rows_all read = (a.state, place.left, place.reached, rows-end rem a b row default_config place.left config place.known read)
+
 -- ---- a run so far
 
 -- the rows that ran so far, and where the reader is
 pub record Going {S : Type 0} (answers : S → ℕ → Call → S → Type 0) (is_strict : Bool) (now : ℕ) (s t : S) (out out' : Option (List ℕ)) (text : List ℕ) (source : Option (List ℕ)) (state : State) (index : ℕ) : Type 0 where
   pub rows : List Row
   pub replies : List (List ℕ)
-  pub left : List ℕ
-  pub known : source ≡ Some left
-  pub reached : Reached default_config st.StartRecord (strip_bom text) rows state left
-  pub counted : length rows ≡ index
+  pub place : Place text rows source state index
   pub answered : Answered (RowReplies answers now) s (data_rows rows) replies t
   pub wrote : Appends out out' (concat replies)
   pub passed : IsTrue is_strict → AllByRecursion IsAccepted replies
 
 pub going_start : {S : Type 0} (answers : S → ℕ → Call → S → Type 0) (is_strict : Bool) (now : ℕ) (s : S) (out : Option (List ℕ)) (text : List ℕ) (source : Option (List ℕ)) (state : State)
     → source ≡ Some (strip_bom text) → state ≡ st.StartRecord → Going answers is_strict now s s out out text source state 0
-unfolding Reached
 going_start answers is_strict now s out text source state known is = record {
   rows = [];
   replies = [];
-  left = strip_bom text;
-  known = known;
-  reached = (sym is, refl);
-  counted = refl;
+  place = place_first text source state known is;
   answered = refl;
   wrote = Appends-nil out;
   passed = λ strict. tt;
@@ -104,49 +123,30 @@ row_four fields o0 o1 o2 o3 o4 r e0 e1 e2 e3 e4 is =
 pub first_ran : {S : Type 0} (answers : S → ℕ → Call → S → Type 0) (is_strict : Bool) (now : ℕ) (s t : S) (out out' : Option (List ℕ)) (text : List ℕ) (source : Option (List ℕ)) (state : State) (index : ℕ)
     → Going answers is_strict now s t out out' text source state index → RowsEnd answers is_strict now s t out out' text (Err Memory)
 first_ran answers is_strict now s t out out' text source state index g = (
-  (record { rows = g.rows; replies = g.replies; first = (state, g.left, g.reached); wrote = g.wrote }, g.answered),
+  (record { rows = g.rows; replies = g.replies; are = (state, g.place.left, g.place.reached); wrote = g.wrote }, g.answered),
   g.passed,
 )
 
--- one row more was read
-record More (text : List ℕ) (rows : List Row) (row : Row) (source : Option (List ℕ)) (state : State) : Type 0 where
-  pub left : List ℕ
-  pub known : source ≡ Some left
-  pub reached : Reached default_config st.StartRecord (strip_bom text) (rows ++ row ∷ []) state left
-
 module _ {S R : Type 0} (answers : S → ℕ → Call → S → Type 0) (is_strict : Bool) (now : ℕ) (s m t : S) (out middle out' : Option (List ℕ)) (text : List ℕ) (rem : R → Option (List ℕ)) (a b : Reader R) (row : Row) (index : ℕ) where
-  more_of : (g : Going answers is_strict now s m out middle text (source_of rem a) a.state index) → a.config ≡ default_config → ReadRecord rem a b true row → More text g.rows row (source_of rem b) b.state
-  more_of g config read =
-      let more = rows-more rem a b row default_config st.StartRecord (strip_bom text) g.left g.rows config g.known g.reached read in
-      record { left = more.0; known = more.1; reached = more.2 }
-
   pub going_more : Going answers is_strict now s m out middle text (source_of rem a) a.state index → a.config ≡ default_config → ReadRecord rem a b true row
       → TookRow answers is_strict now m t (index == 0) row middle out' (Ok passed.On)
       → Going answers is_strict now s t out out' text (source_of rem b) b.state (index + 1)
   going_more g config read (inl (header, same, done, kept)) =
-      let more = more_of g config read in
       let both = and_parts (index == 0) (is_header row) header in
-      let none : length g.rows ≡ 0 = g.counted ∙ eqb-true index 0 both.0 in
+      let none : length g.rows ≡ 0 = g.place.counted ∙ eqb-true index 0 both.0 in
       let rows : data_rows (g.rows ++ row ∷ []) ≡ data_rows g.rows = header_first g.rows row none both.1 in record {
         rows = g.rows ++ row ∷ [];
         replies = g.replies;
-        left = more.left;
-        known = more.known;
-        reached = more.reached;
-        counted = length-append g.rows (row ∷ []) ∙ ap (λ (n : ℕ). n + 1) g.counted;
+        place = place_next text rem a b row g.rows index g.place config read;
         answered = rw (rows, same) g.answered;
         wrote = subst (Appends out out') (append-nil (concat g.replies)) (Appends-trans out middle out' (concat g.replies) [] g.wrote kept);
         passed = g.passed;
       }
   going_more g config read (inr (data', ran)) =
-      let more = more_of g config read in
-      let rows : data_rows (g.rows ++ row ∷ []) ≡ data_rows g.rows ++ row ∷ [] = data_push g.rows row (ap (λ (n : ℕ). (n == 0) && is_header row) g.counted ∙ data') in record {
+      let rows : data_rows (g.rows ++ row ∷ []) ≡ data_rows g.rows ++ row ∷ [] = data_push g.rows row (ap (λ (n : ℕ). (n == 0) && is_header row) g.place.counted ∙ data') in record {
         rows = g.rows ++ row ∷ [];
         replies = g.replies ++ ran.reply ∷ [];
-        left = more.left;
-        known = more.known;
-        reached = more.reached;
-        counted = length-append g.rows (row ∷ []) ∙ ap (λ (n : ℕ). n + 1) g.counted;
+        place = place_next text rem a b row g.rows index g.place config read;
         answered = rw rows (answered_push (RowReplies answers now) s m t (data_rows g.rows) g.replies row ran.reply g.answered ran.replied);
         wrote = subst (Appends out out') (sym (concat_push g.replies ran.reply)) (Appends-trans out middle out' (concat g.replies) ran.reply g.wrote ran.said.0);
         passed = λ strict. all_push IsAccepted g.replies ran.reply (g.passed strict) (ran.said.1 strict);
@@ -157,14 +157,14 @@ module _ {S R : Type 0} (answers : S → ℕ → Call → S → Type 0) (is_stri
       → TookRow answers is_strict now m t (index == 0) row middle out' (Ok (passed.Refused refused)) → RowsEnd answers is_strict now s t out out' text (Ok (passed.Refused refused))
   one_refused refused g config read (inl (header, same, done, kept)) = cc done
   one_refused refused g config read (inr (data', ran)) =
-      let more = more_of g config read in
+      let more = place_next text rem a b row g.rows index g.place config read in
       let goes = ran.said.1 in
-      let rows : data_rows (g.rows ++ row ∷ []) ≡ data_rows g.rows ++ row ∷ [] = data_push g.rows row (ap (λ (n : ℕ). (n == 0) && is_header row) g.counted ∙ data') in (
+      let rows : data_rows (g.rows ++ row ∷ []) ≡ data_rows g.rows ++ row ∷ [] = data_push g.rows row (ap (λ (n : ℕ). (n == 0) && is_header row) g.place.counted ∙ data') in (
         (
           record {
             rows = g.rows ++ row ∷ [];
             replies = g.replies ++ ran.reply ∷ [];
-            first = (b.state, more.left, more.reached);
+            are = (b.state, more.left, more.reached);
             wrote = subst (Appends out out') (sym (concat_push g.replies ran.reply)) (Appends-trans out middle out' (concat g.replies) ran.reply g.wrote ran.said.0);
           },
           rw rows (answered_push (RowReplies answers now) s m t (data_rows g.rows) g.replies row ran.reply g.answered ran.replied),
@@ -178,7 +178,7 @@ module _ {S R : Type 0} (answers : S → ℕ → Call → S → Type 0) (is_stri
       → TookRow answers is_strict now m t (index == 0) row middle out' (Err fault) → RowsEnd answers is_strict now s t out out' text (Err Write)
   one_cut fault g config read (inl (header, same, done, kept)) = cc done
   one_cut fault g config read (inr (data', ran)) =
-      let more = more_of g config read in (
+      let more = place_next text rem a b row g.rows index g.place config read in (
         (
           record {
             rows = g.rows;
@@ -187,7 +187,7 @@ module _ {S R : Type 0} (answers : S → ℕ → Call → S → Type 0) (is_stri
             reply = ran.reply;
             part = ran.said.count;
             first = (b.state, more.left, more.reached);
-            no_header = data_push g.rows row (ap (λ (n : ℕ). (n == 0) && is_header row) g.counted ∙ data');
+            no_header = data_push g.rows row (ap (λ (n : ℕ). (n == 0) && is_header row) g.place.counted ∙ data');
             partly = ran.said.short;
             wrote = Appends-trans out middle out' (concat g.replies) (take ran.said.count ran.reply) g.wrote ran.said.written;
           },
@@ -205,7 +205,7 @@ module _ {S R : Type 0} (answers : S → ℕ → Call → S → Type 0) (is_stri
       record {
         rows = g.rows;
         replies = g.replies;
-        all = (a.state, g.left, g.reached, rows-end rem a b row default_config g.left config g.known read);
+        are = rows_all text rem a b row g.rows index g.place config read;
         wrote = g.wrote;
       },
       g.answered,
@@ -215,46 +215,12 @@ module _ {S R : Type 0} (answers : S → ℕ → Call → S → Type 0) (is_stri
 
 -- ---- the whole import
 
-module _ {S R W : Type 0} (answers : S → ℕ → Call → S → Type 0) (remaining : R → Option (List ℕ)) (contents : W → Option (List ℕ)) (now : ℕ)
-    (s t : S) (reader reader' : R) (writer writer' : W) where
-  -- one that goes on behind a refusal
-  pub import_of_rows : (text : List ℕ) (ran : Result Passed Fault) → TookAll (remaining reader) (remaining reader') text
-      → RowsEnd answers false now s t (contents writer) (contents writer') text ran
-      → ImportEnds answers remaining contents now s t reader reader' writer writer' (result_map_both (λ all. tt) (λ fault. fault) ran)
-  import_of_rows text (Ok passed.On) took ends = (text, took, ends.0)
-  import_of_rows text (Ok (passed.Refused refused)) took ends = absurd (false≢true ends.1)
-  import_of_rows text (Err Write) took ends = (text, took, ends.0)
-  import_of_rows text (Err Memory) took ends = inr (text, took, ends.0)
-  import_of_rows text (Err other) took ends = absurd ends
-
-  -- a strict one
-  pub strict_of_rows : (text : List ℕ) (result : Result Ended Fault) → TookAll (remaining reader) (remaining reader') text
-      → StrictRan answers now s t (contents writer) (contents writer') text result
-      → StrictEnds answers remaining contents now s t reader reader' writer writer' result
-  strict_of_rows text result took ran = inl (text, took, ran)
-
 -- nothing ran, since the text could not be read
-module _ {S R W : Type 0} (answers : S → ℕ → Call → S → Type 0) (remaining : R → Option (List ℕ)) (contents : W → Option (List ℕ)) (now : ℕ)
-    (s : S) (reader reader' : R) (writer : W) where
-  pub import_of_read : (fault : Fault) → TextRead (remaining reader) (remaining reader') (Err fault)
-      → ImportEnds answers remaining contents now s s reader reader' writer writer (Err fault)
-  import_of_read Read ends = (ends, refl, refl)
-  import_of_read Memory ends = inl (ends, refl, refl)
-  import_of_read other ends = absurd ends
-
-  pub strict_of_read : (fault : Fault) → TextRead (remaining reader) (remaining reader') (Err fault)
-      → StrictEnds answers remaining contents now s s reader reader' writer writer (Err fault)
-  strict_of_read Read ends = inr (inl refl, (ends, refl, refl))
-  strict_of_read Memory ends = inr (inr refl, (ends, refl, refl))
-  strict_of_read other ends = absurd ends
-
--- all was accepted up to the last line end of a text
-pub strict_ran : {S : Type 0} (answers : S → ℕ → Call → S → Type 0) (now : ℕ) (s t : S) (out out' : Option (List ℕ)) (text : List ℕ) (how : Ended)
-    → RowsEnd answers true now s t out out' (ended_part text) (Ok passed.On) → EndsBehind (length (ended_part text)) (length text) how
-    → StrictRan answers now s t out out' text (Ok how)
-strict_ran answers now s t out out' text ended.Whole rows ends = (rows, ends)
-strict_ran answers now s t out out' text ended.NoLineEnd rows ends = (rows, ends)
-strict_ran answers now s t out out' text (ended.Refused refused) rows ends = absurd ends
+pub ends_unread : {S R W A : Type 0} (remaining : R → Option (List ℕ)) (s : S) (reader reader' : R) (writer : W) (Ran : List ℕ → Result A Fault → Type 0)
+    (fault : Fault) → TextRead (remaining reader) (remaining reader') (Err fault) → EndsBy remaining s s reader reader' writer writer Ran (Err fault)
+ends_unread remaining s reader reader' writer Ran Read ends = inr (inl refl, ends, refl, refl)
+ends_unread remaining s reader reader' writer Ran Memory ends = inr (inr refl, ends, refl, refl)
+ends_unread remaining s reader reader' writer Ran other ends = absurd ends
 
 -- a run of these rows came to a fault
 pub strict_failed : {S : Type 0} (answers : S → ℕ → Call → S → Type 0) (now : ℕ) (s t : S) (out out' : Option (List ℕ)) (text front : List ℕ) (fault : Fault)

@@ -1,39 +1,27 @@
 -- Rows that are told as lines, one after the other.
-use Rattle.std.proofs.Common.{◌≡◌, ℕ, ◌+◌, ◌==◌, ◌&&◌, Bool, true, false, cond, List, [], ◌∷◌, ◌++◌, length, Option, Some, Result, Ok, Err, MatchResult, Vec, Global, inl, inr, subst, refl, sym, ap, ◌∙◌, append-nil, append_assoc, length-append}
+use Rattle.std.proofs.Common.{◌≡◌, ℕ, ◌+◌, ◌==◌, ◌&&◌, Bool, true, false, cond, List, [], ◌∷◌, ◌++◌, length, Option, Some, Result, Ok, Err, MatchResult, Vec, Global, inl, inr, subst, refl, sym, ap, ◌∙◌, append-nil, append_assoc}
 use Rattle.std.proofs.lemmas.Bool.{and_parts, eqb-true}
-use Rattle.csv.specs.Reading.{Reached, ReadRecord, default_config, source_of, strip_bom}
+use Rattle.csv.specs.Reading.{ReadRecord, default_config, source_of, strip_bom}
 use Rattle.csv.specs.declared.parser.State.{State}
 use Rattle.csv.specs.declared.parser.State.TheVariants as st
 use Rattle.csv.specs.declared.reader.Reader.{Reader}
-use Rattle.csv.proofs.ReadFacts.{rows-end, rows-more}
 use Rattle.std.specs.Result.{result_map_both}
 use Rattle.reg_core.specs.declared.refusal.Fault.{Fault}
 use Rattle.reg_core.specs.declared.refusal.Fault.TheVariants.{Memory, Read}
 use Rattle.reg_lines.specs.Import.{Row, TextRead, TookAll, data_rows, is_header}
 use Rattle.reg_lines.specs.LineReading.{four}
 use Rattle.reg_lines.specs.Told.{TellsRows, ToldEnds, row_line, rows_told, told_at}
-use Rattle.reg_lines.proofs.RowLemmas.{data_push, header_first}
+use Rattle.reg_lines.proofs.RowLemmas.{Place, data_push, header_first, place_first, place_next, rows_all}
 
 -- the rows that were told so far, and where the reader is
 pub record Telling (text lines : List ℕ) (source : Option (List ℕ)) (state : State) (index : ℕ) : Type 0 where
   pub rows : List Row
-  pub left : List ℕ
-  pub known : source ≡ Some left
-  pub reached : Reached default_config st.StartRecord (strip_bom text) rows state left
-  pub counted : length rows ≡ index
+  pub place : Place text rows source state index
   pub told : lines ≡ rows_told (data_rows rows)
 
 pub telling_start : (text lines : List ℕ) (source : Option (List ℕ)) (state : State)
     → source ≡ Some (strip_bom text) → state ≡ st.StartRecord → lines ≡ [] → Telling text lines source state 0
-unfolding Reached
-telling_start text lines source state known is none = record {
-  rows = [];
-  left = strip_bom text;
-  known = known;
-  reached = (sym is, refl);
-  counted = refl;
-  told = none;
-}
+telling_start text lines source state known is none = record { rows = []; place = place_first text source state known is; told = none }
 
 rows_push : (rows : List Row) (row : Row) → rows_told (rows ++ row ∷ []) ≡ rows_told rows ++ row_line (four row)
 rows_push [] row = append-nil (row_line (four row))
@@ -57,19 +45,15 @@ module _ {R : Type 0} (text : List ℕ) (rem : R → Option (List ℕ)) (a b : R
   -- one row more
   pub telling_more : (more : List ℕ) → Telling text lines (source_of rem a) a.state index → a.config ≡ default_config → ReadRecord rem a b true row
       → more ≡ lines ++ told_at (index == 0) row → Telling text more (source_of rem b) b.state (index + 1)
-  telling_more more t config read is =
-      let next = rows-more rem a b row default_config st.StartRecord (strip_bom text) t.left t.rows config t.known t.reached read in record {
-        rows = t.rows ++ row ∷ [];
-        left = next.0;
-        known = next.1;
-        reached = next.2;
-        counted = length-append t.rows (row ∷ []) ∙ ap (λ (n : ℕ). n + 1) t.counted;
-        told = is ∙ ap (λ l. l ++ told_at (index == 0) row) t.told ∙ told_push t.rows row index t.counted;
-      }
+  telling_more more t config read is = record {
+    rows = t.rows ++ row ∷ [];
+    place = place_next text rem a b row t.rows index t.place config read;
+    told = is ∙ ap (λ l. l ++ told_at (index == 0) row) t.told ∙ told_push t.rows row index t.place.counted;
+  }
 
   -- no row is left
   pub telling_all : Telling text lines (source_of rem a) a.state index → a.config ≡ default_config → ReadRecord rem a b false row → TellsRows text lines
-  telling_all t config read = (t.rows, (a.state, t.left, t.reached, rows-end rem a b row default_config t.left config t.known read), t.told)
+  telling_all t config read = (t.rows, rows_all text rem a b row t.rows index t.place config read, t.told)
 
 -- how the telling of an input ends whose text was read, or was not
 pub told_text : (input input' : Option (List ℕ)) (text : List ℕ) (result : Result (Vec ℕ Global) Fault) → TookAll input input' text

@@ -13,8 +13,7 @@ use Rattle.reg_io.specs.RunsOfAnswers.{Answered}
 use Rattle.reg_io.proofs.PublicLaws.{answered_push}
 use Rattle.reg_lines.proofs.Pieces.{all_push, concat_push}
 use Rattle.reg_lines.specs.Accepted.{IsAccepted, TellsWhy}
-use Rattle.reg_lines.specs.Script.{CutLine, FirstLines, HasNoLf, InputFails, IsCut, IsShort, IsWholeLine, RunEnds, line_of, longest_of, pieces}
-use Rattle.reg_lines.specs.ScriptSteps.{EndOrMore, NextEnds, RanLast, RanNone, RanWhole, WritesPart}
+use Rattle.reg_lines.specs.Script.{CutLine, EndOrMore, FirstLines, HasNoLf, InputFails, IsCut, IsShort, IsWholeLine, NextEnds, RanLast, RanNone, RanWhole, RunEnds, WritesPart, line_of, longest_of, pieces}
 use Rattle.reg_lines.specs.declared.answered.Ended.{Ended}
 use Rattle.reg_lines.specs.declared.answered.Ended.TheVariants as ended
 use Rattle.reg_lines.specs.declared.lines.Next.TheVariants.{End}
@@ -268,11 +267,15 @@ module _ {S : Type 0} (runs : S → List ℕ → List ℕ → S → Type 0) (lon
           (λ strict. absurd (false≢true (sym lax ∙ strict))),
         )
 
+  -- nothing more was written
+  kept_back : (out middle out' : Option (List ℕ)) (bytes : List ℕ) → Appends out middle bytes → Appends middle out' [] → Appends out out' bytes
+  kept_back out middle out' bytes wrote kept = subst (Appends out out') (append-nil bytes) (Appends-trans out middle out' bytes [] wrote kept)
+
   -- nothing is left behind the lines that ran
-  finished_none : (s t : S) (input between left out middle : Option (List ℕ)) (held more : List ℕ) (count : ℕ)
-      → Going s t input between out middle held count → count ≤ 1000000 → Consumes between left more → IsAtEnd left → held ++ more ≡ []
-      → RunEnds longest input left out middle runs s t is_clocked is_strict (Ok ended.Whole)
-  finished_none s t input between left out middle held more count g most consumed at_end none =
+  finished_none : (s t : S) (input between left out middle out' : Option (List ℕ)) (held more : List ℕ) (count : ℕ)
+      → Going s t input between out middle held count → Appends middle out' [] → count ≤ 1000000 → Consumes between left more → IsAtEnd left
+      → held ++ more ≡ [] → RunEnds longest input left out out' runs s t is_clocked is_strict (Ok ended.Whole)
+  finished_none s t input between left out middle out' held more count g kept most consumed at_end none =
       let lines : pieces (g.took ++ more) ≡ g.done =
       ap pieces (taken_more g.took held more g.done g.parts) ∙ pieces_done g.done (held ++ more) g.whole
       ∙ ap (λ l. g.done ++ pieces l) none ∙ ap (λ l. g.done ++ l) pieces_none ∙ append-nil g.done in
@@ -284,17 +287,13 @@ module _ {S : Type 0} (runs : S → List ℕ → List ℕ → S → Type 0) (lon
           at_end = at_end;
           few = rw lines (omega arith);
           short = rw lines g.short;
-          wrote = g.wrote;
+          wrote = kept_back out middle out' (concat g.replies) g.wrote kept;
         },
         rw lines g.answered,
         (λ strict. (g.passed strict, rw lines g.whole)),
       )
 
   -- ---- how it ends
-
-  -- nothing more was written
-  kept_back : (out middle out' : Option (List ℕ)) (bytes : List ℕ) → Appends out middle bytes → Appends middle out' [] → Appends out out' bytes
-  kept_back out middle out' bytes wrote kept = subst (Appends out out') (append-nil bytes) (Appends-trans out middle out' bytes [] wrote kept)
 
   finished_last : (s m t : S) (input between left out middle out' : Option (List ℕ)) (held : List ℕ) (count : ℕ)
       → Going s m input between out middle held count → count < 1000000
@@ -304,21 +303,7 @@ module _ {S : Type 0} (runs : S → List ℕ → List ℕ → S → Type 0) (lon
       elim ran.ran [
         | inl (none, same, kept) ↦
             subst (λ v. RunEnds longest input left out out' runs s v is_clocked is_strict (Ok ended.Whole)) (sym same)
-            (finished_none s m input between left out out' held ran.took count
-            (record {
-              took = g.took;
-              done = g.done;
-              replies = g.replies;
-              parts = g.parts;
-              whole = g.whole;
-              short = g.short;
-              counted = g.counted;
-              consumed = g.consumed;
-              answered = g.answered;
-              wrote = kept_back out middle out' (concat g.replies) g.wrote kept;
-              passed = g.passed;
-            })
-            (omega arith) ran.consumed ran.at_end none)
+            (finished_none s m input between left out middle out' held ran.took count g kept (omega arith) ran.consumed ran.at_end none)
         | inr (some, reply, replied, wrote) ↦
             finished_one s m t input between left out middle out' held count g most ran.took reply ran.consumed ran.at_end ran.free ran.short some
             replied wrote (lax some)
@@ -398,7 +383,8 @@ module _ {S : Type 0} (runs : S → List ℕ → List ℕ → S → Type 0) (lon
       → RunEnds longest input left out middle runs s t is_clocked is_strict result
   run_checked s t input between left out middle buffer held count (Ok how) g all none some (is, consumed, at_end) =
       subst (λ h. RunEnds longest input left out middle runs s t is_clocked is_strict (Ok h)) (sym is)
-      (finished_none s t input between left out middle (take held buffer) [] count g (omega arith) consumed at_end (ap (λ n. take n buffer ++ []) none))
+      (finished_none s t input between left out middle middle (take held buffer) [] count g (Appends-nil middle) (omega arith) consumed at_end
+      (ap (λ n. take n buffer ++ []) none))
   run_checked s t input between left out middle buffer held count (Err fault) g all none some (is, took, consumed, little) =
       let nothing : take held buffer ≡ [] = ap (λ n. take n buffer) none in
       let same : take held buffer ++ took ≡ took = ap (λ l. l ++ took) nothing in

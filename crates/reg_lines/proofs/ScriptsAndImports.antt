@@ -1,17 +1,15 @@
 -- Runs of lines, and imports, over an office that keeps records.
 use Rattle.std.proofs.Common.{◌≡◌, ℕ, Bool, true, false, List, map, refl, sym, subst, inl, inr}
 use Rattle.std.specs.Prelude.{Result, Ok, Err}
-use Rattle.std.specs.Result.{result_map_both}
 use Rattle.std.specs.declared.option.Option.{Option}
-use Rattle.std.proofs.lemmas.Bool.{false≢true}
 use Rattle.reg_core.specs.declared.refusal.Fault.{Fault}
 use Rattle.reg_core.specs.declared.refusal.Fault.TheVariants.{Memory, Read, Write}
 use Rattle.reg_io.specs.RunsOfAnswers.{Answered}
 use Rattle.reg_lines.specs.Answer.{ComesTo, IsAsked, LineComesTo, LineReplies}
 use Rattle.reg_lines.specs.ByCalls.{Call, ran, asked, responded}
-use Rattle.reg_lines.specs.Import.{Row, RowReplies, RowsEnd, ImportEnds, data_rows}
+use Rattle.reg_lines.specs.Import.{EndsBy, ImportEnds, ImportRan, Row, RowReplies, RowsEnd, data_rows}
 use Rattle.reg_lines.specs.Meaning.{Meaning, tells, asks, asks_ocsp}
-use Rattle.reg_lines.specs.Script.{LinesEnd, RunEnds, ScriptEnds, line_of, longest_of, pieces}
+use Rattle.reg_lines.specs.Script.{LinesEnd, RunEnds, line_of, longest_of, pieces}
 use Rattle.reg_lines.specs.Strict.{StrictEnds, StrictRan, ended_part}
 use Rattle.reg_lines.specs.declared.answered.Answered.{Answered as Came}
 use Rattle.reg_lines.specs.declared.answered.Ended.{Ended}
@@ -131,24 +129,6 @@ module _ {S I R : Type 0} (is_clean : S → Type 0) (stands : I → S → R → 
   cut_move now s middle t rows replies row reply run last =
       chains is_clean stands _ _ s middle t (rows_move now s middle rows replies run) (row_moves now middle row reply t last)
 
-  -- an import
-  pub import_moves : {E W : Type 0} (remaining : E → Option (List ℕ)) (contents : W → Option (List ℕ)) (now : ℕ) (s t : S) (reader reader' : E)
-      (writer writer' : W) (result : Result (Unit {0}) Fault) → ImportEnds answers remaining contents now s t reader reader' writer writer' result
-      → Leads is_clean stands (λ i before after. ImportEnds (kept i) remaining contents now before after reader reader' writer writer' result) s t
-  import_moves remaining contents now s t reader reader' writer writer' (Ok done) (text, took, (all, run)) =
-      follows is_clean stands _ _ (λ i before after moved. (text, took, (all, moved))) s t (rows_move now s t (data_rows all.rows) all.replies run)
-  import_moves remaining contents now s t reader reader' writer writer' (Err Read) (some, same, unwritten) =
-      follows is_clean stands _ _ (λ i before after stayed. (some, stayed, unwritten)) s t (stays is_clean stands s t same)
-  import_moves remaining contents now s t reader reader' writer writer' (Err Write) (text, took, (cut, middle, run, last)) =
-      follows is_clean stands _ _ (λ i before after moved. (text, took, (cut, moved.0, moved.1, moved.2))) s t
-      (cut_move now s middle t (data_rows cut.rows) cut.replies cut.row cut.reply run last)
-  import_moves remaining contents now s t reader reader' writer writer' (Err Memory) (inl (some, same, unwritten)) =
-      follows is_clean stands _ _ (λ i before after stayed. inl (some, stayed, unwritten)) s t (stays is_clean stands s t same)
-  import_moves remaining contents now s t reader reader' writer writer' (Err Memory) (inr (text, took, (first, run))) =
-      follows is_clean stands _ _ (λ i before after moved. inr (text, took, (first, moved))) s t
-      (rows_move now s t (data_rows first.rows) first.replies run)
-  import_moves remaining contents now s t reader reader' writer writer' (Err other) ended = absurd ended
-
   -- a run of rows that ends at the first refusal, if it is strict
   row_run_moves : (is_strict : Bool) (now : ℕ) (s t : S) (out out' : Option (List ℕ)) (text : List ℕ) (result : Result Passed Fault)
       → RowsEnd answers is_strict now s t out out' text result
@@ -171,58 +151,55 @@ module _ {S I R : Type 0} (is_clean : S → Type 0) (stands : I → S → R → 
       → Leads is_clean stands (λ i before after. StrictRan (kept i) now before after out out' text result) s t
   strict_run_moves now s t out out' text (Ok (ended.Refused refused)) run =
       row_run_moves true now s t out out' (ended_part text) (Ok (passed.Refused refused)) run
-  strict_run_moves now s t out out' text (Ok how) (run, ends) =
-      follows is_clean stands _ _ (λ i before after moved. (moved, ends)) s t (row_run_moves true now s t out out' (ended_part text) (Ok passed.On) run)
+  strict_run_moves now s t out out' text (Ok ended.Whole) (run, all) =
+      follows is_clean stands _ _ (λ i before after moved. (moved, all)) s t (row_run_moves true now s t out out' (ended_part text) (Ok passed.On) run)
+  strict_run_moves now s t out out' text (Ok ended.NoLineEnd) (run, more) =
+      follows is_clean stands _ _ (λ i before after moved. (moved, more)) s t (row_run_moves true now s t out out' (ended_part text) (Ok passed.On) run)
   strict_run_moves now s t out out' text (Err fault) run = row_run_moves true now s t out out' (ended_part text) (Err fault) run
 
-  -- a strict import
+  -- an import, by what holds of its rows
+  ends_moves : {E W A : Type 0} (remaining : E → Option (List ℕ)) (s t : S) (reader reader' : E) (writer writer' : W)
+      (Ran : List ℕ → Result A Fault → Type 0) (Kept : I → R → R → List ℕ → Result A Fault → Type 0) (result : Result A Fault)
+      → ((text : List ℕ) → Ran text result → Leads is_clean stands (λ i before after. Kept i before after text result) s t)
+      → EndsBy remaining s t reader reader' writer writer' Ran result
+      → Leads is_clean stands (λ i before after. EndsBy remaining before after reader reader' writer writer' (Kept i before after) result) s t
+  ends_moves remaining s t reader reader' writer writer' Ran Kept result moves (inl (text, took, run)) =
+      follows is_clean stands _ _ (λ i before after moved. inl (text, took, moved)) s t (moves text run)
+  ends_moves remaining s t reader reader' writer writer' Ran Kept result moves (inr (why, some, same, unwritten)) =
+      follows is_clean stands _ _ (λ i before after stayed. inr (why, some, stayed, unwritten)) s t (stays is_clean stands s t same)
+
+  pub import_moves : {E W : Type 0} (remaining : E → Option (List ℕ)) (contents : W → Option (List ℕ)) (now : ℕ) (s t : S) (reader reader' : E)
+      (writer writer' : W) (result : Result (Unit {0}) Fault) → ImportEnds answers remaining contents now s t reader reader' writer writer' result
+      → Leads is_clean stands (λ i before after. ImportEnds (kept i) remaining contents now before after reader reader' writer writer' result) s t
+  import_moves remaining contents now s t reader reader' writer writer' result =
+      ends_moves remaining s t reader reader' writer writer' (ImportRan answers now s t (contents writer) (contents writer'))
+      (λ i before after. ImportRan (kept i) now before after (contents writer) (contents writer')) result (λ text run.
+      follows is_clean stands _ _ (λ i before after moved. (run.0, moved, run.2)) s t
+      (row_run_moves false now s t (contents writer) (contents writer') text run.0 run.1))
+
+  -- a strict one
   pub strict_import_moves : {E W : Type 0} (remaining : E → Option (List ℕ)) (contents : W → Option (List ℕ)) (now : ℕ) (s t : S) (reader reader' : E)
       (writer writer' : W) (result : Result Ended Fault) → StrictEnds answers remaining contents now s t reader reader' writer writer' result
       → Leads is_clean stands (λ i before after. StrictEnds (kept i) remaining contents now before after reader reader' writer writer' result) s t
-  strict_import_moves remaining contents now s t reader reader' writer writer' result (inl (text, took, run)) =
-      follows is_clean stands _ _ (λ i before after moved. inl (text, took, moved)) s t
-      (strict_run_moves now s t (contents writer) (contents writer') text result run)
-  strict_import_moves remaining contents now s t reader reader' writer writer' result (inr (why, (some, same, unwritten))) =
-      follows is_clean stands _ _ (λ i before after stayed. inr (why, (some, stayed, unwritten))) s t (stays is_clean stands s t same)
+  strict_import_moves remaining contents now s t reader reader' writer writer' result =
+      ends_moves remaining s t reader reader' writer writer' (StrictRan answers now s t (contents writer) (contents writer'))
+      (λ i before after. StrictRan (kept i) now before after (contents writer) (contents writer')) result
+      (λ text run. strict_run_moves now s t (contents writer) (contents writer') text result run)
 
--- ---- a script, as a run of lines that begin with their moments and go on behind a refusal
-
-script_of : {S E W : Type 0} (answers : S → ℕ → Call → S → Type 0) (told : ℕ → Type 0) (remaining : E → Option (List ℕ)) (contents : W → Option (List ℕ))
-    (s t : S) (reader reader' : E) (writer writer' : W) (result : Result Ended Fault)
-    → LinesEnd answers remaining contents s t reader reader' writer writer' told false false result
-    → ScriptEnds answers remaining contents s t reader reader' writer writer' (result_map_both (λ ended. tt) (λ fault. fault) result)
-script_of answers told remaining contents s t reader reader' writer writer' (Ok ended.Whole) (lines, run, all) = (lines, run)
-script_of answers told remaining contents s t reader reader' writer writer' (Ok (ended.Refused refused)) ends = absurd (false≢true ends.2)
-script_of answers told remaining contents s t reader reader' writer writer' (Ok ended.NoLineEnd) ends = absurd (false≢true ends.2)
-script_of answers told remaining contents s t reader reader' writer writer' (Err Read) (lines, run, each, inl fails) = (lines, run, fails)
-script_of answers told remaining contents s t reader reader' writer writer' (Err Read) (lines, run, each, inr clocked) = absurd (false≢true clocked)
-script_of answers told remaining contents s t reader reader' writer writer' (Err Write) (lines, middle, run, last, each) = (lines, middle, run, last)
-script_of answers told remaining contents s t reader reader' writer writer' (Err Memory) ends = ends
-script_of answers told remaining contents s t reader reader' writer writer' (Err other) ends = absurd ends
-
-module _ {S E W : Type 0} (answers : S → ℕ → Call → S → Type 0) (told : ℕ → Type 0) (remaining : E → Option (List ℕ)) (contents : W → Option (List ℕ))
-    (s t : S) (reader reader' : E) (writer writer' : W) (result : Result Ended Fault)
-    (ends : LinesEnd answers remaining contents s t reader reader' writer writer' told false false result) where
-  -- over an office that keeps records
-  pub script_moves : {I R : Type 0} (is_clean : S → Type 0) (stands : I → S → R → Type 0) (kept : I → R → ℕ → Call → R → Type 0)
-      → ((s : S) (now : ℕ) (call : Call) (t : S) → answers s now call t → Leads is_clean stands (λ i before after. kept i before now call after) s t)
-      → Leads is_clean stands
-      (λ i before after. ScriptEnds (kept i) remaining contents before after reader reader' writer writer' (result_map_both (λ ended. tt) (λ fault. fault) result)) s t
-  script_moves is_clean stands kept lifts =
-      follows is_clean stands _ _ (λ i before after. script_of (kept i) told remaining contents before after reader reader' writer writer' result) s t
-      (input_moves is_clean stands answers kept lifts told false false remaining contents s t reader reader' writer writer' result ends)
-
-  -- by a relation that follows from each answer
-  pub script_follows : (other : S → ℕ → Call → S → Type 0) → ((s : S) (now : ℕ) (call : Call) (t : S) → answers s now call t → other s now call t)
-      → ScriptEnds other remaining contents s t reader reader' writer writer' (result_map_both (λ ended. tt) (λ fault. fault) result)
-  script_follows other from =
-      let moved =
-      script_moves (λ v. Unit {0}) (λ (i : Unit {0}) (v w : S). v ≡ w) (λ i. other) (λ v now call w answered. (
-        (λ clean. clean),
-        (λ i before is clean.
-            let P : S → Type 0 = λ b. other b now call w in
-            (w, subst P is (from v now call w answered), refl)),
-      )) in
-      let (after, made, is) = moved.1 tt s refl tt in
-      let Q : S → Type 0 = λ a. ScriptEnds other remaining contents s a reader reader' writer writer' (result_map_both (λ ended. tt) (λ fault. fault) result) in
-      subst Q (sym is) made
+-- a run of lines, by a relation that follows from each answer
+pub lines_follow : {S E W : Type 0} (answers other : S → ℕ → Call → S → Type 0) (told : ℕ → Type 0) (is_clocked is_strict : Bool)
+    (remaining : E → Option (List ℕ)) (contents : W → Option (List ℕ)) (s t : S) (reader reader' : E) (writer writer' : W) (result : Result Ended Fault)
+    → ((s : S) (now : ℕ) (call : Call) (t : S) → answers s now call t → other s now call t)
+    → LinesEnd answers remaining contents s t reader reader' writer writer' told is_clocked is_strict result
+    → LinesEnd other remaining contents s t reader reader' writer writer' told is_clocked is_strict result
+lines_follow {S} answers other told is_clocked is_strict remaining contents s t reader reader' writer writer' result from ends =
+    let moved =
+    input_moves (λ v. Unit {0}) (λ (i : Unit {0}) (v w : S). v ≡ w) answers (λ i. other) (λ v now call w answered. (
+      (λ clean. clean),
+      (λ i before is clean.
+          let P : S → Type 0 = λ b. other b now call w in
+          (w, subst P is (from v now call w answered), refl)),
+    )) told is_clocked is_strict remaining contents s t reader reader' writer writer' result ends in
+    let (after, made, is) = moved.1 tt s refl tt in
+    let Q : S → Type 0 = λ a. LinesEnd other remaining contents s a reader reader' writer writer' told is_clocked is_strict result in
+    subst Q (sym is) made

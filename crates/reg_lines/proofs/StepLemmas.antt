@@ -1,6 +1,6 @@
 -- Lemmas on one step of a run: what is read of a line, and that it ran.
 use Rattle.std.proofs.Common.{◌≡◌, ◌≢◌, ◌⊎◌, ℕ, ◌+◌, ◌-◌, ◌<◌, ◌≤◌, Bool, true, false, List, [], ◌∷◌, ◌++◌, length, take, drop, Option, refl, sym, ap, ◌∙◌, subst, arith, inl, inr, length-append, length-take, length-drop, append-nil}
-use Rattle.std.specs.Prelude.{Ok, Err}
+use Rattle.std.specs.Prelude.{IsFalse, IsTrue, Ok, Err}
 use Rattle.std.specs.Io.BufRead.{ends_with_byte, strip_last}
 use Rattle.std.specs.Io.KnownBytes.{Appends}
 use Rattle.std.proofs.lemmas.Bool.{eq-eqb, ne_eqb, lt-ltb}
@@ -10,9 +10,7 @@ use Rattle.reg_io.specs.declared.fill.Reached.TheVariants.{Mark, Full, End}
 use Rattle.reg_io.proofs.PublicLaws.{byte_first, no_byte, cut_at_mark, held_now}
 use Rattle.reg_core.specs.declared.refusal.Fault.{Fault}
 use Rattle.reg_core.specs.declared.refusal.Fault.TheVariants.{Read, Write}
-use Rattle.reg_lines.specs.Script.{HasNoLf, IsCut, IsShort, IsWholeLine, line_of}
-use Rattle.reg_lines.specs.ScriptSteps.{LastEnds, LineEnds, NextEnds, RanLast, RanWhole}
-use Rattle.reg_lines.specs.declared.answered.Ended.{Ended}
+use Rattle.reg_lines.specs.Script.{HasNoLf, IsCut, IsShort, IsWholeLine, LineEnds, NextEnds, RanLast, RanWhole, line_of}
 use Rattle.reg_lines.specs.declared.answered.Ended.TheVariants as ended
 use Rattle.reg_lines.specs.declared.answered.Passed.TheVariants as passed
 use Rattle.reg_lines.specs.declared.lines.Next.TheVariants.{Held, End as Ends}
@@ -180,14 +178,16 @@ module _ {S : Type 0} (runs : S → List ℕ → List ℕ → S → Type 0) (lon
         let ran = ran_last (inl (empty, stays, kept)) in
         (ran.0, λ more. absurd (omega (arith, more, ap length ran.1, ap length empty)))
 
-    -- a last line has no LF
-    pub ended_last : (buffer : List ℕ) (how : Ended) → now ≢ 0
-        → LastEnds runs s t out out' is_clocked is_strict (take now after) (Ok how)
-        → NextEnds runs s t out out' longest input left (take held before) is_clocked is_strict buffer (Ok (Ends how))
-    ended_last buffer ended.Whole more (lax, reply, replied, wrote) =
-        let ran = ran_last (inr (some more, reply, replied, wrote)) in
-        (ran.0, λ _. lax)
-    ended_last buffer ended.NoLineEnd more (strict, stays, kept) = (
+    -- a last line without its LF ran
+    pub ended_last : (buffer : List ℕ) (passed : _) → now ≢ 0 → IsFalse is_strict
+        → LineEnds runs s t out out' is_clocked is_strict (take now after) (Ok passed)
+        → NextEnds runs s t out out' longest input left (take held before) is_clocked is_strict buffer (Ok (Ends ended.Whole))
+    ended_last buffer passed more lax (reply, replied, wrote, goes) = ((ran_last (inr (some more, reply, replied, wrote))).0, λ _. lax)
+
+    -- a strict run does not run it
+    pub ended_cut : (buffer : List ℕ) → now ≢ 0 → IsTrue is_strict → t ≡ s → Appends out out' []
+        → NextEnds runs s t out out' longest input left (take held before) is_clocked is_strict buffer (Ok (Ends ended.NoLineEnd))
+    ended_cut buffer more strict stays kept = (
       record {
         took = to.took;
         consumed = to.fills.consumed;
@@ -199,11 +199,10 @@ module _ {S : Type 0} (runs : S → List ℕ → List ℕ → S → Type 0) (lon
       subst IsCut same (free, some more),
       to.rests.2,
     )
-    ended_last buffer (ended.Refused refused) more ends = absurd ends
 
     -- its run came to a fault
     pub failed_last : (buffer : List ℕ) (fault : Fault) → now ≢ 0
-        → LastEnds runs s t out out' is_clocked is_strict (take now after) (Err fault)
+        → LineEnds runs s t out out' is_clocked is_strict (take now after) (Err fault)
         → NextEnds runs s t out out' longest input left (take held before) is_clocked is_strict buffer (Err fault)
     failed_last buffer Write more (reply, replied, wrote) = record {
       took = to.took;

@@ -30,7 +30,7 @@ use Rattle.reg_lines.specs.LineReading.{register_of}
 use Rattle.reg_lines.specs.Replies.{outcome_line, reply_line, with_lf}
 use Rattle.reg_lines.proofs.PublicLaws.{register_read, row_spelled}
 use Rattle.reg_io.specs.RunsOfAnswers.{Answered}
-use Rattle.reg_lines.specs.Twice.{IsFaultLine, RepliedAgain}
+use Rattle.reg_lines.specs.Laws.{IsFaultLine, RepliedAgain}
 
 -- ---- the rows of a text
 
@@ -138,31 +138,19 @@ apart place text other same differs =
     in
     cc both
 
--- a row's line that tells `registered` is that of this reply
-registered_told
-    : (outcome : Result Reply Fault)
-    → IsOfRow outcome
-    → with_lf (outcome_line outcome) ≡ with_lf (codes "registered")
-    → outcome ≡ Ok Registered
+-- a row's line that tells `registered` is that of this reply, and so is one that tells `same`
+row_told : (outcome : Result Reply Fault) → IsOfRow outcome
+    → (with_lf (outcome_line outcome) ≡ with_lf (codes "registered") → outcome ≡ Ok Registered)
+    × (with_lf (outcome_line outcome) ≡ with_lf (codes "same") → outcome ≡ Ok Same)
 unfolding with_lf outcome_line reply_line
-registered_told outcome (inl is) told = is
-registered_told outcome (inr (inl is)) told =
-    absurd (apart 0 _ _ (ap (λ o. with_lf (outcome_line o)) (sym is) ∙ told) refl)
-registered_told outcome (inr (inr its)) told =
-    absurd (no_fault_told its.0 (with_lf (codes "registered")) (ap (λ o. with_lf (outcome_line o)) (sym its.1) ∙ told) (lit< tt))
-
--- a row's line that tells `same` is that of this reply
-same_told
-    : (outcome : Result Reply Fault)
-    → IsOfRow outcome
-    → with_lf (outcome_line outcome) ≡ with_lf (codes "same")
-    → outcome ≡ Ok Same
-unfolding with_lf outcome_line reply_line
-same_told outcome (inl is) told =
-    absurd (apart 0 _ _ (ap (λ o. with_lf (outcome_line o)) (sym is) ∙ told) refl)
-same_told outcome (inr (inl is)) told = is
-same_told outcome (inr (inr its)) told =
-    absurd (no_fault_told its.0 (with_lf (codes "same")) (ap (λ o. with_lf (outcome_line o)) (sym its.1) ∙ told) (lit< tt))
+row_told outcome (inl is) =
+    ((λ told. is), (λ told. absurd (apart 0 _ _ (ap (λ o. with_lf (outcome_line o)) (sym is) ∙ told) refl)))
+row_told outcome (inr (inl is)) =
+    ((λ told. absurd (apart 0 _ _ (ap (λ o. with_lf (outcome_line o)) (sym is) ∙ told) refl)), (λ told. is))
+row_told outcome (inr (inr its)) = (
+  (λ told. absurd (no_fault_told its.0 (with_lf (codes "registered")) (ap (λ o. with_lf (outcome_line o)) (sym its.1) ∙ told) (lit< tt))),
+  (λ told. absurd (no_fault_told its.0 (with_lf (codes "same")) (ap (λ o. with_lf (outcome_line o)) (sym its.1) ∙ told) (lit< tt))),
+)
 
 same_line : with_lf (outcome_line (Ok Same)) ≡ with_lf (codes "same")
 unfolding outcome_line reply_line
@@ -178,8 +166,8 @@ replied_again : (first second : Result Reply Fault) (told other : List ℕ)
 replied_again first second told other of is is' again said =
     let outcome : (first ≡ Ok Registered) ⊎ (first ≡ Ok Same) =
     elim said [
-      | inl new ↦ inl (registered_told first of (sym is ∙ new))
-      | inr old ↦ inr (same_told first of (sym is ∙ old))
+      | inl new ↦ inl ((row_told first of).0 (sym is ∙ new))
+      | inr old ↦ inr ((row_told first of).1 (sym is ∙ old))
     ]
     in
     elim (again outcome) [
@@ -250,7 +238,7 @@ module _ (signed : CertList → List ℕ → Type 0) (answers : Records → ℕ 
       → (second : AllRan answers now between after again again' text)
       → (after.certificates ≡ between.certificates) × AllZip RepliedAgain first.0.replies second.0.replies
   comes_twice records between after now text out out' again again' sound first none second =
-      let same : second.0.rows ≡ first.0.rows = rows_agree default_config st.StartRecord (strip_bom text) second.0.rows first.0.rows second.0.all first.0.all in
+      let same : second.0.rows ≡ first.0.rows = rows_agree default_config st.StartRecord (strip_bom text) second.0.rows first.0.rows second.0.are first.0.are in
       let P : List Row → Type 0 = λ rows. Answered (RowReplies answers now) between (data_rows rows) second.0.replies after in
       let one = ran records between now (data_rows first.0.rows) first.0.replies first.1 in
       let two = ran between after now (data_rows first.0.rows) second.0.replies (subst P same second.1) in

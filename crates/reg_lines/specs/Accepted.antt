@@ -1,9 +1,11 @@
 -- Replies that are accepted, and those that end a strict run.
 use Rattle.std.specs.Prelude.{◌≡◌, ℕ, Bool, List, [], ◌∷◌, ◌++◌, IfSome, IsTrue, Result, Ok, Err}
+use Rattle.std.specs.Result.{result_map_both}
 use Rattle.std.specs.declared.option.Option.{Option}
 use Rattle.std.specs.List.{AllByRecursion}
 use Rattle.std.specs.Io.KnownBytes.{Appends}
 use Rattle.reg_core.specs.Lines.{refusal_line}
+use Rattle.reg_core.specs.declared.refusal.Fault.{Fault}
 use Rattle.reg_lines.specs.Replies.{with_lf}
 use Rattle.reg_lines.specs.declared.answered.Passed.{Passed}
 use Rattle.reg_lines.specs.declared.answered.Passed.TheVariants.{On, Refused}
@@ -42,3 +44,7 @@ Wrote out out' bytes (Err fault) = AppendsFront out out' bytes
 abbrev pub Said : Bool → Option (List ℕ) → Option (List ℕ) → List ℕ → Result Passed WriteFault → Type 0
 Said is_strict out out' reply (Ok passed) = Appends out out' reply × GoesOn is_strict reply passed
 Said is_strict out out' reply (Err fault) = AppendsFront out out' reply
+
+-- how a run ends, wherever it ended that met no fault
+abbrev pub done_of : {A : Type 0} → Result A Fault → Result (Unit {0}) Fault
+done_of ran = result_map_both (λ ended. tt) (λ fault. fault) ran

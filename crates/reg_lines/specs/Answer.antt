@@ -47,7 +47,7 @@ TellsGiven given (CameTo what outcome) = (what ≡ Ocsp) × (outcome ≡ Err Mem
 TellsGiven (Ok response) (Response reply) = IsReplyOf response reply
 TellsGiven (Err memory) (Response reply) = ⊥
 
--- Lines, run by an office: `s` is the office before, `t` after. `answers` is the relation of its calls, `ByCalls`.
+-- Lines, run by an office: `s` is the office before, `t` after. `answers` is the relation of its calls, as `Lines`.
 module _ {S : Type 0} (answers : S → ℕ → Call → S → Type 0) where
   -- the office is asked this at a moment, and it comes to that
   abbrev pub IsAsked : ℕ → S → Meaning → Answered → S → Type 0
@@ -83,7 +83,3 @@ LineReplies answers told is_clocked = Replied (LineComesTo answers told is_clock
 -- the same as an office runs it for a host
 abbrev pub HostLines : {O H : Type 0} → Office O → Host H → H → O → List ℕ → List ℕ → O → Type 0
 HostLines office hosts host = LineReplies (LineCalls office) hosts.told (hosts.clocked host)
-
--- a line of a script and its reply
-abbrev pub TimedReplies : {S : Type 0} → (S → ℕ → Call → S → Type 0) → S → List ℕ → List ℕ → S → Type 0
-TimedReplies answers = Replied (TimedComesTo answers)

@@ -18,19 +18,11 @@ pub data Call : Type 0 where
   asked : Query → Result Reply Fault → Call
   responded : List ℕ → Result (List ℕ) Memory → Call
 
--- The office's relations: `s` is the office before, `t` after.
-module _ {S : Type 0} (run : S → ℕ → Command → Result Reply Fault → S → Type 0)
-    (ask : S → ℕ → Query → Result Reply Fault → S → Type 0)
-    (ocsp : S → ℕ → List ℕ → Result (List ℕ) Memory → S → Type 0) where
-  -- a call at a moment is one of these three
-  abbrev pub ByCalls : S → ℕ → Call → S → Type 0
-  ByCalls s now (ran command outcome) t = run s now command outcome t
-  ByCalls s now (asked query outcome) t = ask s now query outcome t
-  ByCalls s now (responded request given) t = ocsp s now request given t
-
--- what a line asks and is answered over the records, by what each call comes to
+-- what a line asks and is answered over the records at a moment, by what each call comes to
 abbrev pub Lines : Signs → Signatory → Records → ℕ → Call → Records → Type 0
-Lines signs who = ByCalls (Runs signs who) Asks (Ocsps signs who)
+Lines signs who before now (ran command outcome) after = Runs signs who before now command outcome after
+Lines signs who before now (asked query outcome) after = Asks before now query outcome after
+Lines signs who before now (responded request given) after = Ocsps signs who before now request given after
 
 -- a call came to a fault of the signer of CRLs
 abbrev pub FailsToSign : Call → Type 0

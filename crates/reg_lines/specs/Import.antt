@@ -16,7 +16,7 @@ use Rattle.reg_core.specs.declared.refusal.Fault.TheVariants.{Refused, Memory, R
 use Rattle.reg_core.specs.declared.refusal.Refusal.TheVariants.{Syntax}
 use Rattle.reg_io.specs.RunsOfAnswers.{Answered}
 use Rattle.reg_io.specs.declared.put.WriteFault.{WriteFault}
-use Rattle.reg_lines.specs.Accepted.{EndsRefused, IsAccepted, Said, TellsWhy}
+use Rattle.reg_lines.specs.Accepted.{EndsRefused, IsAccepted, Said, TellsWhy, done_of}
 use Rattle.reg_lines.specs.ByCalls.{Call, ran}
 use Rattle.reg_lines.specs.Meaning.{SpellsCommand}
 use Rattle.reg_lines.specs.LineReading.{four}
@@ -69,18 +69,11 @@ RowReplies answers now s row reply t =
 
 -- What was written of the rows of a text: the output before and after.
 module _ (text : List ℕ) (out out' : Option (List ℕ)) where
-  -- the replies to all rows of the text were written and nothing else
-  pub record AllRows : Type 0 where
+  -- the replies to rows of the text were written and nothing else: to all of them, or to the first ones
+  pub record RepliedRows (Are : List ℕ → List Row → Type 0) : Type 0 where
     pub rows : List Row
     pub replies : List (List ℕ)
-    pub all : AreCsvRows text rows
-    pub wrote : Appends out out' (concat replies)
-
-  -- those to its first rows were
-  pub record FirstRows : Type 0 where
-    pub rows : List Row
-    pub replies : List (List ℕ)
-    pub first : AreFirstRows text rows
+    pub are : Are text rows
     pub wrote : Appends out out' (concat replies)
 
   -- those to its first rows were, and a front of that to the row after them, which is no header
@@ -97,13 +90,16 @@ module _ (text : List ℕ) (out out' : Option (List ℕ)) where
 
 -- Rows of a text that ran at a moment, in turn: the office, and what was written, before and after.
 module _ {S : Type 0} (answers : S → ℕ → Call → S → Type 0) (now : ℕ) (s t : S) (out out' : Option (List ℕ)) (text : List ℕ) where
-  -- all of them
-  abbrev pub AllRan : Type 0
-  AllRan = (all : AllRows text out out') × Answered (RowReplies answers now) s (data_rows all.rows) all.replies t
+  -- these ones
+  abbrev pub RowsRan : (List ℕ → List Row → Type 0) → Type 0
+  RowsRan Are = (ran : RepliedRows text out out' Are) × Answered (RowReplies answers now) s (data_rows ran.rows) ran.replies t
 
-  -- the first ones
+  -- all of them, or the first ones
+  abbrev pub AllRan : Type 0
+  AllRan = RowsRan AreCsvRows
+
   abbrev pub FirstRan : Type 0
-  FirstRan = (first : FirstRows text out out') × Answered (RowReplies answers now) s (data_rows first.rows) first.replies t
+  FirstRan = RowsRan AreFirstRows
 
   -- the first ones, and one whose reply was cut
   abbrev pub OneCut : Type 0
@@ -120,24 +116,40 @@ pub record TookAll (input input' : Option (List ℕ)) (text : List ℕ) : Type 0
 abbrev pub TookSome : Option (List ℕ) → Option (List ℕ) → Type 0
 TookSome input input' = (took : List ℕ) × Consumes input input' took × (length took ≤ most_bytes + 1)
 
--- An import at a moment: the office, the reader and the writer before and after.
-module _ {S R W : Type 0} (answers : S → ℕ → Call → S → Type 0) (remaining : R → Option (List ℕ)) (contents : W → Option (List ℕ))
-    (now : ℕ) (s t : S) (reader reader' : R) (writer writer' : W) where
-  -- the input failed, or the import is out of memory, before the first row
-  abbrev pub RunsNothing : Type 0
-  RunsNothing = TookSome (remaining reader) (remaining reader') × (t ≡ s) × (writer' ≡ writer)
+-- Rows that run at a moment, strictly or not: the office, and what was written, before and after.
+module _ {S : Type 0} (answers : S → ℕ → Call → S → Type 0) (is_strict : Bool) (now : ℕ) (s t : S) where
+  -- How the run of a text's rows ends: whether each ran, or at a fault. Of a strict one each reply is accepted, or the last one is the
+  -- first that is not, and no row behind it ran.
+  abbrev pub RowsEnd : Option (List ℕ) → Option (List ℕ) → List ℕ → Result Passed Fault → Type 0
+  RowsEnd out out' text (Ok On) =
+      (run : AllRan answers now s t out out' text) × (IsTrue is_strict → AllByRecursion IsAccepted run.0.replies)
+  RowsEnd out out' text (Ok (passed.Refused refused)) =
+      (run : FirstRan answers now s t out out' text) × IsTrue is_strict
+      × (ends : EndsRefused run.0.replies) × TellsWhy refused ends.refused
+  RowsEnd out out' text (Err Write) =
+      (run : OneCut answers now s t out out' text) × (IsTrue is_strict → AllByRecursion IsAccepted run.0.replies)
+  RowsEnd out out' text (Err Memory) =
+      (run : FirstRan answers now s t out out' text) × (IsTrue is_strict → AllByRecursion IsAccepted run.0.replies)
+  RowsEnd out out' text (Err other) = ⊥
 
-  -- the whole text was taken, and this holds of it
-  abbrev pub TookText : (List ℕ → Type 0) → Type 0
-  TookText Holds = (text : List ℕ) × TookAll (remaining reader) (remaining reader') text × Holds text
+-- How an import ends: the whole text was taken, and its rows ran so; or the input failed or the import was out of memory before the first row,
+-- and nothing ran.
+abbrev pub EndsBy : {S R W A : Type 0} → (R → Option (List ℕ)) → S → S → R → R → W → W → (List ℕ → Result A Fault → Type 0) → Result A Fault → Type 0
+EndsBy remaining s t reader reader' writer writer' Ran result =
+    ((text : List ℕ) × TookAll (remaining reader) (remaining reader') text × Ran text result)
+    ⊎ (((result ≡ Err Read) ⊎ (result ≡ Err Memory)) × TookSome (remaining reader) (remaining reader') × (t ≡ s) × (writer' ≡ writer))
 
-  -- How an import ends. At a fault of the input nothing ran. Out of memory, nothing ran, or, with the whole text taken, its first rows.
-  abbrev pub ImportEnds : Result (Unit {0}) Fault → Type 0
-  ImportEnds (Ok done) = TookText (AllRan answers now s t (contents writer) (contents writer'))
-  ImportEnds (Err Read) = RunsNothing
-  ImportEnds (Err Write) = TookText (OneCut answers now s t (contents writer) (contents writer'))
-  ImportEnds (Err Memory) = RunsNothing ⊎ TookText (FirstRan answers now s t (contents writer) (contents writer'))
-  ImportEnds (Err other) = ⊥
+-- the run of a text's rows at a moment, of which no refusal ends it
+abbrev pub ImportRan : {S : Type 0} → (S → ℕ → Call → S → Type 0) → ℕ → S → S → Option (List ℕ) → Option (List ℕ) → List ℕ
+    → Result (Unit {0}) Fault → Type 0
+ImportRan answers now s t out out' text result =
+    (ran : Result Passed Fault) × RowsEnd answers false now s t out out' text ran × (result ≡ done_of ran)
+
+-- an import at a moment: the office, the reader and the writer before and after
+abbrev pub ImportEnds : {S R W : Type 0} → (S → ℕ → Call → S → Type 0) → (R → Option (List ℕ)) → (W → Option (List ℕ)) → ℕ → S → S → R → R → W → W
+    → Result (Unit {0}) Fault → Type 0
+ImportEnds answers remaining contents now s t reader reader' writer writer' =
+    EndsBy remaining s t reader reader' writer writer' (ImportRan answers now s t (contents writer) (contents writer'))
 
 -- ---- the steps of an import
 
@@ -159,22 +171,8 @@ pub record IsAtStart (rows : Reader (Bor (List ℕ))) : Type 0 where
 abbrev pub ReadsText : Reader (Bor (List ℕ)) → List ℕ → Type 0
 ReadsText rows text = source_of (λ (s : Bor (List ℕ)). Some s.now) rows ≡ Some (strip_bom text)
 
--- Rows that run at a moment, strictly or not: the office, and what was written, before and after.
+-- One row that runs at a moment, strictly or not.
 module _ {S : Type 0} (answers : S → ℕ → Call → S → Type 0) (is_strict : Bool) (now : ℕ) (s t : S) where
-  -- How the run of a text's rows ends: whether each ran, or at a fault. Of a strict one each reply is accepted, or the last one is the
-  -- first that is not, and no row behind it ran.
-  abbrev pub RowsEnd : Option (List ℕ) → Option (List ℕ) → List ℕ → Result Passed Fault → Type 0
-  RowsEnd out out' text (Ok On) =
-      (run : AllRan answers now s t out out' text) × (IsTrue is_strict → AllByRecursion IsAccepted run.0.replies)
-  RowsEnd out out' text (Ok (passed.Refused refused)) =
-      (run : FirstRan answers now s t out out' text) × IsTrue is_strict
-      × (ends : EndsRefused run.0.replies) × TellsWhy refused ends.refused
-  RowsEnd out out' text (Err Write) =
-      (run : OneCut answers now s t out out' text) × (IsTrue is_strict → AllByRecursion IsAccepted run.0.replies)
-  RowsEnd out out' text (Err Memory) =
-      (run : FirstRan answers now s t out out' text) × (IsTrue is_strict → AllByRecursion IsAccepted run.0.replies)
-  RowsEnd out out' text (Err other) = ⊥
-
   -- a row ran, and its reply was written, or a front of it
   pub record RanRow (row : Row) (out out' : Option (List ℕ)) (result : Result Passed WriteFault) : Type 0 where
     pub reply : List ℕ

@@ -8,7 +8,5 @@ pub mod LineReading
 pub mod Meaning
 pub mod Replies
 pub mod Script
-pub mod ScriptSteps
 pub mod Strict
 pub mod Told
-pub mod Twice

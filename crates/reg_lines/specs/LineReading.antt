@@ -9,7 +9,6 @@ use Rattle.reg_core.specs.Sequence.{◌>>=◌}
 use Rattle.reg_core.specs.Serial.{serial_of}
 use Rattle.reg_core.specs.declared.command.Command.{Command}
 use Rattle.reg_core.specs.declared.command.Command.TheVariants.{Subscriber, Order, Register, Request, Decline, Revoke, Crl}
-use Rattle.reg_core.specs.declared.command.Query.{Query}
 use Rattle.reg_core.specs.declared.command.Query.TheVariants.{Status, Counts, Listing, Overdue, NextCrl}
 use Rattle.reg_lines.specs.Meaning.{Meaning, tells, asks, asks_ocsp}
 
@@ -53,6 +52,13 @@ abbrev pub alone : {A : Type 0} → A → List (List ℕ) → Option A
 alone value [] = Some value
 alone value (a ∷ rest) = None
 
+-- the number, or the serial number, in the only field
+unfoldable pub number_alone : List (List ℕ) → Option ℕ
+number_alone fields = option_and_then number_of (one fields)
+
+unfoldable pub serial_alone : List (List ℕ) → Option ℕ
+serial_alone fields = option_and_then serial_of (one fields)
+
 -- what each word says, by the fields after it: `subscriber NAME`
 unfoldable pub subscriber_of : List (List ℕ) → Option Command
 subscriber_of fields = do
@@ -89,34 +95,6 @@ request_of fields = do
   named ← label_field both.1
   Some (Request serial named)
 
--- `decline REQUEST`
-unfoldable pub decline_of : List (List ℕ) → Option Command
-decline_of fields = do
-  field ← one fields
-  request ← number_of field
-  Some (Decline request)
-
--- `revoke REQUEST`
-unfoldable pub revoke_of : List (List ℕ) → Option Command
-revoke_of fields = do
-  field ← one fields
-  request ← number_of field
-  Some (Revoke request)
-
--- `status SERIAL`
-unfoldable pub status_of : List (List ℕ) → Option Query
-status_of fields = do
-  field ← one fields
-  serial ← serial_of field
-  Some (Status serial)
-
--- `listing SERIAL`
-unfoldable pub listing_of : List (List ℕ) → Option Query
-listing_of fields = do
-  field ← one fields
-  serial ← serial_of field
-  Some (Listing serial)
-
 -- the bytes of a field of hexadecimal digits, at least one
 unfoldable pub hex_of : List ℕ → Option (List ℕ)
 hex_of digits = cond (nat_lt 0 (length digits)) (result_ok (decode_of digits)) None
@@ -128,9 +106,9 @@ ocsp_of fields = option_and_then hex_of (one fields)
 -- what a word asks, with the fields after it; any other word says nothing
 unfoldable pub asked_by : List ℕ → List (List ℕ) → Option Meaning
 asked_by word fields =
-    if bytes_eq word (codes "status") then option_map asks (status_of fields)
+    if bytes_eq word (codes "status") then option_map asks (option_map Status (serial_alone fields))
     else if bytes_eq word (codes "counts") then option_map asks (alone Counts fields)
-    else if bytes_eq word (codes "listing") then option_map asks (listing_of fields)
+    else if bytes_eq word (codes "listing") then option_map asks (option_map Listing (serial_alone fields))
     else if bytes_eq word (codes "overdue") then option_map asks (alone Overdue fields)
     else if bytes_eq word (codes "next-crl") then option_map asks (alone NextCrl fields)
     else if bytes_eq word (codes "ocsp") then option_map asks_ocsp (ocsp_of fields)
@@ -140,8 +118,8 @@ asked_by word fields =
 unfoldable pub revoking_by : List ℕ → List (List ℕ) → Option Meaning
 revoking_by word fields =
     if bytes_eq word (codes "request") then option_map tells (request_of fields)
-    else if bytes_eq word (codes "decline") then option_map tells (decline_of fields)
-    else if bytes_eq word (codes "revoke") then option_map tells (revoke_of fields)
+    else if bytes_eq word (codes "decline") then option_map tells (option_map Decline (number_alone fields))
+    else if bytes_eq word (codes "revoke") then option_map tells (option_map Revoke (number_alone fields))
     else if bytes_eq word (codes "crl") then option_map tells (alone Crl fields)
     else asked_by word fields
 

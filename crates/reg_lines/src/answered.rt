@@ -1,7 +1,7 @@
 //! What a line came to, the reply that tells it, and whether a run goes on behind it.
 
 ghost use Rattle.std.specs.Prelude.{◌≡◌, ◌↔◌, ◌≤◌, [], IsTrue, vec_capacity};
-ghost use Rattle.reg_lines.specs.Accepted.{IsAccepted, Said, Wrote};
+ghost use Rattle.reg_lines.specs.Accepted.{IsAccepted, Said, Wrote, done_of};
 ghost use Rattle.reg_lines.specs.Answer.{accepts, refused_of, reply_of};
 
 use crate::reply::ReplyText;
@@ -16,14 +16,12 @@ pub enum Asked {
     Nothing,
     Command(Command),
     Query(Query),
-    /// An OCSP response.
     Ocsp,
 }
 
 /// The reply to an OCSP request.
 #[derive(Drop)]
 pub struct OcspReply {
-    /// The line of the response, with its LF.
     pub line: Vec<u8>,
     /// Whether the response has a status and nothing else: then nobody signed it (RFC 6960 4.2.1).
     pub is_refusal: bool,
@@ -35,7 +33,6 @@ pub enum Answered {
     /// What it asked, and what that came to. An unreadable line comes to [`Refusal::Syntax`]. An OCSP request comes to
     /// [`Fault::Memory`] where there is no memory for its response.
     CameTo(Asked, Outcome),
-    /// An OCSP response.
     Response(OcspReply),
 }
 
@@ -60,9 +57,7 @@ pub enum Ended {
 /// Whether a run goes on behind a reply.
 #[derive(Clone, Copy)]
 pub(crate) enum Passed {
-    /// It does.
     On,
-    /// It is strict, and the reply is a refusal or a fault; of this command, if a command was refused.
     Refused(Option<RefusedCommand>),
 }
 
@@ -108,7 +103,6 @@ impl Answered {
         }
     }
 
-    /// Writes the reply.
     fn write<W: Write>(&self, writer: &mut W) -> Result<(), WriteFault>
         ensures { Wrote (W.contents writer.old) (W.contents writer.new) (reply_of self.now) result }
     {
@@ -132,5 +126,15 @@ impl Answered {
             return Ok(Passed::Refused(self.refused()));
         }
         Ok(Passed::On)
+    }
+}
+
+/// How a run ends that goes on behind a refusal.
+pub(crate) fn done<T: Copy>(ran: Result<T, Fault>) -> Result<(), Fault>
+    ensures { result ≡ done_of ran }
+{
+    match ran {
+        Ok(_) => Ok(()),
+        Err(fault) => Err(fault),
     }
 }

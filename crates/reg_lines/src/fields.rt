@@ -9,7 +9,6 @@ use std::marker::Model;
 /// The fields of a line that were not yet taken. Contracts see the list of them.
 #[derive(Drop)]
 pub struct Fields<'a> {
-    /// What is left of the line, where a field is left.
     rest: Option<&'a [u8]>,
 }
 
@@ -56,14 +55,12 @@ impl<'a> Fields<'a> {
     }
 }
 
-/// Where the first space of a text is.
 fn first_space(text: &[u8]) -> Option<usize>
     ensures { result ≡ position (λ byte. byte == 32) text.now }
 {
     text.iter().position(|byte| *byte == b' ')
 }
 
-/// The one field that is left, if exactly one is.
 pub(crate) fn one(mut fields: Fields<'_>) -> Option<&[u8]>
     ensures { option_map (λ a. a.now) result ≡ one fields.entry }
 {
@@ -71,7 +68,6 @@ pub(crate) fn one(mut fields: Fields<'_>) -> Option<&[u8]>
     if fields.is_empty() { Some(first) } else { None }
 }
 
-/// The two fields that are left, if exactly two are.
 pub(crate) fn two(mut fields: Fields<'_>) -> Option<(&[u8], &[u8])>
     ensures { option_map (λ p. (p.0.now, p.1.now)) result ≡ two fields.entry }
 {
@@ -80,7 +76,6 @@ pub(crate) fn two(mut fields: Fields<'_>) -> Option<(&[u8], &[u8])>
     Some((first, second))
 }
 
-/// The four fields that are left, if exactly four are.
 pub(crate) fn four(mut fields: Fields<'_>) -> Option<(&[u8], &[u8], &[u8], &[u8])>
     ensures { option_map (λ p. (p.0.now, p.1.now, p.2.now, p.3.now)) result ≡ four fields.entry }
 {

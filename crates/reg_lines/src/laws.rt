@@ -1,7 +1,6 @@
 //! Laws of lines and rows. The functions do nothing: their contracts are the laws. Proofs above cite them by `proofs/PublicLaws.antt`.
 
-ghost use Rattle.reg_lines.specs.Laws.{RegistrationsAreRead, RowsMeanWhatIsRead};
-ghost use Rattle.reg_lines.specs.Twice.{ImportsTextTwice};
+ghost use Rattle.reg_lines.specs.Laws.{ImportsTextTwice, RegistrationsAreRead, RowsMeanWhatIsRead};
 
 use reg_office_api::Office;
 

@@ -6,7 +6,7 @@ ghost use Rattle.hex.specs.Hex.{is_hex_digit};
 ghost use Rattle.reg_core.specs.Calendar.{moment_of};
 ghost use Rattle.reg_lines.specs.Fields.{fields_of};
 ghost use Rattle.reg_lines.specs.Meaning.{Meaning, IsUnreadable, LineMeans, OneMeaning, meaning_of, decoded_bytes, tells, asks, asks_ocsp};
-ghost use Rattle.reg_lines.specs.LineReading.{label_field, subscriber_of, order_of, register_by, register_of, request_of, decline_of, revoke_of, status_of, listing_of, hex_of, ocsp_of, alone, asked_by, revoking_by, said_of};
+ghost use Rattle.reg_lines.specs.LineReading.{label_field, subscriber_of, order_of, register_by, register_of, request_of, number_alone, serial_alone, hex_of, ocsp_of, alone, asked_by, revoking_by, said_of};
 
 use crate::fields::{Fields, four, one, two};
 use reg_core::{Command, Label, Moment, Query, Serial, read_number};
@@ -56,9 +56,11 @@ fn read_revoking<'a>(word: &[u8], fields: Fields<'a>) -> Option<CommandLine<'a>>
     if word == b"request".as_slice() {
         command(read_request(fields))
     } else if word == b"decline".as_slice() {
-        command(read_decline(fields))
+        let request = number_alone(fields)?;
+        Some(CommandLine::Command(Command::Decline { request }))
     } else if word == b"revoke".as_slice() {
-        command(read_revoke(fields))
+        let request = number_alone(fields)?;
+        Some(CommandLine::Command(Command::Revoke { request }))
     } else if word == b"crl".as_slice() {
         command(alone(Command::Crl, fields))
     } else {
@@ -72,11 +74,13 @@ fn read_asked<'a>(word: &[u8], fields: Fields<'a>) -> Option<CommandLine<'a>>
     ensures { option_map meaning_of result ≡ asked_by word.now fields.entry }
 {
     if word == b"status".as_slice() {
-        query(read_status(fields))
+        let serial = serial_alone(fields)?;
+        Some(CommandLine::Query(Query::Status(serial)))
     } else if word == b"counts".as_slice() {
         query(alone(Query::Counts, fields))
     } else if word == b"listing".as_slice() {
-        query(read_listing(fields))
+        let serial = serial_alone(fields)?;
+        Some(CommandLine::Query(Query::Listing(serial)))
     } else if word == b"overdue".as_slice() {
         query(alone(Query::Overdue, fields))
     } else if word == b"next-crl".as_slice() {
@@ -88,21 +92,18 @@ fn read_asked<'a>(word: &[u8], fields: Fields<'a>) -> Option<CommandLine<'a>>
     }
 }
 
-/// A line that says a command.
 fn command<'a>(command: Option<Command>) -> Option<CommandLine<'a>>
     ensures { option_map meaning_of result ≡ option_map tells command }
 {
     Some(CommandLine::Command(command?))
 }
 
-/// A line that asks a query.
 fn query<'a>(query: Option<Query>) -> Option<CommandLine<'a>>
     ensures { option_map meaning_of result ≡ option_map asks query }
 {
     Some(CommandLine::Query(query?))
 }
 
-/// A line that asks for an OCSP response.
 fn ocsp(digits: Option<&[u8]>) -> Option<CommandLine<'_>>
     ensures { option_map meaning_of result ≡ option_map (λ d. asks_ocsp (decoded_bytes d.now)) digits.entry }
 {
@@ -116,21 +117,18 @@ fn alone<T: Copy>(value: T, fields: Fields<'_>) -> Option<T>
     if fields.is_empty() { Some(value) } else { None }
 }
 
-/// Reads the text of a moment.
 fn read_moment(text: &[u8]) -> Option<Moment>
     ensures { result ≡ moment_of text.now }
 {
     Moment::read(text)
 }
 
-/// Reads a label.
 fn read_label(text: &[u8]) -> Option<Label>
     ensures { result ≡ label_field text.now }
 {
     Label::of(text)
 }
 
-/// The field of `subscriber`.
 #[tactic(auto, unfolding(crate::specs::LineReading::subscriber_of))]
 fn read_subscriber(fields: Fields<'_>) -> Option<Command>
     ensures { result ≡ subscriber_of fields.entry }
@@ -139,7 +137,6 @@ fn read_subscriber(fields: Fields<'_>) -> Option<Command>
     Some(Command::Subscriber { name })
 }
 
-/// The fields of `order`.
 #[tactic(auto, unfolding(crate::specs::LineReading::order_of))]
 fn read_order(fields: Fields<'_>) -> Option<Command>
     ensures { result ≡ order_of fields.entry }
@@ -150,7 +147,6 @@ fn read_order(fields: Fields<'_>) -> Option<Command>
     Some(Command::Order { subscriber, days })
 }
 
-/// The fields of `register`.
 #[tactic(auto, unfolding(crate::specs::LineReading::register_of))]
 fn read_register(fields: Fields<'_>) -> Option<Command>
     ensures { result ≡ register_of fields.entry }
@@ -181,7 +177,6 @@ pub(crate) fn read_registration(
     })
 }
 
-/// The fields of `request`.
 #[tactic(auto, unfolding(crate::specs::LineReading::request_of))]
 fn read_request(fields: Fields<'_>) -> Option<Command>
     ensures { result ≡ request_of fields.entry }
@@ -192,41 +187,22 @@ fn read_request(fields: Fields<'_>) -> Option<Command>
     Some(Command::Request { serial, ground })
 }
 
-/// The field of `decline`.
-#[tactic(auto, unfolding(crate::specs::LineReading::decline_of))]
-fn read_decline(fields: Fields<'_>) -> Option<Command>
-    ensures { result ≡ decline_of fields.entry }
+/// The number in the only field.
+#[tactic(auto, unfolding(crate::specs::LineReading::number_alone))]
+fn number_alone(fields: Fields<'_>) -> Option<u64>
+    ensures { result ≡ number_alone fields.entry }
 {
-    let request = read_number(one(fields)?)?;
-    Some(Command::Decline { request })
+    read_number(one(fields)?)
 }
 
-/// The field of `revoke`.
-#[tactic(auto, unfolding(crate::specs::LineReading::revoke_of))]
-fn read_revoke(fields: Fields<'_>) -> Option<Command>
-    ensures { result ≡ revoke_of fields.entry }
+/// The serial number in the only field.
+#[tactic(auto, unfolding(crate::specs::LineReading::serial_alone))]
+fn serial_alone(fields: Fields<'_>) -> Option<Serial>
+    ensures { result ≡ serial_alone fields.entry }
 {
-    let request = read_number(one(fields)?)?;
-    Some(Command::Revoke { request })
+    Serial::read(one(fields)?)
 }
 
-/// The field of `status`.
-#[tactic(auto, unfolding(crate::specs::LineReading::status_of))]
-fn read_status(fields: Fields<'_>) -> Option<Query>
-    ensures { result ≡ status_of fields.entry }
-{
-    Some(Query::Status(Serial::read(one(fields)?)?))
-}
-
-/// The field of `listing`.
-#[tactic(auto, unfolding(crate::specs::LineReading::listing_of))]
-fn read_listing(fields: Fields<'_>) -> Option<Query>
-    ensures { result ≡ listing_of fields.entry }
-{
-    Some(Query::Listing(Serial::read(one(fields)?)?))
-}
-
-/// The field of `ocsp`.
 #[tactic(auto, unfolding(crate::specs::LineReading::ocsp_of))]
 fn read_hex(fields: Fields<'_>) -> Option<&[u8]>
     ensures { option_map (λ d. decoded_bytes d.now) result ≡ ocsp_of fields.entry }
@@ -245,7 +221,6 @@ fn is_hex(digits: &[u8]) -> bool
     all_hex(digits)
 }
 
-/// Whether each byte is a hexadecimal digit, in either case.
 fn all_hex(digits: &[u8]) -> bool
     ensures { IsTrue result ↔ AllPass is_hex_digit digits.now }
 {

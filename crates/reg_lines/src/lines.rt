@@ -4,8 +4,7 @@ ghost use Rattle.std.specs.Prelude.{◌≡◌, ◌+◌, ◌≤◌, length, take,
 ghost use Rattle.reg_office_api.specs.Leads.{Leads};
 ghost use Rattle.reg_lines.specs.Answer.{HostLines, LineComesTo, TimedComesTo};
 ghost use Rattle.reg_lines.specs.ByCalls.{LineCalls, Lines};
-ghost use Rattle.reg_lines.specs.Script.{LinesEnd, RunEnds, longest_of};
-ghost use Rattle.reg_lines.specs.ScriptSteps.{EndOrMore, LastEnds, LineEnds, NextEnds};
+ghost use Rattle.reg_lines.specs.Script.{EndOrMore, LineEnds, LinesEnd, NextEnds, RunEnds, longest_of};
 
 use crate::answered::{Answered, Ended, Passed};
 use crate::host::Host;
@@ -26,12 +25,10 @@ pub const LONGEST_COMMAND: usize = LONGEST_LINE - MOMENT - 1;
 /// The most lines of a run.
 pub const MOST_LINES: u64 = 1_000_000;
 
-/// What comes behind a line.
 #[derive(Clone, Copy)]
 enum Next {
     /// Other lines, of which so many bytes are held at the front of the buffer.
     Held(usize),
-    /// Nothing.
     End(Ended),
 }
 
@@ -65,7 +62,6 @@ pub fn run_lines<R: Read, W: Write, O: Office, H: Host>(
     }
 }
 
-/// The bytes of the longest line and one byte more.
 fn room_for(is_clocked: bool) -> usize
     ensures { result ≡ longest_of is_clocked + 1 }
 {
@@ -137,34 +133,16 @@ fn run_next<R: Read, W: Write, O: Office, H: Host>(
         }
         Ok(Reached::End { held: 0 }) => Ok(Next::End(Ended::Whole)),
         Ok(Reached::End { held }) => {
-            match tell_last(alloc, writer, office, host, is_strict, &buffer[..held]) {
-                Ok(ended) => Ok(Next::End(ended)),
+            if is_strict {
+                return Ok(Next::End(Ended::NoLineEnd));
+            }
+            match tell_line(alloc, writer, office, host, is_strict, &buffer[..held]) {
+                Ok(_) => Ok(Next::End(Ended::Whole)),
                 Err(fault) => Err(fault),
             }
         }
         Ok(Reached::Full) => Err(Fault::Read),
         Err(_) => Err(Fault::Read),
-    }
-}
-
-/// Runs a last line that has no LF, and writes its reply. A strict run does not run it.
-fn tell_last<W: Write, O: Office, H: Host>(
-    alloc: Global,
-    writer: &mut W,
-    office: &mut O,
-    host: &H,
-    is_strict: bool,
-    line: &[u8],
-) -> Result<Ended, Fault>
-    ensures { LastEnds (HostLines O.Office H.Host host.now) office.old office.new
-        (W.contents writer.old) (W.contents writer.new) (H.clocked host.now) is_strict line.now result }
-{
-    if is_strict {
-        return Ok(Ended::NoLineEnd);
-    }
-    match tell_line(alloc, writer, office, host, is_strict, line) {
-        Ok(_) => Ok(Ended::Whole),
-        Err(fault) => Err(fault),
     }
 }
 
@@ -191,7 +169,6 @@ fn tell_line<W: Write, O: Office, H: Host>(
     }
 }
 
-/// Runs a line at the moment of the clock, or at its own.
 fn run_by<O: Office, H: Host>(
     alloc: Global,
     office: &mut O,
@@ -212,7 +189,6 @@ fn run_by<O: Office, H: Host>(
     }
 }
 
-/// Runs a line of a script, without its end.
 fn run_timed<O: Office>(alloc: Global, office: &mut O, line: &[u8]) -> Answered
     ensures { TimedComesTo (LineCalls O.Office) office.old line.now result office.new }
 {

@@ -8,7 +8,6 @@ ghost use Rattle.reg_lines.specs.Script.{IsShortCommand, line_of};
 use crate::lines::LONGEST_COMMAND;
 use reg_core::Moment;
 
-/// The bytes of a moment.
 pub(crate) const MOMENT: usize = 20;
 
 /// The moment that a line of a script begins with, and the command line behind it. No line has two such readings.
@@ -46,7 +45,6 @@ pub fn without_end(line: &[u8]) -> &[u8]
     }
 }
 
-/// A text without a byte at its end.
 fn without_last(text: &[u8], byte: u8) -> &[u8]
     ensures { result.now ≡ strip_last byte text.now }
 {

@@ -48,7 +48,6 @@ impl ReplyText {
         &self.bytes[..self.len]
     }
 
-    /// No text yet.
     fn new() -> ReplyText
         ensures { result ≡ [] }
     {
@@ -58,7 +57,6 @@ impl ReplyText {
         }
     }
 
-    /// The text with another one behind it.
     fn with(mut self, text: &[u8]) -> ReplyText
         requires { length self + length text.now ≤ 84 }
         ensures { result ≡ self ++ text.now }
@@ -70,7 +68,6 @@ impl ReplyText {
         self
     }
 
-    /// The text with a word and a number behind it.
     fn number(self, word: &[u8], value: u64) -> ReplyText
         requires { length self + length word.now + 20 ≤ 84 }
         ensures text { result ≡ self ++ word.now ++ decimal value }
@@ -79,7 +76,6 @@ impl ReplyText {
         self.with(word).with(Decimal::of(value).as_bytes())
     }
 
-    /// The text with a word and a moment behind it.
     fn moment(self, word: &[u8], value: Moment) -> ReplyText
         requires { length self + length word.now + 20 ≤ 84 }
         ensures text { result ≡ self ++ word.now ++ moment_text value }
@@ -89,7 +85,6 @@ impl ReplyText {
     }
 }
 
-/// The line of a reply.
 #[tactic(auto, unfolding(crate::specs::Replies::reply_line))]
 fn reply_text(reply: &Reply) -> ReplyText
     ensures line { result ≡ reply_line reply.now }
@@ -117,7 +112,6 @@ fn reply_text(reply: &Reply) -> ReplyText
     }
 }
 
-/// The line of a status.
 #[tactic(auto, unfolding(crate::specs::Replies::line_of_status))]
 fn status_text(status: Status) -> ReplyText
     ensures line { result ≡ line_of_status status }
@@ -135,7 +129,6 @@ fn status_text(status: Status) -> ReplyText
     }
 }
 
-/// The line of the three counts.
 #[tactic(auto, unfolding(crate::specs::Replies::counts_line))]
 fn counts_text(counts: Counts) -> ReplyText
     ensures line { result ≡ counts_line counts }
@@ -147,7 +140,6 @@ fn counts_text(counts: Counts) -> ReplyText
         .number(b" expired ", counts.expired)
 }
 
-/// The line of a listing.
 #[tactic(auto, unfolding(crate::specs::Replies::listing_line, crate::specs::Replies::listing_by))]
 fn listing_text(listing: Option<Listing>) -> ReplyText
     ensures line { result ≡ listing_line listing }
@@ -163,7 +155,6 @@ fn listing_text(listing: Option<Listing>) -> ReplyText
     }
 }
 
-/// The line of what is overdue.
 #[tactic(auto, unfolding(crate::specs::Replies::overdue_line))]
 fn overdue_text(overdue: Option<Overdue>) -> ReplyText
     ensures line { result ≡ overdue_line overdue }
@@ -177,7 +168,6 @@ fn overdue_text(overdue: Option<Overdue>) -> ReplyText
     }
 }
 
-/// The line of when the next CRL is due.
 #[tactic(auto, unfolding(crate::specs::Replies::next_crl_line))]
 fn next_crl_text(moment: Option<Moment>) -> ReplyText
     ensures line { result ≡ next_crl_line moment }

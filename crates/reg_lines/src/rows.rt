@@ -8,7 +8,7 @@ ghost use Rattle.reg_lines.specs.ByCalls.{LineCalls, Lines};
 ghost use Rattle.reg_lines.specs.Import.{ImportEnds, IsAtStart, RanRow, ReadsText, RowsEnd, TextRead, TookRow, is_header};
 ghost use Rattle.reg_lines.specs.LineReading.{four, four_at, register_of};
 
-use crate::answered::{Answered, Asked, Passed};
+use crate::answered::{Answered, Asked, Passed, done};
 use crate::line::read_registration;
 use crate::run::unreadable;
 use csv::{ByteRecord, Reader, ReaderBuilder};
@@ -21,7 +21,6 @@ use std::io::{Read, Write};
 /// The most bytes of an import.
 pub const MOST_BYTES: usize = 16_777_216;
 
-/// The bytes that one read asks for.
 const PIECE: usize = 4096;
 
 /// Registers each row of a text of comma-separated fields (RFC 4180) at one moment, in turn, and writes each reply before
@@ -45,22 +44,11 @@ pub fn import<R: Read, W: Write, O: Office>(
         office.old office.new }
 {
     match read_text(alloc, reader) {
-        Ok(text) => all_rows(run_rows(alloc, writer, now, office, false, &text)),
+        Ok(text) => done(run_rows(alloc, writer, now, office, false, &text)),
         Err(fault) => Err(fault),
     }
 }
 
-/// How a run ends that goes on behind a refusal.
-fn all_rows(ran: Result<Passed, Fault>) -> Result<(), Fault>
-    ensures { result ≡ result_map_both (λ passed. tt) (λ fault. fault) ran }
-{
-    match ran {
-        Ok(_) => Ok(()),
-        Err(fault) => Err(fault),
-    }
-}
-
-/// Reads a text to its end.
 pub(crate) fn read_text<R: Read>(alloc: Global, reader: &mut R) -> Result<Vec<u8>, Fault>
     ensures { TextRead (R.remaining reader.old) (R.remaining reader.new)
         (result_map_both (λ text. text.items) (λ fault. fault) result) }
@@ -81,6 +69,17 @@ pub(crate) fn read_text<R: Read>(alloc: Global, reader: &mut R) -> Result<Vec<u8
     Err(Fault::Read)
 }
 
+/// A reader of the rows of a text, of any number of fields each, which read none yet.
+pub(crate) fn rows_of(alloc: Global, text: &[u8]) -> Reader<&[u8]>
+    ensures at_start { IsAtStart result }
+    ensures reads { ReadsText result text.entry.now }
+{
+    ReaderBuilder::new()
+        .has_headers(false)
+        .flexible(true)
+        .from_reader(alloc, text)
+}
+
 /// Runs each row of a text; where it is strict, up to the first reply that is a refusal or a fault.
 pub(crate) fn run_rows<W: Write, O: Office>(
     alloc: Global,
@@ -93,10 +92,7 @@ pub(crate) fn run_rows<W: Write, O: Office>(
     ensures { RowsEnd (LineCalls O.Office) is_strict now office.old office.new
         (W.contents writer.old) (W.contents writer.new) text.now result }
 {
-    let mut rows = ReaderBuilder::new()
-        .has_headers(false)
-        .flexible(true)
-        .from_reader(alloc, text);
+    let mut rows = rows_of(alloc, text);
     let mut row = ByteRecord::new(alloc);
     run_each(alloc, writer, now, office, is_strict, &mut rows, &mut row)
 }
@@ -151,7 +147,6 @@ fn take_row<W: Write, O: Office>(
     run_row(alloc, writer, now, office, is_strict, row)
 }
 
-/// Runs a row and writes its reply. Whether the next one is run.
 fn run_row<W: Write, O: Office>(
     alloc: Global,
     writer: &mut W,
@@ -172,7 +167,6 @@ fn run_row<W: Write, O: Office>(
     }
 }
 
-/// Whether a row is the header.
 pub(crate) fn is_header(row: &ByteRecord) -> bool
     ensures { result ≡ is_header (fields_of row.now) }
 {
@@ -187,7 +181,6 @@ pub(crate) fn is_header(row: &ByteRecord) -> bool
     }
 }
 
-/// The registration that a row spells.
 #[tactic(auto, unfolding(crate::specs::LineReading::register_of))]
 fn read_row(row: &ByteRecord) -> Option<Command>
     ensures { result ≡ register_of (fields_of row.now) }
@@ -196,7 +189,6 @@ fn read_row(row: &ByteRecord) -> Option<Command>
     read_registration(order, serial, not_before, not_after)
 }
 
-/// The four fields of a row that has exactly four.
 pub(crate) fn four_fields(row: &ByteRecord) -> Option<(&[u8], &[u8], &[u8], &[u8])>
     ensures { option_map (λ p. (p.0.now, p.1.now, p.2.now, p.3.now)) result ≡ four (fields_of row.now) }
 {

@@ -5,7 +5,7 @@ ghost use Rattle.hex.specs.Hex.{encode_lower};
 ghost use Rattle.reg_office_api.specs.Leads.{Leads};
 ghost use Rattle.reg_lines.specs.Answer.{ComesTo, IsAsked, TellsGiven, unreadable as syntax_refused};
 ghost use Rattle.reg_lines.specs.ByCalls.{LineCalls, Lines};
-ghost use Rattle.reg_lines.specs.Meaning.{asks_ocsp, decoded_bytes, meaning_of};
+ghost use Rattle.reg_lines.specs.Meaning.{asks_ocsp, decoded_bytes};
 ghost use Rattle.reg_lines.specs.Replies.{with_lf};
 
 use crate::answered::{Answered, Asked, OcspReply};
@@ -24,41 +24,25 @@ pub fn run_line<O: Office>(alloc: Global, office: &mut O, now: Moment, line: &[u
     ensures device { ComesTo (LineCalls O.Office) now office.old line.now result office.new }
 {
     match read_line(line) {
-        Some(said) => run_said(alloc, office, now, &said),
+        Some(CommandLine::Command(command)) => {
+            let outcome = office.run_one(alloc, now, &command);
+            Answered::CameTo(Asked::Command(command), outcome)
+        }
+        Some(CommandLine::Query(query)) => {
+            let outcome = office.ask(alloc, now, &query);
+            Answered::CameTo(Asked::Query(query), outcome)
+        }
+        Some(CommandLine::Ocsp(digits)) => run_ocsp(alloc, office, now, digits),
         None => unreadable(),
     }
 }
 
-/// What a line comes to that can't be read.
 pub(crate) fn unreadable() -> Answered
     ensures { result ≡ syntax_refused }
 {
     Answered::CameTo(Asked::Nothing, Err(Fault::Refused(Refusal::Syntax)))
 }
 
-/// Runs what a command line says.
-fn run_said<O: Office>(
-    alloc: Global,
-    office: &mut O,
-    now: Moment,
-    said: &CommandLine<'_>,
-) -> Answered
-    ensures { IsAsked (LineCalls O.Office) now office.old (meaning_of said.now) result office.new }
-{
-    match *said {
-        CommandLine::Command(command) => {
-            let outcome = office.run_one(alloc, now, &command);
-            Answered::CameTo(Asked::Command(command), outcome)
-        }
-        CommandLine::Query(query) => {
-            let outcome = office.ask(alloc, now, &query);
-            Answered::CameTo(Asked::Query(query), outcome)
-        }
-        CommandLine::Ocsp(digits) => run_ocsp(alloc, office, now, digits),
-    }
-}
-
-/// Answers an OCSP request, by its digits.
 fn run_ocsp<O: Office>(alloc: Global, office: &mut O, now: Moment, digits: &[u8]) -> Answered
     ensures { IsAsked (LineCalls O.Office) now office.old (asks_ocsp (decoded_bytes digits.now))
         result office.new }
@@ -72,7 +56,6 @@ fn run_ocsp<O: Office>(alloc: Global, office: &mut O, now: Moment, digits: &[u8]
     }
 }
 
-/// What a line comes to with this OCSP response.
 fn respond(alloc: Global, response: &[u8]) -> Answered
     ensures { TellsGiven (Ok response.now) result }
 {
@@ -85,14 +68,12 @@ fn respond(alloc: Global, response: &[u8]) -> Answered
     }
 }
 
-/// What a line comes to where there is no memory for an OCSP response.
 fn no_memory() -> Answered
     ensures { result ≡ Answered.CameTo Asked.Ocsp (Err Fault.Memory) }
 {
     Answered::CameTo(Asked::Ocsp, Err(Fault::Memory))
 }
 
-/// The line of an OCSP response, with LF.
 fn response_line(alloc: Global, response: &[u8]) -> Result<Vec<u8>, AllocError>
     ensures { IfOk result (λ text. text.items ≡ with_lf (codes "ocsp " ++ encode_lower response.now)) }
 {

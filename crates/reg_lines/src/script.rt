@@ -1,12 +1,11 @@
 //! A script: lines that each begin with a moment in, reply lines out.
 
-ghost use Rattle.std.specs.Prelude.{◌≡◌, IsFalse};
-ghost use Rattle.std.specs.Result.{result_map_both};
+ghost use Rattle.std.specs.Prelude.{IsFalse};
 ghost use Rattle.reg_office_api.specs.Leads.{Leads};
 ghost use Rattle.reg_lines.specs.ByCalls.{CountsFailure, Lines};
 ghost use Rattle.reg_lines.specs.Script.{ScriptEnds};
 
-use crate::answered::{Answered, Ended};
+use crate::answered::{Answered, done};
 use crate::host::Host;
 use crate::lines::run_lines;
 use reg_core::{Fault, Moment};
@@ -61,10 +60,7 @@ pub fn run_script<R: Read, W: Write, O: Office>(
 }
 
 /// The same for a host that has no clock: it observes what each line comes to.
-///
-/// # Errors
-///
-/// As of [`run_script`].
+/// Errors are those of [`run_script`].
 pub fn run_script_for<R: Read, W: Write, O: Office, H: Host>(
     alloc: Global,
     reader: &mut R,
@@ -80,15 +76,5 @@ pub fn run_script_for<R: Read, W: Write, O: Office, H: Host>(
     ensures device { ScriptEnds (λ s now call t. CountsFailure (O.failures s) call (O.failures t))
         R.remaining W.contents office.old office.new reader.old reader.new writer.old writer.new result }
 {
-    all_lines(run_lines(alloc, reader, writer, office, host, false))
-}
-
-/// How a run ends that goes on behind a refusal.
-fn all_lines(ran: Result<Ended, Fault>) -> Result<(), Fault>
-    ensures { result ≡ result_map_both (λ ended. tt) (λ fault. fault) ran }
-{
-    match ran {
-        Ok(_) => Ok(()),
-        Err(fault) => Err(fault),
-    }
+    done(run_lines(alloc, reader, writer, office, host, false))
 }

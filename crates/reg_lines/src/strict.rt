@@ -1,9 +1,9 @@
 //! A strict import: it ends at the first refusal or fault, and what has no line end is not run.
 
-ghost use Rattle.std.specs.Prelude.{◌≡◌, length};
+ghost use Rattle.std.specs.Prelude.{◌≡◌};
 ghost use Rattle.reg_office_api.specs.Leads.{Leads};
 ghost use Rattle.reg_lines.specs.ByCalls.{LineCalls, Lines};
-ghost use Rattle.reg_lines.specs.Strict.{EndsBehind, StrictEnds, StrictRan, ended_part, is_within};
+ghost use Rattle.reg_lines.specs.Strict.{StrictEnds, StrictRan, ended_part, is_within};
 
 use crate::answered::{Ended, Passed};
 use crate::rows::{read_text, run_rows};
@@ -14,10 +14,7 @@ use std::io::{Read, Write};
 
 /// Registers each row of a text as [`crate::import`] does, up to the first reply that is a refusal or a fault. A last row that has
 /// no line end, a CR or an LF, is not run.
-///
-/// # Errors
-///
-/// As of [`crate::import`].
+/// Errors are those of [`crate::import`].
 pub fn import_strictly<R: Read, W: Write, O: Office>(
     alloc: Global,
     reader: &mut R,
@@ -36,7 +33,6 @@ pub fn import_strictly<R: Read, W: Write, O: Office>(
     }
 }
 
-/// Runs the rows of a text up to its last line end.
 fn run_ended<W: Write, O: Office>(
     alloc: Global,
     writer: &mut W,
@@ -49,24 +45,13 @@ fn run_ended<W: Write, O: Office>(
 {
     let ended = ended_part(text);
     match run_rows(alloc, writer, now, office, true, ended) {
-        Ok(Passed::On) => Ok(ends_behind(ended, text)),
+        Ok(Passed::On) if ended.len() == text.len() => Ok(Ended::Whole),
+        Ok(Passed::On) => Ok(Ended::NoLineEnd),
         Ok(Passed::Refused(refused)) => Ok(Ended::Refused(refused)),
         Err(fault) => Err(fault),
     }
 }
 
-/// How an import ends that was accepted up to the last line end of a text.
-fn ends_behind(ended: &[u8], text: &[u8]) -> Ended
-    ensures { EndsBehind (length ended.now) (length text.now) result }
-{
-    if ended.len() == text.len() {
-        Ended::Whole
-    } else {
-        Ended::NoLineEnd
-    }
-}
-
-/// A text up to and with its last line end.
 fn ended_part(mut text: &[u8]) -> &[u8]
     ensures { result.now ≡ ended_part text.entry.now }
 {
@@ -78,7 +63,6 @@ fn ended_part(mut text: &[u8]) -> &[u8]
     text
 }
 
-/// Whether a byte ends no line.
 fn is_within(byte: u8) -> bool
     ensures { result ≡ is_within byte }
 {

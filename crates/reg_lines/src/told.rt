@@ -7,8 +7,8 @@ ghost use Rattle.reg_lines.specs.Import.{IsAtStart, ReadsText};
 ghost use Rattle.reg_lines.specs.Told.{TellsRows, ToldEnds, fields_told, row_line, told_at};
 
 use crate::line::read_registration;
-use crate::rows::{four_fields, is_header, read_text};
-use csv::{ByteRecord, Reader, ReaderBuilder};
+use crate::rows::{four_fields, is_header, read_text, rows_of};
+use csv::{ByteRecord, Reader};
 use reg_core::Fault;
 use std::alloc::{AllocError, Global};
 use std::io::Read;
@@ -30,14 +30,10 @@ pub fn lines_of_rows<R: Read>(alloc: Global, reader: &mut R) -> Result<Vec<u8>, 
     }
 }
 
-/// The lines that tell each row of a text.
 fn lines_of_text(alloc: Global, text: &[u8]) -> Result<Vec<u8>, Fault>
     ensures { MatchResult result (λ lines. TellsRows text.now lines.items) (λ fault. fault ≡ Fault.Memory) }
 {
-    let mut rows = ReaderBuilder::new()
-        .has_headers(false)
-        .flexible(true)
-        .from_reader(alloc, text);
+    let mut rows = rows_of(alloc, text);
     let mut row = ByteRecord::new(alloc);
     let mut lines = Vec::new(alloc);
     match put_each(&mut rows, &mut row, &mut lines) {
@@ -81,7 +77,6 @@ fn put_row(row: &ByteRecord, first: bool, lines: &mut Vec<u8>) -> Result<(), All
     put_line(four_fields(row), lines)
 }
 
-/// Puts the line of a row with these four fields, if it has four, behind others.
 fn put_line(
     fields: Option<(&[u8], &[u8], &[u8], &[u8])>,
     lines: &mut Vec<u8>,
@@ -115,7 +110,6 @@ fn put_fields(
     put_field(not_after, text)
 }
 
-/// Puts a space and a field behind a text.
 fn put_field(field: &[u8], text: &mut Vec<u8>) -> Result<(), AllocError>
     ensures { OnOk result (text.new.items ≡ text.old.items ++ 32 ∷ field.now) }
 {

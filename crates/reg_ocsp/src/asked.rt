@@ -1,5 +1,3 @@
-//! What an OCSP request asks.
-
 /// What an OCSP request asks (RFC 6960 4.1.1), in slices of the request's bytes.
 #[derive(Drop)]
 pub struct Asked<'a> {
@@ -16,10 +14,8 @@ pub struct CertId<'a> {
     pub raw: &'a [u8],
     /// The whole value of the hash algorithm's identifier.
     pub algorithm: &'a [u8],
-    /// The hash of the issuer's name, of any length.
     pub name_hash: &'a [u8],
-    /// The hash of the issuer's key, of any length.
     pub key_hash: &'a [u8],
-    /// The contents octets of the INTEGER of the serial number, in the fewest octets.
+    /// The contents octets of the serial number's INTEGER, the fewest.
     pub serial: &'a [u8],
 }

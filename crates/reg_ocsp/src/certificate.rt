@@ -11,10 +11,8 @@ use crate::tags::{BIT_STRING, INTEGER, SEQUENCE, TAGGED_0};
 use std::alloc::{AllocError, Global};
 use std::marker::Model;
 
-/// The most bytes that a certificate may have.
 const LONGEST_CERTIFICATE: usize = 65_536;
 
-/// The most bytes that a public key may have.
 const LONGEST_KEY: usize = 2_048;
 
 /// Why bytes make no certificate.
@@ -22,7 +20,6 @@ const LONGEST_KEY: usize = 2_048;
 pub enum CertificateFault {
     /// They are no certificate with a public key, as [`certified_key`] says.
     Bad,
-    /// Memory could not be had.
     Memory,
 }
 
@@ -37,11 +34,8 @@ impl From<AllocError> for CertificateFault {
 /// A certificate that is to stand with answers. Contracts see its bytes, and its public key with the algorithm of that.
 #[derive(Drop)]
 pub struct Certificate {
-    /// All of it, in DER.
     der: Vec<u8>,
-    /// The whole value of the AlgorithmIdentifier of its subjectPublicKeyInfo.
     algorithm: Vec<u8>,
-    /// The bits of its subjectPublicKey.
     key: Vec<u8>,
 }
 
@@ -56,10 +50,7 @@ impl Model for Certificate {
 }
 
 impl Certificate {
-    /// The certificate that the bytes are.
-    ///
-    /// # Errors
-    /// `Bad` where they are none with a public key ([`certified_key`]); `Memory`.
+    /// The certificate that the bytes are; `Bad` where they are none with a public key ([`certified_key`]).
     pub fn new(alloc: Global, der: &[u8]) -> Result<Certificate, CertificateFault>
         ensures der { IfOk result (λ it. it.der ≡ der.now) }
         ensures bad { IsErrOf result CertificateFault.Bad → (algorithm key : List ℕ) → ¬ (IsCertificateOf der.now algorithm key) }
@@ -111,12 +102,9 @@ pub struct CertifiedKey<'a> {
     pub key: &'a [u8],
 }
 
-/// The public key of a certificate.
-///
-/// All bytes, 65,536 at most, are one Certificate in DER. Of it only what stands before the key is read, and by the tags of
-/// its parts alone: whose certificate it is, for what and until when, and whether its signature verifies, isn't looked at.
-/// `None` exactly for bytes that are no such certificate, or whose key has other bits than whole bytes, none, or more than
-/// 2,048.
+/// The public key of a certificate: all bytes, 65,536 at most, are one Certificate in DER. Only what stands before the key
+/// is read, and by the tags of its parts alone: whose it is, for what and until when, and its signature aren't looked at.
+/// `None` exactly for other bytes, or for a key of other bits than whole bytes, of none, or of more than 2,048.
 pub fn certified_key(certificate: &[u8]) -> Option<CertifiedKey<'_>>
     ensures found { IfSome result (λ it. IsCertificateOf certificate.now it.algorithm.now it.key.now) }
     ensures only { (algorithm key : List ℕ) → IsCertificateOf certificate.now algorithm key → option_map key_seen result ≡ Some (algorithm, key) }
@@ -175,7 +163,6 @@ fn key_info(bytes: &[u8]) -> Option<CertifiedKey<'_>>
     })
 }
 
-/// The bits of the contents of a BIT STRING, of which none is unused (X.690 8.6.2).
 fn used(contents: &[u8]) -> Option<&[u8]>
     ensures { Gives (λ x. x.now) result (no_unused contents.now) }
 {
@@ -185,7 +172,6 @@ fn used(contents: &[u8]) -> Option<&[u8]>
     }
 }
 
-/// The bits, if they are as many as a key has.
 fn key_of(bits: &[u8]) -> Option<&[u8]>
     ensures { Gives (λ x. x.now) result (as_key bits.now) }
 {

@@ -1,10 +1,9 @@
-//! What is to be signed for an answer, and what the answer has beside it.
-
 ghost use Rattle.std.specs.Prelude.{◌≡◌, ◌^◌, ◌≤◌, IfOk, IfSome, length, option_copied, option_map};
 ghost use Rattle.reg_ocsp.specs.Drafts.{drafted_response};
 
 use crate::response::{RefusalStatus, basic_with, refusal};
 use reg_core::Memory;
+use reg_der::copy_of;
 use std::alloc::Global;
 use std::marker::Model;
 
@@ -12,11 +11,8 @@ use std::marker::Model;
 /// all that the answer is made of, so that nothing else is looked at once the signature is there.
 #[derive(Drop)]
 pub struct Draft {
-    /// The ResponseData.
     message: Vec<u8>,
-    /// The AlgorithmIdentifier of the signature.
     algorithm: Vec<u8>,
-    /// The public key of who is to sign.
     key: Vec<u8>,
     /// The certificate that stands with the answer, where one does.
     certificate: Option<Vec<u8>>,
@@ -41,9 +37,6 @@ impl Model for Draft {
 
 impl Draft {
     /// A draft of these parts.
-    ///
-    /// # Errors
-    /// `Memory`, the only one.
     pub fn of(
         alloc: Global,
         message: &[u8],
@@ -95,9 +88,6 @@ impl Draft {
     }
 
     /// The whole OCSPResponse with this signature; internalError where there is none (RFC 6960 2.3).
-    ///
-    /// # Errors
-    /// `Memory`, the only one.
     pub fn response(&self, alloc: Global, signature: Option<&[u8]>) -> Result<Vec<u8>, Memory>
         requires { IfSome (option_copied signature) (λ bytes. length bytes ≤ 65536) }
         ensures { IfOk result (λ bytes. bytes.items ≡ drafted_response self.now (option_copied signature.entry)) }
@@ -115,14 +105,6 @@ impl Draft {
     }
 }
 
-/// A copy of bytes.
-fn copy_of(alloc: Global, bytes: &[u8]) -> Result<Vec<u8>, Memory>
-    ensures { IfOk result (λ copy. copy.items ≡ bytes.now) }
-{
-    Vec::from_slice(alloc, bytes).map_err(|_| Memory)
-}
-
-/// A copy of bytes, where there are any.
 fn copied(alloc: Global, bytes: Option<&[u8]>) -> Result<Option<Vec<u8>>, Memory>
     ensures { IfOk result (λ copy. option_map (λ it. it.items) copy ≡ option_copied bytes.entry) }
 {

@@ -1,5 +1,3 @@
-//! Extensions of a request (RFC 5280 4.1, RFC 6960 4.4.1).
-
 ghost use Rattle.std.specs.Prelude.{◌≡◌, ◌<◌, length, IfSome, option_copied};
 ghost use Rattle.reg_der.specs.ValueReading.{Gives};
 ghost use Rattle.reg_ocsp.specs.RequestReading.{critical_at, extension_at, fields_at, flag_of, last_nonce_at, nonce_at, written_flag};
@@ -16,7 +14,6 @@ pub(crate) const NONCE: [u8; 9] = [0x2B, 0x06, 0x01, 0x05, 0x05, 0x07, 0x30, 0x0
 #[derive(Clone, Copy)]
 pub(crate) struct Extension<'a> {
     identifier: &'a [u8],
-    /// `critical`, where it is written.
     critical: Option<bool>,
     /// The contents of the OCTET STRING.
     value: &'a [u8],
@@ -31,7 +28,6 @@ pub(crate) fn last_nonce(tag: u8, bytes: &[u8]) -> Option<Option<&[u8]>>
     written_nonce(last(tag, bytes)?)
 }
 
-/// The value of the first nonce of Extensions, where they are written.
 fn written_nonce(extensions: Option<&[u8]>) -> Option<Option<&[u8]>>
     ensures { Gives (λ x. option_copied x) result (spec.written_nonce (option_copied extensions.entry)) }
 {
@@ -88,7 +84,6 @@ fn extension_of(bytes: &[u8]) -> Option<Extension<'_>>
     })
 }
 
-/// Whether there is no identifier, or what is critical is not known (RFC 5280 4.2).
 fn is_refused(identifier: &[u8], critical: Option<bool>) -> bool
     ensures { result ≡ spec.is_refused identifier.now critical }
 {

@@ -1,5 +1,3 @@
-//! Why a request could not be read.
-
 ghost use Rattle.std.specs.Prelude.{◌≡◌};
 ghost use Rattle.reg_ocsp.specs.declared.fault.AskFault.TheVariants.{Memory};
 
@@ -10,7 +8,6 @@ use std::alloc::{AllocError, AllocFailed};
 pub enum AskFault {
     /// The bytes are no OCSP request (RFC 6960 4.1.1).
     Malformed,
-    /// Memory could not be had.
     Memory,
 }
 

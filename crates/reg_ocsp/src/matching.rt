@@ -11,28 +11,24 @@ use reg_core::Serial;
 use reg_der::Issuer;
 use sha2::{Digest, Sha256};
 
-/// The AlgorithmIdentifier of SHA-1 without parameters (RFC 3370 2.1).
+/// SHA-1 without parameters, and with NULL for them (RFC 3370 2.1).
 const SHA1: [u8; 9] = [0x30, 0x07, 0x06, 0x05, 0x2B, 0x0E, 0x03, 0x02, 0x1A];
 
-/// The same with NULL for them.
 const SHA1_NULL: [u8; 11] = [
     0x30, 0x09, 0x06, 0x05, 0x2B, 0x0E, 0x03, 0x02, 0x1A, 0x05, 0x00,
 ];
 
-/// The AlgorithmIdentifier of SHA-256 without parameters (RFC 5754 2.2).
+/// SHA-256 without parameters, and with NULL for them (RFC 5754 2.2).
 const SHA256: [u8; 13] = [
     0x30, 0x0B, 0x06, 0x09, 0x60, 0x86, 0x48, 0x01, 0x65, 0x03, 0x04, 0x02, 0x01,
 ];
 
-/// The same with NULL for them.
 const SHA256_NULL: [u8; 15] = [
     0x30, 0x0D, 0x06, 0x09, 0x60, 0x86, 0x48, 0x01, 0x65, 0x03, 0x04, 0x02, 0x01, 0x05, 0x00,
 ];
 
-/// The serial number of the issuer's certificate that the CertID names.
-///
-/// The CertID has the SHA-1 or the SHA-256 of the DER value of the issuer's Name and of its key, by an algorithm whose
-/// parameters are NULL or left out, and a serial number from 1 to 2^159 - 1. `None` for every other CertID.
+/// The serial number, 1 to 2^159 - 1, that the CertID names by the SHA-1 or the SHA-256 of the issuer's Name and key, the
+/// parameters of the algorithm NULL or left out. `None` for every other CertID.
 pub fn matches(issuer: &Issuer, id: &CertId<'_>) -> Option<Serial>
     ensures found { IfSome result (λ serial. IsMatch issuer.now (id_seen id.now) serial) }
     ensures none { IfNone result ((serial : ℕ) → ¬ (IsMatch issuer.now (id_seen id.now) serial)) }
@@ -44,7 +40,6 @@ pub fn matches(issuer: &Issuer, id: &CertId<'_>) -> Option<Serial>
     Serial::from_der(id.serial)
 }
 
-/// Whether the CertID has the SHA-1 of the issuer's name and key.
 fn names_by_sha1(issuer: &Issuer, id: &CertId<'_>) -> bool
     ensures { IsTrue result ↔ IsHashedBy sha1_identifier sha1 issuer.now (id_seen id.now) }
 {
@@ -53,7 +48,6 @@ fn names_by_sha1(issuer: &Issuer, id: &CertId<'_>) -> bool
         && id.key_hash == issuer.key_sha1().as_slice()
 }
 
-/// Whether the CertID has the SHA-256 of the issuer's name and key.
 fn names_by_sha256(issuer: &Issuer, id: &CertId<'_>) -> bool
     ensures { IsTrue result ↔ IsHashedBy sha256_identifier sha256 issuer.now (id_seen id.now) }
 {
@@ -62,14 +56,12 @@ fn names_by_sha256(issuer: &Issuer, id: &CertId<'_>) -> bool
         && is_sha256_of(id.key_hash, issuer.key())
 }
 
-/// Whether the hash is the SHA-256 of the bytes.
 fn is_sha256_of(hash: &[u8], bytes: &[u8]) -> bool
     ensures { IsTrue result ↔ hash.now ≡ sha256 bytes.now }
 {
     hash == Sha256::digest(bytes).as_slice()
 }
 
-/// Whether the AlgorithmIdentifier is that of SHA-1.
 #[tactic(auto, unfolding(reg_der::specs::Der::tlv, reg_der::specs::Der::length_octets))]
 fn is_sha1(algorithm: &[u8]) -> bool
     ensures { IsTrue result ↔ IsHashAlgorithm sha1_identifier algorithm.now }
@@ -77,7 +69,6 @@ fn is_sha1(algorithm: &[u8]) -> bool
     algorithm == SHA1_NULL.as_slice() || algorithm == SHA1.as_slice()
 }
 
-/// Whether the AlgorithmIdentifier is that of SHA-256.
 #[tactic(auto, unfolding(reg_der::specs::Der::tlv, reg_der::specs::Der::length_octets))]
 fn is_sha256(algorithm: &[u8]) -> bool
     ensures { IsTrue result ↔ IsHashAlgorithm sha256_identifier algorithm.now }

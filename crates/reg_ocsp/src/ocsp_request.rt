@@ -18,21 +18,17 @@ use crate::tags::{
 use reg_der::take;
 use std::alloc::Global;
 
-/// The most bytes that a request may have.
 const LONGEST_REQUEST: usize = 65_536;
 
 /// The INTEGER 0, which stands for version 1 (RFC 6960 4.1.1).
 const VERSION_1: [u8; 3] = [0x02, 0x01, 0x00];
 
-/// The longest nonce that the answer repeats, in bytes.
 const LONGEST_NONCE: usize = 131;
 
-/// What an OCSP request asks.
-///
-/// `Malformed` exactly for bytes that are no request: all 65,536 bytes at most are one OCSPRequest in DER, with one
-/// CertID at least and no critical extension but the nonce. A version 0 and a `critical` FALSE may be written, and the
-/// contents of the requestor's name and of the signature aren't looked at. No bytes have two readings
-/// (`laws::one_reading`).
+/// What an OCSP request asks. `Malformed` exactly for bytes that are no request: all 65,536 bytes at most are one
+/// OCSPRequest in DER, with one CertID at least and no critical extension but the nonce. A version 0 and a `critical`
+/// FALSE may be written; the contents of the requestor's name and of the signature aren't looked at. No bytes have two
+/// readings (`laws::one_reading`).
 pub fn read_request(alloc: Global, bytes: &[u8]) -> Result<Asked<'_>, AskFault>
     ensures found { IfOk result (λ a. IsOcspRequest bytes.now (ids_seen a.ids.items) (option_copied a.nonce)) }
     ensures malformed { IsErrOf result AskFault.Malformed → (ids : List Id) (nonce : Option (List ℕ)) → IsOcspRequest bytes.now ids nonce → ⊥ }
@@ -65,7 +61,6 @@ fn parts(bytes: &[u8]) -> Option<(&[u8], Option<&[u8]>)>
     signed_parts(to_be_signed(bytes)?)
 }
 
-/// The contents of the TBSRequest of a whole request.
 #[tactic(auto, unfolding(crate::specs::RequestReading::tbs_at))]
 fn to_be_signed(bytes: &[u8]) -> Option<&[u8]>
     ensures { Gives (λ x. x.now) result (tbs_at bytes.now) }
@@ -107,7 +102,6 @@ fn after_version(bytes: &[u8]) -> Option<&[u8]>
     }
 }
 
-/// The nonce, if it has 1 to 131 bytes.
 fn repeated(nonce: Option<&[u8]>) -> Option<&[u8]>
     ensures { option_copied result ≡ grammar.repeated (option_copied nonce.entry) }
 {
@@ -175,7 +169,6 @@ fn names(bytes: &[u8]) -> Option<(&[u8], &[u8], &[u8])>
     Some((name_hash.contents, key_hash.contents, serial))
 }
 
-/// The contents octets of a serial number that all the bytes are.
 #[tactic(auto, unfolding(crate::specs::RequestReading::serial_at))]
 fn serial(bytes: &[u8]) -> Option<&[u8]>
     ensures { Gives (λ x. x.now) result (serial_at bytes.now) }
@@ -201,7 +194,6 @@ fn algorithm(bytes: &[u8]) -> Option<(&[u8], &[u8])>
     Some((outer.raw, rest))
 }
 
-/// Whether the bytes are one value or nothing.
 fn is_at_most_one(bytes: &[u8]) -> bool
     ensures { result ≡ read_all bytes.now (value_at bytes.now) }
 {
@@ -211,8 +203,7 @@ fn is_at_most_one(bytes: &[u8]) -> bool
     }
 }
 
-/// Whether the contents octets of an INTEGER are the fewest: the first nine bits are neither all zero nor all one
-/// (X.690 8.3.2).
+/// X.690 8.3.2: the first nine bits are neither all zero nor all one.
 fn is_shortest(octets: &[u8]) -> bool
     ensures { result ≡ spec.is_shortest octets.now }
 {

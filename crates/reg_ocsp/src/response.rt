@@ -16,7 +16,7 @@ use crate::tags::{
     TAGGED_1, TAGGED_2,
 };
 use reg_core::{Memory, Moment, Status};
-use reg_der::{Issuer, put, put_bits, put_general};
+use reg_der::{Issuer, put, put_bits, put_general, put_raw};
 use sha1::Sha1;
 use std::alloc::Global;
 
@@ -47,15 +47,11 @@ pub fn refusal(status: RefusalStatus) -> [u8; 5]
     [SEQUENCE, 3, ENUMERATED, 1, code]
 }
 
-/// The ResponseData (RFC 6960 4.2.1) of an issuer that answers for itself: what is to be signed.
+/// The ResponseData (RFC 6960 4.2.1) of an issuer that answers for itself, named by the SHA-1 of its key: what is signed.
 ///
-/// The responder is named by the SHA-1 of the issuer's key. producedAt and each thisUpdate are `now`, and each
-/// nextUpdate is `next`. Each CertID is repeated byte for byte, in the order of `answers`: one asked twice is answered
-/// twice. A certificate past its end that isn't revoked is answered `good`, and the reason 0 is left out. The nonce is
-/// repeated where there is one.
-///
-/// There are at most 65,536 CertIDs with 65,536 bytes in all, and the nonce has at most 131, as `read_request` gives
-/// them. `Memory` is the only error.
+/// producedAt and each thisUpdate are `now`, each nextUpdate is `next`. Each CertID is repeated byte for byte, in the order
+/// of `answers`. A certificate past its end that isn't revoked is `good`, and the reason 0 is left out. There are at most
+/// 65,536 CertIDs with 65,536 bytes in all, and the nonce has at most 131, as `read_request` gives them.
 pub fn response_data(
     alloc: Global,
     issuer: &Issuer,
@@ -91,7 +87,6 @@ pub fn response_data_by(
     enclosed(alloc, SEQUENCE, &fields)
 }
 
-/// Appends the fields of a ResponseData.
 fn put_data_fields(
     alloc: Global,
     out: &mut Vec<u8>,
@@ -113,11 +108,8 @@ fn put_data_fields(
     put_nonce(alloc, out, nonce)
 }
 
-/// The whole OCSPResponse with a BasicOCSPResponse (RFC 6960 4.2.1) of the three parts: what was signed, the value of
-/// the signature's AlgorithmIdentifier, and the bytes of the signature.
-///
-/// `signed` has at most 2^27 bytes, as `response_data` gives it, `algorithm` 1,024 and `signature` 65,536. `Memory` is
-/// the only error.
+/// The whole OCSPResponse with a BasicOCSPResponse (RFC 6960 4.2.1) of what was signed, at most 2^27 bytes, the signature's
+/// AlgorithmIdentifier, at most 1,024, and the signature, at most 65,536.
 pub fn basic(
     alloc: Global,
     signed: &[u8],
@@ -133,9 +125,7 @@ pub fn basic(
     basic_with(alloc, signed, algorithm, signature, None)
 }
 
-/// The same with a certificate in `certs`, where there is one: its DER, as it is (RFC 6960 4.2.1, 4.2.2.2).
-///
-/// `certificate` has at most 65,536 bytes.
+/// The same with a certificate in `certs`, where there is one: its DER, at most 65,536 bytes (RFC 6960 4.2.1, 4.2.2.2).
 #[tactic(auto, unfolding(crate::specs::Response::ocsp_response))]
 pub fn basic_with(
     alloc: Global,
@@ -157,7 +147,6 @@ pub fn basic_with(
     successful(alloc, &bytes)
 }
 
-/// The OCSPResponse, successful (0), of these ResponseBytes.
 fn successful(alloc: Global, bytes: &[u8]) -> Result<Vec<u8>, Memory>
     requires { length bytes.now ≤ 2 ^ 28 }
     ensures value { IfOk result (λ v. v.items ≡ successful_response bytes.now) }
@@ -169,7 +158,6 @@ fn successful(alloc: Global, bytes: &[u8]) -> Result<Vec<u8>, Memory>
     enclosed(alloc, SEQUENCE, &fields)
 }
 
-/// The ResponseBytes of a BasicOCSPResponse.
 fn response_bytes(alloc: Global, basic: &[u8]) -> Result<Vec<u8>, Memory>
     requires { length basic.now < 2 ^ 28 }
     ensures value { IfOk result (λ v. v.items ≡ spec.response_bytes basic.now) }
@@ -181,7 +169,6 @@ fn response_bytes(alloc: Global, basic: &[u8]) -> Result<Vec<u8>, Memory>
     enclosed(alloc, SEQUENCE, &fields)
 }
 
-/// The BasicOCSPResponse of the parts.
 #[tactic(auto, unfolding(crate::specs::Response::basic_response))]
 fn basic_value(
     alloc: Global,
@@ -211,7 +198,6 @@ fn basic_value(
     enclosed(alloc, SEQUENCE, &fields)
 }
 
-/// Appends the fields of a BasicOCSPResponse.
 fn put_basic_fields(
     alloc: Global,
     out: &mut Vec<u8>,
@@ -227,8 +213,8 @@ fn put_basic_fields(
         ≤ length out.old.items + length signed.now + length algorithm.now + length signature.now + certs_room (option_copied certificate.entry) + 7) }
     ensures bounded { OnOk result (length out.new.items ≤ length out.old.items + length signed.now + length algorithm.now + length signature.now + 65555) }
 {
-    append(out, signed)?;
-    append(out, algorithm)?;
+    put_raw(out, signed)?;
+    put_raw(out, algorithm)?;
     put_bits(out, signature)?;
     put_certificate(alloc, out, certificate)
 }
@@ -260,7 +246,6 @@ fn put_responder(alloc: Global, out: &mut Vec<u8>, key: &[u8]) -> Result<(), Mem
     put(out, TAGGED_2, &hash)
 }
 
-/// Appends the list of SingleResponses.
 fn put_answers(
     alloc: Global,
     out: &mut Vec<u8>,
@@ -280,7 +265,6 @@ fn put_answers(
     put(out, SEQUENCE, &list)
 }
 
-/// Appends a SingleResponse.
 #[tactic(auto, unfolding(crate::specs::Response::single_response))]
 fn put_single(
     alloc: Global,
@@ -298,7 +282,6 @@ fn put_single(
     put(out, SEQUENCE, &fields)
 }
 
-/// Appends the fields of a SingleResponse.
 fn put_single_fields(
     alloc: Global,
     out: &mut Vec<u8>,
@@ -310,13 +293,12 @@ fn put_single_fields(
     ensures longer { OnOk result (length out.new.items ≤ length out.old.items + answered_length answer.now + 76) }
 {
     let (id, status) = answer;
-    append(out, id.raw)?;
+    put_raw(out, id.raw)?;
     put_status(alloc, out, *status)?;
     put_general(out, now)?;
     put_next_update(alloc, out, next)
 }
 
-/// Appends nextUpdate.
 fn put_next_update(alloc: Global, out: &mut Vec<u8>, next: Moment) -> Result<(), Memory>
     ensures ok { OnOk result (out.new.items ≡ out.old.items ++ next_update next) }
     ensures longer { OnOk result (length out.new.items ≤ length out.old.items + 23) }
@@ -326,7 +308,6 @@ fn put_next_update(alloc: Global, out: &mut Vec<u8>, next: Moment) -> Result<(),
     put(out, TAGGED_0, &update)
 }
 
-/// Appends a CertStatus.
 fn put_status(alloc: Global, out: &mut Vec<u8>, status: Status) -> Result<(), Memory>
     ensures ok { OnOk result (out.new.items ≡ out.old.items ++ cert_status status) }
     ensures longer { OnOk result (length out.new.items ≤ length out.old.items + 36) }
@@ -338,7 +319,6 @@ fn put_status(alloc: Global, out: &mut Vec<u8>, status: Status) -> Result<(), Me
     }
 }
 
-/// Appends the CertStatus of a revoked certificate.
 fn put_revoked(alloc: Global, out: &mut Vec<u8>, at: Moment, reason: u8) -> Result<(), Memory>
     ensures ok { OnOk result (out.new.items ≡ out.old.items ++ cert_status (Revoked at reason)) }
     ensures longer { OnOk result (length out.new.items ≤ length out.old.items + 36) }
@@ -361,7 +341,6 @@ fn put_reason(alloc: Global, out: &mut Vec<u8>, reason: u8) -> Result<(), Memory
     put(out, TAGGED_0, &code)
 }
 
-/// Appends responseExtensions with the nonce, if there is one.
 fn put_nonce(alloc: Global, out: &mut Vec<u8>, nonce: Option<&[u8]>) -> Result<(), Memory>
     requires { IfSome (option_copied nonce) (λ value. length value ≤ 131) }
     ensures ok { OnOk result (out.new.items ≡ out.old.items ++ spec.nonce_part (option_copied nonce.entry)) }
@@ -375,7 +354,6 @@ fn put_nonce(alloc: Global, out: &mut Vec<u8>, nonce: Option<&[u8]>) -> Result<(
     put(out, TAGGED_1, &extensions)
 }
 
-/// The Extension of a nonce.
 fn nonce_extension(alloc: Global, nonce: &[u8]) -> Result<Vec<u8>, Memory>
     requires { length nonce.now ≤ 131 }
     ensures value { IfOk result (λ v. v.items ≡ spec.nonce_extension nonce.now) }
@@ -387,7 +365,6 @@ fn nonce_extension(alloc: Global, nonce: &[u8]) -> Result<Vec<u8>, Memory>
     enclosed(alloc, SEQUENCE, &fields)
 }
 
-/// The value of the tag with the contents.
 fn enclosed(alloc: Global, tag: u8, contents: &[u8]) -> Result<Vec<u8>, Memory>
     requires low_tag { tag % 32 < 31 }
     requires short { length contents.now < 2 ^ 32 }
@@ -397,12 +374,4 @@ fn enclosed(alloc: Global, tag: u8, contents: &[u8]) -> Result<Vec<u8>, Memory>
     let mut out = Vec::new(alloc);
     put(&mut out, tag, contents)?;
     Ok(out)
-}
-
-/// Appends the bytes as they are.
-fn append(out: &mut Vec<u8>, bytes: &[u8]) -> Result<(), Memory>
-    ensures ok { OnOk result (out.new.items ≡ out.old.items ++ bytes.now) }
-    ensures longer { OnOk result (length out.new.items ≡ length out.old.items + length bytes.now) }
-{
-    out.extend_from_slice(bytes).map_err(|_| Memory)
 }

@@ -1,10 +1,11 @@
 -- What an OCSP request comes to before anything is signed, once it is signed or left to be signed.
-use Rattle.std.proofs.Common.{◌≡◌, ◌⊎◌, ℕ, List, Vec, inl, inr, refl, sym, subst, ◌∙◌}
+use Rattle.std.proofs.Common.{◌≡◌, ◌≢◌, ◌<◌, ◌⊎◌, ℕ, List, Vec, inl, inr, refl, sym, subst, ◌∙◌, arith}
 use Rattle.std.proofs.lemmas.Bool.{false≢true}
-use Rattle.std.specs.Prelude.{◌↔◌, Option, Some, None, IsSome, Result, Ok, Err, IsErrAnd}
+use Rattle.std.specs.Prelude.{◌↔◌, Option, Some, None, IsSome, Result, Ok, Err, IfOk, IsErrAnd}
 use Rattle.reg_core.specs.Checks.{clock_checks, first_of_all}
 use Rattle.reg_core.specs.Issuer.{Issuer}
 use Rattle.reg_core.specs.Records.{Records}
+use Rattle.reg_core.specs.declared.memory.Memory.{Memory}
 use Rattle.reg_core.specs.declared.refusal.Refusal.{Refusal}
 use Rattle.reg_crl.specs.Signing.{Identity}
 use Rattle.reg_ocsp.specs.Drafts.{Drafted, drafted_response}
@@ -12,22 +13,23 @@ use Rattle.reg_ocsp.specs.Request.{Id, IsOcspRequest}
 use Rattle.reg_ocsp.specs.Response.{refusal_response}
 use Rattle.reg_ocsp.specs.declared.response.RefusalStatus.TheVariants as status
 use Rattle.reg_office_api.specs.CallSteps.{Signs}
-use Rattle.reg_office_api.specs.Drafts.{IsDraft}
-use Rattle.reg_office_api.specs.Ocsp.{HasNoReading, IsOcspReply, IsResponse, IsTimely}
+use Rattle.reg_office_api.specs.Drafts.{IsDraft, IsSignerFailure}
+use Rattle.reg_office_api.specs.Ocsp.{HasNoReading, IsOcspData, IsOcspReply, IsResponse, IsTimely}
 use Rattle.reg_office_api.specs.Responses.{IsOcspResponse, IsReadResponse}
 use Rattle.reg_office_api.specs.Signatories.{Responder, responder_key}
 use Rattle.reg_office_api.specs.declared.response.OcspResponse.{OcspResponse}
 use Rattle.reg_office_api.specs.declared.response.ResponseKind.{ResponseKind}
 use Rattle.reg_office_api.specs.declared.response.ResponseKind.TheVariants.{Signed, Malformed, TryLater, StoreFailure, SignerFailure}
 use Rattle.reg_office_api.proofs.PublicLaws.{signed_response, unsigned_response}
+use Rattle.reg_io.specs.declared.begun.Begun.{Begun}
 use Rattle.reg_io.specs.declared.begun.Begun.TheVariants.{Ready, Unsigned}
-use Rattle.reg_office.specs.Beginning.{IsMessage, IsRefusal, IsResponding, IsResponseOver, IsSignedBy, IsUnsigned, RefusesRequest}
+use Rattle.reg_office.specs.Beginning.{IsBegun, IsMessage, IsReady, IsResponding, IsResponseOver, IsSignedBy, RefusesRequest}
 use Rattle.reg_office.specs.declared.ocsp_faults.ResponseFault.{ResponseFault}
 use Rattle.reg_office.specs.declared.ocsp_faults.ResponseFault.TheVariants as fault
 use Rattle.reg_office.proofs.Responding.{internal_apart, try_later_apart, whole_apart}
 
 -- the refusal that there is
-the_refusal : (found : Option Refusal) → IsSome found → (refusal : Refusal) × (found ≡ Some refusal)
+pub the_refusal : (found : Option Refusal) → IsSome found → (refusal : Refusal) × (found ≡ Some refusal)
 the_refusal (Some why) some = (why, refl)
 the_refusal None some = absurd (false≢true some)
 
@@ -39,61 +41,48 @@ late found refusal P bytes refused same =
     subst Q (sym refused) same
 
 module _ (signs : Signs) (responder : Responder) (records : Records) (now : ℕ) (request : List ℕ) where
-  -- a refusal is the response to the request
-  pub refused_response : (kind : ResponseKind) (bytes : List ℕ) → IsRefusal records now request kind bytes
-      → IsOcspResponse signs responder records now request kind bytes
-  refused_response Signed bytes is = absurd is
-  refused_response Malformed bytes (unread, is) = inl (unread, refl, is)
-  refused_response TryLater bytes (ids, nonce, asks, refused, is) =
-      inr (ids, nonce, asks, (the_refusal (first_of_all (clock_checks now records.last)) refused, is))
-  refused_response StoreFailure bytes (ids, nonce, asks, is) = inr (ids, nonce, asks, is)
-  refused_response SignerFailure bytes is = absurd is
+  -- a response that is ready is the response to the request
+  pub ready_begun : (kind : ResponseKind) (bytes : List ℕ) (result : Result (Begun OcspResponse Drafted) Memory)
+      → IsOcspResponse signs responder records now request kind bytes → IfOk result (IsReady kind bytes)
+      → IfOk result (IsBegun signs responder records now request)
+  ready_begun kind bytes (Ok (Ready response)) answers (kind_is, bytes_is) =
+      let P : ResponseKind → Type 0 = λ k. IsOcspResponse signs responder records now request k response.bytes.items in
+      let Q : List ℕ → Type 0 = λ b. IsOcspResponse signs responder records now request kind b in
+      subst P (sym kind_is) (subst Q (sym bytes_is) answers)
+  ready_begun kind bytes (Ok (Unsigned draft)) answers ready = absurd ready
+  ready_begun kind bytes (Err memory) answers ready = tt
 
-  -- so is the ResponseData, signed; or internalError, where that failed
-  pub message_response : {Z : Type 0} (message : Vec ℕ Z) (kind : ResponseKind) (bytes : List ℕ)
-      → IsUnsigned (responder_key responder records) records now request (Unsigned message) → IsResponseOver signs responder message.items kind bytes
-      → IsOcspResponse signs responder records now request kind bytes
-  message_response message Signed bytes (ids, nonce, asks, timely, of_records) signed =
-      inr (ids, nonce, asks, (timely, record { tbs = message.items; of_records = of_records; signed = signed }))
-  message_response message Malformed bytes told signed = absurd signed
-  message_response message TryLater bytes told signed = absurd signed
-  message_response message StoreFailure bytes told signed = absurd signed
-  message_response message SignerFailure bytes (ids, nonce, asks, timely, of_records) is = inr (ids, nonce, asks, is)
+  -- so is the ResponseData, signed or left to be signed; or internalError, where the signer failed
+  pub message_begun : (ids : List Id) (echo : Option (List ℕ)) (message : List ℕ) (result : Result (Begun OcspResponse Drafted) Memory)
+      → IsOcspRequest request ids echo → first_of_all (clock_checks now records.last) ≡ None
+      → IsOcspData (responder_key responder records) records now ids echo message → IfOk result (IsResponseOver signs responder message)
+      → IfOk result (IsBegun signs responder records now request)
+  message_begun ids echo message (Ok (Ready response)) asks timely of_records (inl (kind_is, signed)) =
+      let P : ResponseKind → Type 0 = λ k. IsOcspResponse signs responder records now request k response.bytes.items in
+      subst P (sym kind_is) (inr (ids, echo, asks, (timely, record { tbs = message; of_records = of_records; signed = signed })))
+  message_begun ids echo message (Ok (Ready response)) asks timely of_records (inr failed) =
+      ready_begun SignerFailure (refusal_response status.Internal) (Ok (Ready response)) (inr (ids, echo, asks, refl)) failed
+  message_begun ids echo message (Ok (Unsigned draft)) asks timely of_records (message_is, by) =
+      let P : List ℕ → Type 0 = λ tbs. IsOcspData (responder_key responder records) records now ids echo tbs in
+      record { ids = ids; nonce = echo; is_request = asks; timely = timely; read = record { of_records = subst P (sym message_is) of_records; by = by } }
+  message_begun ids echo message (Err memory) asks timely of_records over = tt
 
-  -- the ResponseData that is left to be signed, with what its response has of who answers
-  pub left_draft : {Z : Type 0} (message : Vec ℕ Z) (draft : Drafted) → IsUnsigned (responder_key responder records) records now request (Unsigned message)
-      → draft ≡ record {
-        message = message.items;
-        algorithm = responder.identity.algorithm;
-        key = responder.identity.public_key;
-        certificate = responder.certificate;
-      } → IsDraft responder records now request draft
-  left_draft message draft (ids, nonce, asks, timely, of_records) is =
-      let P : Drafted → Type 0 = λ it. IsDraft responder records now request it in
-      subst P (sym is) (record {
-        ids = ids;
-        nonce = nonce;
-        is_request = asks;
-        timely = timely;
-        read = record { of_records = of_records; by = record { algorithm = refl; key = refl; certificate = refl } };
-      })
-
-  read_reply : (ids : List Id) (nonce : Option (List ℕ)) (kind : ResponseKind) (bytes : List ℕ) → IsOcspRequest request ids nonce
-      → IsReadResponse signs responder records now ids nonce kind bytes → IsOcspReply signs responder records now request bytes
-  read_reply ids nonce Signed bytes asks (timely, whole) =
-      let P : Option Refusal → Type 0 = λ r. IsTimely r (IsResponse signs responder records now ids nonce) bytes in
-      inr (ids, nonce, asks, inr (subst P (sym timely) whole))
-  read_reply ids nonce Malformed bytes asks is = absurd is
-  read_reply ids nonce TryLater bytes asks ((why, refused), is) =
-      inr (ids, nonce, asks, inr (late (first_of_all (clock_checks now records.last)) why (IsResponse signs responder records now ids nonce) bytes refused is))
-  read_reply ids nonce StoreFailure bytes asks is = inr (ids, nonce, asks, inl is)
-  read_reply ids nonce SignerFailure bytes asks is = inr (ids, nonce, asks, inl is)
+  read_reply : (ids : List Id) (echo : Option (List ℕ)) (kind : ResponseKind) (bytes : List ℕ) → IsOcspRequest request ids echo
+      → IsReadResponse signs responder records now ids echo kind bytes → IsOcspReply signs responder records now request bytes
+  read_reply ids echo Signed bytes asks (timely, whole) =
+      let P : Option Refusal → Type 0 = λ r. IsTimely r (IsResponse signs responder records now ids echo) bytes in
+      inr (ids, echo, asks, inr (subst P (sym timely) whole))
+  read_reply ids echo Malformed bytes asks is = absurd is
+  read_reply ids echo TryLater bytes asks ((why, refused), is) =
+      inr (ids, echo, asks, inr (late (first_of_all (clock_checks now records.last)) why (IsResponse signs responder records now ids echo) bytes refused is))
+  read_reply ids echo StoreFailure bytes asks is = inr (ids, echo, asks, inl is)
+  read_reply ids echo SignerFailure bytes asks is = inr (ids, echo, asks, inl is)
 
   -- a response of any kind answers the request
   pub replied : (kind : ResponseKind) (bytes : List ℕ) → IsOcspResponse signs responder records now request kind bytes
       → IsOcspReply signs responder records now request bytes
   replied kind bytes (inl (unread, same, is)) = inl (unread, is)
-  replied kind bytes (inr (ids, nonce, asks, reads)) = read_reply ids nonce kind bytes asks reads
+  replied kind bytes (inr (ids, echo, asks, reads)) = read_reply ids echo kind bytes asks reads
 
   -- and so does what was left to be signed, once it is signed
   pub draft_replied : (draft : Drafted) (bytes : List ℕ) → IsDraft responder records now request draft → IsSignedBy signs responder draft bytes
@@ -105,80 +94,77 @@ module _ (signs : Signs) (responder : Responder) (records : Records) (now : ℕ)
       let P : List ℕ → Type 0 = λ b. IsOcspReply signs responder records now request b in
       subst P (sym is) (replied Signed _ (signed_response signs responder records now request draft signature left signed))
 
-malformed_apart : ¬ (Malformed ≡ SignerFailure)
+pub malformed_apart : ¬ (Malformed ≡ SignerFailure)
 malformed_apart same = cc same
 
-late_apart : ¬ (TryLater ≡ SignerFailure)
+pub late_apart : ¬ (TryLater ≡ SignerFailure)
 late_apart same = cc same
+
+pub store_apart : ¬ (StoreFailure ≡ SignerFailure)
+store_apart same = cc same
 
 signed_apart : ¬ (Signed ≡ SignerFailure)
 signed_apart same = cc same
 
--- a refusal, by its kind: malformedRequest
-pub unread_refusal : (records : Records) (now : ℕ) (request : List ℕ) (response : OcspResponse)
-    → (response.kind ≡ Malformed) × (response.bytes.items ≡ refusal_response status.Malformed) → HasNoReading request
-    → IsRefusal records now request response.kind response.bytes.items
-unread_refusal records now request response is unread =
-    let P : ResponseKind → Type 0 = λ kind. IsRefusal records now request kind response.bytes.items in
-    subst P (sym is.0) (unread, is.1)
+-- a response that is ready is malformedRequest exactly where these bytes are, and internalError at a failure of the signer
+pub ready_refuses : (request : List ℕ) (kind : ResponseKind) (bytes : List ℕ) (result : Result (Begun OcspResponse Drafted) Memory)
+    → (bytes ≡ refusal_response status.Malformed) ↔ HasNoReading request → (kind ≡ SignerFailure → bytes ≡ refusal_response status.Internal)
+    → IfOk result (IsReady kind bytes) → IfOk result (RefusesRequest request)
+ready_refuses request kind bytes (Ok (Ready response)) malformed internal (kind_is, bytes_is) = (
+  ((λ same. malformed.0 (sym bytes_is ∙ same)), (λ unread. bytes_is ∙ malformed.1 unread)),
+  (λ failed. bytes_is ∙ internal (sym kind_is ∙ failed)),
+)
+ready_refuses request kind bytes (Ok (Unsigned draft)) malformed internal ready = absurd ready
+ready_refuses request kind bytes (Err memory) malformed internal ready = tt
 
--- tryLater
-pub late_refusal : (records : Records) (now : ℕ) (request : List ℕ) (response : OcspResponse)
-    → (response.kind ≡ TryLater) × (response.bytes.items ≡ refusal_response status.TryLater)
-    → (ids : List Id) (nonce : Option (List ℕ)) → IsOcspRequest request ids nonce → IsSome (first_of_all (clock_checks now records.last))
-    → IsRefusal records now request response.kind response.bytes.items
-late_refusal records now request response is ids nonce asks refused =
-    let P : ResponseKind → Type 0 = λ kind. IsRefusal records now request kind response.bytes.items in
-    subst P (sym is.0) (ids, nonce, asks, refused, is.1)
-
--- internalError
-pub store_refusal : (records : Records) (now : ℕ) (request : List ℕ) (response : OcspResponse)
-    → (response.kind ≡ StoreFailure) × (response.bytes.items ≡ refusal_response status.Internal)
-    → (ids : List Id) (nonce : Option (List ℕ)) → IsOcspRequest request ids nonce
-    → IsRefusal records now request response.kind response.bytes.items
-store_refusal records now request response is ids nonce asks =
-    let P : ResponseKind → Type 0 = λ kind. IsRefusal records now request kind response.bytes.items in
-    subst P (sym is.0) (ids, nonce, asks, is.1)
-
--- malformedRequest, to bytes that are no request
-pub unread_refuses : (request : List ℕ) (response : OcspResponse) → (response.kind ≡ Malformed) × (response.bytes.items ≡ refusal_response status.Malformed)
-    → HasNoReading request → RefusesRequest {U = Drafted} request (Ready response)
-unread_refuses request response is unread = (((λ same. unread), (λ again. is.1)), (λ failed. absurd (malformed_apart (sym is.0 ∙ failed))))
-
--- tryLater, to a request that was read
-pub late_refuses : (request : List ℕ) (response : OcspResponse) → (response.kind ≡ TryLater) × (response.bytes.items ≡ refusal_response status.TryLater)
-    → ¬ (HasNoReading request) → RefusesRequest {U = Drafted} request (Ready response)
-late_refuses request response is read =
-    (((λ same. absurd (try_later_apart (sym is.1 ∙ same))), (λ unread. absurd (read unread))), (λ failed. absurd (late_apart (sym is.0 ∙ failed))))
-
--- internalError
-pub internal_refuses : (request : List ℕ) (response : OcspResponse) → response.bytes.items ≡ refusal_response status.Internal
-    → ¬ (HasNoReading request) → RefusesRequest {U = Drafted} request (Ready response)
-internal_refuses request response is read =
-    (((λ same. absurd (internal_apart (sym is ∙ same))), (λ unread. absurd (read unread))), (λ failed. is))
+-- bytes that were read are answered with no malformedRequest
+pub no_malformed : (request bytes : List ℕ) → ¬ (HasNoReading request) → bytes ≢ refusal_response status.Malformed
+    → (bytes ≡ refusal_response status.Malformed) ↔ HasNoReading request
+no_malformed request bytes read apart = ((λ same. absurd (apart same)), (λ unread. absurd (read unread)))
 
 -- the response over a ResponseData
-pub message_refuses : (signs : Signs) (responder : Responder) (request message : List ℕ) (response : OcspResponse)
-    → IsResponseOver signs responder message response.kind response.bytes.items → ¬ (HasNoReading request) → RefusesRequest {U = Drafted} request (Ready response)
-message_refuses signs responder request message response over read = go response.kind refl over
-  where
-    go : (kind : ResponseKind) → response.kind ≡ kind → IsResponseOver signs responder message kind response.bytes.items → RefusesRequest {U = Drafted} request (Ready response)
-    go Signed is signed =
-        (((λ same. absurd (whole_apart _ _ _ _ (sym signed.2 ∙ same))), (λ unread. absurd (read unread))), (λ failed. absurd (signed_apart (sym is ∙ failed))))
-    go Malformed is signed = absurd signed
-    go TryLater is signed = absurd signed
-    go StoreFailure is signed = absurd signed
-    go SignerFailure is failed = internal_refuses request response failed read
+pub message_refuses : (signs : Signs) (responder : Responder) (request message : List ℕ) (result : Result (Begun OcspResponse Drafted) Memory)
+    → ¬ (HasNoReading request) → IfOk result (IsResponseOver signs responder message) → IfOk result (RefusesRequest request)
+message_refuses signs responder request message (Ok (Ready response)) read (inl (kind_is, signed)) = (
+  no_malformed request response.bytes.items read (λ same. whole_apart _ _ _ _ (sym signed.2 ∙ same)),
+  (λ failed. absurd (signed_apart (sym kind_is ∙ failed))),
+)
+message_refuses signs responder request message (Ok (Ready response)) read (inr failed) =
+    ready_refuses request SignerFailure (refusal_response status.Internal) (Ok (Ready response))
+    (no_malformed request (refusal_response status.Internal) read internal_apart) (λ is. refl) failed
+message_refuses signs responder request message (Ok (Unsigned draft)) read over = read
+message_refuses signs responder request message (Err memory) read over = tt
+
+-- the count of failures stays over a response for which the signer was not asked
+pub unasked_counts : (kind : ResponseKind) (bytes : List ℕ) (result : Result (Begun OcspResponse Drafted) Memory) (count : ℕ)
+    → ¬ (kind ≡ SignerFailure) → IfOk result (IsReady kind bytes) → IfOk result (λ begun. IsSignerFailure begun ↔ (count < count))
+unasked_counts kind bytes (Ok (Ready response)) count other (kind_is, bytes_is) =
+    ((λ failed. absurd (other (sym kind_is ∙ failed))), (λ rose. absurd (omega (arith, rose))))
+unasked_counts kind bytes (Ok (Unsigned draft)) count other ready = absurd ready
+unasked_counts kind bytes (Err memory) count other ready = tt
+
+-- and it rose over internalError, where the signer failed
+pub failed_counts : (bytes : List ℕ) (result : Result (Begun OcspResponse Drafted) Memory) (old new : ℕ)
+    → old < new → IfOk result (IsReady SignerFailure bytes) → IfOk result (λ begun. IsSignerFailure begun ↔ (old < new))
+failed_counts bytes (Ok (Ready response)) old new rose (kind_is, bytes_is) = ((λ failed. rose), (λ again. kind_is))
+failed_counts bytes (Ok (Unsigned draft)) old new rose ready = absurd ready
+failed_counts bytes (Err memory) old new rose ready = tt
+
+-- internalError is a response over any ResponseData
+pub failed_over : (signs : Signs) (responder : Responder) (message : List ℕ) (result : Result (Begun OcspResponse Drafted) Memory)
+    → IfOk result (IsReady SignerFailure (refusal_response status.Internal)) → IfOk result (IsResponseOver signs responder message)
+failed_over signs responder message (Ok (Ready response)) ready = inr ready
+failed_over signs responder message (Ok (Unsigned draft)) ready = absurd ready
+failed_over signs responder message (Err memory) ready = tt
 
 -- the bytes of what was left to be signed are no malformedRequest
 pub signed_malformed : (signs : Signs) (identity : Identity) (request : List ℕ) (draft : Drafted) (bytes : List ℕ) → ¬ (HasNoReading request)
     → (bytes ≡ refusal_response status.Internal)
     ⊎ ((signature : List ℕ) × signs identity draft.message signature × (bytes ≡ drafted_response draft (Some signature)))
     → (bytes ≡ refusal_response status.Malformed) ↔ HasNoReading request
-signed_malformed signs identity request draft bytes read (inl failed) =
-    ((λ same. absurd (internal_apart (sym failed ∙ same))), (λ unread. absurd (read unread)))
+signed_malformed signs identity request draft bytes read (inl failed) = no_malformed request bytes read (λ same. internal_apart (sym failed ∙ same))
 signed_malformed signs identity request draft bytes read (inr (signature, signed, is)) =
-    ((λ same. absurd (whole_apart _ _ _ _ (sym is ∙ same))), (λ unread. absurd (read unread)))
+    no_malformed request bytes read (λ same. whole_apart _ _ _ _ (sym is ∙ same))
 
 -- the clock's refusal of a moment
 pub refused_by_clock : (records : Records) (now : ℕ) (result : Result (Issuer × ℕ) ResponseFault) → IsErrAnd result (λ told. told ≡ fault.Clock)
@@ -189,9 +175,9 @@ refused_by_clock records now (Err why) told refused =
     subst P (sym told) refused
 
 -- no ResponseData: memory or the store failed
-pub no_message : {Z : Type 0} (key : List ℕ) (records : Records) (now : ℕ) (ids : List Id) (nonce : Option (List ℕ)) (result : Result (Vec ℕ Z) ResponseFault)
-    (why : ResponseFault) → IsErrAnd result (λ told. told ≡ why) → (why ≡ fault.Memory) ⊎ (why ≡ fault.Store) → IsMessage key records now ids nonce result
-no_message key records now ids nonce (Ok bytes) why told is = absurd told
-no_message {Z = Z} key records now ids nonce (Err other) why told is =
-    let P : ResponseFault → Type 0 = λ it. IsMessage {Z = Z} key records now ids nonce (Err it) in
+pub no_message : {Z : Type 0} (key : List ℕ) (records : Records) (now : ℕ) (ids : List Id) (echo : Option (List ℕ)) (result : Result (Vec ℕ Z) ResponseFault)
+    (why : ResponseFault) → IsErrAnd result (λ told. told ≡ why) → (why ≡ fault.Memory) ⊎ (why ≡ fault.Store) → IsMessage key records now ids echo result
+no_message key records now ids echo (Ok bytes) why told is = absurd told
+no_message {Z = Z} key records now ids echo (Err other) why told is =
+    let P : ResponseFault → Type 0 = λ it. IsMessage {Z = Z} key records now ids echo (Err it) in
     subst P (sym told) (elim is [ inl memory ↦ subst P (sym memory) tt | inr store ↦ subst P (sym store) tt ])

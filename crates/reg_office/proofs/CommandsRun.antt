@@ -32,10 +32,9 @@ use Rattle.reg_office.specs.Commands.{IsCommandRun}
 use Rattle.reg_office.specs.Faults.{IsOfficeFault, IsTableFault}
 use Rattle.reg_office.specs.Looking.{IsAcceptance, IsDecidedOr}
 use Rattle.reg_office.specs.Stands.{Stands, CameTo}
-use Rattle.reg_office.proofs.Changing.{looked_failed, changed_failed, changed_made}
 use Rattle.reg_office.proofs.Composing.{of_failure}
 use Rattle.reg_office.proofs.Following.{step_keeps_sound_for}
-use Rattle.reg_office.proofs.Standing.{never_signer, office_fault, stands_looked}
+use Rattle.reg_office.proofs.Standing.{changed_failed, changed_made, looked_failed, never_signer, office_fault, stands_looked}
 
 -- a command is accepted with this reply and this change, which the records allow
 pub record MayChange (signed : CertList → List ℕ → Type 0) (records : Records) (now : ℕ) (command : Command) (reply : Reply) (change : Change) : Type 0 where
@@ -107,12 +106,10 @@ module _ {C S : Type 0} (g : Ghosts C) (signs : Identity → List ℕ → List �
         let it = may_of records stands clean in
         let after = changed_by records now change in
         record {
-          stepped = record {
-            answer = reply;
-            after = after;
-            happens = it.happens;
-            rests = makes records (after_looked looked records stands.shown) stands.sound.rows it.not_back it.fits;
-          };
+          answer = reply;
+          after = after;
+          happens = it.happens;
+          rests = makes records (after_looked looked records stands.shown) stands.sound.rows it.not_back it.fits;
           sound = step_keeps_sound_for signs (identity signer) records now command (Ok reply) after stands.sound it.happens;
         }
 

@@ -12,11 +12,11 @@ use Rattle.reg_core.specs.declared.command.Reply.{Reply}
 use Rattle.reg_core.specs.declared.memory.Memory.{Memory}
 use Rattle.reg_core.specs.declared.refusal.Fault.{Fault}
 use Rattle.reg_core.specs.declared.refusal.Fault.TheVariants.{Signer as SignerFailed}
-use Rattle.reg_crl.specs.Signing.{signed_by}
+use Rattle.reg_crl.specs.Signing.{Identity, signed_by}
 use Rattle.reg_crl.specs.declared.signer.Signer.{Ghosts as Signer}
 use Rattle.reg_core_laws.specs.Run.{Happens}
 use Rattle.reg_office_api.specs.Signatories.{Signatory}
-use Rattle.reg_office_api.specs.CallSteps.{Signs, Runs, Ocsps}
+use Rattle.reg_office_api.specs.CallSteps.{CommandStep, Signs, Runs, Ocsps}
 use Rattle.reg_office_api.specs.Drafts.{Begins, Drafts, IsDraft}
 use Rattle.reg_office_api.specs.Responses.{Replies}
 use Rattle.reg_office_api.specs.declared.response.OcspResponse.{OcspResponse}
@@ -27,16 +27,23 @@ use Rattle.reg_store_tables.specs.Stays.{Changed, LeavesNothing, Looked}
 use Rattle.reg_store_tables.proofs.PublicLaws.{was_clean, ok_then}
 use Rattle.reg_office.proofs.Beginning.{draft_replied}
 use Rattle.reg_office.specs.AfterStoppedCommand.{Does, LeavesTold}
-use Rattle.reg_office.specs.Calls.{LeadsOver, OfficeLeads, OfficeLooks, StandsFor, seen}
+use Rattle.reg_office.specs.Calls.{LeadsOver, OfficeLeads, OfficeLooks, RanIn, StandsFor, seen}
 use Rattle.reg_office.specs.Beginning.{IsBegun, IsSignedBy}
 use Rattle.reg_office.specs.Faults.{IsTableFault}
 use Rattle.reg_store_tables.specs.LookUps.{LooksUp}
 use Rattle.reg_office.specs.Stands.{Stands, CameTo}
 use Rattle.reg_office_api.specs.Ocsp.{IsOcspReply}
 use Rattle.reg_office.proofs.Leaving.{leaves_done, leaves_looked}
+use Rattle.reg_office.specs.Answering.{signatory_of}
 use Rattle.reg_office.specs.declared.office.Office.{Office}
+use Rattle.reg_office.specs.declared.responder.Responder.{Responder as Held_by}
 use Rattle.reg_office.proofs.Standing.{stands_looked}
 use Rattle.reg_office.proofs.Stopping.{Settles}
+
+-- the same who signs CRLs and the same who answers are the same who sign
+pub same_signatory : {S : Type 0} (identity : S → Identity) (crls crls' : Identity) (responder responder' : Held_by S)
+    → crls' ≡ crls → responder' ≡ responder → signatory_of identity crls' responder' ≡ signatory_of identity crls responder
+same_signatory identity crls crls' responder responder' same still = λ i. signatory_of identity (same i) (still i)
 
 -- The calls of an office: its store and who signs, before and after.
 module _ {C : Type 0} (g : Ghosts C) (signs : Signs) (old new : Held C) (who who' : Signatory) (same : who' ≡ who) where
@@ -47,7 +54,7 @@ module _ {C : Type 0} (g : Ghosts C) (signs : Signs) (old new : Held C) (who who
       subst P (sym is) stands
 
   -- a command
-  pub command_leads : (now : ℕ) (command : Command) (outcome : Result Reply Fault) → Settles g
+  command_leads : (now : ℕ) (command : Command) (outcome : Result Reply Fault) → Settles g
       → Changed g old new (Does g signs old who.crls now command) outcome
       → ((records : Records) → Stands g signs old who.crls records → HasCleanDisk (state g new) → CameTo g signs new who'.crls records now command outcome)
       → LeadsOver g signs (λ those before after. Runs signs those before now command outcome after) (old, who) (new, who')
@@ -91,6 +98,12 @@ module _ {C : Type 0} (g : Ghosts C) (signs : Signs) (old new : Held C) (who who
 
 -- An office before a look-up and after it.
 module _ {C S : Type 0} (g : Ghosts C) (signer : Signer S) (old new : Office C S) where
+  -- a command that was run
+  pub ran_leads : (now : ℕ) (command : Command) (outcome : Result Reply Fault) → Settles g → RanIn g signer now command outcome old new
+      → new.responder ≡ old.responder → OfficeLeads g signer (CommandStep signer.signs now command outcome) old new
+  ran_leads now command outcome settles ran same =
+      command_leads g signer.signs _ _ _ _ (same_signatory signer.identity _ _ _ _ ran.same_identity same) now command outcome settles ran.changed ran.step
+
   -- what holds of the records is a step of them that leaves them
   pub office_leads : (Holds : Records → Type 0) (Did : Signatory → Records → Records → Type 0) → OfficeLooks g signer Holds old new
       → ((records : Records) → Holds records → Did (seen signer old).1 records records) → OfficeLeads g signer Did old new

@@ -1,8 +1,6 @@
 pub mod Agreeing
-pub mod Answering
 pub mod Asking
 pub mod Beginning
-pub mod Changing
 pub mod Composing
 pub mod CommandsRun
 pub mod Deciding

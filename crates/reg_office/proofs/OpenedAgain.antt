@@ -16,22 +16,23 @@ use Rattle.sqlite_schema.specs.declared.schema.Schema.{Schema}
 use Rattle.reg_store.proofs.PublicLaws.{shows_again}
 use Rattle.reg_store_tables.specs.Schema.{register_schema}
 use Rattle.reg_store_tables.specs.AfterStop.{AreARegisters, IsAtRest}
-use Rattle.reg_office.specs.AfterStoppedCommand.{IsDone, IsNextDone, IsOneMore, IsPartlyRun, LeavesTold}
-use Rattle.reg_office.specs.OpenedAgain.{OpensTold, StandsDone, StandsNext, StandsOneMore, StandsPartlyRun}
+use Rattle.reg_office.specs.AfterStoppedCommand.{IsDone, IsNext, IsOneMore, IsPartlyRun, LeavesTold}
+use Rattle.reg_office.specs.OpenedAgain.{OpensTold, StandsDone, StandsOneMore, StandsPartlyRun}
 use Rattle.reg_office.specs.Stands.{SoundFor, Stands}
 
 module _ {C : Type 0} (g : Ghosts C) (signs : Identity → List ℕ → List ℕ → Type 0) (again : Held C) (identity : Identity) (opens : Opens (state g again)) (live : IsLive (state g again)) where
   pub stands_done : (records : Records) (now : ℕ) (command : Command) → IsDone signs identity records now command (state g again).committed.trees → StandsDone g signs again identity records now command
   stands_done records now command it = record {
-    answer = it.stepped.answer;
+    answer = it.answer;
     came = record {
-      after = it.stepped.after;
-      happens = it.stepped.happens;
-      stands = record { shown = shows_again g again opens live it.stepped.after it.stepped.rests; sound = it.sound };
+      after = it.after;
+      happens = it.happens;
+      stands = record { shown = shows_again g again opens live it.after it.rests; sound = it.sound };
     };
   }
 
-  stands_next : (records : Records) (left : List (ℕ × Command)) → IsNextDone signs identity records left (state g again).committed.trees → StandsNext g signs again identity records left
+  stands_next : (records : Records) (left : List (ℕ × Command)) → IsNext (λ after now command. IsDone signs identity after now command (state g again).committed.trees) records left
+      → IsNext (StandsDone g signs again identity) records left
   stands_next records [] h = absurd h
   stands_next records (timed ∷ left) h = stands_done records timed.0 timed.1 h
 
@@ -48,7 +49,8 @@ module _ {C : Type 0} (g : Ghosts C) (signs : Identity → List ℕ → List ℕ
     no_reply = it.no_reply;
     after = it.after;
     run = it.run;
-    stands = elim (it.rests) [
+    sound = it.sound;
+    rests = elim (it.rests) [
       | inl rests ↦ inl (record { shown = shows_again g again opens live it.after rests; sound = it.sound })
       | inr next ↦ inr (stands_next it.after it.left next)
     ];

@@ -71,7 +71,7 @@ module _ {C : Type 0} (g : Ghosts C) (signs : Identity → List ℕ → List ℕ
       let up : IsTrue (state g next).is_open = one.live clean in
       let sound : AreARegisters trees = elim (one.survives.crash clean trees may) [
         | inl before ↦ legal trees before
-        | inr does ↦ (does records stands).stepped.rests.3
+        | inr does ↦ (does records stands).rests.3
       ] in
       inr (record {
         done = timed ∷ [];
@@ -115,7 +115,7 @@ module _ {C : Type 0} (g : Ghosts C) (signs : Identity → List ℕ → List ℕ
       let step = here.step records stands was in
       let still : (found : Trees) → (state g next).may_leave found → AreARegisters found = λ found left. elim (here.survives.crash was found left) [
         | inl before ↦ legal found before
-        | inr does ↦ (does records stands).stepped.rests.3
+        | inr does ↦ (does records stands).rests.3
       ] in
       elim (found_all next new step.after commands came trees settles still step.stands rest clean may) [
         | inl before ↦ behind records first told commands came trees old next settles legal stands here was before.1 before.0

@@ -5,32 +5,29 @@ use Rattle.sqlite_trees.specs.declared.store.Store.{Ghosts}
 use Rattle.sqlite.specs.Held.{Held, state}
 use Rattle.sqlite.specs.State.{HasCleanDisk, Survives}
 use Rattle.reg_core.specs.Changes.{with_schedule}
-use Rattle.reg_core.specs.Crls.{CertList}
 use Rattle.reg_core.specs.Records.{Records}
 use Rattle.reg_core.specs.declared.command.Command.{Command}
 use Rattle.reg_core.specs.declared.command.Reply.{Reply}
 use Rattle.reg_core.specs.declared.refusal.Fault.{Fault}
 use Rattle.reg_crl.specs.Signing.{Identity, signed_by}
+use Rattle.reg_office_api.specs.Signatories.{Signs}
 use Rattle.reg_der.specs.Issuers.{with_key_identifier}
 use Rattle.reg_store_tables.specs.Kept.{ShowsKept}
 use Rattle.reg_store_tables.specs.AfterStop.{AreARegisters, IsAtRest}
 use Rattle.reg_core_laws.specs.Run.{Happens, Run}
 use Rattle.reg_office.specs.Stands.{SoundFor, Stands, CameTo}
 
--- the rows show the records after the command, which was accepted over these, and what is kept beside them stands for them
-pub record IsStepped (signed : CertList → List ℕ → Type 0) (records : Records) (now : ℕ) (command : Command) (trees : Trees) : Type 0 where
+-- the rows show the records after the command, which was accepted over these, and what is kept beside them stands for them; they are sound for
+-- who signs for the office
+pub record IsDone (signs : Signs) (identity : Identity) (records : Records) (now : ℕ) (command : Command) (trees : Trees) : Type 0 where
   pub answer : Reply
   pub after : Records
-  pub happens : Happens signed records now command (Ok answer) after
+  pub happens : Happens (signed_by signs identity) records now command (Ok answer) after
   pub rests : IsAtRest after trees
-
--- the same of an office: the records after the command are sound for who signs for the office
-pub record IsDone (signs : Identity → List ℕ → List ℕ → Type 0) (identity : Identity) (records : Records) (now : ℕ) (command : Command) (trees : Trees) : Type 0 where
-  pub stepped : IsStepped (signed_by signs identity) records now command trees
-  pub sound : SoundFor signs identity stepped.after
+  pub sound : SoundFor signs identity after
 
 -- the rows as a command of an office leaves them that is accepted over the records that stood
-abbrev pub Does : {C : Type 0} → Ghosts C → (Identity → List ℕ → List ℕ → Type 0) → Held C → Identity → ℕ → Command → Trees → Type 0
+abbrev pub Does : {C : Type 0} → Ghosts C → Signs → Held C → Identity → ℕ → Command → Trees → Type 0
 Does g signs old identity now command trees = (records : Records) → Stands g signs old identity records → IsDone signs identity records now command trees
 
 -- the rows as a key identifier of the issuer's own leaves them, which CRLs have from the next one on
@@ -45,14 +42,15 @@ HaveNoReply [] = Unit {0}
 HaveNoReply (Ok reply ∷ outcomes) = ⊥
 HaveNoReply (Err fault ∷ outcomes) = HaveNoReply outcomes
 
--- the first of these commands is done, and no more of them
-abbrev pub IsNextDone : (Identity → List ℕ → List ℕ → Type 0) → Identity → Records → List (ℕ × Command) → Trees → Type 0
-IsNextDone signs identity records [] trees = ⊥
-IsNextDone signs identity records (timed ∷ commands) trees = IsDone signs identity records timed.0 timed.1 trees
+-- this holds of the first of these commands over the records
+abbrev pub IsNext : (Records → ℕ → Command → Type 0) → Records → List (ℕ × Command) → Type 0
+IsNext Done records [] = ⊥
+IsNext Done records (timed ∷ commands) = Done records timed.0 timed.1
 
--- the rows show the records after a prefix of the commands, and what is kept beside them stands for them: after those which came to the
--- first of the outcomes, or after these and the next, whose outcome is a fault that was told; no reply was given to any that is left
-pub record IsPartlyRun (signs : Identity → List ℕ → List ℕ → Type 0) (identity : Identity) (records : Records) (commands : List (ℕ × Command)) (outcomes : List (Result Reply Fault)) (trees : Trees) : Type 0 where
+-- The records after a prefix of the commands stand: after those which came to the first of the outcomes, or after these and the next, whose
+-- outcome is a fault that was told; no reply was given to any that is left.
+pub record PartlyRun (signs : Signs) (identity : Identity) (Rests : Records → Type 0) (Done : Records → ℕ → Command → Type 0)
+    (records : Records) (commands : List (ℕ × Command)) (outcomes : List (Result Reply Fault)) : Type 0 where
   pub done : List (ℕ × Command)
   pub left : List (ℕ × Command)
   pub commands_are : commands ≡ done ++ left
@@ -63,16 +61,21 @@ pub record IsPartlyRun (signs : Identity → List ℕ → List ℕ → Type 0) (
   pub after : Records
   pub run : Run (signed_by signs identity) records done came after
   pub sound : SoundFor signs identity after
-  pub rests : IsAtRest after trees ⊎ IsNextDone signs identity after left trees
+  pub rests : Rests after ⊎ IsNext Done after left
+
+-- the rows show the records after a prefix of the commands, and what is kept beside them stands for them
+abbrev pub IsPartlyRun : Signs → Identity → Records → List (ℕ × Command) → List (Result Reply Fault) → Trees → Type 0
+IsPartlyRun signs identity records commands outcomes trees =
+    PartlyRun signs identity (λ after. IsAtRest after trees) (λ after now command. IsDone signs identity after now command trees) records commands outcomes
 
 -- one command as `run_one` runs it, from one state of an office's tables to the next: what its clauses say
-pub record IsRunOne {C : Type 0} (g : Ghosts C) (signs : Identity → List ℕ → List ℕ → Type 0) (identity : Identity) (old new : Held C) (now : ℕ) (command : Command) (outcome : Result Reply Fault) : Type 0 where
+pub record IsRunOne {C : Type 0} (g : Ghosts C) (signs : Signs) (identity : Identity) (old new : Held C) (now : ℕ) (command : Command) (outcome : Result Reply Fault) : Type 0 where
   pub step : (records : Records) → Stands g signs old identity records → HasCleanDisk (state g new) → CameTo g signs new identity records now command outcome
   pub live : HasCleanDisk (state g new) → OnOk outcome (IsTrue (state g new).is_open)
   pub survives : Survives (state g old) (state g new) (Does g signs old identity now command)
 
 -- commands as calls of `run_one` run them, one after another, with an outcome for each
-abbrev pub AreRunByOne : {C : Type 0} → Ghosts C → (Identity → List ℕ → List ℕ → Type 0) → Identity → Held C → List (ℕ × Command) → List (Result Reply Fault) → Held C → Type 0
+abbrev pub AreRunByOne : {C : Type 0} → Ghosts C → Signs → Identity → Held C → List (ℕ × Command) → List (Result Reply Fault) → Held C → Type 0
 AreRunByOne g signs identity old [] [] new = new ≡ old
 AreRunByOne g signs identity old [] (outcome ∷ outcomes) new = ⊥
 AreRunByOne g signs identity old (timed ∷ commands) [] new = ⊥
@@ -86,14 +89,14 @@ abbrev pub LeavesThese : {C : Type 0} → Ghosts C → Held C → Records → Ty
 LeavesThese g held records = HasCleanDisk (state g held) → (trees : Trees) → (state g held).may_leave trees → IsAtRest records trees
 
 -- the rows of the records after one change more, to which no acceptance was told: a command, or another schedule or key identifier
-abbrev pub IsOneMore : (Identity → List ℕ → List ℕ → Type 0) → Identity → Records → Trees → Type 0
+abbrev pub IsOneMore : Signs → Identity → Records → Trees → Type 0
 IsOneMore signs identity records trees =
     ((now : ℕ) × (command : Command) × IsDone signs identity records now command trees)
     ⊎ (((steps : List (ℕ × ℕ)) × IsAtRest (with_schedule records steps) trees)
     ⊎ ((octets : List ℕ) × IsAtRest (with_key_identifier records octets) trees))
 
 -- where a stop after a call, or in the middle of it, leaves a register, its rows are those of these records, or of one change more
-abbrev pub LeavesTold : {C : Type 0} → Ghosts C → (Identity → List ℕ → List ℕ → Type 0) → Held C → Identity → Records → Type 0
+abbrev pub LeavesTold : {C : Type 0} → Ghosts C → Signs → Held C → Identity → Records → Type 0
 LeavesTold g signs held identity records =
     HasCleanDisk (state g held) → (trees : Trees) → (state g held).may_leave trees → AreARegisters trees
     → IsAtRest records trees ⊎ IsOneMore signs identity records trees

@@ -1,20 +1,20 @@
 -- What an OCSP request comes to, where its response may be left to be signed.
-use Rattle.std.specs.Prelude.{◌≡◌, ◌⊎◌, ◌↔◌, ℕ, ◌+◌, ◌≤◌, ◌^◌, List, length, Option, Some, None, Result, Ok, Err, IsSome, Vec, unwrap_or}
+use Rattle.std.specs.Prelude.{◌≡◌, ◌⊎◌, ◌↔◌, ℕ, ◌+◌, List, Option, Some, None, Result, Ok, Err, IsSome, Vec, unwrap_or}
 use Rattle.reg_core.specs.Checks.{clock_checks, first_of_all}
 use Rattle.reg_core.specs.Issuer.{Issuer}
 use Rattle.reg_core.specs.Records.{Records}
 use Rattle.reg_ocsp.specs.Drafts.{Drafted, drafted_response}
-use Rattle.reg_ocsp.specs.Request.{Id, IsOcspRequest}
+use Rattle.reg_ocsp.specs.Request.{Id}
 use Rattle.reg_ocsp.specs.Response.{refusal_response}
 use Rattle.reg_ocsp.specs.declared.response.RefusalStatus.TheVariants as status
 use Rattle.reg_office_api.specs.CallSteps.{Signs}
-use Rattle.reg_office_api.specs.Drafts.{IsDraft}
+use Rattle.reg_office_api.specs.Drafts.{IsBy, IsDraft}
 use Rattle.reg_office_api.specs.Ocsp.{HasNoReading, IsOcspData, response_signed_by}
 use Rattle.reg_office_api.specs.Responses.{IsOcspResponse}
 use Rattle.reg_office_api.specs.Signatories.{Responder}
 use Rattle.reg_office_api.specs.declared.response.OcspResponse.{OcspResponse}
 use Rattle.reg_office_api.specs.declared.response.ResponseKind.{ResponseKind}
-use Rattle.reg_office_api.specs.declared.response.ResponseKind.TheVariants.{Signed, Malformed, TryLater, StoreFailure, SignerFailure}
+use Rattle.reg_office_api.specs.declared.response.ResponseKind.TheVariants.{Signed, SignerFailure}
 use Rattle.reg_io.specs.declared.begun.Begun.{Begun}
 use Rattle.reg_io.specs.declared.begun.Begun.TheVariants.{Ready, Unsigned}
 use Rattle.reg_office.specs.declared.ocsp_faults.ResponseFault.{ResponseFault}
@@ -28,7 +28,7 @@ IsBegun signs responder records now request (Unsigned draft) = IsDraft responder
 
 -- Whatever the store shows: the response is malformedRequest exactly where the bytes are no request, and internalError where the signer
 -- failed; nothing is left to be signed of bytes that are no request.
-abbrev pub RefusesRequest : {U : Type 0} → List ℕ → Begun OcspResponse U → Type 0
+abbrev pub RefusesRequest : List ℕ → Begun OcspResponse Drafted → Type 0
 RefusesRequest request (Ready response) =
     ((response.bytes.items ≡ refusal_response status.Malformed) ↔ HasNoReading request)
     × (response.kind ≡ SignerFailure → response.bytes.items ≡ refusal_response status.Internal)
@@ -60,33 +60,14 @@ IsMessage key records now ids echo (Err fault.Clock) = IsSome (first_of_all (clo
 IsMessage key records now ids echo (Err fault.Memory) = Unit {0}
 IsMessage key records now ids echo (Err fault.Store) = Unit {0}
 
--- a refusal before anything is signed, where internalError tells any failure of the store
-abbrev pub IsRefusal : Records → ℕ → List ℕ → ResponseKind → List ℕ → Type 0
-IsRefusal records now request Signed bytes = ⊥
-IsRefusal records now request Malformed bytes = HasNoReading request × (bytes ≡ refusal_response status.Malformed)
-IsRefusal records now request TryLater bytes =
-    (ids : List Id) × (nonce : Option (List ℕ)) × IsOcspRequest request ids nonce
-    × IsSome (first_of_all (clock_checks now records.last)) × (bytes ≡ refusal_response status.TryLater)
-IsRefusal records now request StoreFailure bytes =
-    (ids : List Id) × (nonce : Option (List ℕ)) × IsOcspRequest request ids nonce × (bytes ≡ refusal_response status.Internal)
-IsRefusal records now request SignerFailure bytes = ⊥
+-- a response of this kind and of these bytes
+abbrev pub IsReady : ResponseKind → List ℕ → Begun OcspResponse Drafted → Type 0
+IsReady kind bytes (Ready response) = (response.kind ≡ kind) × (response.bytes.items ≡ bytes)
+IsReady kind bytes (Unsigned draft) = ⊥
 
--- what the bytes of a request come to before anything is signed: a refusal, or the ResponseData
-abbrev pub IsUnsigned : {Z : Type 0} → List ℕ → Records → ℕ → List ℕ → Begun OcspResponse (Vec ℕ Z) → Type 0
-IsUnsigned key records now request (Ready response) = IsRefusal records now request response.kind response.bytes.items
-IsUnsigned key records now request (Unsigned message) =
-    (ids : List Id) × (nonce : Option (List ℕ)) × IsOcspRequest request ids nonce
-    × (first_of_all (clock_checks now records.last) ≡ None) × IsOcspData key records now ids nonce message.items
-
--- a signature can be had of it
-abbrev pub IsShortMessage : {Z : Type 0} → Begun OcspResponse (Vec ℕ Z) → Type 0
-IsShortMessage (Ready response) = Unit {0}
-IsShortMessage (Unsigned message) = length message.items ≤ 2 ^ 27
-
--- the response over this ResponseData: signed, or internalError where the signer failed
-abbrev pub IsResponseOver : Signs → Responder → List ℕ → ResponseKind → List ℕ → Type 0
-IsResponseOver signs responder message Signed bytes = response_signed_by signs responder message bytes
-IsResponseOver signs responder message Malformed bytes = ⊥
-IsResponseOver signs responder message TryLater bytes = ⊥
-IsResponseOver signs responder message StoreFailure bytes = ⊥
-IsResponseOver signs responder message SignerFailure bytes = bytes ≡ refusal_response status.Internal
+-- the response over this ResponseData: signed, or internalError where the signer failed; or what is left of it for who answers to sign
+abbrev pub IsResponseOver : Signs → Responder → List ℕ → Begun OcspResponse Drafted → Type 0
+IsResponseOver signs responder message (Ready response) =
+    ((response.kind ≡ Signed) × response_signed_by signs responder message response.bytes.items)
+    ⊎ IsReady SignerFailure (refusal_response status.Internal) (Ready response)
+IsResponseOver signs responder message (Unsigned draft) = (draft.message ≡ message) × IsBy responder draft

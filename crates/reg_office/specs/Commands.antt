@@ -11,6 +11,7 @@ use Rattle.reg_core.specs.declared.refusal.Fault.{Fault}
 use Rattle.reg_core.specs.declared.refusal.Fault.TheVariants.{Signer as SignerFailed}
 use Rattle.reg_crl.specs.Signing.{Identity}
 use Rattle.reg_crl.specs.declared.signer.Signer.{Ghosts as Signer}
+use Rattle.reg_office_api.specs.Signatories.{Signs}
 use Rattle.reg_store_tables.specs.Stays.{Changed}
 use Rattle.reg_office.specs.AfterStoppedCommand.{Does}
 use Rattle.reg_office.specs.Faults.{IsOfficeFault}
@@ -18,7 +19,7 @@ use Rattle.reg_office.specs.Stands.{Stands, CameTo}
 
 -- The command was run: records that stood came to the outcome, and those after it stand; a stop leaves the records before it or after
 -- it; who signs is the same, and a fault of the signer comes of a CRL at which it counted a failure.
-pub record IsCommandRun {C S : Type 0} (g : Ghosts C) (signs : Identity → List ℕ → List ℕ → Type 0) (identity : S → Identity) (failures : S → ℕ) (old new : Held C) (signer left : S) (now : ℕ) (command : Command) (outcome : Result Reply Fault) : Type 0 where
+pub record IsCommandRun {C S : Type 0} (g : Ghosts C) (signs : Signs) (identity : S → Identity) (failures : S → ℕ) (old new : Held C) (signer left : S) (now : ℕ) (command : Command) (outcome : Result Reply Fault) : Type 0 where
   pub step : (records : Records) → Stands g signs old (identity signer) records → HasCleanDisk (state g new) → CameTo g signs new (identity left) records now command outcome
   pub changed : Changed g old new (Does g signs old (identity signer) now command) outcome
   pub same_identity : identity left ≡ identity signer

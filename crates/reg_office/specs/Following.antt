@@ -10,6 +10,7 @@ use Rattle.reg_core.specs.declared.refusal.Fault.{Fault}
 use Rattle.reg_core.specs.Crls.{CertList}
 use Rattle.reg_crl.specs.Signing.{Identity, sealed_until, sha1_algorithm, signed_by}
 use Rattle.reg_crl.specs.declared.signer.Signer.{Ghosts as Signer}
+use Rattle.reg_office_api.specs.Signatories.{Signs}
 use Rattle.reg_core_laws.specs.Run.{Run}
 use Rattle.reg_office.specs.Stands.{SoundFor, Stands}
 
@@ -22,7 +23,7 @@ abbrev pub Sealed : {S : Type 0} → Signer S → ((CertList → List ℕ → Ty
 Sealed {S = S} signer Law = (it : S) (since : ℕ) → Law (sealed_until since signer.signs (signer.identity it))
 
 -- a run in which who signs signs each new CRL is one whose CRLs are sealed by the digest below a number that was reached before it
-abbrev pub RunsSince : (Identity → List ℕ → List ℕ → Type 0) → Identity → Type 0
+abbrev pub RunsSince : Signs → Identity → Type 0
 RunsSince signs identity =
     (records after : Records) (commands : List (ℕ × Command)) (outcomes : List (Result Reply Fault))
     → (sound : SoundFor signs identity records)
@@ -30,12 +31,12 @@ RunsSince signs identity =
     → Run (sealed_until sound.since signs identity) records commands outcomes after
 
 -- who signs so is the digest: under the AlgorithmIdentifier of SHA-1, and each signature is the SHA-1 of its message
-pub record IsSeal (signs : Identity → List ℕ → List ℕ → Type 0) (identity : Identity) : Type 0 where
+pub record IsSeal (signs : Signs) (identity : Identity) : Type 0 where
   pub algorithm : identity.algorithm ≡ sha1_algorithm
   pub seals : (message signature : List ℕ) → signs identity message signature → signature ≡ sha1 message
 
 -- records that stood for the digest stand for whoever signs next: the CRLs that are there were all sealed by the digest
-abbrev pub FollowsSeal : {C : Type 0} → Ghosts C → (Identity → List ℕ → List ℕ → Type 0) → Type 0
+abbrev pub FollowsSeal : {C : Type 0} → Ghosts C → Signs → Type 0
 FollowsSeal {C = C} g signs =
     (held : Held C) (seal identity : Identity) (records : Records)
     → IsSeal signs seal → Stands g signs held seal records → Stands g signs held identity records

@@ -1,5 +1,5 @@
 -- The records of an office that is opened again after a stop.
-use Rattle.std.specs.Prelude.{◌≡◌, ◌⊎◌, ℕ, List, [], ◌∷◌, ◌++◌, Result, Ok, IsTrue}
+use Rattle.std.specs.Prelude.{◌≡◌, ◌⊎◌, ℕ, List, Result, Ok, IsTrue}
 use Rattle.sqlite_trees.specs.declared.store.Store.{Ghosts}
 use Rattle.sqlite.specs.Held.{Held, state}
 use Rattle.sqlite.specs.State.{IsLive, Survives}
@@ -8,23 +8,23 @@ use Rattle.reg_core.specs.Records.{Records}
 use Rattle.reg_core.specs.declared.command.Command.{Command}
 use Rattle.reg_core.specs.declared.command.Reply.{Reply}
 use Rattle.reg_core.specs.declared.refusal.Fault.{Fault}
-use Rattle.reg_crl.specs.Signing.{Identity, signed_by}
+use Rattle.reg_crl.specs.Signing.{Identity}
+use Rattle.reg_office_api.specs.Signatories.{Signs}
 use Rattle.reg_der.specs.Issuers.{with_key_identifier}
-use Rattle.reg_core_laws.specs.Run.{Run}
 use Rattle.reg_store.specs.OpenedAgain.{IsOpenedAgain}
 use Rattle.reg_store_tables.specs.Kept.{ShowsKept}
 use Rattle.reg_store_tables.specs.Schema.{register_schema}
-use Rattle.reg_office.specs.AfterStoppedCommand.{AreRunByOne, Does, HaveNoReply}
+use Rattle.reg_office.specs.AfterStoppedCommand.{AreRunByOne, Does, PartlyRun}
 use Rattle.reg_office.specs.Stands.{Stands, CameTo}
 
 -- the command was accepted over the records, and those after it stand
-pub record StandsDone {C : Type 0} (g : Ghosts C) (signs : Identity → List ℕ → List ℕ → Type 0) (held : Held C) (identity : Identity) (records : Records) (now : ℕ) (command : Command) : Type 0 where
+pub record StandsDone {C : Type 0} (g : Ghosts C) (signs : Signs) (held : Held C) (identity : Identity) (records : Records) (now : ℕ) (command : Command) : Type 0 where
   pub answer : Reply
   pub came : CameTo g signs held identity records now command (Ok answer)
 
 -- the machine stops after a command, or in the middle of it, and the register is opened again: the records before the command stand, or those
 -- after its acceptance, with what is kept beside them; over any disk that may lose what was not synced
-abbrev pub OpensBeforeOrAfter : {C : Type 0} → Ghosts C → (Identity → List ℕ → List ℕ → Type 0) → Type 0
+abbrev pub OpensBeforeOrAfter : {C : Type 0} → Ghosts C → Signs → Type 0
 OpensBeforeOrAfter {C = C} g signs =
     (old new again : Held C) (identity : Identity) (records : Records) (now : ℕ) (command : Command)
     → Stands g signs old identity records → IsTrue (state g old).is_open → IsLive (state g old)
@@ -33,28 +33,14 @@ OpensBeforeOrAfter {C = C} g signs =
 
 -- ---- over a run
 
--- the first of these commands was accepted, and no more of them ran
-abbrev pub StandsNext : {C : Type 0} → Ghosts C → (Identity → List ℕ → List ℕ → Type 0) → Held C → Identity → Records → List (ℕ × Command) → Type 0
-StandsNext g signs held identity records [] = ⊥
-StandsNext g signs held identity records (timed ∷ commands) = StandsDone g signs held identity records timed.0 timed.1
-
--- the records after a prefix of the commands stand, with what is kept beside them: after those which came to the first of the outcomes, or
--- after these and the next, whose outcome is a fault that was told; no reply was given to any that is left
-pub record StandsPartlyRun {C : Type 0} (g : Ghosts C) (signs : Identity → List ℕ → List ℕ → Type 0) (held : Held C) (identity : Identity) (records : Records) (commands : List (ℕ × Command)) (outcomes : List (Result Reply Fault)) : Type 0 where
-  pub done : List (ℕ × Command)
-  pub left : List (ℕ × Command)
-  pub commands_are : commands ≡ done ++ left
-  pub came : List (Result Reply Fault)
-  pub others : List (Result Reply Fault)
-  pub outcomes_are : outcomes ≡ came ++ others
-  pub no_reply : HaveNoReply others
-  pub after : Records
-  pub run : Run (signed_by signs identity) records done came after
-  pub stands : Stands g signs held identity after ⊎ StandsNext g signs held identity after left
+-- the records after a prefix of the commands stand, with what is kept beside them
+abbrev pub StandsPartlyRun : {C : Type 0} → Ghosts C → Signs → Held C → Identity → Records → List (ℕ × Command) → List (Result Reply Fault) → Type 0
+StandsPartlyRun g signs held identity records commands outcomes =
+    PartlyRun signs identity (Stands g signs held identity) (StandsDone g signs held identity) records commands outcomes
 
 -- the machine stops after such a run, or in the middle of it, and the register is opened again: the records after a prefix of the commands
 -- stand, which has at least those whose replies were given; over any disk that may lose what was not synced
-abbrev pub OpensAfterAPrefix : {C : Type 0} → Ghosts C → (Identity → List ℕ → List ℕ → Type 0) → Type 0
+abbrev pub OpensAfterAPrefix : {C : Type 0} → Ghosts C → Signs → Type 0
 OpensAfterAPrefix {C = C} g signs =
     (old new again : Held C) (identity : Identity) (records : Records) (commands : List (ℕ × Command)) (outcomes : List (Result Reply Fault))
     → Stands g signs old identity records → IsTrue (state g old).is_open → IsLive (state g old)
@@ -64,14 +50,14 @@ OpensAfterAPrefix {C = C} g signs =
 -- ---- over any calls
 
 -- the records stand after one change more, to which no acceptance was told: a command, or another schedule or key identifier
-abbrev pub StandsOneMore : {C : Type 0} → Ghosts C → (Identity → List ℕ → List ℕ → Type 0) → Held C → Identity → Records → Type 0
+abbrev pub StandsOneMore : {C : Type 0} → Ghosts C → Signs → Held C → Identity → Records → Type 0
 StandsOneMore g signs held identity records =
     ((now : ℕ) × (command : Command) × StandsDone g signs held identity records now command)
     ⊎ (((steps : List (ℕ × ℕ)) × ShowsKept g held (with_schedule records steps))
     ⊎ ((octets : List ℕ) × ShowsKept g held (with_key_identifier records octets)))
 
 -- the machine stops, and a register is opened again from what the disk left: these records stand, or those after one change more
-abbrev pub OpensTold : {C : Type 0} → Ghosts C → (Identity → List ℕ → List ℕ → Type 0) → Held C → Identity → Records → Type 0
+abbrev pub OpensTold : {C : Type 0} → Ghosts C → Signs → Held C → Identity → Records → Type 0
 OpensTold {C = C} g signs held identity records =
     (again : Held C) → IsOpenedAgain g held again → (state g again).committed.schema ≡ register_schema
     → ∥ Stands g signs again identity records ⊎ StandsOneMore g signs again identity records ∥₁

@@ -30,14 +30,14 @@ use Rattle.reg_ocsp.specs.Response.{refusal_response}
 use Rattle.reg_ocsp.specs.declared.response.RefusalStatus.TheVariants.{Malformed, Internal}
 use Rattle.reg_office_api.specs.Ocsp.{HasNoReading, IsOcspReply, IsResponse}
 use Rattle.reg_office_api.specs.Answered.{IsAnswered}
-use Rattle.reg_office_api.specs.Signatories.{Responder}
+use Rattle.reg_office_api.specs.Signatories.{Responder, Signs}
 use Rattle.reg_office.specs.Stands.{SoundFor}
 
 -- A RUN, AND THE REVOCATIONS THAT IT ACCEPTED
 
 -- a run: from records that are sound for who signs, commands, each at its moment, came to these outcomes, one for each and in order, and
 -- led to the records after them; each new CRL was signed by who signs
-pub record SoundRun (signs : Identity → List ℕ → List ℕ → Type 0) (identity : Identity) : Type 0 where
+pub record SoundRun (signs : Signs) (identity : Identity) : Type 0 where
   pub start : Records
   pub commands : List (ℕ × Command)
   pub outcomes : List (Result Reply Fault)
@@ -47,11 +47,7 @@ pub record SoundRun (signs : Identity → List ℕ → List ℕ → Type 0) (ide
 
 -- a revocation that a run accepted: at some place of the run the command to revoke by the request of this id, handed in
 -- at this moment, was answered `Revoked`
-pub record AcceptedRevocation
-    {signs : Identity → List ℕ → List ℕ → Type 0}
-    {identity : Identity}
-    (run : SoundRun signs identity)
-    : Type 0 where
+pub record AcceptedRevocation {signs : Signs} {identity : Identity} (run : SoundRun signs identity) : Type 0 where
   pub id : ℕ
   pub at : ℕ
   pub is_late : Bool
@@ -79,36 +75,17 @@ pub record IsReached (records : Records) (moment : ℕ) : Type 0 where
 -- WHAT OCSP TELLS
 
 -- a response in which each CertID that names the issuer's certificate of the serial number is told so (RFC 6960 4.2.1)
-pub record ResponseTells
-    (signs : Identity → List ℕ → List ℕ → Type 0)
-    (responder : Responder)
-    (records : Records)
-    (moment serial : ℕ)
-    (IsSo : Status → Type 0)
-    (asked reply : List ℕ)
-    : Type 0 where
+pub record ResponseTells (signs : Signs) (responder : Responder) (records : Records) (moment serial : ℕ)
+    (IsSo : Status → Type 0) (asked reply : List ℕ) : Type 0 where
   pub ids : List Id
   pub nonce : Option (List ℕ)
   pub read : IsOcspRequest asked ids nonce
   pub response : IsResponse signs responder records moment ids nonce reply
-  pub told :
-      AllZip
-      (λ id answer. IsMatch records.issuer id serial → IsSo answer.status)
-      ids
-      response.of_records.answers
+  pub told : AllZip (λ id answer. IsMatch records.issuer id serial → IsSo answer.status) ids response.of_records.answers
 
 -- what bytes are replied: malformedRequest, to bytes that are no request; or internalError (RFC 6960 2.3); or such a
 -- response, signed
-abbrev pub OcspTells
-    : (Identity → List ℕ → List ℕ → Type 0)
-    → Responder
-    → Records
-    → ℕ
-    → ℕ
-    → (Status → Type 0)
-    → List ℕ
-    → List ℕ
-    → Type 0
+abbrev pub OcspTells : Signs → Responder → Records → ℕ → ℕ → (Status → Type 0) → List ℕ → List ℕ → Type 0
 OcspTells signs responder records moment serial IsSo asked reply =
     (HasNoReading asked × (reply ≡ refusal_response Malformed))
     ⊎ (reply ≡ refusal_response Internal)
@@ -136,7 +113,7 @@ ListedThroughFirstPast records entry not_after (crl ∷ rest) =
     (ListedThroughFirstPast records entry not_after rest)
 
 -- each recorded CRL is signed over its entries, by the one who signs, or sealed by the digest where its number is below this one
-abbrev pub AreSignedSo : ℕ → (Identity → List ℕ → List ℕ → Type 0) → Identity → Records → Type 0
+abbrev pub AreSignedSo : ℕ → Signs → Identity → Records → Type 0
 AreSignedSo since signs identity records =
     AllByRecursion (λ crl. sealed_until since signs identity (signed_in records crl) crl.bytes) records.crls
 
@@ -152,12 +129,8 @@ abbrev pub entry_at : ℕ → RequestRow → Entry
 entry_at at request = record { serial = request.serial; at = at; reason = reason_of request.ground }
 
 -- from the acceptance of a revocation on, it is shown everywhere
-pub record IsShownEverywhere
-    {signs : Identity → List ℕ → List ℕ → Type 0}
-    {identity : Identity}
-    {run : SoundRun signs identity}
-    (its : AcceptedRevocation run)
-    : Type 0 where
+pub record IsShownEverywhere {signs : Signs} {identity : Identity} {run : SoundRun signs identity}
+    (its : AcceptedRevocation run) : Type 0 where
   -- its request was recorded, of the serial number of a registered certificate, which had not ended
   pub request : RequestRow
   pub requested : request_in its.before.requests its.id ≡ Some request
@@ -195,20 +168,14 @@ pub record IsShownEverywhere
 -- NOTHING ELSE IS SHOWN AS REVOKED
 
 -- a serial number was revoked: it stood so when the run began, or the run accepted a revocation by a request of it
-abbrev pub WasRevoked
-    : {signs : Identity → List ℕ → List ℕ → Type 0} {identity : Identity} → SoundRun signs identity → ℕ → Type 0
+abbrev pub WasRevoked : {signs : Signs} {identity : Identity} → SoundRun signs identity → ℕ → Type 0
 WasRevoked run serial =
     IsSome (revocation_in run.start.revocations serial)
     ⊎ ((its : AcceptedRevocation run)
     × IsSomeAnd (request_in its.before.requests its.id) (λ request. request.serial ≡ serial))
 
 -- a serial number is nowhere shown as revoked
-pub record IsNowhereShown
-    {signs : Identity → List ℕ → List ℕ → Type 0}
-    {identity : Identity}
-    (run : SoundRun signs identity)
-    (serial : ℕ)
-    : Type 0 where
+pub record IsNowhereShown {signs : Signs} {identity : Identity} (run : SoundRun signs identity) (serial : ℕ) : Type 0 where
   -- its status is never revoked
   pub by_status : (moment : ℕ) → IsFalse (is_revoked (status run.after serial moment))
   -- whoever asks for its status is told another

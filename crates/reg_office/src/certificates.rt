@@ -9,9 +9,6 @@ use reg_store::{Table, Tables};
 use sqlite::Alter;
 
 /// Decides to register a certificate.
-///
-/// # Errors
-/// The refusals of [`decide_register`]; `Memory`, `Store`.
 pub(crate) fn register<C: Alter>(
     tables: &mut Tables<C>,
     now: Moment,

@@ -25,7 +25,6 @@ use reg_store::{DatabaseFault, Store, Table, Tables};
 use sqlite::Alter;
 use std::alloc::Global;
 
-/// The DER of a CRL, signed.
 fn signed_crl<S: Signer>(
     alloc: Global,
     signer: &mut S,
@@ -62,10 +61,7 @@ fn signed_crl<S: Signer>(
     Ok(crl_whole(alloc, &tbs, signer.algorithm(), &signature)?)
 }
 
-/// A signature of what is signed in a CRL. Who issues one waits for what signs, and so it is asked, also where it would be left alone.
-///
-/// # Errors
-/// `Device` where the signer counted a failure; `Memory`.
+// Whoever issues a CRL waits for its signature, so the signer is asked during its back-off, too.
 fn signature_of<S: Signer>(
     alloc: Global,
     signer: &mut S,
@@ -81,9 +77,6 @@ fn signature_of<S: Signer>(
 }
 
 /// The row of the next CRL, and its nextUpdate.
-///
-/// # Errors
-/// The refusals of [`decide_crl`]; `Memory`, `Store`.
 fn next_row<C: Alter>(tables: &mut Tables<C>, now: Moment) -> Result<(CrlRow, Moment), Fault>
     requires { now < clock_end }
     ensures { LooksAndDecides C.Store tables.old tables.new (λ records. refusal records now IssueCrl)
@@ -96,7 +89,6 @@ fn next_row<C: Alter>(tables: &mut Tables<C>, now: Moment) -> Result<(CrlRow, Mo
     Ok((row, next_update))
 }
 
-/// The issuer, and the entries of the CRL with a number.
 fn listed<C: Alter>(
     tables: &mut Tables<C>,
     number: u64,
@@ -112,9 +104,6 @@ fn listed<C: Alter>(
 }
 
 /// The DER of the CRL of a row, signed, and how many entries it has.
-///
-/// # Errors
-/// `Memory`, `Store`; `Signer` where the signer counted a failure.
 fn made_crl<C: Alter, S: Signer>(
     tables: &mut Tables<C>,
     signer: &mut S,
@@ -137,10 +126,7 @@ fn made_crl<C: Alter, S: Signer>(
     Ok((der, listed))
 }
 
-/// What would be signed in the next CRL at a moment. Nothing is signed, and no table changes.
-///
-/// # Errors
-/// As of [`issue_crl`], up to where it has that signed.
+/// What would be signed in the next CRL at a moment.
 pub(crate) fn next_message<C: Alter>(
     tables: &mut Tables<C>,
     alloc: Global,
@@ -165,10 +151,6 @@ pub(crate) fn next_message<C: Alter>(
 }
 
 /// Issues a CRL. It is made and signed before the store changes.
-///
-/// # Errors
-/// The refusals of [`decide_crl`]; `Memory`, `Store`; `Signer` where the signer counted a failure. Nothing has changed
-/// then.
 pub(crate) fn issue_crl<C: Alter, S: Signer>(
     store: &mut Store<C>,
     signer: &mut S,
@@ -185,26 +167,8 @@ pub(crate) fn issue_crl<C: Alter, S: Signer>(
     Ok(Reply::Crl { number, entries })
 }
 
-/// The bytes of the CRL with a number, or of the latest.
-///
-/// # Errors
-/// `NoCrl` where there is none; `Memory`, `Store`.
-pub(crate) fn bytes_of<C: Alter>(
-    tables: &mut Tables<C>,
-    number: Option<u64>,
-) -> Result<Vec<u8>, Fault>
-    ensures looks { LooksUp C.Store tables.old tables.new (λ records.
-        IsGiven records number (items_of result)) }
-    ensures faults { IfErr result IsTableFault }
-{
-    match number {
-        Some(number) => numbered(tables, number),
-        None => latest(tables),
-    }
-}
-
-/// The bytes of the CRL with a number.
-fn numbered<C: Alter>(tables: &mut Tables<C>, number: u64) -> Result<Vec<u8>, Fault>
+/// The bytes of the CRL with a number; `NoCrl` where there is none.
+pub(crate) fn numbered<C: Alter>(tables: &mut Tables<C>, number: u64) -> Result<Vec<u8>, Fault>
     ensures looks { LooksUp C.Store tables.old tables.new (λ records.
         IsGiven records (Some number) (items_of result)) }
     ensures faults { IfErr result IsTableFault }
@@ -215,8 +179,8 @@ fn numbered<C: Alter>(tables: &mut Tables<C>, number: u64) -> Result<Vec<u8>, Fa
     }
 }
 
-/// The bytes of the CRL that was issued last.
-fn latest<C: Alter>(tables: &mut Tables<C>) -> Result<Vec<u8>, Fault>
+/// The bytes of the CRL that was issued last; `NoCrl` where there is none.
+pub(crate) fn latest<C: Alter>(tables: &mut Tables<C>) -> Result<Vec<u8>, Fault>
     ensures looks { LooksUp C.Store tables.old tables.new (λ records.
         IsGiven records None (items_of result)) }
     ensures faults { IfErr result IsTableFault }

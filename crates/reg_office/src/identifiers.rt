@@ -18,7 +18,6 @@ use reg_store::{DatabaseFault, Store, Tables};
 use sqlite::Alter;
 use std::alloc::Global;
 
-/// The number of the next CRL.
 fn next_crl_number<C: Alter>(tables: &mut Tables<C>) -> Result<u64, DatabaseFault>
     ensures found { (records : Records) → Shows C.Store tables.old records
         → HasCleanDisk (state C.Store tables.new)
@@ -39,7 +38,6 @@ fn number_behind(latest: Option<CrlRow>) -> Option<u64>
     }
 }
 
-/// The issuer with a key identifier more.
 fn identified<C: Alter>(
     tables: &mut Tables<C>,
     alloc: Global,
@@ -62,9 +60,6 @@ fn identified<C: Alter>(
 }
 
 /// Gives the issuer a key identifier of its own, which its CRLs have from the next one on.
-///
-/// # Errors
-/// `Memory`, `Store`. Nothing has changed then.
 pub(crate) fn set_key_identifier<C: Alter>(
     store: &mut Store<C>,
     alloc: Global,

@@ -19,7 +19,6 @@ use sqlite::Alter;
 
 // ---- records that are there; `Store` where one is not, which no register has
 
-/// The subscriber with an id.
 pub(crate) fn subscriber_at<C: Alter>(
     tables: &mut Tables<C>,
     id: u64,
@@ -31,7 +30,6 @@ pub(crate) fn subscriber_at<C: Alter>(
     subscriber.ok_or(DatabaseFault::Store)
 }
 
-/// The order with an id.
 pub(crate) fn order_at<C: Alter>(tables: &mut Tables<C>, id: u64) -> Result<OrderRow, DatabaseFault>
     ensures { Learns C.Store tables.old tables.new result (λ records row.
         Some row ≡ order_in records.orders id) }
@@ -40,7 +38,6 @@ pub(crate) fn order_at<C: Alter>(tables: &mut Tables<C>, id: u64) -> Result<Orde
     order.ok_or(DatabaseFault::Store)
 }
 
-/// The certificate with a serial number.
 fn certificate_at<C: Alter>(
     tables: &mut Tables<C>,
     serial: Serial,
@@ -52,7 +49,6 @@ fn certificate_at<C: Alter>(
     certificate.ok_or(DatabaseFault::Store)
 }
 
-/// The request with an id.
 pub(crate) fn request_at<C: Alter>(
     tables: &mut Tables<C>,
     id: u64,
@@ -64,7 +60,7 @@ pub(crate) fn request_at<C: Alter>(
     request.ok_or(DatabaseFault::Store)
 }
 
-/// Whose order it is that has an id.
+/// The subscriber whose order has this id.
 fn subscriber_of<C: Alter>(tables: &mut Tables<C>, id: u64) -> Result<SubscriberRow, DatabaseFault>
     ensures { Learns C.Store tables.old tables.new result (λ records subscriber.
         Some subscriber ≡ subscriber_of_order records id) }
@@ -75,7 +71,6 @@ fn subscriber_of<C: Alter>(tables: &mut Tables<C>, id: u64) -> Result<Subscriber
 
 // ---- certificates
 
-/// The CRLs that list a serial number, by its revocation.
 fn listing_of<C: Alter>(
     tables: &mut Tables<C>,
     serial: Serial,
@@ -91,7 +86,6 @@ fn listing_of<C: Alter>(
     }
 }
 
-/// What is told of a certificate, from what was looked up for it.
 fn told_of(
     now: Moment,
     certificate: &CertRow,
@@ -115,7 +109,6 @@ fn told_of(
     }
 }
 
-/// What is told of a certificate.
 fn certificate_line<C: Alter>(
     tables: &mut Tables<C>,
     now: Moment,
@@ -131,9 +124,6 @@ fn certificate_line<C: Alter>(
 }
 
 /// The row of a certificate in the list of all.
-///
-/// # Errors
-/// `Memory`; `Store` where the database fails, or where it has no order or no subscriber.
 pub(crate) fn certificate_row<C: Alter>(
     tables: &mut Tables<C>,
     now: Moment,
@@ -147,9 +137,6 @@ pub(crate) fn certificate_row<C: Alter>(
 }
 
 /// The row of a certificate in the list of those that are good and end before a moment.
-///
-/// # Errors
-/// As of [`certificate_row`].
 pub(crate) fn ending_row<C: Alter>(
     tables: &mut Tables<C>,
     now: Moment,
@@ -166,14 +153,12 @@ pub(crate) fn ending_row<C: Alter>(
     }
 }
 
-/// Whether a certificate ends before a moment.
 fn ends_before(certificate: &CertRow, moment: Moment) -> bool
     ensures { result ≡ nat_lt certificate.now.not_after moment }
 {
     certificate.not_after < moment
 }
 
-/// The row of a certificate, where it is good.
 fn good_row<C: Alter>(
     tables: &mut Tables<C>,
     now: Moment,
@@ -187,7 +172,6 @@ fn good_row<C: Alter>(
     Ok(row_where_good(line))
 }
 
-/// The row of what is told of a certificate, where it is good.
 fn row_where_good(line: CertificateLine) -> Option<Row>
     ensures { result ≡ cond (is_good line.status) (Some (kind.Certificate line)) None }
 {
@@ -198,9 +182,6 @@ fn row_where_good(line: CertificateLine) -> Option<Row>
 }
 
 /// The row of a revocation in the list of what is revoked: that of its certificate.
-///
-/// # Errors
-/// As of [`certificate_row`]; `Store` also where it has no certificate.
 pub(crate) fn revoked_row<C: Alter>(
     tables: &mut Tables<C>,
     now: Moment,
@@ -216,9 +197,6 @@ pub(crate) fn revoked_row<C: Alter>(
 // ---- requests
 
 /// The row of a request in the list of those that are neither declined nor settled.
-///
-/// # Errors
-/// `Memory`; `Store` where the database fails, or where it has no certificate, no order or no subscriber.
 pub(crate) fn open_row<C: Alter>(
     tables: &mut Tables<C>,
     now: Moment,
@@ -239,14 +217,12 @@ pub(crate) fn open_row<C: Alter>(
     }
 }
 
-/// Whether a certificate is good at a moment, by its revocation.
 fn is_good(now: Moment, certificate: &CertRow, revocation: Option<RevocationRow>) -> bool
     ensures { result ≡ is_good (status_by now (Some certificate.now) revocation) }
 {
     matches!(status_of(now, Some(*certificate), revocation), Status::Good)
 }
 
-/// The row of a request, by its certificate.
 fn request_row<C: Alter>(
     tables: &mut Tables<C>,
     request: RequestRow,
@@ -266,8 +242,7 @@ fn request_row<C: Alter>(
     })))
 }
 
-/// The moment up to which a request is to be decided. `Store` where it was received past the clock's end, as no request of a
-/// register was.
+/// The deadline of a request. `Store` where it was received past the clock's end, as no request of a register was.
 fn due_of(request: &RequestRow) -> Result<Moment, DatabaseFault>
     ensures due { IfOk result (λ due. due ≡ deadline request.now) }
 {
@@ -278,9 +253,6 @@ fn due_of(request: &RequestRow) -> Result<Moment, DatabaseFault>
 }
 
 /// The row of a request in the list of those that are open and whose deadline is past.
-///
-/// # Errors
-/// As of [`open_row`].
 pub(crate) fn overdue_row<C: Alter>(
     tables: &mut Tables<C>,
     now: Moment,
@@ -297,7 +269,6 @@ pub(crate) fn overdue_row<C: Alter>(
     }
 }
 
-/// Whether a deadline is past.
 fn is_past(due: Moment, now: Moment) -> bool
     ensures { result ≡ nat_lt due now }
 {
@@ -306,10 +277,6 @@ fn is_past(due: Moment, now: Moment) -> bool
 
 // ---- orders
 
-/// The row of an order.
-///
-/// # Errors
-/// `Memory`; `Store` where the database fails, or where it has no subscriber.
 pub(crate) fn order_row<C: Alter>(
     tables: &mut Tables<C>,
     order: OrderRow,
@@ -326,7 +293,6 @@ pub(crate) fn order_row<C: Alter>(
     })))
 }
 
-/// The serial number of a certificate, where there is one.
 fn serial_in(certificate: Option<CertRow>) -> Option<Serial>
     ensures { result ≡ option_map (λ it. it.serial) certificate }
 {

@@ -6,9 +6,8 @@ ghost use Rattle.reg_ocsp.specs.Response.{refusal_response};
 ghost use Rattle.reg_ocsp.specs.Views.{ids_seen};
 ghost use Rattle.reg_ocsp.specs.declared.response.RefusalStatus.TheVariants as refused;
 ghost use Rattle.reg_office_api.specs.Drafts.{IsSignerFailure};
-ghost use Rattle.reg_office_api.specs.declared.response.ResponseKind.TheVariants as kind;
-ghost use Rattle.reg_office.specs.Answering.{AnswerFailed, SignerHasFailed, SameSignatory, answering, responder_named};
-ghost use Rattle.reg_office.specs.Beginning.{IsBegun, IsMessage, IsResponding, IsResponseOver, IsShortMessage, IsSignedBy, IsUnsigned, RefusesRequest, key_in};
+ghost use Rattle.reg_office.specs.Answering.{AnswerFailed, SameSignatory, SignerHasFailed, answering, failures_of, responder_named};
+ghost use Rattle.reg_office.specs.Beginning.{IsBegun, IsMessage, IsReady, IsResponding, IsResponseOver, IsSignedBy, RefusesRequest, key_in};
 ghost use Rattle.reg_store_tables.specs.LookUps.{Learns, LooksUp};
 
 use crate::ocsp_faults::ResponseFault;
@@ -29,9 +28,6 @@ use std::alloc::Global;
 
 /// The response (RFC 6960 4.2.1) to the bytes of a request at a moment, or what is left to be signed of it where its signer has a key. No
 /// table changes.
-///
-/// # Errors
-/// `Memory`, the only one.
 pub(crate) fn begin_ocsp<C: Alter, S: Signer>(
     alloc: Global,
     tables: &mut Tables<C>,
@@ -46,6 +42,8 @@ pub(crate) fn begin_ocsp<C: Alter, S: Signer>(
     ensures same { SameSignatory S.Signer signer.old responder.old signer.new responder.new }
     ensures counts { IfOk result (λ begun.
         IsSignerFailure begun ↔ AnswerFailed S.Signer signer.old responder.old signer.new responder.new) }
+    ensures never_falls { failures_of S.failure_count (S.failure_count signer.old) responder.old
+        ≤ failures_of S.failure_count (S.failure_count signer.new) responder.new }
 {
     match responder {
         Responder::Issuer(certificate) => {
@@ -58,9 +56,6 @@ pub(crate) fn begin_ocsp<C: Alter, S: Signer>(
 }
 
 /// The bytes of the response of which this was left to be signed, by the signer of OCSP responses; internalError where the signer fails.
-///
-/// # Errors
-/// `Memory`, the only one.
 pub(crate) fn sign_draft<S: Signer>(
     alloc: Global,
     signer: &mut S,
@@ -80,7 +75,7 @@ pub(crate) fn sign_draft<S: Signer>(
     draft.response(alloc, slice_of(&signature))
 }
 
-/// The response to a request by one who answers, or what is left to be signed of it.
+/// The same by one who answers.
 fn begin<C: Alter, S: Signer>(
     alloc: Global,
     tables: &mut Tables<C>,
@@ -94,61 +89,38 @@ fn begin<C: Alter, S: Signer>(
         IsBegun S.signs (responder_named (S.identity signer.old) naming.entry) records now request.now) }
     ensures refuses { IfOk result (RefusesRequest request.now) }
     ensures same_identity { S.identity signer.new ≡ S.identity signer.old }
-    ensures counts { IfOk result (λ begun. IsSignerFailure begun ↔ SignerHasFailed S.Signer signer.old signer.new) }
-{
-    match begin_unsigned(alloc, tables, naming.own_key, now, request) {
-        Ok(Begun::Unsigned(message)) => match drafted(alloc, signer, naming, &message)? {
-            Some(draft) => Ok(Begun::Unsigned(draft)),
-            None => Ok(Begun::Ready(signed(alloc, signer, naming, &message)?)),
-        },
-        Ok(Begun::Ready(response)) => Ok(Begun::Ready(response)),
-        Err(memory) => Err(memory),
-    }
-}
-
-/// A refusal of a request, or else the ResponseData, with the key of its own by which the responder is named, where it has one.
-fn begin_unsigned<C: Alter>(
-    alloc: Global,
-    tables: &mut Tables<C>,
-    own_key: Option<&[u8]>,
-    now: Moment,
-    request: &[u8],
-) -> Result<Begun<OcspResponse, Vec<u8>>, Memory>
-    ensures looks { Learns C.Store tables.old tables.new result (λ records.
-        IsUnsigned (key_in records (option_copied own_key.entry)) records now request.now) }
-    ensures refuses { IfOk result (RefusesRequest request.now) }
-    ensures unasked { IfOk result (λ begun. ¬ (IsSignerFailure begun)) }
-    ensures short { IfOk result IsShortMessage }
+    ensures counts { IfOk result (λ begun.
+        IsSignerFailure begun ↔ SignerHasFailed S.Signer signer.old signer.new) }
+    ensures never_falls { S.failure_count signer.old ≤ S.failure_count signer.new }
 {
     let asked = match read_request(alloc, request) {
         Ok(asked) => asked,
         Err(AskFault::Malformed) => {
-            let response = refused(alloc, RefusalStatus::Malformed, ResponseKind::Malformed)?;
-            return Ok(Begun::Ready(response));
+            return refused(alloc, RefusalStatus::Malformed, ResponseKind::Malformed);
         }
         Err(AskFault::Memory) => return Err(Memory),
     };
-    match ocsp_data(alloc, tables, own_key, now, &asked) {
-        Ok(message) => Ok(Begun::Unsigned(message)),
+    match ocsp_data(alloc, tables, naming.own_key, now, &asked) {
+        Ok(message) => respond(alloc, signer, naming, &message),
         Err(ResponseFault::Clock) => {
-            let late = refused(alloc, RefusalStatus::TryLater, ResponseKind::TryLater)?;
-            Ok(Begun::Ready(late))
+            refused(alloc, RefusalStatus::TryLater, ResponseKind::TryLater)
         }
         Err(ResponseFault::Store) => {
-            let failure = refused(alloc, RefusalStatus::Internal, ResponseKind::StoreFailure)?;
-            Ok(Begun::Ready(failure))
+            refused(alloc, RefusalStatus::Internal, ResponseKind::StoreFailure)
         }
         Err(ResponseFault::Memory) => Err(Memory),
     }
 }
 
-/// The response that refuses a request.
-fn refused(alloc: Global, status: RefusalStatus, kind: ResponseKind) -> Result<OcspResponse, Memory>
-    ensures { IfOk result (λ response.
-        (response.kind ≡ kind) × (response.bytes.items ≡ refusal_response status)) }
+fn refused(
+    alloc: Global,
+    status: RefusalStatus,
+    kind: ResponseKind,
+) -> Result<Begun<OcspResponse, Draft>, Memory>
+    ensures { IfOk result (IsReady kind (refusal_response status)) }
 {
     let bytes = Vec::from_slice(alloc, &refusal(status)).map_err(|_| Memory)?;
-    Ok(OcspResponse { bytes, kind })
+    Ok(Begun::Ready(OcspResponse { bytes, kind }))
 }
 
 /// The ResponseData to what a request asks, by a key of the responder's own, or else by the issuer's.
@@ -171,7 +143,6 @@ fn ocsp_data<C: Alter>(
     Ok(response_data_by(alloc, key, now, next, &answers, asked.nonce)?)
 }
 
-/// The key by which the responder is named: its own, or the issuer's.
 fn key_of<'a>(own: Option<&'a [u8]>, issuer: &'a Issuer) -> &'a [u8]
     ensures { result.now ≡ unwrap_or (option_copied own.entry) issuer.now.key }
 {
@@ -193,30 +164,32 @@ fn responding<C: Alter>(
     Ok((issuer, now.plus(life)))
 }
 
-/// The whole response, signed, with a certificate of the responder, where there is one; internalError where its signer fails.
-fn signed<S: Signer>(
+/// The response over a ResponseData; or what is left to be signed of it, where its signer has a key that others can ask.
+fn respond<S: Signer>(
     alloc: Global,
     signer: &mut S,
     naming: Naming<'_>,
     message: &[u8],
-) -> Result<OcspResponse, Memory>
+) -> Result<Begun<OcspResponse, Draft>, Memory>
     requires short { length message.now ≤ 2 ^ 27 }
     requires short_certificate { IfSome (option_copied naming.certificate) (λ bytes. length bytes ≤ 65536) }
-    ensures signed { IfOk result (λ response.
-        IsResponseOver S.signs (responder_named (S.identity signer.old) naming.entry) message.now
-        response.kind response.bytes.items) }
+    ensures responds { IfOk result
+        (IsResponseOver S.signs (responder_named (S.identity signer.old) naming.entry) message.now) }
     ensures same_identity { S.identity signer.new ≡ S.identity signer.old }
-    ensures counts { IfOk result (λ response.
-        (response.kind ≡ kind.SignerFailure) ↔ SignerHasFailed S.Signer signer.old signer.new) }
+    ensures counts { IfOk result (λ begun.
+        IsSignerFailure begun ↔ SignerHasFailed S.Signer signer.old signer.new) }
+    ensures never_falls { S.failure_count signer.old ≤ S.failure_count signer.new }
 {
+    if let Some(key) = signer.public_key() {
+        let draft = Draft::of(alloc, message, signer.algorithm(), key, naming.certificate)?;
+        return Ok(Begun::Unsigned(draft));
+    }
     match signature_by(alloc, signer, message)? {
         Some(signature) => {
             let algorithm = signer.algorithm();
             let bytes = basic_with(alloc, message, algorithm, &signature, naming.certificate)?;
-            Ok(OcspResponse {
-                bytes,
-                kind: ResponseKind::Signed,
-            })
+            let kind = ResponseKind::Signed;
+            Ok(Begun::Ready(OcspResponse { bytes, kind }))
         }
         None => refused(alloc, RefusalStatus::Internal, ResponseKind::SignerFailure),
     }
@@ -233,38 +206,11 @@ fn signature_by<S: Signer>(
     ensures short { IfOk result (λ it. IfSome it (λ signature. length signature.items ≤ 65536)) }
     ensures same_identity { S.identity signer.new ≡ S.identity signer.old }
     ensures counts { IfOk result (λ it. (it ≡ None) ↔ SignerHasFailed S.Signer signer.old signer.new) }
+    ensures never_falls { S.failure_count signer.old ≤ S.failure_count signer.new }
 {
     match signer.sign(alloc, message) {
         Ok(signature) => Ok(Some(signature)),
         Err(SignFault::Device) => Ok(None),
         Err(SignFault::Memory) => Err(Memory),
-    }
-}
-
-/// What is left to be signed of a response, where its signer has a key that others can have asked.
-fn drafted<S: Signer>(
-    alloc: Global,
-    signer: &S,
-    naming: Naming<'_>,
-    message: &[u8],
-) -> Result<Option<Draft>, Memory>
-    requires short { length message.now ≤ 2 ^ 27 }
-    requires short_certificate { IfSome (option_copied naming.certificate) (λ bytes. length bytes ≤ 65536) }
-    ensures { IfOk result (λ left. IfSome left (λ draft. draft ≡ record {
-      message = message.now;
-      algorithm = (S.identity signer.now).algorithm;
-      key = (S.identity signer.now).public_key;
-      certificate = option_copied naming.entry.certificate;
-    })) }
-{
-    match signer.public_key() {
-        Some(key) => Ok(Some(Draft::of(
-            alloc,
-            message,
-            signer.algorithm(),
-            key,
-            naming.certificate,
-        )?)),
-        None => Ok(None),
     }
 }

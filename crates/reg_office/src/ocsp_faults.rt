@@ -10,11 +10,8 @@ use std::alloc::AllocError;
 /// Why a request that was read gets no response.
 #[derive(Clone, Copy, PartialEq, Eq)]
 pub(crate) enum ResponseFault {
-    /// The clock refuses the moment.
     Clock,
-    /// Memory could not be had.
     Memory,
-    /// The store failed, or holds what no register writes.
     Store,
 }
 

@@ -3,8 +3,8 @@
 ghost use Rattle.std.specs.Prelude.{◌≡◌, None};
 ghost use Rattle.reg_office.specs.declared.responder.Responder.TheVariants.{Issuer};
 
-use crate::commands::run_command;
-use crate::crls::{bytes_of, next_message};
+use crate::commands::decide;
+use crate::crls::{issue_crl, latest, next_message, numbered};
 use crate::identifiers::set_key_identifier;
 use crate::ocsp_answer::{begin_ocsp, sign_draft};
 use crate::pages::page;
@@ -81,16 +81,15 @@ impl<C: Alter, S: Signer> reg_office_api::Office for Office<C, S> {
     ghost use Rattle.reg_core.specs.Records.{Records};
     ghost use Rattle.reg_core.specs.declared.refusal.Fault.TheVariants.{Refused, Signer as SignerFailed};
     ghost use Rattle.reg_core.specs.declared.refusal.Refusal.TheVariants.{ClockEnd};
-    ghost use Rattle.reg_core_lists.specs.Pages.{IsPagedSoundly, Pages};
+    ghost use Rattle.reg_core_lists.specs.Pages.{IsPagedSoundly};
     ghost use Rattle.reg_ocsp.specs.Response.{refusal_response};
     ghost use Rattle.reg_ocsp.specs.declared.response.RefusalStatus.TheVariants.{Malformed, Internal};
     ghost use Rattle.reg_office_api.specs.Answered.{IsAnswered, IsGiven};
-    ghost use Rattle.reg_office_api.specs.CallSteps.{Runs, Asks, Ocsps, Crls};
-    ghost use Rattle.reg_office_api.specs.Drafts.{Begins, Drafts, IsSignerFailure};
+    ghost use Rattle.reg_office_api.specs.CallSteps.{CommandStep, QueryStep, OcspStep, CrlStep};
+    ghost use Rattle.reg_office_api.specs.Drafts.{BeginStep, IsSignerFailure};
     ghost use Rattle.reg_office_api.specs.Items.{items_of};
-    ghost use Rattle.reg_office_api.specs.LookUps.{IsOfStore};
+    ghost use Rattle.reg_office_api.specs.LookUps.{IsOfStore, PageStep};
     ghost use Rattle.reg_office_api.specs.Ocsp.{HasNoReading, IsOcspReply};
-    ghost use Rattle.reg_office_api.specs.Responses.{Replies};
     ghost use Rattle.reg_office_api.specs.Settings.{Identifies, Reschedules};
     ghost use Rattle.reg_store_changes.specs.AfterStoppedChange.{IsScheduled};
     ghost use Rattle.reg_der.specs.Issuers.{with_key_identifier};
@@ -111,12 +110,13 @@ impl<C: Alter, S: Signer> reg_office_api::Office for Office<C, S> {
 
     ghost answer_failures = { λ office. answer_failures_in S.Signer office };
 
-    /// Runs one command at its moment. Where the disk failed in the commit and shut the connection, the change stands whole or not at all in a
-    /// register that is opened again (`ran`, in its `changed`).
+    /// Where the disk failed in the commit and shut the connection, the change stands whole or not at all in a register that is opened again
+    /// (`ran`, in its `changed`).
     fn run_one(&mut self, alloc: Global, now: Moment, command: &Command) -> Outcome
         ensures runs { OfficeLeads C.Store S.Signer
-            (λ who before after. Runs S.signs who before now command.now result after) self.old self.new }
-        ensures counts { IsErrOf result SignerFailed → SignerHasFailed S.Signer self.old.signer self.new.signer }
+            (CommandStep S.signs now command.now result) self.old self.new }
+        ensures counts { IsErrOf result SignerFailed
+            → SignerHasFailed S.Signer self.old.signer self.new.signer }
         ensures ran { RanIn C.Store S.Signer now command.now result self.old self.new }
         ensures ended { clock_end ≤ now → (result ≡ Err (Refused ClockEnd)) × (self.new ≡ self.old) }
         ensures same_responder { self.new.responder ≡ self.old.responder }
@@ -124,12 +124,22 @@ impl<C: Alter, S: Signer> reg_office_api::Office for Office<C, S> {
         if now >= Moment::CLOCK_END {
             return Err(Fault::Refused(Refusal::ClockEnd));
         }
-        run_command(&mut self.store, &mut self.signer, alloc, now, command)
+        match *command {
+            Command::Crl => issue_crl(&mut self.store, &mut self.signer, alloc, now),
+            // No `?` here: it has no rule for a change that holds a reference at `'static`.
+            _ => match decide(&mut self.store, now, command) {
+                Ok((reply, change)) => {
+                    self.store.apply(now, &change)?;
+                    Ok(reply)
+                }
+                Err(fault) => Err(fault),
+            },
+        }
     }
 
     fn ask(&mut self, alloc: Global, now: Moment, query: &Query) -> Outcome
         ensures asks { OfficeLeads C.Store S.Signer
-            (λ who before after. Asks before now query.now result after) self.old self.new }
+            (QueryStep now query.now result) self.old self.new }
         ensures unsigned { ¬ (IsErrOf result SignerFailed) }
         ensures looks { OfficeLooks C.Store S.Signer
             (λ records. IsAnswered records now query.now result) self.old self.new }
@@ -143,16 +153,11 @@ impl<C: Alter, S: Signer> reg_office_api::Office for Office<C, S> {
         Err(Fault::Refused(Refusal::ClockEnd))
     }
 
-    /// The whole OCSPResponse in DER (RFC 6960 4.2.1) to the bytes of a request, at a moment.
-    ///
-    /// malformedRequest exactly where the bytes are no request. Else internalError, where the store or its signer fails; or tryLater, where
-    /// the moment is refused; or else the response, signed by who answers, with its certificate, where one stands with answers: each CertID
-    /// byte for byte, in the order asked, told `good` (an expired one too), `revoked` with time and reason, or `unknown`, from `now` on for the
-    /// policy's `ocsp_life`, and the nonce. No table changes.
+    /// The OCSPResponse (RFC 6960 4.2.1): malformedRequest exactly where the bytes are no request; else internalError where the store or the
+    /// signer fails; or tryLater where the moment is refused; or a signed one.
     fn ocsp(&mut self, alloc: Global, now: Moment, request: &[u8]) -> Result<Vec<u8>, Memory>
         ensures answers { OfficeLeads C.Store S.Signer
-            (λ who before after. Ocsps S.signs who before now request.now (items_of result) after)
-            self.old self.new }
+            (OcspStep S.signs now request.now (items_of result)) self.old self.new }
         ensures malformed { IfOk result (λ answer.
             (answer.items ≡ refusal_response Malformed) ↔ HasNoReading request.now) }
         ensures looks { OfficeLooks C.Store S.Signer (λ records. IfOk result (λ answer.
@@ -169,8 +174,6 @@ impl<C: Alter, S: Signer> reg_office_api::Office for Office<C, S> {
         }
     }
 
-    /// The same, but what is to be signed is left, where its signer has a key: the ResponseData of the register as it is now, with all that the
-    /// answer is made of beside the signature.
     fn begin_ocsp(
         &mut self,
         alloc: Global,
@@ -178,10 +181,10 @@ impl<C: Alter, S: Signer> reg_office_api::Office for Office<C, S> {
         request: &[u8],
     ) -> Result<Begun<OcspResponse, Draft>, Memory>
         ensures begins { OfficeLeads C.Store S.Signer
-            (λ who before after.
-            Begins (Replies S.signs who) (Drafts who) before now request.now result after) self.old self.new }
+            (BeginStep S.signs now request.now result) self.old self.new }
         ensures counts { IfOk result (λ begun. IsSignerFailure begun
             ↔ (answer_failures_in S.Signer self.old < answer_failures_in S.Signer self.new)) }
+        ensures never_falls { answer_failures_in S.Signer self.old ≤ answer_failures_in S.Signer self.new }
         ensures refuses { IfOk result (RefusesRequest request.now) }
         ensures looks { OfficeLooks C.Store S.Signer
             (λ records. IfOk result
@@ -199,13 +202,16 @@ impl<C: Alter, S: Signer> reg_office_api::Office for Office<C, S> {
 
     fn crl_bytes(&mut self, alloc: Global, number: Option<u64>) -> Result<Vec<u8>, Fault>
         ensures gives { OfficeLeads C.Store S.Signer
-            (λ who before after. Crls before number (items_of result) after) self.old self.new }
+            (CrlStep number (items_of result)) self.old self.new }
         ensures looks { OfficeLooks C.Store S.Signer
             (λ records. IsGiven records number (items_of result)) self.old self.new }
         ensures untouched { SignsNothing self.old self.new }
         ensures faults { IfErr result IsTableFault }
     {
-        bytes_of(&mut self.store, number)
+        match number {
+            Some(number) => numbered(&mut self.store, number),
+            None => latest(&mut self.store),
+        }
     }
 
     fn crl_message(&mut self, alloc: Global, now: Moment) -> Option<Vec<u8>>
@@ -224,7 +230,7 @@ impl<C: Alter, S: Signer> reg_office_api::Office for Office<C, S> {
 
     fn page(&mut self, alloc: Global, now: Moment, from: Cursor, most: u64) -> Result<Page, Fault>
         ensures pages { OfficeLeads C.Store S.Signer
-            (λ who before after. Pages before now most from result after) self.old self.new }
+            (PageStep now most from result) self.old self.new }
         ensures looks { OfficeLooks C.Store S.Signer
             (λ records. IsPagedSoundly records now most from result) self.old self.new }
         ensures untouched { SignsNothing self.old self.new }
@@ -245,8 +251,6 @@ impl<C: Alter, S: Signer> reg_office_api::Office for Office<C, S> {
         longest_in(&mut self.store, order, not_before)
     }
 
-    /// Sets the schedule of longest validities, which is no command: no record, nothing that is kept beside them and not
-    /// the last accepted moment changes.
     fn set_schedule(&mut self, alloc: Global, schedule: Schedule) -> Result<(), Fault>
         ensures sets { OfficeLeads C.Store S.Signer (λ who. Reschedules schedule result) self.old self.new }
         ensures faults { IfErr result IsOfStore }
@@ -265,9 +269,6 @@ impl<C: Alter, S: Signer> reg_office_api::Office for Office<C, S> {
         }
     }
 
-    /// Gives the issuer a key identifier of its own, which its CRLs have from the next one on (RFC 5280 5.2.1); the CRLs that
-    /// were issued stay as they are, and signed over what they list. It is no command: no record, nothing that is kept beside
-    /// them and not the last accepted moment changes.
     fn set_key_identifier(&mut self, alloc: Global, octets: Label) -> Result<(), Fault>
         ensures sets { OfficeLeads C.Store S.Signer (λ who. Identifies octets result) self.old self.new }
         ensures faults { IfErr result IsOfStore }

@@ -9,9 +9,6 @@ use reg_store::{Table, Tables};
 use sqlite::Alter;
 
 /// Decides to enter a subscriber's order.
-///
-/// # Errors
-/// The refusals of [`decide_order`]; `Memory`, `Store`.
 pub(crate) fn enter_order<C: Alter>(
     tables: &mut Tables<C>,
     now: Moment,

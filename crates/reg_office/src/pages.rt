@@ -29,10 +29,7 @@ pub(crate) enum Numbered {
     Orders,
 }
 
-/// A page of a list from a key on, at a moment. It looks at so many rows at most.
-///
-/// # Errors
-/// `ClockEnd`, `ClockBack`; `Memory`; `Store` where the database fails, or where its rows are ones that no register writes.
+/// A page of a list from a key on, at a moment, over so many rows at most.
 pub(crate) fn page<C: Alter>(
     tables: &mut Tables<C>,
     alloc: Global,
@@ -76,23 +73,15 @@ fn page_of<C: Alter>(
     }
 }
 
-/// Puts a row behind others, where there is one.
 fn put(rows: &mut Vec<Row>, row: Option<Row>) -> Result<(), DatabaseFault>
     ensures ok { OnOk result (rows.new.items ≡ rows.old.items ++ filter_map (λ one. one) (row ∷ [])) }
 {
     match row {
-        Some(row) => push(rows, row),
+        Some(row) => match rows.extend_from_slice(&[row]) {
+            Ok(()) => Ok(()),
+            Err(_) => Err(DatabaseFault::Memory),
+        },
         None => Ok(()),
-    }
-}
-
-/// Puts a row behind others.
-fn push(rows: &mut Vec<Row>, row: Row) -> Result<(), DatabaseFault>
-    ensures ok { OnOk result (rows.new.items ≡ rows.old.items ++ row ∷ []) }
-{
-    match rows.extend_from_slice(&[row]) {
-        Ok(()) => Ok(()),
-        Err(_) => Err(DatabaseFault::Memory),
     }
 }
 
@@ -117,7 +106,6 @@ fn certificates<C: Alter>(
     Ok(Page { rows, next })
 }
 
-/// The list behind a serial number, where there is one.
 fn certificates_behind(before: &Option<Moment>, last: Option<Serial>) -> Option<Cursor>
     ensures { result ≡ option_map (λ serial. certificates_after before.now (Some serial)) last }
 {
@@ -131,7 +119,6 @@ fn certificates_behind(before: &Option<Moment>, last: Option<Serial>) -> Option<
     }
 }
 
-/// The rows of these certificates, or of those that are good and end before a moment.
 fn certificate_rows<C: Alter>(
     tables: &mut Tables<C>,
     alloc: Global,
@@ -150,7 +137,6 @@ fn certificate_rows<C: Alter>(
     Ok(rows)
 }
 
-/// The row of a certificate, where the list has it.
 fn certificate_listed<C: Alter>(
     tables: &mut Tables<C>,
     now: Moment,
@@ -179,7 +165,6 @@ fn last_certificate(found: &[CertRow], most: u64) -> Option<Serial>
     }
 }
 
-/// A page of what is revoked.
 fn revoked<C: Alter>(
     tables: &mut Tables<C>,
     alloc: Global,
@@ -197,14 +182,12 @@ fn revoked<C: Alter>(
     Ok(Page { rows, next })
 }
 
-/// The list of what is revoked behind a serial number, where there is one.
 fn revoked_behind(last: Option<Serial>) -> Option<Cursor>
     ensures { result ≡ option_map (λ serial. cursor.Revoked (Some serial)) last }
 {
     Some(Cursor::Revoked(Some(last?)))
 }
 
-/// The rows of these revocations.
 fn revoked_rows<C: Alter>(
     tables: &mut Tables<C>,
     alloc: Global,
@@ -222,7 +205,6 @@ fn revoked_rows<C: Alter>(
     Ok(rows)
 }
 
-/// The serial number of the last of these revocations, where they are as many as a page may look at.
 fn last_revocation(found: &[RevocationRow], most: u64) -> Option<Serial>
     ensures { result ≡ last_of_full (λ row. row.serial) most found.now }
 {
@@ -237,7 +219,6 @@ fn last_revocation(found: &[RevocationRow], most: u64) -> Option<Serial>
 
 // ---- the CRLs
 
-/// A page of the CRLs.
 fn crls<C: Alter>(
     tables: &mut Tables<C>,
     alloc: Global,
@@ -254,14 +235,12 @@ fn crls<C: Alter>(
     Ok(Page { rows, next })
 }
 
-/// The list of the CRLs behind a number, where there is one.
 fn crls_behind(last: Option<u64>) -> Option<Cursor>
     ensures { result ≡ option_map (λ number. cursor.Crls number) last }
 {
     Some(Cursor::Crls(last?))
 }
 
-/// The rows of these CRLs.
 fn crl_rows(alloc: Global, found: &[CrlRow]) -> Result<Vec<Row>, DatabaseFault>
     ensures found { IfOk result (λ rows. rows.items ≡ filter_map (λ crl. Some (kind.Crl crl)) found.now) }
 {
@@ -272,7 +251,6 @@ fn crl_rows(alloc: Global, found: &[CrlRow]) -> Result<Vec<Row>, DatabaseFault>
     Ok(rows)
 }
 
-/// The number of the last of these CRLs, where they are as many as a page may look at.
 fn last_crl(found: &[CrlRow], most: u64) -> Option<u64>
     ensures { result ≡ last_of_full (λ row. row.number) most found.now }
 {
@@ -331,7 +309,6 @@ fn end_of(held: u64, after: u64, most: u64) -> u64
     }
 }
 
-/// The table whose rows a list has.
 fn table_of(list: Numbered) -> Table
     ensures { result ≡ numbered_table list }
 {
@@ -343,7 +320,6 @@ fn table_of(list: Numbered) -> Table
     }
 }
 
-/// A list from a number on.
 fn cursor_of(list: Numbered, after: u64) -> Cursor
     ensures { result ≡ cursor_of list after }
 {

@@ -17,10 +17,6 @@ use reg_store::{DatabaseFault, Tables};
 use sqlite::Alter;
 
 /// Answers a query.
-///
-/// # Errors
-/// `ClockBack` before the last accepted moment; `UnknownSerial` for the listing of a serial number that is not
-/// registered; `Memory`, `Store`.
 pub(crate) fn answer<C: Alter>(
     tables: &mut Tables<C>,
     now: Moment,
@@ -74,7 +70,6 @@ fn earliest_unlisted<C: Alter>(tables: &mut Tables<C>) -> Result<Option<Moment>,
     }
 }
 
-/// When the next CRL is due.
 fn next_crl<C: Alter>(tables: &mut Tables<C>) -> Result<Option<Moment>, DatabaseFault>
     ensures { Learns C.Store tables.old tables.new result (λ records at. at ≡ due records) }
 {

@@ -9,7 +9,6 @@ use reg_office_api::Standing;
 use reg_store::Tables;
 use sqlite::Alter;
 
-/// The last accepted moment of a store, its latest CRL and the life of its CRLs.
 #[tactic(auto, using(crate::proofs::Composing::told_fault))]
 pub(crate) fn standing_in<C: Alter>(tables: &mut Tables<C>) -> Result<Standing, Fault>
     ensures looks { LooksUp C.Store tables.old tables.new (λ records. HasStanding records result) }
@@ -25,7 +24,6 @@ pub(crate) fn standing_in<C: Alter>(tables: &mut Tables<C>) -> Result<Standing, 
     })
 }
 
-/// How many requests for revocation are open in a store at a moment.
 #[tactic(auto, using(crate::proofs::Composing::told_fault))]
 pub(crate) fn open_count_in<C: Alter>(tables: &mut Tables<C>, now: Moment) -> Result<u64, Fault>
     ensures looks { LooksUp C.Store tables.old tables.new (λ records. HasOpen records now result) }
@@ -35,7 +33,6 @@ pub(crate) fn open_count_in<C: Alter>(tables: &mut Tables<C>, now: Moment) -> Re
     Ok(count)
 }
 
-/// The longest validity in days that an order of a store and its policy allow from a moment on.
 pub(crate) fn longest_in<C: Alter>(
     tables: &mut Tables<C>,
     order: u64,

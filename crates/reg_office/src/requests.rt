@@ -24,9 +24,6 @@ pub(crate) struct Case {
 }
 
 /// Decides to enter a request.
-///
-/// # Errors
-/// The refusals of [`decide_request`]; `Memory`, `Store`.
 pub(crate) fn enter_request<C: Alter>(
     tables: &mut Tables<C>,
     now: Moment,
@@ -65,9 +62,6 @@ fn case_of<C: Alter>(tables: &mut Tables<C>, id: u64) -> Result<Case, DatabaseFa
 }
 
 /// Decides to decline a request.
-///
-/// # Errors
-/// The refusals of [`decide_decline`]; `Memory`, `Store`.
 pub(crate) fn decline<C: Alter>(
     tables: &mut Tables<C>,
     now: Moment,
@@ -82,9 +76,6 @@ pub(crate) fn decline<C: Alter>(
 }
 
 /// Decides to revoke the certificate of a request.
-///
-/// # Errors
-/// The refusals of [`decide_revoke`]; `Memory`, `Store`.
 pub(crate) fn revoke<C: Alter>(
     tables: &mut Tables<C>,
     now: Moment,

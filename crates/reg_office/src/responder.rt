@@ -36,7 +36,6 @@ pub(crate) fn of_issuer(certificate: &Option<Certificate>) -> Naming<'_>
     }
 }
 
-/// The DER of a certificate, where there is one.
 fn der_of(certificate: &Option<Certificate>) -> Option<&[u8]>
     ensures der { option_copied result ≡ option_map (λ it. it.der) certificate.now }
     ensures short { IfSome (option_copied result) (λ bytes. length bytes ≤ 65536) }

@@ -19,10 +19,7 @@ use std::alloc::Global;
 
 impl<C: Alter, S: Signer> Office<C, S> {
     /// Runs commands in their order, each at its moment, and goes on after refusals and faults. One outcome for each is
-    /// appended.
-    ///
-    /// # Errors
-    /// `Memory` where there is no room for the outcomes: then no command ran, and there is no outcome more.
+    /// appended; or `Memory` where there is no room for them, before any command ran.
     pub fn run(
         &mut self,
         alloc: Global,

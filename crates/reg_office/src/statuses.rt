@@ -7,7 +7,6 @@ ghost use Rattle.reg_ocsp.specs.Views.{id_seen};
 ghost use Rattle.reg_office_api.specs.Ocsp.{IsTold};
 ghost use Rattle.reg_store_tables.specs.LookUps.{Learns, LooksUp};
 
-use crate::decision_head::certificate_of;
 use crate::ocsp_faults::ResponseFault;
 use reg_core::{Moment, Serial, Status, status_of};
 use reg_der::Issuer;
@@ -56,7 +55,6 @@ fn told<C: Alter>(
     }
 }
 
-/// The status of a serial number at a moment.
 pub(crate) fn status_at<C: Alter>(
     tables: &mut Tables<C>,
     serial: Serial,
@@ -65,6 +63,7 @@ pub(crate) fn status_at<C: Alter>(
     ensures { Learns C.Store tables.old tables.new result (λ records status.
         status ≡ spec.status records serial now) }
 {
-    let (certificate, revocation) = certificate_of(tables, serial)?;
+    let certificate = tables.cert(serial)?;
+    let revocation = tables.revocation(serial)?;
     Ok(status_of(now, certificate, revocation))
 }

@@ -9,9 +9,6 @@ use reg_store::{Table, Tables};
 use sqlite::Alter;
 
 /// Decides to enter a subscriber.
-///
-/// # Errors
-/// The refusals of [`decide_subscriber`]; `Memory`, `Store`.
 pub(crate) fn enter_subscriber<C: Alter>(
     tables: &mut Tables<C>,
     now: Moment,

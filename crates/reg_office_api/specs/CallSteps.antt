@@ -6,15 +6,12 @@ use Rattle.reg_core.specs.declared.command.Query.{Query}
 use Rattle.reg_core.specs.declared.command.Reply.{Reply}
 use Rattle.reg_core.specs.declared.memory.Memory.{Memory}
 use Rattle.reg_core.specs.declared.refusal.Fault.{Fault}
-use Rattle.reg_crl.specs.Signing.{Identity, signed_by}
+use Rattle.reg_crl.specs.Signing.{signed_by}
 use Rattle.reg_core_laws.specs.Run.{Happens}
 use Rattle.reg_office_api.specs.Answered.{IsAnswered, IsGiven}
 use Rattle.reg_office_api.specs.Ocsp.{IsOcspReply}
 use Rattle.reg_office_api.specs.Signatories.{Signatory}
-
--- what is a signature, over what and by whom
-abbrev pub Signs : Type 1
-Signs = Identity → List ℕ → List ℕ → Type 0
+pub use Rattle.reg_office_api.specs.Signatories.{Signs}
 
 -- a command: what it comes to by the rules, with CRLs that are signed by who signs them
 abbrev pub Runs : Signs → Signatory → Records → ℕ → Command → Result Reply Fault → Records → Type 0
@@ -32,3 +29,17 @@ Ocsps signs who before now request (Err memory) after = after ≡ before
 -- the bytes of a CRL, or why there are none; the records stay
 abbrev pub Crls : Records → Option ℕ → Result (List ℕ) Fault → Records → Type 0
 Crls before number given after = IsGiven before number given × (after ≡ before)
+
+-- ---- each as a step of the records, for those who sign
+
+abbrev pub CommandStep : Signs → ℕ → Command → Result Reply Fault → Signatory → Records → Records → Type 0
+CommandStep signs now command outcome = λ who before after. Runs signs who before now command outcome after
+
+abbrev pub QueryStep : ℕ → Query → Result Reply Fault → Signatory → Records → Records → Type 0
+QueryStep now query outcome = λ who before after. Asks before now query outcome after
+
+abbrev pub OcspStep : Signs → ℕ → List ℕ → Result (List ℕ) Memory → Signatory → Records → Records → Type 0
+OcspStep signs now request given = λ who before after. Ocsps signs who before now request given after
+
+abbrev pub CrlStep : Option ℕ → Result (List ℕ) Fault → Signatory → Records → Records → Type 0
+CrlStep number given = λ who before after. Crls before number given after

@@ -6,7 +6,7 @@ use Rattle.reg_core.specs.declared.command.Reply.{Reply}
 use Rattle.reg_core.specs.declared.memory.Memory.{Memory}
 use Rattle.reg_core.specs.declared.refusal.Fault.{Fault}
 use Rattle.reg_ocsp.specs.Drafts.{Drafted}
-use Rattle.reg_office_api.specs.CallSteps.{Runs, Asks, Ocsps, Crls}
+use Rattle.reg_office_api.specs.CallSteps.{CommandStep, QueryStep, OcspStep, CrlStep}
 use Rattle.reg_office_api.specs.Drafts.{Drafts}
 use Rattle.reg_office_api.specs.Leads.{Leads}
 use Rattle.reg_office_api.specs.Responses.{Replies}
@@ -16,15 +16,15 @@ use Rattle.reg_office_api.specs.declared.response.ResponseKind.{ResponseKind}
 module _ {O : Type 0} (office : Office O) where
   -- a command
   abbrev pub RunsIn : O → ℕ → Command → Result Reply Fault → O → Type 0
-  RunsIn s now command outcome t = Leads office.is_clean office.stands (λ who before after. Runs office.signs who before now command outcome after) s t
+  RunsIn s now command outcome t = Leads office.is_clean office.stands (CommandStep office.signs now command outcome) s t
 
   -- a query
   abbrev pub AsksIn : O → ℕ → Query → Result Reply Fault → O → Type 0
-  AsksIn s now query outcome t = Leads office.is_clean office.stands (λ who before after. Asks before now query outcome after) s t
+  AsksIn s now query outcome t = Leads office.is_clean office.stands (QueryStep now query outcome) s t
 
   -- an OCSP request that is answered
   abbrev pub OcspsIn : O → ℕ → List ℕ → Result (List ℕ) Memory → O → Type 0
-  OcspsIn s now request given t = Leads office.is_clean office.stands (λ who before after. Ocsps office.signs who before now request given after) s t
+  OcspsIn s now request given t = Leads office.is_clean office.stands (OcspStep office.signs now request given) s t
 
   -- the same with the kind of the response
   abbrev pub RepliesIn : O → ℕ → List ℕ → Result (ResponseKind × List ℕ) Memory → O → Type 0
@@ -36,4 +36,4 @@ module _ {O : Type 0} (office : Office O) where
 
   -- the bytes of a CRL
   abbrev pub CrlsIn : O → Option ℕ → Result (List ℕ) Fault → O → Type 0
-  CrlsIn s number given t = Leads office.is_clean office.stands (λ who before after. Crls before number given after) s t
+  CrlsIn s number given t = Leads office.is_clean office.stands (CrlStep number given) s t

@@ -6,7 +6,8 @@ use Rattle.reg_core.specs.declared.memory.Memory.{Memory}
 use Rattle.reg_ocsp.specs.Drafts.{Drafted}
 use Rattle.reg_ocsp.specs.Request.{Id, IsOcspRequest}
 use Rattle.reg_office_api.specs.Ocsp.{IsOcspData}
-use Rattle.reg_office_api.specs.Signatories.{Responder, Signatory, responder_key}
+use Rattle.reg_office_api.specs.Responses.{Replies}
+use Rattle.reg_office_api.specs.Signatories.{Responder, Signatory, Signs, responder_key}
 use Rattle.reg_office_api.specs.declared.response.OcspResponse.{OcspResponse}
 use Rattle.reg_office_api.specs.declared.response.ResponseKind.{ResponseKind}
 use Rattle.reg_office_api.specs.declared.response.ResponseKind.TheVariants.{SignerFailure}
@@ -37,19 +38,15 @@ abbrev pub Drafts : Signatory → Records → ℕ → List ℕ → Drafted → R
 Drafts who before now request draft after = IsDraft who.answers before now request draft × (after ≡ before)
 
 -- what a call comes to whose answer may be left to be signed, by what answers that are ready are and what is left
-abbrev pub Begins
-    : {S : Type 0}
-    → (S → ℕ → List ℕ → Result (ResponseKind × List ℕ) Memory → S → Type 0)
-    → (S → ℕ → List ℕ → Drafted → S → Type 0)
-    → S
-    → ℕ
-    → List ℕ
-    → Result (Begun OcspResponse Drafted) Memory
-    → S
-    → Type 0
+abbrev pub Begins : {S : Type 0} → (S → ℕ → List ℕ → Result (ResponseKind × List ℕ) Memory → S → Type 0)
+    → (S → ℕ → List ℕ → Drafted → S → Type 0) → S → ℕ → List ℕ → Result (Begun OcspResponse Drafted) Memory → S → Type 0
 Begins replies drafts s now request (Ok (Ready response)) t = replies s now request (Ok (response.kind, response.bytes.items)) t
 Begins replies drafts s now request (Ok (Unsigned draft)) t = drafts s now request draft t
 Begins replies drafts s now request (Err memory) t = replies s now request (Err memory) t
+
+-- the same, as a step of the records for those who sign
+abbrev pub BeginStep : Signs → ℕ → List ℕ → Result (Begun OcspResponse Drafted) Memory → Signatory → Records → Records → Type 0
+BeginStep signs now request begun = λ who before after. Begins (Replies signs who) (Drafts who) before now request begun after
 
 -- the signer failed at it
 abbrev pub IsSignerFailure : {U : Type 0} → Begun OcspResponse U → Type 0

@@ -6,6 +6,10 @@ use Rattle.reg_core.specs.Records.{Records, order_in}
 use Rattle.reg_core.specs.Schedule.{longest_at}
 use Rattle.reg_core.specs.declared.refusal.Fault.{Fault}
 use Rattle.reg_core.specs.declared.refusal.Fault.TheVariants.{Memory, Store}
+use Rattle.reg_core_lists.specs.Pages.{Pages}
+use Rattle.reg_core_lists.specs.declared.cursor.Cursor.{Cursor}
+use Rattle.reg_core_lists.specs.declared.rows.Page.{Page}
+use Rattle.reg_office_api.specs.Signatories.{Signatory}
 use Rattle.reg_office_api.specs.declared.standing.Standing.{Standing}
 
 -- want of memory, or a failure of the store
@@ -34,3 +38,7 @@ longest_allowed records order not_before = option_map (λ row. min row.days (lon
 -- the same, where it was had
 abbrev pub HasLongest : Records → ℕ → ℕ → Result (Option ℕ) Fault → Type 0
 HasLongest records order not_before result = IfOk result (λ days. days ≡ longest_allowed records order not_before)
+
+-- a page of a list, as a step that leaves the records
+abbrev pub PageStep : ℕ → ℕ → Cursor → Result Page Fault → Signatory → Records → Records → Type 0
+PageStep now most from given = λ who before after. Pages before now most from given after

@@ -7,12 +7,11 @@ use Rattle.reg_core.specs.Status.{status}
 use Rattle.reg_core.specs.declared.command.Status.{Status}
 use Rattle.reg_core.specs.declared.command.Status.TheVariants.{Unknown}
 use Rattle.reg_core.specs.declared.refusal.Refusal.{Refusal}
-use Rattle.reg_crl.specs.Signing.{Identity}
 use Rattle.reg_ocsp.specs.Matching.{IsMatch}
 use Rattle.reg_ocsp.specs.Request.{Id, IsOcspRequest}
 use Rattle.reg_ocsp.specs.Response.{SingleAnswer, ocsp_response, refusal_response, response_data}
 use Rattle.reg_ocsp.specs.declared.response.RefusalStatus.TheVariants.{Malformed, Internal, TryLater}
-use Rattle.reg_office_api.specs.Signatories.{Responder, responder_key}
+use Rattle.reg_office_api.specs.Signatories.{Responder, Signs, responder_key}
 
 -- the bytes are no OCSP request (RFC 6960 4.1.1)
 abbrev pub HasNoReading : List ℕ → Type 0
@@ -40,22 +39,15 @@ pub record IsOcspData (key : List ℕ) (records : Records) (now : ℕ) (ids : Li
 -- The bytes are the response signed: there is a signature of the ResponseData by who answers, and the bytes are the OCSPResponse
 -- of the ResponseData, the algorithm and the signature, with the certificate of who answers, where one stands there
 -- (RFC 6960 4.2.1, 4.2.2.2).
-abbrev pub response_signed_by : (Identity → List ℕ → List ℕ → Type 0) → Responder → List ℕ → List ℕ → Type 0
+abbrev pub response_signed_by : Signs → Responder → List ℕ → List ℕ → Type 0
 response_signed_by signs responder tbs bytes =
     (signature : List ℕ)
     × signs responder.identity tbs signature
     × (bytes ≡ ocsp_response tbs responder.identity.algorithm signature responder.certificate)
 
 -- the whole response: signed, over the ResponseData of the records
-pub record IsResponse
-    (signs : Identity → List ℕ → List ℕ → Type 0)
-    (responder : Responder)
-    (records : Records)
-    (now : ℕ)
-    (ids : List Id)
-    (nonce : Option (List ℕ))
-    (bytes : List ℕ)
-    : Type 0 where
+pub record IsResponse (signs : Signs) (responder : Responder) (records : Records) (now : ℕ)
+    (ids : List Id) (nonce : Option (List ℕ)) (bytes : List ℕ) : Type 0 where
   pub tbs : List ℕ
   pub of_records : IsOcspData (responder_key responder records) records now ids nonce tbs
   pub signed : response_signed_by signs responder tbs bytes
@@ -67,25 +59,13 @@ IsTimely None IsWhole bytes = IsWhole bytes
 
 -- what a request that was read is answered: internalError; or tryLater exactly where the moment is from the clock's end
 -- on or before the last accepted one, and else the whole response
-abbrev pub IsReadReply
-    : (Identity → List ℕ → List ℕ → Type 0)
-    → Responder
-    → Records
-    → ℕ
-    → List Id
-    → Option (List ℕ)
-    → List ℕ
-    → Type 0
+abbrev pub IsReadReply : Signs → Responder → Records → ℕ → List Id → Option (List ℕ) → List ℕ → Type 0
 IsReadReply signs responder records now ids nonce bytes =
     (bytes ≡ refusal_response Internal)
-    ⊎ IsTimely
-    (first_of_all (clock_checks now records.last))
-    (IsResponse signs responder records now ids nonce)
-    bytes
+    ⊎ IsTimely (first_of_all (clock_checks now records.last)) (IsResponse signs responder records now ids nonce) bytes
 
 -- what bytes are answered: malformedRequest where they are no request, else what they ask
-abbrev pub IsOcspReply
-    : (Identity → List ℕ → List ℕ → Type 0) → Responder → Records → ℕ → List ℕ → List ℕ → Type 0
+abbrev pub IsOcspReply : Signs → Responder → Records → ℕ → List ℕ → List ℕ → Type 0
 IsOcspReply signs responder records now request bytes =
     (HasNoReading request × (bytes ≡ refusal_response Malformed))
     ⊎ ((ids : List Id)

@@ -3,6 +3,10 @@ use Rattle.std.specs.Prelude.{ℕ, List, Option, None, unwrap_or}
 use Rattle.reg_core.specs.Records.{Records}
 use Rattle.reg_crl.specs.Signing.{Identity}
 
+-- what is a signature, over what and by whom
+abbrev pub Signs : Type 1
+Signs = Identity → List ℕ → List ℕ → Type 0
+
 -- Who answers OCSP requests for an issuer (RFC 6960 2.2, 4.2.2.2): under whose algorithm and key; the key of its own by which it is named,
 -- or none where that is the issuer's; the certificate that stands with each answer, where one does.
 pub record Responder : Type 0 where

@@ -8,9 +8,7 @@ use reg_core::Fault;
 /// What became of a signature.
 #[derive(Clone, Copy, PartialEq, Eq)]
 pub enum SignatureFate {
-    /// None was asked for.
     NotAsked,
-    /// The signer made it.
     Made,
     /// The signer failed, or gave no answer in time.
     Failed,
@@ -21,14 +19,11 @@ pub enum SignatureFate {
 pub enum StoreEffect {
     /// Nothing: it entered no command, and met no failure.
     Unwritten,
-    /// The store took a command.
     Written,
-    /// The store failed.
     Failed,
 }
 
 impl StoreEffect {
-    /// What a refusal or a fault says of the store.
     pub fn of_fault(fault: &Fault) -> StoreEffect
         ensures { result ≡ store_of_fault fault.now }
     {
@@ -42,9 +37,7 @@ impl StoreEffect {
 /// How a line was answered.
 #[derive(Clone, Copy, PartialEq, Eq)]
 pub enum LineReply {
-    /// By what it asked for.
     Accepted,
-    /// By a refusal.
     Refused,
     /// By a fault, or by nothing: there was no memory for a reply.
     Fault,
@@ -53,12 +46,10 @@ pub enum LineReply {
 /// What a line came to, as it is counted.
 #[derive(Clone, Copy, PartialEq, Eq)]
 pub struct LineEffects {
-    /// How it was answered.
     pub reply: LineReply,
     /// The signature of a CRL.
     pub crl: SignatureFate,
     /// The signature of an OCSP response.
     pub ocsp: SignatureFate,
-    /// What it says of the store.
     pub store: StoreEffect,
 }

@@ -9,21 +9,19 @@ use reg_ocsp::Draft;
 use std::alloc::Global;
 
 /// An office that keeps the records of a register, and those who sign for it. Each call leads from whatever records stand in it to those
-/// that stand in it afterwards, where the medium has returned all that was written to it ([`Leads`](crate::specs::Leads)).
+/// that stand afterwards, where the medium has returned all that was written to it ([`Leads`](crate::specs::Leads)).
 pub trait Office {
-    ghost use Rattle.std.specs.Prelude.{◌≡◌, ◌<◌, ◌↔◌, ℕ, List, IfErr, IfOk, IsErrOf};
-    ghost use Rattle.reg_office_api.specs.CallSteps.{Runs, Asks, Ocsps, Crls};
-    ghost use Rattle.reg_office_api.specs.Drafts.{Begins, Drafts, IsSignerFailure};
+    ghost use Rattle.std.specs.Prelude.{◌≡◌, ◌≤◌, ◌<◌, ◌↔◌, ℕ, List, IfErr, IfOk, IsErrOf};
+    ghost use Rattle.reg_office_api.specs.CallSteps.{CommandStep, QueryStep, OcspStep, CrlStep};
+    ghost use Rattle.reg_office_api.specs.Drafts.{BeginStep, IsSignerFailure};
     ghost use Rattle.reg_office_api.specs.Items.{items_of};
     ghost use Rattle.reg_office_api.specs.Leads.{Leads, Looks};
-    ghost use Rattle.reg_office_api.specs.Responses.{Replies};
-    ghost use Rattle.reg_office_api.specs.LookUps.{HasLongest, HasOpen, HasStanding, IsOfStore};
+    ghost use Rattle.reg_office_api.specs.LookUps.{HasLongest, HasOpen, HasStanding, IsOfStore, PageStep};
     ghost use Rattle.reg_office_api.specs.Settings.{Identifies, Reschedules};
     ghost use Rattle.reg_office_api.specs.Signatories.{Signatory};
     ghost use Rattle.reg_core.specs.Records.{Records};
     ghost use Rattle.reg_core.specs.declared.refusal.Fault.TheVariants.{Signer};
     ghost use Rattle.reg_crl.specs.Signing.{Identity};
-    ghost use Rattle.reg_core_lists.specs.Pages.{Pages};
 
     /// The medium has returned all that was written to it.
     ghost is_clean: { Self → Type 0 };
@@ -40,118 +38,75 @@ pub trait Office {
     /// How many failures the signer of its OCSP answers has counted.
     ghost answer_failures: { Self → ℕ };
 
-    /// Runs a command at its moment: it comes to what the rules say of the records, and changes them so.
-    ///
-    /// # Errors
-    ///
-    /// The refusals of the command in their order; `Memory`, `Store`; `Signer` for a CRL, only where its signer counted a failure. The records
-    /// stay then.
+    /// Runs a command at its moment. Errors, after which the records stay: its refusals in their order; `Memory`, `Store`;
+    /// `Signer` for a CRL, only where its signer counted a failure.
     fn run_one(&mut self, alloc: Global, now: Moment, command: &Command) -> Outcome
-        ensures runs { Leads is_clean stands (λ who before after. Runs signs who before now command.now result after) self.old self.new }
+        ensures runs { Leads is_clean stands (CommandStep signs now command.now result) self.old self.new }
         ensures counts { IsErrOf result Signer → failures self.old < failures self.new };
 
-    /// Answers a query at its moment. The records stay, and nothing is signed.
-    ///
-    /// # Errors
-    ///
-    /// The refusals of the query in their order; `Memory`, `Store`.
+    /// Answers a query at its moment. Errors: its refusals in their order; `Memory`, `Store`.
     fn ask(&mut self, alloc: Global, now: Moment, query: &Query) -> Outcome
-        ensures asks { Leads is_clean stands (λ who before after. Asks before now query.now result after) self.old self.new }
+        ensures asks { Leads is_clean stands (QueryStep now query.now result) self.old self.new }
         ensures unsigned { ¬ (IsErrOf result Signer) };
 
-    /// The OCSP response (RFC 6960 4.2) to the bytes of a request, at its moment. The records stay.
-    ///
-    /// # Errors
-    ///
-    /// [`Memory`] where memory was refused.
+    /// The OCSP response (RFC 6960 4.2) to the bytes of a request, at its moment.
     fn ocsp(&mut self, alloc: Global, now: Moment, request: &[u8]) -> Result<Vec<u8>, Memory>
-        ensures { Leads is_clean stands (λ who before after. Ocsps signs who before now request.now (items_of result) after) self.old self.new };
+        ensures { Leads is_clean stands (OcspStep signs now request.now (items_of result)) self.old self.new };
 
-    /// Begins the same response: where a signer has a key, its signature is left to be asked for, and nobody waits for it. The response of a
-    /// signer without a key is ready, and so is a refusal. The records stay.
-    ///
-    /// # Errors
-    ///
-    /// [`Memory`] where memory was refused.
+    /// Begins the same response: where a signer has a key, its signature is left to be asked for, and nobody waits for it. The
+    /// response of a signer without a key is ready, and so is a refusal.
     fn begin_ocsp(
         &mut self,
         alloc: Global,
         now: Moment,
         request: &[u8],
     ) -> Result<Begun<OcspResponse, Draft>, Memory>
-        ensures begins { Leads is_clean stands
-            (λ who before after. Begins (Replies signs who) (Drafts who) before now request.now result after) self.old self.new }
-        ensures counts { IfOk result (λ begun. IsSignerFailure begun ↔ (answer_failures self.old < answer_failures self.new)) };
+        ensures begins { Leads is_clean stands (BeginStep signs now request.now result) self.old self.new }
+        ensures counts { IfOk result (λ begun.
+            IsSignerFailure begun ↔ (answer_failures self.old < answer_failures self.new)) }
+        ensures never_falls { answer_failures self.old ≤ answer_failures self.new };
 
-    /// The bytes of the CRL (RFC 5280 5) with this number, or of the latest. The records stay.
-    ///
-    /// # Errors
-    ///
-    /// The refusal where there is no such CRL; `Memory`, `Store`.
+    /// The bytes of the CRL (RFC 5280 5) with this number, or of the latest. Errors: the refusal where there is none; `Memory`, `Store`.
     fn crl_bytes(&mut self, alloc: Global, number: Option<u64>) -> Result<Vec<u8>, Fault>
-        ensures { Leads is_clean stands (λ who before after. Crls before number (items_of result) after) self.old self.new };
+        ensures { Leads is_clean stands (CrlStep number (items_of result)) self.old self.new };
 
-    /// What would be signed in the next CRL at a moment (RFC 5280 5.1.2), where its signer has a key. `None` where none would be issued then,
-    /// where a digest seals it, and where memory or the store fails. Nothing is signed, and the records stay.
+    /// What would be signed in the next CRL at a moment (RFC 5280 5.1.2), where its signer has a key. `None` where none would be
+    /// issued then, where a digest seals it, and where memory or the store fails. Nothing is signed.
     fn crl_message(&mut self, alloc: Global, now: Moment) -> Option<Vec<u8>>
         ensures { Leads is_clean stands (λ who before after. after ≡ before) self.old self.new };
 
-    /// A page of a list from a key on, at a moment. It looks at so many rows at most, and the records stay.
-    ///
-    /// # Errors
-    ///
-    /// `ClockEnd`, `ClockBack`; `Memory`, `Store`.
+    /// A page of a list from a key on, at a moment, over so many rows at most. Errors: `ClockEnd`, `ClockBack`; `Memory`, `Store`.
     fn page(&mut self, alloc: Global, now: Moment, from: Cursor, most: u64) -> Result<Page, Fault>
-        ensures { Leads is_clean stands (λ who before after. Pages before now most from result after) self.old self.new };
+        ensures { Leads is_clean stands (PageStep now most from result) self.old self.new };
 
     /// What stands beside the counts: the last accepted moment, the latest CRL, and the life of CRLs.
-    ///
-    /// # Errors
-    ///
-    /// `Memory`, `Store`.
     fn standing(&mut self) -> Result<Standing, Fault>
         ensures looks { Looks is_clean stands (λ records. HasStanding records result) self.old self.new }
         ensures faults { IfErr result IsOfStore };
 
-    /// How many requests for revocation are open at a moment. To count them takes a walk over all requests.
-    ///
-    /// # Errors
-    ///
-    /// `Memory`, `Store`.
+    /// How many requests for revocation are open at a moment, by a walk over all requests.
     fn open_count(&mut self, now: Moment) -> Result<u64, Fault>
         ensures looks { Looks is_clean stands (λ records. HasOpen records now result) self.old self.new }
         ensures faults { IfErr result IsOfStore };
 
-    /// The longest validity in days that an order and the policy allow a certificate that is valid from a moment on; `None` where there is no
-    /// such order.
-    ///
-    /// # Errors
-    ///
-    /// `Memory`, `Store`.
+    /// The longest validity in days that an order and the policy allow from a moment on; `None` where there is no such order.
+    /// Errors: `Memory`, `Store`.
     fn longest(&mut self, order: u64, not_before: Moment) -> Result<Option<u64>, Fault>
-        ensures looks { Looks is_clean stands (λ records. HasLongest records order not_before result) self.old self.new };
+        ensures looks { Looks is_clean stands
+            (λ records. HasLongest records order not_before result) self.old self.new };
 
-    /// Sets the schedule of longest validities, which is no command: nothing else changes.
-    ///
-    /// # Errors
-    ///
-    /// `Memory`, `Store`. The records stay then.
+    /// Sets the schedule of longest validities, which is no command: nothing else changes, and at an error nothing does.
     fn set_schedule(&mut self, alloc: Global, schedule: Schedule) -> Result<(), Fault>
         ensures sets { Leads is_clean stands (λ who. Reschedules schedule result) self.old self.new }
         ensures faults { IfErr result IsOfStore };
 
-    /// Gives the issuer a key identifier of its own, which its CRLs have from the next one on (RFC 5280 5.2.1). It is no command: nothing else
-    /// changes.
-    ///
-    /// # Errors
-    ///
-    /// `Memory`, `Store`. The records stay then.
+    /// Gives the issuer a key identifier of its own, which its CRLs have from the next one on (RFC 5280 5.2.1). It is no command:
+    /// nothing else changes, and at an error nothing does.
     fn set_key_identifier(&mut self, alloc: Global, octets: Label) -> Result<(), Fault>
         ensures sets { Leads is_clean stands (λ who. Identifies octets result) self.old self.new }
         ensures faults { IfErr result IsOfStore };
 
-    /// How many signatures did not come: of those that the signer of CRLs was asked for, and of those that the signer of OCSP answers was.
-    /// Where one signer signs both, both are one count.
+    /// How many signatures the signer of CRLs and that of OCSP answers failed to make; one count twice where one signer signs both.
     fn failure_counts(&self) -> (u64, u64)
         ensures crls { result.0 ≡ failures self.now }
         ensures answers { result.1 ≡ answer_failures self.now };

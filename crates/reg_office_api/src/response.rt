@@ -8,9 +8,7 @@ use crate::effects::{SignatureFate, StoreEffect};
 /// Which OCSP response it is (RFC 6960 4.2.1).
 #[derive(Clone, Copy, PartialEq, Eq)]
 pub enum ResponseKind {
-    /// A signed one.
     Signed,
-    /// malformedRequest.
     Malformed,
     /// tryLater: the register's clock refuses the moment.
     TryLater,
@@ -23,9 +21,7 @@ pub enum ResponseKind {
 /// An OCSP response.
 #[derive(Drop)]
 pub struct OcspResponse {
-    /// The bytes of the OCSPResponse.
     pub bytes: Vec<u8>,
-    /// Which it is.
     pub kind: ResponseKind,
 }
 

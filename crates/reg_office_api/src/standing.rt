@@ -5,9 +5,7 @@ use reg_core::{CrlRow, Moment};
 /// What stands in a register beside its counts.
 #[derive(Clone, Copy, PartialEq, Eq)]
 pub struct Standing {
-    /// The last accepted moment.
     pub last: Moment,
-    /// The CRL that was issued last.
     pub latest: Option<CrlRow>,
     /// The seconds from thisUpdate to nextUpdate of a CRL.
     pub crl_life: u64,

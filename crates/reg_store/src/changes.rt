@@ -12,10 +12,7 @@ use reg_store_tables::DatabaseFault;
 use sqlite::Alter;
 
 impl<S: Alter> Store<S> {
-    /// Makes a change at a moment, in one transaction.
-    ///
-    /// # Errors
-    /// As [`reg_store_changes::apply`].
+    /// Makes a change at a moment, in one transaction. Errors: those of [`reg_store_changes::apply`], here and below.
     pub fn apply(&mut self, now: Moment, change: &Change<'_>) -> Result<(), DatabaseFault>
         ensures { MakesChange S.Store self.old self.new now change.now result }
     {
@@ -23,9 +20,6 @@ impl<S: Alter> Store<S> {
     }
 
     /// Sets the last accepted moment.
-    ///
-    /// # Errors
-    /// As [`Store::apply`].
     pub fn touch(&mut self, now: Moment) -> Result<(), DatabaseFault>
         ensures { MakesChange S.Store self.old self.new now Touch result }
     {
@@ -33,9 +27,6 @@ impl<S: Alter> Store<S> {
     }
 
     /// Adds a subscriber.
-    ///
-    /// # Errors
-    /// As [`Store::apply`].
     pub fn add_subscriber(&mut self, now: Moment, row: SubscriberRow) -> Result<(), DatabaseFault>
         ensures { MakesChange S.Store self.old self.new now (Subscriber row) result }
     {
@@ -43,9 +34,6 @@ impl<S: Alter> Store<S> {
     }
 
     /// Adds an order.
-    ///
-    /// # Errors
-    /// As [`Store::apply`].
     pub fn add_order(&mut self, now: Moment, row: OrderRow) -> Result<(), DatabaseFault>
         ensures { MakesChange S.Store self.old self.new now (Order row) result }
     {
@@ -53,9 +41,6 @@ impl<S: Alter> Store<S> {
     }
 
     /// Adds a certificate, one that is good.
-    ///
-    /// # Errors
-    /// As [`Store::apply`].
     pub fn add_cert(&mut self, now: Moment, row: CertRow) -> Result<(), DatabaseFault>
         ensures { MakesChange S.Store self.old self.new now (Certificate row) result }
     {
@@ -63,9 +48,6 @@ impl<S: Alter> Store<S> {
     }
 
     /// Adds a request for revocation.
-    ///
-    /// # Errors
-    /// As [`Store::apply`].
     pub fn add_request(&mut self, now: Moment, row: RequestRow) -> Result<(), DatabaseFault>
         ensures { MakesChange S.Store self.old self.new now (Request row) result }
     {
@@ -73,19 +55,13 @@ impl<S: Alter> Store<S> {
     }
 
     /// Declines the request with an id.
-    ///
-    /// # Errors
-    /// As [`Store::apply`].
     pub fn decline(&mut self, now: Moment, id: u64) -> Result<(), DatabaseFault>
         ensures { MakesChange S.Store self.old self.new now (Decline id) result }
     {
         self.apply(now, &Change::Decline(id))
     }
 
-    /// Adds a revocation, of a certificate that is registered with this notAfter and good.
-    ///
-    /// # Errors
-    /// As [`Store::apply`]; `Store` also where not exactly one letter turns from good to revoked.
+    /// Adds a revocation, of a certificate that is registered with this notAfter and good: else `Store`.
     pub fn add_revocation(
         &mut self,
         now: Moment,
@@ -98,31 +74,21 @@ impl<S: Alter> Store<S> {
     }
 
     /// Adds a CRL, with its bytes: it is the last that lists the certificates that ended before it.
-    ///
-    /// # Errors
-    /// As [`Store::apply`].
     pub fn add_crl(&mut self, now: Moment, row: CrlRow, der: &[u8]) -> Result<(), DatabaseFault>
         ensures { MakesChange S.Store self.old self.new now (Crl row der.entry) result }
     {
         self.apply(now, &Change::Crl(row, der))
     }
 
-    /// Sets the schedule of longest validities. It is no command: no record, nothing that is kept beside them and not the
-    /// last accepted moment changes; and the office keeps the days that it was made with.
-    ///
-    /// # Errors
-    /// As [`reg_store_changes::set_schedule`].
+    /// Sets the schedule of longest validities, which is no command: nothing else changes.
     pub fn set_schedule(&mut self, schedule: Schedule) -> Result<(), DatabaseFault>
         ensures { SetsSchedule S.Store self.old self.new schedule result }
     {
         reg_store_changes::set_schedule(&mut self.tables.connection, &schedule)
     }
 
-    /// Sets the issuer, which has the key that it had: another Name, or other key identifiers of its own. It is no command: no
-    /// record, nothing that is kept beside them and not the last accepted moment changes.
-    ///
-    /// # Errors
-    /// As [`reg_store_changes::set_issuer`].
+    /// Sets the issuer, which has the key that it had: another Name, or other key identifiers of its own. It is no command:
+    /// nothing else changes.
     pub fn set_issuer(&mut self, issuer: &Issuer) -> Result<(), DatabaseFault>
         ensures { SetsIssuer S.Store self.old self.new issuer.now result }
     {

@@ -10,8 +10,7 @@ use reg_store_tables::{StoreFault, Tables};
 use sqlite::{Alter, Connection};
 use std::alloc::Global;
 
-/// A connection over which no store was had: why, and the connection, in no transaction and with its tables as they
-/// were.
+/// A connection over which no store was had, in no transaction and with its tables as they were, and why.
 #[derive(Drop)]
 pub struct Unopened<S: Alter> {
     pub fault: StoreFault,
@@ -19,12 +18,8 @@ pub struct Unopened<S: Alter> {
 }
 
 impl<S: Alter> Store<S> {
-    /// Makes a register with no records in an empty database, of this issuer and under this policy, with moment 0 as the
-    /// last accepted one. The connection is in no transaction, as one that was just opened or handed back by a store.
-    ///
-    /// # Errors
-    /// `NotEmpty` where the database has a table, an index or a view; `Memory`; `Store` where the database fails. The
-    /// connection comes back with its tables as they were.
+    /// Makes a register with no records in an empty database. Errors: `NotEmpty` where it has a table, an index or a view; `Memory`;
+    /// `Store` where the database fails.
     pub fn create(
         connection: Connection<S>,
         issuer: Issuer,
@@ -45,16 +40,8 @@ impl<S: Alter> Store<S> {
         }
     }
 
-    /// Opens the register that a database holds: what its tables showed, they show. Tables of version 1 or 2 are made ones
-    /// of the program's version, in one transaction, and show the same records: what is kept beside them is made anew from
-    /// them. The connection is in no transaction, as one that was just opened or handed back by a store.
-    ///
-    /// # Errors
-    /// `NotARegister` where the version, the issuer, the policy or the last accepted moment can't be read, are not in one
-    /// row or out of range, or where the tables, their columns, keys and indexes, or what stands beside them, are others
-    /// than those of the version; `NewVersion` for tables of a newer version; `Memory`; `Store` where the database fails,
-    /// or where an older register has a row that no register writes. The connection comes back with its tables as they
-    /// were.
+    /// Opens the register that a database holds; tables of version 1 or 2 become those of the program's version, in one transaction, and
+    /// show the same records. Errors: those of [`reg_store_opening::open`].
     pub fn open(alloc: Global, connection: Connection<S>) -> Result<Store<S>, Unopened<S>>
         requires { connection.in_transaction ≡ false }
         ensures opens { IfOk result (λ store. Opens S.Store connection store) }

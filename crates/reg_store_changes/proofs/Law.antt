@@ -21,12 +21,11 @@ use Rattle.reg_core.specs.declared.command.Status.{Status}
 use Rattle.reg_core.specs.declared.command.Status.TheVariants.{Good, Expired, Revoked}
 use Rattle.reg_core.specs.declared.rows.CertRow.{CertRow}
 use Rattle.reg_core.specs.declared.rows.RevocationRow.{RevocationRow}
-use Rattle.reg_store_tables.specs.Columns.{good, revoked, expired, is_good_letter, ends_before, Standing, Listed, Columns}
+use Rattle.reg_store_tables.specs.Columns.{good, revoked, expired, is_good_letter, ends_before, Standing, Listed, Columns, letter_counts, turned, with_counts}
 use Rattle.reg_store_tables.specs.Kept.{letter_of, standing_of, not_after_of, listed_of, Kept}
-use Rattle.reg_store_tables.specs.RowEffects.{turned, with_counts}
 use Rattle.reg_store_changes.specs.ColumnEffects.{lettered, swept, ended_by, is_good_at, good_at, with_revoked_letter, has_passed, with_last_listing, with_good, marked, shifted}
 use Rattle.reg_store_changes.specs.ChangeEffects.{columns_after}
-use Rattle.reg_store_tables.proofs.PublicLaws.{letter_counts, map_same, found_each, counts_stand}
+use Rattle.reg_store_tables.proofs.PublicLaws.{map_same, found_each, counts_stand}
 use Rattle.reg_store_changes.proofs.Letters.{counts_swept, counts_good, counts_revoked, ended_enough}
 
 -- ---- time passes

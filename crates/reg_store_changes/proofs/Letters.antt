@@ -3,11 +3,10 @@ use Rattle.std.proofs.Common.{◌≡◌, ◌+◌, ◌-◌, ◌≤◌, ℕ, Bool,
 use Rattle.std.proofs.lemmas.List.{length-map}
 use Rattle.sqlite_trees.proofs.ListLemmas.{filter-map}
 use Rattle.reg_core.specs.declared.command.Counts.{Counts}
-use Rattle.reg_store_tables.specs.Columns.{Letter, good, revoked, expired, is_good_letter, ends_before, Standing}
+use Rattle.reg_store_tables.specs.Columns.{Letter, good, revoked, expired, is_good_letter, ends_before, Standing, is_revoked_letter, is_expired_letter, with_letter, letter_counts, turned}
 use Rattle.reg_core_laws.proofs.PublicLaws.{one_if, sum_of_two, same_length, all_any}
-use Rattle.reg_store_tables.specs.RowEffects.{turned}
 use Rattle.reg_store_changes.specs.ColumnEffects.{lettered, is_good_at, shifted}
-use Rattle.reg_store_tables.proofs.PublicLaws.{is_revoked, is_expired, with_letter, letter_counts, same_counts}
+use Rattle.reg_store_tables.proofs.PublicLaws.{same_counts}
 
 -- ---- some good ones are turned
 
@@ -77,8 +76,8 @@ at_good serial row h = good_letter row.letter (and_second _ _ h)
 pub counts_swept : (now : ℕ) (rows : List Standing) → shifted (letter_counts rows) (length (filter (ends_before now) rows)) 0 0 ≡ letter_counts (map (turned (ends_before now) (lettered expired)) rows)
 counts_swept now rows =
     let good_ones = fewer (ends_before now) expired (ended_good now) is_good_letter refl refl rows in
-    let revoked_ones = same_many (ends_before now) expired (ended_good now) is_revoked refl rows in
-    let expired_ones = more (ends_before now) expired (ended_good now) is_expired refl refl rows in
+    let revoked_ones = same_many (ends_before now) expired (ended_good now) is_revoked_letter refl rows in
+    let expired_ones = more (ends_before now) expired (ended_good now) is_expired_letter refl refl rows in
     same_counts _ _ (omega arith) (omega arith) (omega arith)
 
 -- as one more is good
@@ -87,11 +86,11 @@ pub counts_good : (ended serial not_after : ℕ) (base : Counts) (rows : List St
 counts_good ended serial not_after base rows is enough =
     let new : Standing = record { serial = serial; not_after = not_after; letter = good } in
     let g : base.good + 0 - (ended + 0) ≡ with_letter is_good_letter rows = ap (λ (c : Counts). c.good) is in
-    let r : base.revoked + 0 ≡ with_letter is_revoked rows = ap (λ (c : Counts). c.revoked) is in
-    let x : base.expired + ended ≡ with_letter is_expired rows = ap (λ (c : Counts). c.expired) is in
+    let r : base.revoked + 0 ≡ with_letter is_revoked_letter rows = ap (λ (c : Counts). c.revoked) is in
+    let x : base.expired + ended ≡ with_letter is_expired_letter rows = ap (λ (c : Counts). c.expired) is in
     let pg : with_letter is_good_letter (rows ++ new ∷ []) ≡ with_letter is_good_letter rows + 1 = pushed is_good_letter new rows in
-    let pr : with_letter is_revoked (rows ++ new ∷ []) ≡ with_letter is_revoked rows + 0 = pushed is_revoked new rows in
-    let px : with_letter is_expired (rows ++ new ∷ []) ≡ with_letter is_expired rows + 0 = pushed is_expired new rows in
+    let pr : with_letter is_revoked_letter (rows ++ new ∷ []) ≡ with_letter is_revoked_letter rows + 0 = pushed is_revoked_letter new rows in
+    let px : with_letter is_expired_letter (rows ++ new ∷ []) ≡ with_letter is_expired_letter rows + 0 = pushed is_expired_letter new rows in
     same_counts _ _ (omega arith) (omega arith) (omega arith)
   where
     pushed : (test : Letter → Bool) (new : Standing) (those : List Standing) → with_letter test (those ++ new ∷ []) ≡ with_letter test those + one_if (test new.letter)
@@ -113,11 +112,11 @@ pub counts_revoked : (ended serial : ℕ) (base : Counts) (rows : List Standing)
     → shifted base ended 1 0 ≡ letter_counts (map (turned (is_good_at serial) (lettered revoked)) rows)
 counts_revoked ended serial base rows is one enough =
     let g : base.good + 0 - (ended + 0) ≡ with_letter is_good_letter rows = ap (λ (c : Counts). c.good) is in
-    let r : base.revoked + 0 ≡ with_letter is_revoked rows = ap (λ (c : Counts). c.revoked) is in
-    let x : base.expired + ended ≡ with_letter is_expired rows = ap (λ (c : Counts). c.expired) is in
+    let r : base.revoked + 0 ≡ with_letter is_revoked_letter rows = ap (λ (c : Counts). c.revoked) is in
+    let x : base.expired + ended ≡ with_letter is_expired_letter rows = ap (λ (c : Counts). c.expired) is in
     let good_ones = fewer (is_good_at serial) revoked (at_good serial) is_good_letter refl refl rows in
-    let revoked_ones = more (is_good_at serial) revoked (at_good serial) is_revoked refl refl rows in
-    let expired_ones = same_many (is_good_at serial) revoked (at_good serial) is_expired refl rows in
+    let revoked_ones = more (is_good_at serial) revoked (at_good serial) is_revoked_letter refl refl rows in
+    let expired_ones = same_many (is_good_at serial) revoked (at_good serial) is_expired_letter refl rows in
     same_counts _ _ (omega arith) (omega arith) (omega arith)
 
 -- no more than the good ones end

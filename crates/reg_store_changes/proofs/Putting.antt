@@ -24,7 +24,7 @@ use Rattle.reg_store_tables.specs.Schema.{register_schema, subscriber, orders, c
 use Rattle.reg_store_tables.specs.Rows.{number, serial_value, ground_place, counted_rows, stored_subscriber, stored_order, stored_certificate, stored_request, stored_revocation, stored_crl}
 use Rattle.reg_store_tables.specs.Columns.{good, Standing, Listed, stored_standing, stored_listed}
 use Rattle.reg_store_tables.specs.Shows.{HaveSerials}
-use Rattle.reg_store_tables.specs.Ran.{Ran}
+use Rattle.reg_store_tables.specs.Stays.{Ran}
 use Rattle.reg_store_tables.specs.Steps.{Turns, TurnsWhere}
 use Rattle.reg_store_changes.specs.ColumnEffects.{with_good, with_unlisted}
 use Rattle.reg_store_changes.specs.declared.sql.TheConstants.{PUT_SUBSCRIBER, PUT_ORDER, PUT_CERT, PUT_LETTER, PUT_REQUEST, PUT_REVOCATION, PUT_LISTED, PUT_CRL}

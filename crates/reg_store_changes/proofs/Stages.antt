@@ -11,7 +11,7 @@ use Rattle.reg_store_tables.specs.Rows.{stored_step}
 use Rattle.reg_store_tables.specs.Columns.{Columns}
 use Rattle.reg_store_tables.specs.Kept.{Kept}
 use Rattle.reg_store_tables.specs.Shows.{IsShownBy, AreBoth}
-use Rattle.reg_store_tables.specs.Ran.{Ran}
+use Rattle.reg_store_tables.specs.Stays.{Ran}
 use Rattle.reg_store_tables.specs.Staged.{IsStaged}
 use Rattle.reg_store_changes.specs.ChangeSteps.{ClearsSteps, WritesSchedule}
 use Rattle.reg_der.specs.Issuers.{with_issuer}

@@ -4,8 +4,7 @@ use Rattle.reg_core.specs.Records.{Crl}
 use Rattle.reg_core.specs.declared.change.Change.{Change}
 use Rattle.reg_core.specs.declared.change.Change.TheVariants.{Certificate, Revocation, Crl as NewCrl}
 use Rattle.reg_core.specs.declared.rows.CrlRow.{CrlRow}
-use Rattle.reg_store_tables.specs.Columns.{Columns}
-use Rattle.reg_store_tables.specs.RowEffects.{with_counts}
+use Rattle.reg_store_tables.specs.Columns.{Columns, with_counts}
 use Rattle.reg_store_changes.specs.ColumnEffects.{swept, ended_by, with_revoked_letter, good_at, with_good, with_unlisted, marked, shifted}
 
 -- a CRL with its bytes

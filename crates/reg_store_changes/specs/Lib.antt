@@ -2,5 +2,4 @@ pub mod AfterStoppedChange
 pub mod ChangeEffects
 pub mod ChangeSteps
 pub mod ColumnEffects
-pub mod Days
 pub mod MadeChanges

@@ -16,7 +16,11 @@ use Rattle.reg_store_tables.specs.Stays.{Changed, Stays}
 use Rattle.reg_store_changes.specs.AfterStoppedChange.{IsChanged, IsNamed, IsScheduled}
 use Rattle.reg_store_changes.specs.ChangeEffects.{TurnsOne}
 use Rattle.reg_store_changes.specs.ColumnEffects.{swept}
-use Rattle.reg_store_changes.specs.Days.{LeavesOfficeDays}
+
+-- over tables that show records which the change fits, the office's row has the days that it had
+abbrev pub LeavesOfficeDays : {S A E : Type 0} → Ghosts S → Held S → Held S → ℕ → Change → Result A E → Type 0
+LeavesOfficeDays g old new now change result =
+    (records : Records) → ShowsKept g old records → SoundRows records → Fits records now change → OnOk result (KeepsOfficeDays g old new)
 
 -- The change was made at a moment, or nothing has changed. Over sound records that allow it, the tables show the records after it, with
 -- what follows from them; where it was made, what it revokes had one good letter, and the office keeps its days. An error leaves the

@@ -1,6 +1,5 @@
-//! The one call for changes. Each change is one transaction, in which the letters of the certificates that ended turn,
-//! what is kept beside the records moves with them, and the last accepted moment is set. A fault leaves the tables as they
-//! were. That the decision allowed a change is no condition of the call, but of what its contract says.
+//! The one call for changes, which assumes nothing of the decision: that the decision allowed a change is a condition of what
+//! its contract says.
 
 ghost use Rattle.std.specs.Prelude.{◌≡◌, false};
 ghost use Rattle.reg_store_changes.specs.ChangeSteps.{Enters};
@@ -12,11 +11,8 @@ use reg_core::{Change, Counts, Moment};
 use reg_store_tables::{DatabaseFault, kept_counts, writing};
 use sqlite::{Alter, Connection};
 
-/// Makes a change at a moment, in one transaction.
-///
-/// # Errors
-/// `Memory`; `Store` where the database fails, where a count is missing or less than what is taken from it, and, of a
-/// revocation, where what is revoked has not exactly one good letter. Nothing has changed then.
+/// Makes a change at a moment, in one transaction. `Store` too where a count is missing or too small, or where what is revoked
+/// is not good. Nothing has changed then.
 pub fn apply<S: Alter>(
     conn: &mut Connection<S>,
     now: Moment,
@@ -30,7 +26,6 @@ pub fn apply<S: Alter>(
     commit(conn, now, change, counts)
 }
 
-/// The change as one transaction.
 fn commit<S: Alter>(
     conn: &mut Connection<S>,
     now: Moment,

@@ -3,7 +3,7 @@
 ghost use Rattle.std.specs.Prelude.{◌≡◌, ◌+◌, length, IfOk};
 ghost use Rattle.reg_core.specs.Changes.{touched, with_certificate, with_crl};
 ghost use Rattle.reg_store_tables.specs.Stays.{Stepped};
-ghost use Rattle.reg_store_tables.specs.RowEffects.{with_counts};
+ghost use Rattle.reg_store_tables.specs.Columns.{with_counts};
 ghost use Rattle.reg_store_tables.specs.Steps.{Continues, Makes, MakesRows, Turns, TurnsWhere};
 ghost use Rattle.reg_store_changes.specs.ColumnEffects.{with_good, marked, shifted};
 ghost use Rattle.reg_store_changes.specs.ChangeEffects.{crl_of, lost, added};
@@ -17,8 +17,6 @@ use reg_core::{CertRow, Change, Counts, CrlRow, Moment, RevocationRow};
 use reg_store_tables::{DatabaseFault, set_counts};
 use sqlite::{Alter, Transaction};
 
-/// The counts once some good ones have ended, and a change is made. `Store` where the good ones are fewer than what is taken
-/// from them, or a count is too great.
 fn shift(counts: Counts, ended: usize, change: &Change<'_>) -> Result<Counts, DatabaseFault>
     ensures shifted { IfOk result (λ next. next ≡ shifted counts ended (lost change.now) (added change.now)) }
 {
@@ -39,7 +37,6 @@ fn shift(counts: Counts, ended: usize, change: &Change<'_>) -> Result<Counts, Da
     })
 }
 
-/// How many good certificates the change takes, and how many it adds.
 fn moves_good(change: &Change<'_>) -> (u64, u64)
     ensures { result ≡ (lost change.now, added change.now) }
 {
@@ -50,7 +47,6 @@ fn moves_good(change: &Change<'_>) -> (u64, u64)
     }
 }
 
-/// The closing writes: the counts, and the last accepted moment.
 fn close<S: Alter>(
     tx: &mut Transaction<'_, S>,
     now: Moment,
@@ -93,7 +89,6 @@ fn revoke<S: Alter>(
     }
 }
 
-/// One CRL more, with its bytes: it is the last that lists the certificates that ended before it.
 fn issue<S: Alter>(
     tx: &mut Transaction<'_, S>,
     row: CrlRow,

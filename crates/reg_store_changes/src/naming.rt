@@ -13,7 +13,6 @@ use reg_store_tables::writing::{commit, write};
 use sqlite::types::ValueRef;
 use sqlite::{Alter, Connection, Transaction};
 
-/// Sets what is kept of the issuer's Name. The key stays.
 fn set_name<S: Alter>(tx: &mut Transaction<'_, S>, issuer: &Issuer) -> Result<(), DatabaseFault>
     ensures made { MakesRows S.Store tx.old tx.new result (Renames issuer.now) }
     ensures stepped { Stepped S.Store tx.old tx.new }
@@ -23,10 +22,7 @@ fn set_name<S: Alter>(tx: &mut Transaction<'_, S>, issuer: &Issuer) -> Result<()
 }
 
 /// Sets the issuer, which has the key that it had: another Name, or other key identifiers of its own. It is no command: no
-/// record, nothing that is kept beside them and not the last accepted moment changes.
-///
-/// # Errors
-/// `Memory`; `Store` where the database fails. Nothing has changed then.
+/// record, nothing that is kept beside them and not the last accepted moment changes. Where it fails nothing has changed.
 pub fn set_issuer<S: Alter>(conn: &mut Connection<S>, issuer: &Issuer) -> Result<(), DatabaseFault>
     requires { conn.old.in_transaction ≡ false }
     ensures sets { SetsIssuer S.Store conn.old conn.new issuer.now result }

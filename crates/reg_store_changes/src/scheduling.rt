@@ -12,7 +12,6 @@ use reg_store_tables::writing::{commit, write};
 use reg_store_tables::{DatabaseFault, put_schedule_steps};
 use sqlite::{Alter, Connection, Transaction};
 
-/// Takes all steps of the schedule out.
 fn clear_schedule_steps<S: Alter>(tx: &mut Transaction<'_, S>) -> Result<(), DatabaseFault>
     ensures made { MakesRows S.Store tx.old tx.new result ClearsSteps }
     ensures stepped { Stepped S.Store tx.old tx.new }
@@ -21,7 +20,6 @@ fn clear_schedule_steps<S: Alter>(tx: &mut Transaction<'_, S>) -> Result<(), Dat
     Ok(())
 }
 
-/// Writes the schedule anew.
 fn write_schedule<S: Alter>(
     tx: &mut Transaction<'_, S>,
     schedule: &Schedule,
@@ -34,10 +32,7 @@ fn write_schedule<S: Alter>(
 }
 
 /// Sets the schedule of longest validities. It is no command: no record, nothing that is kept beside them and not the
-/// last accepted moment changes; and the office keeps the days that it was made with.
-///
-/// # Errors
-/// `Memory`; `Store` where the database fails. Nothing has changed then.
+/// last accepted moment changes; the office keeps the days that it was made with. Where it fails nothing has changed.
 pub fn set_schedule<S: Alter>(
     conn: &mut Connection<S>,
     schedule: &Schedule,

@@ -1,55 +1,40 @@
 //! The texts of the statements that write. Those that find rows find them by a key or an index, but for `MARK_LISTED`,
 //! which walks what is listed.
 
-/// The good certificates that end before a moment have ended.
 pub(crate) const SWEEP: &str =
     "UPDATE standing SET state = 'X' WHERE state = 'G' AND not_after < ?1";
 
-/// The good certificate with a serial number is revoked.
 pub(crate) const MARK_REVOKED: &str =
     "UPDATE standing SET state = 'R' WHERE serial = ?1 AND state = 'G'";
 
-/// The last accepted moment.
 pub(crate) const SET_LAST: &str = "UPDATE office SET last_at = ?1";
 
-/// What is kept of the issuer's Name.
 pub(crate) const SET_NAME: &str = "UPDATE office SET name = ?1";
 
-/// One subscriber more.
 pub(crate) const PUT_SUBSCRIBER: &str = "INSERT INTO subscriber (id, name) VALUES (?1, ?2)";
 
-/// One order more.
 pub(crate) const PUT_ORDER: &str = "INSERT INTO orders (id, subscriber, days) VALUES (?1, ?2, ?3)";
 
-/// One certificate more.
 pub(crate) const PUT_CERT: &str =
     "INSERT INTO cert (serial, order_id, not_before, not_after) VALUES (?1, ?2, ?3, ?4)";
 
-/// The state letter of a certificate that is good.
 pub(crate) const PUT_LETTER: &str =
     "INSERT INTO standing (serial, not_after, state) VALUES (?1, ?2, 'G')";
 
-/// One request more.
 pub(crate) const PUT_REQUEST: &str =
     "INSERT INTO request (id, serial, ground, received, declined) VALUES (?1, ?2, ?3, ?4, ?5)";
 
-/// The request with an id is declined.
 pub(crate) const SET_DECLINED: &str = "UPDATE request SET declined = 1 WHERE id = ?1";
 
-/// One revocation more.
 pub(crate) const PUT_REVOCATION: &str =
     "INSERT INTO revocation (serial, at, reason, request, first_crl) VALUES (?1, ?2, ?3, ?4, ?5)";
 
-/// What CRLs list of a revocation, up to no last one.
 pub(crate) const PUT_LISTED: &str =
     "INSERT INTO listed (serial, at, reason, first_crl, not_after, last_listed) VALUES (?1, ?2, ?3, ?4, ?5, NULL)";
 
-/// One CRL more.
 pub(crate) const PUT_CRL: &str = "INSERT INTO crl (number, this_update, der) VALUES (?1, ?2, ?3)";
 
-/// A CRL is the last one that lists what ended before it.
 pub(crate) const MARK_LISTED: &str =
     "UPDATE listed SET last_listed = ?1 WHERE last_listed IS NULL AND not_after < ?2";
 
-/// The schedule has no step.
 pub(crate) const CLEAR_STEPS: &str = "DELETE FROM longest";

@@ -52,7 +52,6 @@ pub(crate) fn mark_listed<S: Alter>(
     Ok(())
 }
 
-/// Sets the last accepted moment.
 pub(crate) fn set_last<S: Alter>(
     tx: &mut Transaction<'_, S>,
     now: Moment,
@@ -64,7 +63,6 @@ pub(crate) fn set_last<S: Alter>(
     Ok(())
 }
 
-/// Declines the request with the id.
 pub(crate) fn set_declined<S: Alter>(
     tx: &mut Transaction<'_, S>,
     id: u64,
@@ -78,7 +76,6 @@ pub(crate) fn set_declined<S: Alter>(
     Ok(())
 }
 
-/// Puts a subscriber in.
 pub(crate) fn put_subscriber<S: Alter>(
     tx: &mut Transaction<'_, S>,
     row: SubscriberRow,
@@ -94,7 +91,6 @@ pub(crate) fn put_subscriber<S: Alter>(
     Ok(())
 }
 
-/// Puts an order in.
 pub(crate) fn put_order<S: Alter>(
     tx: &mut Transaction<'_, S>,
     row: OrderRow,
@@ -111,7 +107,6 @@ pub(crate) fn put_order<S: Alter>(
     Ok(())
 }
 
-/// Puts a certificate in.
 pub(crate) fn put_cert<S: Alter>(
     tx: &mut Transaction<'_, S>,
     row: CertRow,
@@ -132,7 +127,6 @@ pub(crate) fn put_cert<S: Alter>(
     Ok(())
 }
 
-/// Puts the letter of a good certificate in.
 pub(crate) fn put_letter<S: Alter>(
     tx: &mut Transaction<'_, S>,
     serial: Serial,
@@ -147,7 +141,6 @@ pub(crate) fn put_letter<S: Alter>(
     Ok(())
 }
 
-/// Puts a request in.
 pub(crate) fn put_request<S: Alter>(
     tx: &mut Transaction<'_, S>,
     row: RequestRow,
@@ -170,7 +163,6 @@ pub(crate) fn put_request<S: Alter>(
     Ok(())
 }
 
-/// Puts a revocation in.
 pub(crate) fn put_revocation<S: Alter>(
     tx: &mut Transaction<'_, S>,
     row: RevocationRow,
@@ -214,7 +206,6 @@ pub(crate) fn put_listed<S: Alter>(
     Ok(())
 }
 
-/// Puts a CRL in, with its bytes.
 pub(crate) fn put_crl<S: Alter>(
     tx: &mut Transaction<'_, S>,
     row: CrlRow,

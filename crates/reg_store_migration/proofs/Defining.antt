@@ -17,7 +17,7 @@ use Rattle.sqlite.specs.State.{State, mode_of, Writes}
 use Rattle.sqlite.specs.Listing.{understood}
 use Rattle.sqlite.proofs.Callers.{runs_as}
 use Rattle.sqlite.proofs.Callers as callers
-use Rattle.reg_store_tables.specs.Ran.{Ran}
+use Rattle.reg_store_tables.specs.Stays.{Ran}
 use Rattle.reg_store_tables.proofs.PublicLaws.{went, same_value, pushed}
 use Rattle.reg_store_migration.specs.Makes.{DefinesTable, DefinesIndex}
 use Rattle.reg_store_migration.specs.NumberedRows.{HasRows}

@@ -22,7 +22,7 @@ use Rattle.sqlite.proofs.Callers.{runs_as, statement_of}
 use Rattle.reg_core_laws.proofs.PublicLaws.{equal_numbers}
 use Rattle.reg_store_tables.specs.ReadStatements.{command_of}
 use Rattle.reg_store_tables.specs.Schema.{standing, kept, listed}
-use Rattle.reg_store_tables.specs.Ran.{Ran}
+use Rattle.reg_store_tables.specs.Stays.{Ran}
 use Rattle.reg_store_tables.proofs.PublicLaws.{Empties, does_empty, deletes_keep, deletes, IsKeyed, unequal_trees}
 use Rattle.reg_store_migration.specs.Older.{kept_tables}
 use Rattle.reg_store_migration.specs.NumberedRows.{IsNumbered, HasRows, with_rows}

@@ -16,14 +16,13 @@ use Rattle.reg_core.specs.Issuer.{Issuer}
 use Rattle.reg_core.specs.Policy.{Terms}
 use Rattle.reg_core.specs.Records.{Records}
 use Rattle.reg_core.specs.Schedule.{greatest_of, one_step}
-use Rattle.reg_store_tables.specs.Columns.{stored_counts, office_days}
+use Rattle.reg_store_tables.specs.Columns.{stored_counts, office_days, turned}
 use Rattle.reg_store_tables.specs.Rows.{number, stored_office}
 use Rattle.reg_store_tables.specs.Schema.{register_schema, office, kept, table_trees}
 use Rattle.reg_store_tables.specs.Shows.{AreRows, AreColumns, AreBoth}
 use Rattle.reg_store_tables.proofs.PublicLaws.{passes, Turns, made, cast_int, cast_null, updates, inserts, IsWriting, at_known, turns_rows, puts_row, IsKeyed}
-use Rattle.reg_store_tables.specs.Ran.{Ran}
+use Rattle.reg_store_tables.specs.Stays.{Ran}
 use Rattle.reg_store_tables.specs.Staged.{IsStaged}
-use Rattle.reg_store_tables.specs.RowEffects.{turned}
 use Rattle.reg_store_migration.specs.Older.{stored_older, IsShownByOlder}
 use Rattle.reg_store_migration.specs.Refilled.{no_columns, no_counts}
 use Rattle.reg_store_migration.specs.NumberedRows.{HasRows, with_rows, records_alone}

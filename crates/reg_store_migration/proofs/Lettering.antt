@@ -54,7 +54,7 @@ use Rattle.reg_store_tables.specs.Rows.{number, serial_value, behind_rowids, cou
 use Rattle.reg_store_tables.specs.Schema.{register_schema, standing}
 use Rattle.reg_store_tables.specs.Shows.{IsShownBy}
 use Rattle.reg_store_tables.proofs.PublicLaws.{and_true, compares, lt_number, eq_serial, Given, picked, kept_behind, no_limit, unmapped, all_kept, ascending_key, went, same_value, cast_int, cast_null, uncounted_is, found_each, counted_put, both_after, none_acts, spares}
-use Rattle.reg_store_tables.specs.Ran.{Ran}
+use Rattle.reg_store_tables.specs.Stays.{Ran}
 use Rattle.reg_store_migration.specs.Rebuilds.{FillsLetters}
 use Rattle.reg_store_migration.specs.Refilled.{with_letters}
 use Rattle.reg_store_migration.specs.declared.sql.TheConstants.{FILL_LETTERS}

@@ -1,6 +1,5 @@
 -- What is read inside a transaction, and that nothing changes by it.
 use Rattle.std.proofs.Common.{◌≡◌, ◌⊎◌, ◌+◌, ℕ, true, List, [], ◌∷◌, map, codes, refl, sym, ap, subst, ◌∙◌, inl, inr}
-use Rattle.std.specs.List.{AllByRecursion}
 use Rattle.sqlite_value.specs.Order.{Row}
 use Rattle.sqlite_value.specs.declared.keys.Key.{Key}
 use Rattle.sqlite_trees.proofs.ListLemmas.{map-map}
@@ -15,11 +14,10 @@ use Rattle.sqlite.specs.declared.error.Error.{Error}
 use Rattle.sqlite.proofs.Callers.{reads_as}
 use Rattle.reg_core.specs.Crls.{row_of}
 use Rattle.reg_core.specs.Records.{Records, Crl}
-use Rattle.reg_core.specs.Sound.{NumberedFrom}
 use Rattle.reg_core.specs.declared.rows.RevocationRow.{RevocationRow}
 use Rattle.reg_store_tables.specs.Schema.{register_schema}
-use Rattle.reg_store_tables.proofs.PublicLaws.{select_never, selects, as_command, no_limit, Given, keyed_given, all_of, all_kept, ascending_key, ascends, sorted_same, numbered_rises, fails_remains, rows_same, crl_out}
-use Rattle.reg_store_tables.specs.Rows.{number, behind_rowids, stored_revocation, stored_crl}
+use Rattle.reg_store_tables.proofs.PublicLaws.{select_never, selects, as_command, no_limit, Given, keyed_given, all_of, all_kept, ascending_key, ascends, sorted_same, numbered_rises, fails_remains, rows_same, crl_out, behind, with_rowids, rowids_are, rowids_numbered}
+use Rattle.reg_store_tables.specs.Rows.{number, stored_revocation, stored_crl}
 use Rattle.reg_store_tables.specs.Shows.{IsShownBy}
 use Rattle.reg_store_tables.specs.ReadStatements.{IsReading, command_of, shown_revocation, shown_crl}
 use Rattle.reg_store_migration.specs.Asked.{AreAnswer}
@@ -46,21 +44,6 @@ pub asked_answers : (old new : State) (sql : List ℕ) (params : Row) (rows : Li
 asked_answers old new sql params rows reading shown register = reads_as sql params old new register_schema register (command_of (understood register_schema sql)) refl reading.plain reading.unlisted rows shown
 
 -- ---- revocations, in the order of entry
-
-abbrev with_rowids : ℕ → List RevocationRow → List (ℕ × RevocationRow)
-with_rowids from [] = []
-with_rowids from (row ∷ rest) = (from, row) ∷ with_rowids (from + 1) rest
-
-abbrev stored_numbered : ℕ × RevocationRow → Row
-stored_numbered row = number row.0 ∷ stored_revocation row.1
-
-rowids_are : (from : ℕ) (rows : List RevocationRow) → behind_rowids from (map stored_revocation rows) ≡ map stored_numbered (with_rowids from rows)
-rowids_are from [] = refl
-rowids_are from (row ∷ rest) = ap (λ (l : List Row). stored_numbered (from, row) ∷ l) (rowids_are (from + 1) rest)
-
-rowids_numbered : (from : ℕ) (rows : List RevocationRow) → NumberedFrom (λ (row : ℕ × RevocationRow). row.0) from (with_rowids from rows)
-rowids_numbered from [] = tt
-rowids_numbered from (row ∷ rest) = (refl, rowids_numbered (from + 1) rest)
 
 abbrev shown_numbered : ℕ × RevocationRow → Row
 shown_numbered row = shown_revocation row.1
@@ -98,8 +81,8 @@ module _ (db : Database) (records : Records) (shown : IsShownBy db records) (row
 
   revocations_given : Given (λ _. true) numbered_out numbered (selects 8 [] revocation_columns by_first no_limit) [] rows
   revocations_given =
-      keyed_given (λ _. Unit {0}) stored_numbered (λ _. true) numbered_out numbered (all_of (λ _. Unit {0}) (λ _. tt) numbered) 8 [] revocation_columns by_first no_limit [] REVOCATIONS.now revocation_names revocations_mean db refl rows reads
-      (shown.rows.revocations ∙ rowids_are 1 records.revocations) (λ row any. refl) (λ row. refl)
+      keyed_given (λ _. Unit {0}) (behind stored_revocation) (λ _. true) numbered_out numbered (all_of (λ _. Unit {0}) (λ _. tt) numbered) 8 [] revocation_columns by_first no_limit [] REVOCATIONS.now revocation_names revocations_mean db refl rows reads
+      (shown.rows.revocations ∙ rowids_are stored_revocation 1 records.revocations) (λ row any. refl) (λ row. refl)
 
   pub revocations_are : rows ≡ map shown_revocation records.revocations
   revocations_are =

@@ -13,12 +13,11 @@ use Rattle.reg_core.specs.declared.rows.CertRow.{CertRow}
 use Rattle.reg_core.specs.declared.rows.CrlRow.{CrlRow}
 use Rattle.reg_core.specs.declared.rows.RevocationRow.{RevocationRow}
 use Rattle.reg_core_laws.proofs.PublicLaws.{all_map, past_end_is}
-use Rattle.reg_store_tables.specs.Columns.{Columns}
+use Rattle.reg_store_tables.specs.Columns.{Columns, letter_counts, with_counts}
 use Rattle.reg_store_tables.specs.Kept.{not_after_of, standing_of, listed_of, Kept}
 use Rattle.reg_store_tables.specs.Shows.{AreBoth}
-use Rattle.reg_store_tables.specs.RowEffects.{with_counts}
 use Rattle.reg_store_tables.proofs.PublicLaws.{found_each, counts_stand}
-use Rattle.reg_store_migration.specs.Refilled.{AreIssued, HasLetters, letter_counts, last_in, listed_by, with_listed, HasRelisted}
+use Rattle.reg_store_migration.specs.Refilled.{AreIssued, HasLetters, last_in, listed_by, with_listed, HasRelisted}
 
 -- ---- one revocation after another
 

@@ -1,5 +1,5 @@
 -- What is kept beside the records, made anew from them.
-use Rattle.std.specs.Prelude.{◌≡◌, ℕ, pos, Bool, true, false, ◌&&◌, nat_le, nat_lt, List, [], ◌∷◌, ◌++◌, map, filter, length, take, find, Option, option_map, IsPermutation}
+use Rattle.std.specs.Prelude.{◌≡◌, ℕ, pos, ◌&&◌, nat_le, nat_lt, List, [], ◌∷◌, ◌++◌, map, take, find, Option, option_map, IsPermutation}
 use Rattle.sqlite.specs.Effect.{Database}
 use Rattle.reg_core.specs.Records.{Records}
 use Rattle.reg_core.specs.Schedule.{greatest_of}
@@ -7,7 +7,7 @@ use Rattle.reg_core.specs.Sound.{NumberedFrom, NeverFalls}
 use Rattle.reg_core.specs.declared.command.Counts.{Counts}
 use Rattle.reg_core.specs.declared.rows.CrlRow.{CrlRow}
 use Rattle.reg_core.specs.declared.rows.RevocationRow.{RevocationRow}
-use Rattle.reg_store_tables.specs.Columns.{Letter, good, revoked, expired, is_good_letter, Standing, Listed, Columns, office_days}
+use Rattle.reg_store_tables.specs.Columns.{Standing, Listed, Columns, office_days}
 use Rattle.reg_store_tables.specs.Kept.{Kept, standing_of, listed_of}
 use Rattle.reg_store_tables.specs.Rows.{number}
 use Rattle.reg_store_tables.specs.Shows.{AreBoth}
@@ -27,24 +27,6 @@ with_letters letters columns = record columns { letters = letters }
 -- one letter for each certificate, as at the last accepted moment
 abbrev pub HasLetters : Columns → Records → Type 0
 HasLetters columns records = IsPermutation (map (standing_of records) records.certificates) columns.letters
-
-abbrev pub is_revoked_letter : Letter → Bool
-is_revoked_letter good = false
-is_revoked_letter revoked = true
-is_revoked_letter expired = false
-
-abbrev pub is_expired_letter : Letter → Bool
-is_expired_letter good = false
-is_expired_letter revoked = false
-is_expired_letter expired = true
-
--- how many rows have a letter
-abbrev pub with_letter : (Letter → Bool) → List Standing → ℕ
-with_letter test rows = length (filter (λ row. test row.letter) rows)
-
--- how many rows have each letter
-abbrev pub letter_counts : List Standing → Counts
-letter_counts rows = record { good = with_letter is_good_letter rows; revoked = with_letter is_revoked_letter rows; expired = with_letter is_expired_letter rows }
 
 -- CRLs as they were issued: by their numbers, and no thisUpdate before an earlier one's
 abbrev pub AreIssued : List CrlRow → Type 0

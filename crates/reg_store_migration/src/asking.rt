@@ -19,7 +19,6 @@ use reg_store_tables::sql::CERT_BY_SERIAL;
 use sqlite::types::ValueRef;
 use sqlite::{Alter, Row, Transaction, params};
 
-/// The rows that a query answers, inside the transaction.
 pub(crate) fn ask<S: Alter>(
     tx: &mut Transaction<'_, S>,
     sql: &str,
@@ -33,7 +32,6 @@ pub(crate) fn ask<S: Alter>(
     Ok(tx.query_all(sql, params)?)
 }
 
-/// All revocations, in the order of entry.
 pub(crate) fn revocations<S: Alter>(
     tx: &mut Transaction<'_, S>,
 ) -> Result<Vec<RevocationRow>, DatabaseFault>
@@ -45,7 +43,6 @@ pub(crate) fn revocations<S: Alter>(
     Ok(rows_in::<RevocationRow>(*found.allocator(), &found)?)
 }
 
-/// All CRLs, without their bytes, in the order of their numbers.
 pub(crate) fn crls<S: Alter>(tx: &mut Transaction<'_, S>) -> Result<Vec<CrlRow>, DatabaseFault>
     ensures asked { Asks S.Store tx.old tx.new
         result (λ found. OfRecords (λ records. found.items ≡ map row_of records.crls)) }
@@ -55,7 +52,6 @@ pub(crate) fn crls<S: Alter>(tx: &mut Transaction<'_, S>) -> Result<Vec<CrlRow>,
     Ok(rows_in::<CrlRow>(*found.allocator(), &found)?)
 }
 
-/// The end of the certificate that a row shows. `Store` for no row and for more.
 fn end_in(rows: &[Row]) -> Result<Moment, DatabaseFault>
     ensures read { IfOk result (λ end. (row : Values) × (rows.now ≡ row ∷ [])
         × ((certificate : CertRow) → IsSerial certificate.serial → row ≡ shown_certificate certificate

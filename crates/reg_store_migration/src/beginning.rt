@@ -12,7 +12,6 @@ use reg_store_tables::writing::write;
 use reg_store_tables::{DatabaseFault, put_schedule_steps};
 use sqlite::{Alter, Transaction};
 
-/// Sets the version to the program's.
 fn set_version<S: Alter>(tx: &mut Transaction<'_, S>) -> Result<(), DatabaseFault>
     ensures made { MakesRows S.Store tx.old tx.new result SetsVersion }
     ensures stepped { Stepped S.Store tx.old tx.new }
@@ -22,9 +21,6 @@ fn set_version<S: Alter>(tx: &mut Transaction<'_, S>) -> Result<(), DatabaseFaul
 }
 
 /// Writes the counts' row, of no certificates.
-///
-/// # Errors
-/// `Memory`; `Store` where the database fails.
 pub fn put_counts<S: Alter>(tx: &mut Transaction<'_, S>) -> Result<(), DatabaseFault>
     ensures made { MakesRows S.Store tx.old tx.new result PutsCounts }
     ensures stepped { Stepped S.Store tx.old tx.new }

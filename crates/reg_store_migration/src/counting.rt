@@ -1,12 +1,11 @@
 //! How many certificates have each letter.
 
 ghost use Rattle.std.specs.Prelude.{◌≡◌, ℕ, [], ◌∷◌, Bool, bytes_eq, IfOk};
-ghost use Rattle.reg_store_tables.specs.Columns.{Letter, letter_text};
+ghost use Rattle.reg_store_tables.specs.Columns.{Letter, letter_counts, letter_text, with_letter};
 ghost use Rattle.reg_store_tables.specs.Rows.{number};
 ghost use Rattle.reg_store_tables.specs.Stays.{Stepped};
 ghost use Rattle.reg_store_tables.specs.Steps.{Asks};
 ghost use Rattle.reg_store_migration.specs.Asked.{OfColumns};
-ghost use Rattle.reg_store_migration.specs.Refilled.{with_letter, letter_counts};
 
 use crate::asking::ask;
 use crate::sql;
@@ -28,7 +27,6 @@ fn count_in(rows: &[Row]) -> Result<u64, DatabaseFault>
     }
 }
 
-/// How many certificates have a letter.
 fn count_letter<S: Alter>(tx: &mut Transaction<'_, S>, letter: &[u8]) -> Result<u64, DatabaseFault>
     ensures asked { Asks S.Store tx.old tx.new result (λ count. OfColumns (λ columns. (test : Letter → Bool)
         → ((of : Letter) → bytes_eq (letter_text of) letter.now ≡ test of)
@@ -39,7 +37,6 @@ fn count_letter<S: Alter>(tx: &mut Transaction<'_, S>, letter: &[u8]) -> Result<
     count_in(&found)
 }
 
-/// How many certificates have each letter.
 pub(crate) fn counts<S: Alter>(tx: &mut Transaction<'_, S>) -> Result<Counts, DatabaseFault>
     ensures asked { Asks S.Store tx.old tx.new
         result (λ counts. OfColumns (λ columns. counts ≡ letter_counts columns.letters)) }

@@ -12,10 +12,7 @@ use reg_store_tables::writing::write;
 use reg_store_tables::{DatabaseFault, schema};
 use sqlite::{Alter, Transaction};
 
-/// Makes one table or index.
-///
-/// # Errors
-/// `Memory`; `Store` where the database fails, or has the name already.
+/// Makes one table or index. `Store` too where the database has the name already.
 pub fn define<S: Alter>(tx: &mut Transaction<'_, S>, sql: &str) -> Result<(), DatabaseFault>
     ensures made { Makes S.Store tx.old tx.new result (Defines sql.now) }
     ensures stepped { Stepped S.Store tx.old tx.new }
@@ -25,9 +22,6 @@ pub fn define<S: Alter>(tx: &mut Transaction<'_, S>, sql: &str) -> Result<(), Da
 }
 
 /// Makes the tables that are kept beside those of the records.
-///
-/// # Errors
-/// `Memory`; `Store` where the database fails, or has one of their names already.
 pub fn make_kept_tables<S: Alter>(tx: &mut Transaction<'_, S>) -> Result<(), DatabaseFault>
     ensures made { Makes S.Store tx.old tx.new result AddsKept }
     ensures stepped { Stepped S.Store tx.old tx.new }
@@ -37,7 +31,6 @@ pub fn make_kept_tables<S: Alter>(tx: &mut Transaction<'_, S>) -> Result<(), Dat
     define(tx, schema::LISTED)
 }
 
-/// Takes out what is kept beside the records.
 fn clear_kept_tables<S: Alter>(tx: &mut Transaction<'_, S>) -> Result<(), DatabaseFault>
     ensures made { Makes S.Store tx.old tx.new result (Rebuilds OlderVersion.Second kept_tables) }
     ensures stepped { Stepped S.Store tx.old tx.new }
@@ -63,9 +56,6 @@ fn make_beside<S: Alter>(
 }
 
 /// Makes the table of the schedule, and the indexes.
-///
-/// # Errors
-/// `Memory`; `Store` where the database fails, or has one of their names already.
 pub fn make_schedule_and_indexes<S: Alter>(tx: &mut Transaction<'_, S>) -> Result<(), DatabaseFault>
     ensures made { Makes S.Store tx.old tx.new result AddsSchedule }
     ensures stepped { Stepped S.Store tx.old tx.new }

@@ -14,7 +14,6 @@ use reg_store_tables::DatabaseFault;
 use reg_store_tables::writing::commit;
 use sqlite::{Alter, Connection, Transaction};
 
-/// Makes the tables ones of the program's version, inside a transaction.
 fn make_newer<S: Alter>(
     tx: &mut Transaction<'_, S>,
     version: OlderVersion,
@@ -28,13 +27,9 @@ fn make_newer<S: Alter>(
     refill(tx, last)
 }
 
-/// Makes a register of an older version, with one longest validity in days and this last accepted moment, one of the
-/// program's version, in one transaction: the records stay, and what is kept beside them is made anew from them, whatever
-/// stood there. It costs time that grows with the rows.
-///
-/// # Errors
-/// `Memory`; `Store` where the database fails, has a table or an index of a newer version already, or a row is one that
-/// no register writes. The tables are as they were then.
+/// Makes a register of an older version one of the program's version, in one transaction: the records stay, and what is kept
+/// beside them is made anew. `Store` too where a table or an index of a newer version stands there already, or a row is one
+/// that no register writes. The tables are as they were then.
 pub fn migrate<S: Alter>(
     conn: &mut Connection<S>,
     version: OlderVersion,

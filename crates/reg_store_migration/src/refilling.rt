@@ -12,7 +12,6 @@ use reg_store_tables::writing::{sql_moment, write};
 use reg_store_tables::{DatabaseFault, set_counts};
 use sqlite::{Alter, Transaction};
 
-/// Puts in the letter of each certificate at the last accepted moment.
 fn fill_letters<S: Alter>(tx: &mut Transaction<'_, S>, last: Moment) -> Result<(), DatabaseFault>
     ensures made { MakesRows S.Store tx.old tx.new result (FillsLetters last) }
     ensures stepped { Stepped S.Store tx.old tx.new }
@@ -21,7 +20,6 @@ fn fill_letters<S: Alter>(tx: &mut Transaction<'_, S>, last: Moment) -> Result<(
     Ok(())
 }
 
-/// Fills what is kept beside the records, as it follows from them at the last accepted moment.
 pub(crate) fn refill<S: Alter>(
     tx: &mut Transaction<'_, S>,
     last: Moment,

@@ -17,7 +17,6 @@ use reg_store_tables::writing::{sql_moment, sql_number, sql_reason, write};
 use sqlite::types::ValueRef;
 use sqlite::{Alter, Transaction};
 
-/// Whether a CRL can list from a number on, and its thisUpdate is past a moment.
 fn is_past(crl: &CrlRow, first: u64, not_after: Moment) -> bool
     ensures { result ≡ (nat_le first crl.now.number && nat_lt not_after crl.now.this_update) }
 {
@@ -36,7 +35,6 @@ fn last_listing(crls: &[CrlRow], first: u64, not_after: Moment) -> Option<u64>
     }
 }
 
-/// The number as SQL has it, or NULL.
 fn sql_number_or_null(number: Option<u64>) -> Result<ValueRef<'static>, DatabaseFault>
     ensures value { IfOk result (λ value. bound_value (owned value) ≡ number_or_null number) }
 {
@@ -46,7 +44,6 @@ fn sql_number_or_null(number: Option<u64>) -> Result<ValueRef<'static>, Database
     }
 }
 
-/// Puts in what CRLs list of a revocation, up to the last one that does, where it has been issued.
 fn put_listing<S: Alter>(
     tx: &mut Transaction<'_, S>,
     row: RevocationRow,
@@ -70,7 +67,6 @@ fn put_listing<S: Alter>(
     Ok(())
 }
 
-/// Lists a revocation.
 fn relist_one<S: Alter>(
     tx: &mut Transaction<'_, S>,
     revocation: RevocationRow,
@@ -83,7 +79,6 @@ fn relist_one<S: Alter>(
     put_listing(tx, revocation, crls, not_after)
 }
 
-/// Lists each revocation.
 fn relist_each<S: Alter>(
     tx: &mut Transaction<'_, S>,
     revocations: &[RevocationRow],
@@ -98,7 +93,6 @@ fn relist_each<S: Alter>(
     Ok(())
 }
 
-/// Lists each revocation.
 pub(crate) fn relist<S: Alter>(tx: &mut Transaction<'_, S>) -> Result<(), DatabaseFault>
     ensures made { ContinuesRows S.Store tx.old tx.new result Relists }
     ensures stepped { Stepped S.Store tx.old tx.new }

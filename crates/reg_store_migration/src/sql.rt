@@ -1,18 +1,13 @@
 //! The texts of the statements that make a register's tables ones of the program's version.
 
-/// No letter is kept.
 pub const CLEAR_STANDING: &str = "DELETE FROM standing";
 
-/// No counts are kept.
 pub const CLEAR_KEPT: &str = "DELETE FROM kept";
 
-/// Nothing is listed.
 pub const CLEAR_LISTED: &str = "DELETE FROM listed";
 
-/// The version of the tables.
 pub const SET_VERSION: &str = "UPDATE office SET version = 3";
 
-/// The one row of the counts, of no certificates.
 pub const PUT_COUNTS: &str =
     "INSERT INTO kept (one, n_good, n_revoked, n_expired) VALUES (1, 0, 0, 0)";
 
@@ -20,16 +15,13 @@ pub const PUT_COUNTS: &str =
 pub const FILL_LETTERS: &str =
     "INSERT INTO standing (serial, not_after, state) SELECT serial, not_after, CASE WHEN EXISTS (SELECT 1 FROM revocation WHERE revocation.serial = cert.serial) THEN 'R' WHEN not_after < ?1 THEN 'X' ELSE 'G' END FROM cert ORDER BY serial";
 
-/// How many certificates have a letter.
 pub const COUNT_LETTER: &str = "SELECT count(*) FROM standing WHERE state = ?1";
 
 /// All revocations, in the order of entry.
 pub const REVOCATIONS: &str =
     "SELECT serial, at, reason, request, first_crl FROM revocation ORDER BY rowid";
 
-/// All CRLs, without their bytes.
 pub const CRLS: &str = "SELECT number, this_update FROM crl ORDER BY number";
 
-/// What CRLs list of a revocation, and up to which one.
 pub const PUT_LISTING: &str =
     "INSERT INTO listed (serial, at, reason, first_crl, not_after, last_listed) VALUES (?1, ?2, ?3, ?4, ?5, ?6)";

@@ -9,7 +9,7 @@ use Rattle.sqlite_value.specs.Keys.{ascending}
 use Rattle.sqlite_value.specs.declared.keys.Collation.{Collation}
 use Rattle.sqlite_value.specs.declared.keys.Collation.TheVariants.{Binary, NoCase, RTrim}
 use Rattle.sqlite_value.specs.declared.keys.Key.{Key}
-use Rattle.sqlite_trees.proofs.ListLemmas.{pull_back, filter_all}
+use Rattle.sqlite_trees.proofs.ListLemmas.{pull_back}
 use Rattle.sqlite_sql.specs.Term.{Term}
 use Rattle.sqlite_sql.specs.Query.{Query, Output, key_cmp}
 use Rattle.sqlite_schema.specs.declared.command.Command.{Command}
@@ -21,9 +21,10 @@ use Rattle.sqlite.specs.Effect.{Database, Reads}
 use Rattle.reg_core.specs.Schedule.{Ascends}
 use Rattle.reg_store_tables.specs.ReadStatements.{shown_step}
 use Rattle.reg_store_tables.specs.Rows.{number}
-use Rattle.reg_store_tables.proofs.PublicLaws.{selects, as_command, no_limit, passes, shows, Given, given, all_of, ascending_key, ascends, sorted_same, ascends_rises, moment_of}
+use Rattle.reg_store_tables.proofs.PublicLaws.{selects, as_command, no_limit, passes, shows, Given, given, ascending_key, ascends, sorted_same, ascends_rises, moment_of, all_kept}
 use Rattle.reg_store_opening.specs.Said.{AreSteps}
 use Rattle.reg_store_opening.proofs.Resolved.{Names, names_one}
+use Rattle.reg_store_opening.proofs.Registered.{are_steps}
 use Rattle.reg_store_opening.proofs.OneTable.{AreOutputs}
 use Rattle.reg_store_opening.proofs.Simple.{AreSorted}
 use Rattle.reg_store_opening.proofs.Understood.{ReadsTable}
@@ -40,10 +41,6 @@ by_number RTrim a b = refl
 abbrev out : ℕ × ℕ → Output
 out step = (number step.0 ∷ [], shown_step step)
 
-are_steps : (steps : List (ℕ × ℕ)) → AreSteps (map shown_step steps) steps
-are_steps [] = tt
-are_steps (step ∷ steps) = (refl, refl, are_steps steps)
-
 module _ (tree : ℕ) (first second : Term) (c : Collation) (names : List Name) (db : Database) where
   abbrev query : Query
   query = selects tree [] (first ∷ second ∷ []) ((first, ascending c) ∷ []) no_limit
@@ -54,9 +51,6 @@ module _ (tree : ℕ) (first second : Term) (c : Collation) (names : List Name) 
   outputs_are (x ∷ xs) [] are = absurd are
   outputs_are (x ∷ xs) (step ∷ steps) are = let rest = outputs_are xs steps are.2 in λ i. (are.0 i ∷ [], are.0 i ∷ are.1 i ∷ []) ∷ rest i
 
-  all_pass : (xs : List (ℕ × ℕ)) → filter (λ _. true) xs ≡ xs
-  all_pass xs = filter_all (λ _. true) xs (all_of (λ _. true ≡ true) (λ _. refl) xs)
-
   steps_of : (rows others : List Row) (steps : List (ℕ × ℕ)) → Reads (as_command query names) db [] rows → Reads (as_command query names) db [] others → Ascends steps → AreSteps rows steps → AreSteps others steps
   steps_of rows others steps one two rise are =
       let a = answer tree (first ∷ second ∷ []) ((first, ascending c) ∷ []) names db rows one in
@@ -66,8 +60,8 @@ module _ (tree : ℕ) (first second : Term) (c : Collation) (names : List Name) 
       let turned : IsPermutation (map f a.to) (map f kept) = IsPermutation-map f a.to kept (IsPermutation-sym kept a.to a.same) in
       let back = pull_back out (map f a.to) (map f kept) turned steps mine in
       let g : Given (λ _. true) out back.0 query [] others =
-      given (λ _. true) out back.0 tree [] (first ∷ second ∷ []) ((first, ascending c) ∷ []) no_limit [] names db others (plain_tree db.trees tree) (back.2 ∙ ap (map out) (sym (all_pass back.0))) two in
-      let same : IsPermutation steps g.to = IsPermutation-trans _ _ _ back.1 (subst (λ l. IsPermutation l g.to) (all_pass back.0) g.same) in
+      given (λ _. true) out back.0 tree [] (first ∷ second ∷ []) ((first, ascending c) ∷ []) no_limit [] names db others (plain_tree db.trees tree) (back.2 ∙ ap (map out) (sym (all_kept back.0))) two in
+      let same : IsPermutation steps g.to = IsPermutation-trans _ _ _ back.1 (subst (λ l. IsPermutation l g.to) (all_kept back.0) g.same) in
       let to : g.to ≡ steps = sorted_same moment_of steps g.to (ascends_rises steps rise) same (ascends moment_of g.to (λ k d low high. sym (ap is_lt (by_number c _ _)) ∙ g.sorted k d low high)) in
       subst (λ l. AreSteps l steps) (sym (g.shown ∙ ap (map shown_step) to)) (are_steps steps)
 

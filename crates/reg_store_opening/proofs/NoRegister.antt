@@ -53,7 +53,7 @@ module _ (db : Database) (unviewed : db.schema.views ≡ []) where
   no_office (inr h) says =
       let are = says.4 in
       let keeps = are.3 in
-      let rise : Ascends are.0 = subst Ascends keeps.2.3 keeps.2.4.of_policy.schedule.ascending in
+      let rise : Ascends are.0 = subst Ascends keeps.2.1.1.1 keeps.2.1.1.0.schedule.ascending in
       let row = one_again OFFICE.now office_names [] db (office_is db.schema unviewed) (KeepsTo are.0) says.0 h.0 says.2 h.2 keeps in
       let means = steps_is db.schema unviewed in
       let steps =

@@ -1,85 +1,41 @@
 -- What the statements that test the tables read of a register's of any version.
-use Rattle.std.proofs.Common.{◌≡◌, ◌<◌, ◌≤◌, ◌⊎◌, inl, inr, ℕ, true, false, List, [], ◌∷◌, map, codes, Option, None, Some, Result, Ok, Err, MatchResult, IfOk, IfErr, refl, sym, ap, subst, ◌∙◌, arith}
+use Rattle.std.proofs.Common.{◌≡◌, ◌<◌, ◌≤◌, ◌⊎◌, inl, inr, ℕ, List, [], ◌∷◌, Option, None, Some, Result, Ok, Err, MatchResult, IfOk, IfErr, refl, sym, ap, ◌∙◌, arith}
 use Rattle.sqlite_value.specs.declared.value.Value.TheVariants.{Blob}
 use Rattle.sqlite_value.specs.Order.{Row, column}
-use Rattle.sqlite_sql.specs.Term.{Term, col, eval_all}
-use Rattle.sqlite_sql.specs.Query.{Output, page}
-use Rattle.sqlite_schema.specs.declared.schema.Schema.{Schema}
+use Rattle.sqlite_sql.specs.Term.{Term, col}
 use Rattle.sqlite_tied.specs.Compute.{everything}
-use Rattle.sqlite_typing.specs.Types.{accepts_program}
-use Rattle.sqlite.specs.Effect.{Database, Reads}
-use Rattle.sqlite.specs.Given.{IsPlain}
-use Rattle.sqlite.specs.Listing.{understood, reads_listing, IsSourceOf}
-use Rattle.sqlite.proofs.Callers.{one_permutation}
+use Rattle.sqlite.specs.Effect.{Database}
+use Rattle.sqlite.specs.Listing.{understood}
 use Rattle.reg_core.specs.Records.{Records}
 use Rattle.reg_core.specs.Schedule.{one_step}
-use Rattle.reg_store_tables.specs.ReadStatements.{command_of}
 use Rattle.reg_store_tables.specs.Rows.{number, stored_office}
 use Rattle.reg_store_tables.specs.Schema.{register_schema}
 use Rattle.reg_store_tables.specs.Shows.{IsShownBy}
 use Rattle.reg_store_tables.specs.Stays.{IsDatabaseFault}
 use Rattle.reg_store_tables.specs.declared.fault.StoreFault.{StoreFault}
 use Rattle.reg_store_tables.specs.declared.fault.StoreFault.TheVariants.{NotARegister, NewVersion}
-use Rattle.reg_store_tables.proofs.PublicLaws.{selects, as_command, no_limit, Given, given}
 use Rattle.reg_store_migration.specs.Older.{older_schema, stored_older, IsShownByOlder}
 use Rattle.reg_store_migration.specs.declared.version.OlderVersion.{OlderVersion}
 use Rattle.reg_store_migration.specs.declared.version.OlderVersion.TheVariants.{First, Second}
-use Rattle.reg_store_opening.specs.Judged.{Refuses}
-use Rattle.reg_store_opening.specs.Said.{IsNeverRefused, IsRead, InRange, AreOlderOffice, AreVersionRows, version_of, schema_of, IsOfVersion}
+use Rattle.reg_store_opening.specs.Said.{IsNeverRefused, IsRead, InRange, AreOlderOffice, AreVersionRows, version_of, schema_of, IsOfVersion, Refuses}
 use Rattle.reg_store_opening.specs.declared.sql.TheConstants.{VERSION, OLDER_OFFICE}
-use Rattle.reg_store_opening.proofs.Registered.{refused_call, number_one}
+use Rattle.reg_store_opening.proofs.Registered.{ReadsAll, never_refused, row_read, number_one}
 use Rattle.reg_store_opening.proofs.ScheduleRows.{one_version, only_row}
-use Rattle.reg_store_opening.proofs.TableTexts.{older_names}
-
--- ---- what a text reads of the one row of the office
-
--- over a schema the text reads these columns of the office
-record ReadsOffice (schema : Schema) (text : List ℕ) (project : List Term) (names : List (List ℕ)) : Type 0 where
-  plain : IsPlain (understood schema text)
-  unlisted : reads_listing schema text ≡ false
-  means : command_of (understood schema text) ≡ as_command (selects 0 [] project [] no_limit) names
-  accepted : accepts_program schema [] (selects 0 [] project [] no_limit) [] ≡ true
-
-never_refused : (schema : Schema) (text : List ℕ) (project : List Term) (names : List (List ℕ)) → ReadsOffice schema text project names → IsNeverRefused schema text
-never_refused schema text project names it = record {
-  plain = it.plain;
-  unlisted = it.unlisted;
-  never = λ limit db e is refuses.
-      refused_call 0 project [] names limit db e (ap (λ s. accepts_program s [] (selects 0 [] project [] no_limit) []) is ∙ it.accepted)
-      (subst (λ k. Rattle.sqlite.specs.Effect.RefusesToRead limit k db [] e) it.means refuses);
-}
-
-abbrev out : List Term → Row → Output
-out project row = ([], eval_all project ([] ∷ row ∷ []))
-
-row_read : (schema : Schema) (text : List ℕ) (project : List Term) (names : List (List ℕ)) → ReadsOffice schema text project names → (db : Database) (row : Row) → db.schema ≡ schema → db.trees 0 ≡ row ∷ []
-    → (rows : List Row) → IsRead db text rows → rows ≡ eval_all project ([] ∷ row ∷ []) ∷ []
-row_read schema text project names it db row is table rows read =
-    let known : understood schema text ≡ Ok read.compiled = subst (λ s. understood s text ≡ Ok read.compiled) is read.is in
-    let source : read.source ≡ db = subst (λ b. IsSourceOf b db read.source) (ap (λ s. reads_listing s text) is ∙ it.unlisted) read.from in
-    let here : Reads read.compiled.command db [] rows = subst (λ d. Reads read.compiled.command d [] rows) source read.reads in
-    let reads : Reads (as_command (selects 0 [] project [] no_limit) names) db [] rows = subst (λ k. Reads k db [] rows) (sym (ap command_of known) ∙ it.means) here in
-    let found : Given (λ _. true) (out project) (row ∷ []) (selects 0 [] project [] no_limit) [] rows =
-    given (λ _. true) (out project) (row ∷ []) 0 [] project [] no_limit [] names db rows refl (ap (λ t. map (Rattle.reg_store_tables.proofs.Queries.shows (selects 0 [] project [] no_limit) []) (Rattle.std.specs.List.filter (Rattle.reg_store_tables.proofs.Queries.passes [] []) t)) table) reads in
-    let to : found.to ≡ row ∷ [] = one_permutation row found.to found.same in
-    found.shown ∙ ap (λ l. page (selects 0 [] project [] no_limit) [] (map (λ r. (out project r).1) l)) to
+use Rattle.reg_store_opening.proofs.TableTexts.{older_names, version_names}
 
 -- ---- the version
 
 abbrev version_columns : List Term
 version_columns = col 1 2 ∷ []
 
-abbrev version_names : List (List ℕ)
-version_names = codes "version" ∷ []
-
-version_reads : (version : Option OlderVersion) → ReadsOffice (schema_of version) VERSION.now version_columns version_names
+version_reads : (version : Option OlderVersion) → ReadsAll (schema_of version) VERSION.now 0 version_columns [] version_names
 unfolding understood everything register_schema
 version_reads None = record { plain = (refl, refl); unlisted = refl; means = refl; accepted = refl }
 version_reads (Some First) = record { plain = (refl, refl); unlisted = refl; means = refl; accepted = refl }
 version_reads (Some Second) = record { plain = (refl, refl); unlisted = refl; means = refl; accepted = refl }
 
 pub version_never : (version : Option OlderVersion) → IsNeverRefused (schema_of version) VERSION.now
-version_never version = never_refused (schema_of version) VERSION.now version_columns version_names (version_reads version)
+version_never version = never_refused (schema_of version) VERSION.now 0 version_columns [] version_names (version_reads version)
 
 pub version_read : (version : Option OlderVersion) (db : Database) (rows : List Row) → IsOfVersion version db → IsRead db VERSION.now rows → AreVersionRows (version_of version) rows
 version_read version db rows of read =
@@ -126,13 +82,13 @@ judged_version rows version (Err f) one ok newer none (inr is) =
 abbrev older_columns : List Term
 older_columns = col 1 3 ∷ col 1 4 ∷ col 1 6 ∷ col 1 7 ∷ col 1 8 ∷ col 1 9 ∷ col 1 5 ∷ []
 
-older_reads : (version : OlderVersion) → ReadsOffice (older_schema version) OLDER_OFFICE.now older_columns older_names
+older_reads : (version : OlderVersion) → ReadsAll (older_schema version) OLDER_OFFICE.now 0 older_columns [] older_names
 unfolding understood everything
 older_reads First = record { plain = (refl, refl); unlisted = refl; means = refl; accepted = refl }
 older_reads Second = record { plain = (refl, refl); unlisted = refl; means = refl; accepted = refl }
 
 pub older_never : (version : OlderVersion) → IsNeverRefused (older_schema version) OLDER_OFFICE.now
-older_never version = never_refused (older_schema version) OLDER_OFFICE.now older_columns older_names (older_reads version)
+older_never version = never_refused (older_schema version) OLDER_OFFICE.now 0 older_columns [] older_names (older_reads version)
 
 module _ (version : OlderVersion) (db : Database) (records : Records) (shown : IsShownByOlder version db records) (rows : List Row) (read : IsRead db OLDER_OFFICE.now rows) where
   abbrev row : Row
@@ -147,27 +103,7 @@ module _ (version : OlderVersion) (db : Database) (records : Records) (shown : I
   older_office within = (
     row,
     rows_are,
-    (
-      refl,
-      refl,
-      (
-        records.issuer,
-        records.policy,
-        records.last,
-        shown.schedule,
-        record {
-          of_issuer = within.issuer;
-          of_policy = shown.policy;
-          of_last = within.last;
-          name = refl;
-          key = refl;
-          crl_life = refl;
-          ocsp_life = refl;
-          cap = refl;
-          at = refl;
-        },
-      ),
-    ),
+    (refl, refl, ((records.issuer, (within.issuer, refl, refl)), (records.policy, (shown.policy, shown.schedule, refl, refl, refl)), (records.last, (within.last, refl)))),
   )
 
   -- what is told of it are the days and the last accepted moment of the records

@@ -9,9 +9,8 @@ use Rattle.reg_store_tables.specs.Stays.{IsRegister, Stays}
 use Rattle.reg_store_schema.specs.declared.versions.Version.{Version}
 use Rattle.reg_store_migration.specs.Older.{older_schema}
 use Rattle.reg_store_migration.specs.declared.version.OlderVersion.{OlderVersion}
-use Rattle.reg_store_opening.specs.Compared.{TellsVersion, version_told}
 use Rattle.reg_store_opening.specs.Examined.{SaysFound, IsFoundOf, found_version}
-use Rattle.reg_store_opening.specs.Said.{version_of, schema_of, HasVersion, HasOthers, IsOlder, IsShownAs}
+use Rattle.reg_store_opening.specs.Said.{version_of, schema_of, HasVersion, HasOthers, IsOlder, IsShownAs, TellsVersion, version_told}
 use Rattle.reg_store_opening.specs.declared.opening.OlderOffice.{OlderOffice}
 
 has_found : (db : Database) (found : Option OlderOffice) → SaysFound db found → HasVersion db (version_of (found_version found))

@@ -1,5 +1,5 @@
 -- What the tables of an opened database say.
-use Rattle.std.specs.Prelude.{◌≡◌, ◌≢◌, ◌⊎◌, ◌<◌, ◌≤◌, ℕ, Bool, true, false, List, [], ◌∷◌, length, Option, None, Some, Ok, Err, IsTrue}
+use Rattle.std.specs.Prelude.{◌≡◌, ◌≢◌, ◌⊎◌, ◌<◌, ◌≤◌, ℕ, Bool, true, false, List, [], ◌∷◌, length, Option, None, Some, Ok, Err, IsTrue, ◌↔◌}
 use Rattle.std.specs.List.{AllByRecursion}
 use Rattle.sqlite_value.specs.declared.value.Value.TheVariants.{Blob}
 use Rattle.sqlite_value.specs.Order.{Row, column}
@@ -28,6 +28,11 @@ use Rattle.reg_store_tables.specs.declared.sql.TheConstants.{STEPS}
 use Rattle.reg_store_migration.specs.Older.{version_number, older_schema, IsShownByOlder}
 use Rattle.reg_store_migration.specs.declared.version.OlderVersion.{OlderVersion}
 use Rattle.reg_store_opening.specs.declared.sql.TheConstants.{VERSION, OFFICE, OLDER_OFFICE}
+use Rattle.reg_store_tables.specs.declared.fault.StoreFault.{StoreFault}
+use Rattle.reg_store_tables.specs.declared.fault.StoreFault.TheVariants.{Memory, NotARegister}
+use Rattle.reg_store_schema.specs.declared.versions.Version.{Version}
+use Rattle.reg_store_schema.specs.declared.versions.Version.TheVariants as version
+use Rattle.reg_store_migration.specs.declared.version.OlderVersion.TheVariants.{First, Second}
 
 -- a failure of memory, of the disk, or of the limit on steps that the caller has set
 abbrev pub is_call_error : Error → Bool
@@ -116,21 +121,35 @@ AreSteps (row ∷ rows) (step ∷ steps) = (column row 0 ≡ number step.0) × (
 abbrev pub HaveMoments : List (ℕ × ℕ) → Type 0
 HaveMoments steps = AllByRecursion (λ step. IsMoment step.0) steps
 
--- the row of the office: an issuer within its limits, a policy, and a last accepted moment that the clock lets pass
-pub record IsOfficeRow (issuer : Issuer) (policy : Terms) (last : ℕ) (row : Row) : Type 0 where
-  pub of_issuer : IsIssuer issuer
-  pub of_policy : IsPolicy policy
-  pub of_last : last < clock_end
-  pub name : column row 0 ≡ Blob issuer.name
-  pub key : column row 1 ≡ Blob issuer.key
-  pub crl_life : column row 2 ≡ number policy.crl_life
-  pub ocsp_life : column row 3 ≡ number policy.ocsp_life
-  pub cap : column row 4 ≡ number policy.cap
-  pub at : column row 5 ≡ number last
+-- what the row of an office has: the policy of a schedule
+abbrev pub HasPolicy : List (ℕ × ℕ) → Row → Terms → Type 0
+HasPolicy schedule row policy =
+    IsPolicy policy × (policy.schedule ≡ schedule)
+    × (column row 2 ≡ number policy.crl_life) × (column row 3 ≡ number policy.ocsp_life) × (column row 4 ≡ number policy.cap)
+
+-- a last accepted moment that the clock lets pass
+abbrev pub HasLast : Row → ℕ → Type 0
+HasLast row last = (last < clock_end) × (column row 5 ≡ number last)
+
+-- and an issuer within its limits
+abbrev pub HasIssuer : Row → Issuer → Type 0
+HasIssuer row issuer = IsIssuer issuer × (column row 0 ≡ Blob issuer.name) × (column row 1 ≡ Blob issuer.key)
 
 -- the row of an office that keeps to a schedule
 abbrev pub KeepsTo : List (ℕ × ℕ) → Row → Type 0
-KeepsTo schedule row = (issuer : Issuer) × (policy : Terms) × (last : ℕ) × (policy.schedule ≡ schedule) × IsOfficeRow issuer policy last row
+KeepsTo schedule row = ((issuer : Issuer) × HasIssuer row issuer) × ((policy : Terms) × HasPolicy schedule row policy) × ((last : ℕ) × HasLast row last)
+
+-- why rows are refused: memory has failed, or they are no register's, and this holds of them
+abbrev pub Refuses : Type 0 → StoreFault → Type 0
+Refuses Told fault = (fault ≡ Memory) ⊎ ((fault ≡ NotARegister) × Told)
+
+-- the row of a step: its moment and its days
+abbrev pub IsStep : Row → ℕ × ℕ → Type 0
+IsStep row step = (column row 0 ≡ number step.0) × (column row 1 ≡ number step.1) × IsMoment step.0
+
+-- the rows of these steps, each of which begins at a moment
+abbrev pub HaveSteps : List Row → List (ℕ × ℕ) → Type 0
+HaveSteps rows steps = AreSteps rows steps × HaveMoments steps
 
 -- the one row of the office and the steps of its schedule, each value within its range
 abbrev pub AreOfficeRows : List Row → List Row → Type 0
@@ -218,3 +237,13 @@ pub record InRange (records : Records) : Type 0 where
   pub issuer : IsIssuer records.issuer
   pub moments : HaveMoments records.policy.schedule
   pub last : records.last < clock_end
+
+-- a version, which is the program's where it is none
+abbrev pub version_told : Option OlderVersion → Version
+version_told None = version.Third
+version_told (Some First) = version.First
+version_told (Some Second) = version.Second
+
+-- a schema is told to be a version's where it is
+abbrev pub TellsVersion : Option Version → Schema → Type 0
+TellsVersion tables schema = (version : Option OlderVersion) → (tables ≡ Some (version_told version)) ↔ (schema ≡ schema_of version)

@@ -2,7 +2,7 @@
 
 ghost use Rattle.std.specs.Prelude.{◌≡◌, ◌↔◌, Some, false, IfOk, IsTrue};
 ghost use Rattle.sqlite.specs.Held.{state};
-ghost use Rattle.reg_store_opening.specs.Compared.{TellsVersion, version_told};
+ghost use Rattle.reg_store_opening.specs.Said.{TellsVersion, version_told};
 
 use reg_store_migration::OlderVersion;
 use reg_store_schema::{Version, version_of};

@@ -16,7 +16,6 @@ use reg_store_tables::writing::commit;
 use reg_store_tables::{DatabaseFault, StoreFault};
 use sqlite::{Alter, Connection, Transaction};
 
-/// Whether the database has no table, no index and no view.
 fn is_empty<S: Alter>(conn: &Connection<S>) -> bool
     ensures { IsTrue result ↔ conn.now.schema ≡ no_schema }
 {
@@ -24,7 +23,6 @@ fn is_empty<S: Alter>(conn: &Connection<S>) -> bool
     schema.tables.is_empty() && schema.indexes.is_empty() && schema.views.is_empty()
 }
 
-/// Makes the tables of a register with no records.
 fn make_register<S: Alter>(
     tx: &mut Transaction<'_, S>,
     issuer: &Issuer,
@@ -37,7 +35,6 @@ fn make_register<S: Alter>(
     fill(tx, issuer, policy)
 }
 
-/// Makes the tables of a register with no records, in one transaction.
 fn found<S: Alter>(
     conn: &mut Connection<S>,
     issuer: &Issuer,
@@ -52,10 +49,7 @@ fn found<S: Alter>(
 }
 
 /// Makes the tables of a register with no records, of this issuer and under this policy, at moment 0.
-///
-/// # Errors
-/// `NotEmpty` where the database has a table, an index or a view; `Memory`; `Store` where the database fails. Nothing has
-/// changed then.
+/// `NotEmpty` where the database has a table, an index or a view. Nothing has changed where it fails.
 pub fn create<S: Alter>(
     conn: &mut Connection<S>,
     issuer: &Issuer,

@@ -14,7 +14,6 @@ use reg_store_tables::{DatabaseFault, put_schedule_steps};
 use sqlite::types::ValueRef;
 use sqlite::{Alter, Transaction};
 
-/// Writes the office's row.
 fn put_office<S: Alter>(
     tx: &mut Transaction<'_, S>,
     issuer: &Issuer,

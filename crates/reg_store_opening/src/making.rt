@@ -9,7 +9,6 @@ use reg_store_migration::making::{define, make_kept_tables, make_schedule_and_in
 use reg_store_tables::{DatabaseFault, schema};
 use sqlite::{Alter, Transaction};
 
-/// Makes the tables of the office, of subscribers, orders and certificates.
 fn make_entry_tables<S: Alter>(tx: &mut Transaction<'_, S>) -> Result<(), DatabaseFault>
     ensures made { Makes S.Store tx.old tx.new result (Grows no_schema entry_tables) }
     ensures stepped { Stepped S.Store tx.old tx.new }
@@ -20,7 +19,6 @@ fn make_entry_tables<S: Alter>(tx: &mut Transaction<'_, S>) -> Result<(), Databa
     define(tx, schema::CERT)
 }
 
-/// Makes the tables of requests, revocations and CRLs.
 fn make_revocation_tables<S: Alter>(tx: &mut Transaction<'_, S>) -> Result<(), DatabaseFault>
     ensures made { Makes S.Store tx.old tx.new result (Grows entry_tables record_tables) }
     ensures stepped { Stepped S.Store tx.old tx.new }

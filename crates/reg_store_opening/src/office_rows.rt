@@ -6,8 +6,7 @@ ghost use Rattle.reg_core.specs.Issuer as core;
 ghost use Rattle.reg_core.specs.Policy.{Terms};
 ghost use Rattle.reg_core.specs.Schedule.{IsSchedule, one_step};
 ghost use Rattle.reg_store_tables.specs.Rows.{number};
-ghost use Rattle.reg_store_opening.specs.Judged.{Refuses, IsStep, HaveSteps, HasPolicy, HasLast, HasIssuer};
-ghost use Rattle.reg_store_opening.specs.Said.{version_of, AreVersionRows, KeepsTo, AreOfficeRows, IsOlderRow, AreOlderOffice};
+ghost use Rattle.reg_store_opening.specs.Said.{version_of, AreVersionRows, HasPolicy, HasLast, HasIssuer, KeepsTo, AreOfficeRows, IsOlderRow, AreOlderOffice, Refuses, IsStep, HaveSteps};
 
 use reg_core::{Moment, Policy, Schedule};
 use reg_der::{Issuer, IssuerFault};
@@ -17,7 +16,6 @@ use reg_store_tables::sql_values::{bytes_at, clock_moment_at, moment_at, number_
 use sqlite::Row;
 use std::alloc::Global;
 
-/// The one row.
 fn only(rows: &[Row]) -> Option<&Row>
     ensures { MatchOption result ((row : Cells) → rows.now ≢ row ∷ []) (λ row. rows.now ≡ row.now ∷ []) }
 {
@@ -27,7 +25,6 @@ fn only(rows: &[Row]) -> Option<&Row>
     }
 }
 
-/// The version, which is the one column of the one row.
 fn version_in(rows: &[Row]) -> Option<u64>
     ensures { MatchOption result ((n : ℕ) → ¬ AreVersionRows n rows.now) (λ n. AreVersionRows n rows.now) }
 {
@@ -52,14 +49,12 @@ pub(crate) fn judge_version(rows: &[Row]) -> Result<Option<OlderVersion>, StoreF
     }
 }
 
-/// A step of the schedule: a moment, and the days of validity from it on.
 fn step_in(row: &Row) -> Option<(Moment, u64)>
     ensures { MatchOption result ((step : ℕ × ℕ) → ¬ IsStep row.now step) (IsStep row.now) }
 {
     Some((moment_at(row, 0)?, number_at(row, 1)?))
 }
 
-/// The steps of the schedule.
 fn steps_in(rows: &Vec<Row>) -> Result<Vec<(Moment, u64)>, StoreFault>
     ensures { MatchResult result (λ steps. HaveSteps rows.now.items steps.items)
         (Refuses ((steps : List (ℕ × ℕ)) → ¬ HaveSteps rows.now.items steps)) }
@@ -74,7 +69,6 @@ fn steps_in(rows: &Vec<Row>) -> Result<Vec<(Moment, u64)>, StoreFault>
     Ok(steps)
 }
 
-/// The schedule.
 fn schedule_in(rows: &Vec<Row>) -> Result<Schedule, StoreFault>
     ensures { MatchResult result (HaveSteps rows.now.items)
         (Refuses ((steps : List (ℕ × ℕ)) → IsSchedule steps → ¬ HaveSteps rows.now.items steps)) }
@@ -86,7 +80,6 @@ fn schedule_in(rows: &Vec<Row>) -> Result<Schedule, StoreFault>
     }
 }
 
-/// The policy, of this schedule.
 fn policy_in(row: &Row, schedule: Schedule) -> Option<Policy>
     ensures { MatchOption result ((policy : Terms) → ¬ HasPolicy schedule row.now policy)
         (HasPolicy schedule row.now) }
@@ -104,7 +97,6 @@ fn last_in(row: &Row) -> Option<Moment>
     clock_moment_at(row, 5)
 }
 
-/// Whether a name and a key are an issuer's.
 fn judge_issuer(alloc: Global, row: &Row) -> Result<(), StoreFault>
     ensures { MatchResult result (λ _. (issuer : core.Issuer) × HasIssuer row.now issuer)
         (Refuses ((issuer : core.Issuer) → ¬ HasIssuer row.now issuer)) }
@@ -123,7 +115,6 @@ fn judge_issuer(alloc: Global, row: &Row) -> Result<(), StoreFault>
     }
 }
 
-/// Whether a row is that of an office with this schedule.
 fn judge_row(alloc: Global, row: &Row, schedule: Schedule) -> Result<(), StoreFault>
     ensures { MatchResult result (λ _. KeepsTo schedule row.now) (Refuses (¬ KeepsTo schedule row.now)) }
 {

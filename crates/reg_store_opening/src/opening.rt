@@ -9,8 +9,7 @@ ghost use Rattle.reg_store_tables.specs.Shows.{IsShownBy};
 ghost use Rattle.reg_store_tables.specs.Stays.{IsDatabaseFault, LeavesNothing, Stays, Stepped};
 ghost use Rattle.reg_store_migration.specs.Older.{IsShownByOlder};
 ghost use Rattle.reg_store_tables.specs.Steps.{Asks, WhileOpen};
-ghost use Rattle.reg_store_opening.specs.Said.{version_of, IsOfVersion, HasVersion, InRange, IsShownAs, ShowsAs, SaysOffice, ReadsOlder, SaysNoVersion, SaysNoOffice, SaysNoOlder, SaysNoRegister};
-ghost use Rattle.reg_store_opening.specs.Compared.{version_told};
+ghost use Rattle.reg_store_opening.specs.Said.{version_of, IsOfVersion, HasVersion, InRange, IsShownAs, ShowsAs, SaysOffice, ReadsOlder, SaysNoVersion, SaysNoOffice, SaysNoOlder, SaysNoRegister, version_told};
 ghost use Rattle.reg_store_opening.specs.Examined.{Tells, TellsNewer, TellsNone, Finds, SaysFound, IsFoundOf, found_version};
 ghost use Rattle.reg_store_opening.specs.Opens.{Opens, IsUnopened};
 
@@ -26,14 +25,11 @@ use reg_store_tables::sql::STEPS;
 use sqlite::{Alter, Connection, Transaction};
 use std::alloc::Global;
 
-/// What the office of an older version says.
+/// What the office of an older version says: its version, the longest validity in days, and the last accepted moment.
 #[derive(Clone, Copy)]
 pub struct OlderOffice {
-    /// Its version.
     version: OlderVersion,
-    /// The longest validity, in days.
     days: u64,
-    /// The last accepted moment.
     last: Moment,
 }
 
@@ -52,7 +48,6 @@ fn test_version<S: Alter>(tx: &mut Transaction<'_, S>) -> Result<Option<OlderVer
     judge_version(&rows)
 }
 
-/// Tests the office and its schedule.
 fn test_office<S: Alter>(tx: &mut Transaction<'_, S>) -> Result<(), StoreFault>
     ensures told { Tells S.Store tx.old.conn.now tx.new.conn.now result (λ _ db. SaysOffice db) }
     ensures none { TellsNone S.Store tx.old.conn.now tx.new.conn.now result SaysNoOffice }
@@ -65,7 +60,6 @@ fn test_office<S: Alter>(tx: &mut Transaction<'_, S>) -> Result<(), StoreFault>
     judge_office(&office, &steps)
 }
 
-/// The days and the last accepted moment of an older office.
 fn test_older<S: Alter>(tx: &mut Transaction<'_, S>) -> Result<(u64, Moment), StoreFault>
     ensures told { Tells S.Store tx.old.conn.now tx.new.conn.now result
         (λ found db. ReadsOlder db found.0 found.1) }
@@ -112,9 +106,8 @@ fn test_tables<S: Alter>(tx: &mut Transaction<'_, S>) -> Result<Option<OlderOffi
 /// version. Nothing is changed, whatever they are.
 ///
 /// # Errors
-/// `NotARegister` where the one row of the office can't be read for another cause than memory or the database, its
-/// version is below 1, or its values or the schedule's are not within their ranges; `NewVersion` above 3; `Memory`;
-/// `Store` where the database fails.
+/// `NotARegister` where the row of the office can't be read, or its version or other values are out of range; `NewVersion` above 3;
+/// `Memory`; `Store` where the database fails.
 pub fn examine<S: Alter>(conn: &mut Connection<S>) -> Result<Option<OlderOffice>, StoreFault>
     requires { conn.old.in_transaction ≡ false }
     ensures ok { HasCleanDisk (state S.Store conn.new)
@@ -139,7 +132,6 @@ pub fn examine<S: Alter>(conn: &mut Connection<S>) -> Result<Option<OlderOffice>
     tested
 }
 
-/// The version that was found, which is none where it is the program's.
 fn version_in(found: Option<OlderOffice>) -> Option<OlderVersion>
     ensures { result ≡ found_version found }
 {
@@ -149,7 +141,6 @@ fn version_in(found: Option<OlderOffice>) -> Option<OlderVersion>
     }
 }
 
-/// Tests that the tables are those of the version that was found.
 fn test_schema(tables: Option<Version>, found: Option<OlderOffice>) -> Result<(), StoreFault>
     ensures ok { OnOk result (tables ≡ Some (version_told (found_version found))) }
     ensures err { IfErr result (λ fault. (fault ≡ StoreFault.NotARegister)
@@ -166,11 +157,8 @@ fn test_schema(tables: Option<Version>, found: Option<OlderOffice>) -> Result<()
 /// beside them is made anew from them. The schema is looked at before the office is read: nothing is written in between.
 ///
 /// # Errors
-/// `NotARegister` where the one row of the office can't be read for another cause than memory or the database, its
-/// version is below 1, its values or the schedule's are not within their ranges, or the tables, their columns, keys and
-/// indexes, or what stands beside them, are others than those of its version; `NewVersion` above 3; `Memory`; `Store`
-/// where the database fails, or where an older register can't be made newer, as with a row that no register writes. The
-/// tables are as they were then.
+/// As of [`examine`]; `NotARegister` too where the tables, their columns, keys and indexes, or what stands beside them, are others
+/// than those of its version; `Store` too where an older register can't be made newer. The tables are as they were then.
 pub fn open<S: Alter>(alloc: Global, conn: &mut Connection<S>) -> Result<(), StoreFault>
     requires { conn.old.in_transaction ≡ false }
     ensures opens { OnOk result (Opens S.Store conn.old conn.new) }

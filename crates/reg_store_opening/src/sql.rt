@@ -4,7 +4,6 @@
 pub const PUT_OFFICE: &str =
     "INSERT INTO office (one, version, name, pubkey, days, crl_life, ocsp_life, cap, last_at) VALUES (1, 3, ?1, ?2, ?3, ?4, ?5, ?6, 0)";
 
-/// The version of the tables.
 pub const VERSION: &str = "SELECT version FROM office";
 
 /// What else the office has, but for its days, which no one reads.

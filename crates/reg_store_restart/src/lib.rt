@@ -12,12 +12,8 @@ use std::alloc::Global;
 
 /// The machine stops: the files are closed as they are, each loses what was not synced, and they are opened again.
 ///
-/// The moment of the stop may lie in the middle of a call that was made: then the disk refused every call from that moment on,
-/// as [`Fuse`](sqlite_disk::Fuse) does, and the call told that the store failed. What it says of the register that is opened
-/// is in the laws of `reg_store` and `reg_office`, as `a_register_opened_after_a_stop_stands_before_or_after`.
-///
-/// # Errors
-/// As [`Connection::open_files`] has them, with what is left of the files.
+/// The stop may lie within a call: the disk refused all from then on, as [`Fuse`](sqlite_disk::Fuse) does, and the call told a fault.
+/// `a_register_opened_after_a_stop_stands_before_or_after` says which register is opened. Errors are of [`Connection::open_files`].
 pub fn restart<D: Crash + Drop>(
     alloc: Global,
     connection: Connection<FileStore<D>>,

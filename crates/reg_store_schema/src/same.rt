@@ -2,12 +2,10 @@
 
 ghost use Rattle.std.specs.Prelude.{◌≡◌, ◌↔◌, IsTrue};
 
-use crate::terms::{same_terms, same_value};
 use sqlite_items::Items;
-use sqlite_schema::code::Terms;
 use sqlite_schema::schema::{Column, Index, Reference, Schema, Stamps, Table, View};
 use sqlite_value::keys::Order;
-use sqlite_value::value::{Bytes, Value};
+use sqlite_value::value::Bytes;
 
 /// What is compared, part by part.
 pub(crate) trait Same {
@@ -65,21 +63,9 @@ impl Same for Bytes {
     }
 }
 
-impl Same for Value {
-    fn is_same(&self, other: &Value) -> bool {
-        same_value(self, other)
-    }
-}
-
 impl Same for Order {
     fn is_same(&self, other: &Order) -> bool {
         self.digits == other.digits
-    }
-}
-
-impl Same for Terms {
-    fn is_same(&self, other: &Terms) -> bool {
-        same_terms(self, other)
     }
 }
 
@@ -125,7 +111,6 @@ fn have_same_columns(left: &Table, right: &Table) -> bool
         && left.is_counted == right.is_counted
 }
 
-/// Whether two tables have the same keys.
 fn have_same_keys(left: &Table, right: &Table) -> bool
     ensures { IsTrue result ↔ ((left.now.primary ≡ right.now.primary)
         × (left.now.uniques ≡ right.now.uniques) × (left.now.orders ≡ right.now.orders)) }

@@ -5,6 +5,7 @@ ghost use Rattle.sqlite_value.specs.declared.value.Value.TheVariants.{Null};
 ghost use Rattle.sqlite_sql.specs.Term.{lit};
 ghost use Rattle.sqlite_schema.specs.Code.{op_term, term_to, term_in, terms_in};
 
+use crate::same::Same;
 use sqlite_schema::code::{Op, Terms, lend_value};
 use sqlite_value::order;
 use sqlite_value::value::Value;
@@ -17,11 +18,10 @@ struct Place<'a> {
     at: usize,
 }
 
-/// Whether two values are the same.
-pub(crate) fn same_value(left: &Value, right: &Value) -> bool
-    ensures { IsTrue result ↔ (left.now ≡ right.now) }
-{
-    order::is_same(lend_value(left), lend_value(right))
+impl Same for Value {
+    fn is_same(&self, other: &Value) -> bool {
+        order::is_same(lend_value(self), lend_value(other))
+    }
 }
 
 /// The node of a term, and the depth to which its operands are read.
@@ -71,7 +71,7 @@ fn same_term(left: Place<'_>, right: Place<'_>) -> bool
     };
     match first {
         Op::Literal(value) => match second {
-            Op::Literal(other) => same_value(value, other),
+            Op::Literal(other) => value.is_same(other),
             _ => false,
         },
         Op::Column(slot, at) => match second {
@@ -133,14 +133,13 @@ fn are_same(left: &[Op], roots: &[usize], right: &[Op], others: &[usize]) -> boo
     others.is_empty()
 }
 
-/// Whether two lists of terms are the same.
-pub(crate) fn same_terms(left: &Terms, right: &Terms) -> bool
-    ensures { IsTrue result ↔ (left.now ≡ right.now) }
-{
-    are_same(
-        left.nodes.as_slice(),
-        left.roots.as_slice(),
-        right.nodes.as_slice(),
-        right.roots.as_slice(),
-    )
+impl Same for Terms {
+    fn is_same(&self, other: &Terms) -> bool {
+        are_same(
+            self.nodes.as_slice(),
+            self.roots.as_slice(),
+            other.nodes.as_slice(),
+            other.roots.as_slice(),
+        )
+    }
 }

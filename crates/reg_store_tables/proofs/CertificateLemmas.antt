@@ -1,5 +1,5 @@
 -- What the look-ups of certificates show.
-use Rattle.std.proofs.Common.{◌≡◌, ◌≤◌, ℕ, List, [], ◌∷◌, length, codes, refl, ◌∙◌, arith}
+use Rattle.std.proofs.Common.{◌≤◌, ℕ, List, [], ◌∷◌, length, codes, refl, ◌∙◌, arith}
 use Rattle.std.specs.Prelude.{◌==◌}
 use Rattle.std.specs.List.{AllByRecursion}
 use Rattle.sqlite_value.specs.Order.{Row}
@@ -16,14 +16,13 @@ use Rattle.reg_core.specs.declared.rows.CertRow.{CertRow}
 use Rattle.reg_store_tables.specs.Schema.{register_schema}
 use Rattle.reg_store_tables.specs.Rows.{number, serial_value, stored_certificate}
 use Rattle.reg_store_tables.specs.Shows.{IsShownBy}
-use Rattle.reg_store_tables.specs.Failing.{IsAsked}
-use Rattle.reg_store_tables.specs.ReadStatements.{IsReading, command_of, shown_certificate}
+use Rattle.reg_store_tables.specs.ReadStatements.{command_of, shown_certificate}
 use Rattle.reg_store_tables.specs.ShownRows.{IsRowOf}
 use Rattle.reg_store_tables.specs.declared.sql.TheConstants.{CERT_BY_SERIAL, CERT_BY_ORDER}
 use Rattle.reg_store_tables.proofs.Compares.{and_true, eq_number, eq_serial}
-use Rattle.reg_store_tables.proofs.Queries.{column_is, selects, as_command, no_limit, Given, counted_given, row_of}
+use Rattle.reg_store_tables.proofs.Queries.{column_is, selects, no_limit, Given, counted_given, row_of}
 use Rattle.reg_store_tables.proofs.Selecting.{select_never}
-use Rattle.reg_store_tables.proofs.FailingLemmas.{asked_by}
+use Rattle.reg_store_tables.proofs.FailingLemmas.{IsSelect, select}
 use Rattle.reg_store_tables.proofs.Few.{given_few, one_number}
 
 abbrev columns : List Term
@@ -35,22 +34,15 @@ names = codes "serial" ∷ codes "order_id" ∷ codes "not_before" ∷ codes "no
 abbrev out : CertRow → Output
 out row = ([], shown_certificate row)
 
-by_serial_means : command_of (understood register_schema CERT_BY_SERIAL.now) ≡ as_command (selects 4 (column_is 1) columns [] no_limit) names
-unfolding understood everything register_schema
-by_serial_means = refl
-
-pub reading_by_serial : IsReading CERT_BY_SERIAL.now
+pub by_serial_text : IsSelect CERT_BY_SERIAL.now (selects 4 (column_is 1) columns [] no_limit) names (λ (serial : ℕ). serial_value serial ∷ [])
 unfolding understood everything register_schema first
-reading_by_serial = record { plain = (refl, refl); unlisted = refl; never = select_never CERT_BY_SERIAL.now _ _ refl refl refl }
-
-pub asked_by_serial : (serial : ℕ) → IsAsked CERT_BY_SERIAL.now (serial_value serial ∷ [])
-unfolding understood everything register_schema
-asked_by_serial serial = asked_by CERT_BY_SERIAL.now 4 (column_is 1) columns [] no_limit names (serial_value serial ∷ []) (omega arith, refl) by_serial_means refl
+by_serial_text =
+    select CERT_BY_SERIAL.now 4 (column_is 1) columns [] no_limit names (λ (serial : ℕ). serial_value serial ∷ []) refl (refl, refl) refl (select_never CERT_BY_SERIAL.now _ _ refl refl refl) (λ it. (omega arith, refl)) (λ it. refl)
 
 module _ (db : Database) (records : Records) (shown : IsShownBy db records) (serial : ℕ) (is_serial : IsSerial serial) (rows : List Row) (reads : Reads (command_of (understood register_schema CERT_BY_SERIAL.now)) db (serial_value serial ∷ []) rows) where
   by_serial_given : Given (λ row. row.serial == serial) out records.certificates (selects 4 (column_is 1) columns [] no_limit) (serial_value serial ∷ []) rows
   by_serial_given =
-      counted_given (λ row. IsSerial row.serial) stored_certificate (λ row. row.serial == serial) out records.certificates shown.rows.certificate_serials 4 (column_is 1) columns [] no_limit (serial_value serial ∷ []) CERT_BY_SERIAL.now names by_serial_means db refl rows reads
+      counted_given (λ row. IsSerial row.serial) stored_certificate (λ row. row.serial == serial) out records.certificates shown.rows.certificate_serials 4 (column_is 1) columns [] no_limit (serial_value serial ∷ []) CERT_BY_SERIAL.now names by_serial_text.means db refl rows reads
       shown.rows.certificates (λ id row in_row. and_true _ ∙ eq_serial row.serial serial in_row is_serial) (λ id row. refl)
 
   pub by_serial_few : KeysDiffer (λ (row : CertRow). row.serial) records.certificates → length rows ≤ 1
@@ -60,22 +52,15 @@ module _ (db : Database) (records : Records) (shown : IsShownBy db records) (ser
   pub by_serial_row : (P : CertRow → Type 0) → AllByRecursion P records.certificates → IsRowOf P shown_certificate rows (certificate_in records.certificates serial)
   by_serial_row P all = row_of (λ row. row.serial == serial) out records.certificates 4 (column_is 1) columns [] (serial_value serial ∷ []) rows by_serial_given P all
 
-by_order_means : command_of (understood register_schema CERT_BY_ORDER.now) ≡ as_command (selects 4 (column_is 2) columns [] no_limit) names
-unfolding understood everything register_schema
-by_order_means = refl
-
-pub reading_by_order : IsReading CERT_BY_ORDER.now
+pub by_order_text : IsSelect CERT_BY_ORDER.now (selects 4 (column_is 2) columns [] no_limit) names (λ (order : ℕ). number order ∷ [])
 unfolding understood everything register_schema first
-reading_by_order = record { plain = (refl, refl); unlisted = refl; never = select_never CERT_BY_ORDER.now _ _ refl refl refl }
-
-pub asked_by_order : (order : ℕ) → IsAsked CERT_BY_ORDER.now (number order ∷ [])
-unfolding understood everything register_schema
-asked_by_order order = asked_by CERT_BY_ORDER.now 4 (column_is 2) columns [] no_limit names (number order ∷ []) (omega arith, refl) by_order_means refl
+by_order_text =
+    select CERT_BY_ORDER.now 4 (column_is 2) columns [] no_limit names (λ (order : ℕ). number order ∷ []) refl (refl, refl) refl (select_never CERT_BY_ORDER.now _ _ refl refl refl) (λ it. (omega arith, refl)) (λ it. refl)
 
 module _ (db : Database) (records : Records) (shown : IsShownBy db records) (order : ℕ) (rows : List Row) (reads : Reads (command_of (understood register_schema CERT_BY_ORDER.now)) db (number order ∷ []) rows) where
   by_order_given : Given (λ row. row.order == order) out records.certificates (selects 4 (column_is 2) columns [] no_limit) (number order ∷ []) rows
   by_order_given =
-      counted_given (λ row. IsSerial row.serial) stored_certificate (λ row. row.order == order) out records.certificates shown.rows.certificate_serials 4 (column_is 2) columns [] no_limit (number order ∷ []) CERT_BY_ORDER.now names by_order_means db refl rows reads
+      counted_given (λ row. IsSerial row.serial) stored_certificate (λ row. row.order == order) out records.certificates shown.rows.certificate_serials 4 (column_is 2) columns [] no_limit (number order ∷ []) CERT_BY_ORDER.now names by_order_text.means db refl rows reads
       shown.rows.certificates (λ id row in_row. and_true _ ∙ eq_number row.order order) (λ id row. refl)
 
   pub by_order_few : KeysDiffer (λ (row : CertRow). row.order) records.certificates → length rows ≤ 1

@@ -73,20 +73,7 @@ pub eq_text : (s t : List ℕ) → compares Eq (Text s) (Text t) ≡ bytes_eq s 
 unfolding binary
 eq_text s t = of_truth _ ∙ ap is_eq (value_cmp-Text s t) ∙ is_eq-slice_cmp s t
 
--- serial numbers compare as their bytes
-pub serial_order : (a b : ℕ) → IsSerial a → IsSerial b → slice_cmp nat_cmp (serial_bytes a) (serial_bytes b) ≡ nat_cmp a b
-unfolding serial_bytes
-serial_order a b in_a in_b =
-    let first : value (bytes_high_first 20 a) ≡ a = value-bytes20 a (omega arith) in
-    let second : value (bytes_high_first 20 b) ≡ b = value-bytes20 b (omega arith) in
-    let order = bytes_order (bytes_high_first 20 a) (bytes_high_first 20 b) (is_bytes-bytes_high_first 20 a) (is_bytes-bytes_high_first 20 b) refl in
-    order ∙ ap (λ m. nat_cmp m (value (bytes_high_first 20 b))) first ∙ ap (nat_cmp a) second
-
-pub eq_serial : (a b : ℕ) → IsSerial a → IsSerial b → compares Eq (serial_value a) (serial_value b) ≡ (a == b)
-unfolding binary
-eq_serial a b in_a in_b = of_truth _ ∙ ap is_eq (value_cmp-Blob (serial_bytes a) (serial_bytes b) ∙ serial_order a b in_a in_b) ∙ is_eq-nat_cmp a b
-
--- also where one of them is 0, which is below all
+-- serial numbers compare as their bytes, and so does 0, which is below all
 below_order : (a b : ℕ) → a < 2 ^ 159 → b < 2 ^ 159 → slice_cmp nat_cmp (serial_bytes a) (serial_bytes b) ≡ nat_cmp a b
 unfolding serial_bytes
 below_order a b in_a in_b =
@@ -94,6 +81,13 @@ below_order a b in_a in_b =
     let second : value (bytes_high_first 20 b) ≡ b = value-bytes20 b (omega arith) in
     let order = bytes_order (bytes_high_first 20 a) (bytes_high_first 20 b) (is_bytes-bytes_high_first 20 a) (is_bytes-bytes_high_first 20 b) refl in
     order ∙ ap (λ m. nat_cmp m (value (bytes_high_first 20 b))) first ∙ ap (nat_cmp a) second
+
+pub serial_order : (a b : ℕ) → IsSerial a → IsSerial b → slice_cmp nat_cmp (serial_bytes a) (serial_bytes b) ≡ nat_cmp a b
+serial_order a b in_a in_b = below_order a b in_a.1 in_b.1
+
+pub eq_serial : (a b : ℕ) → IsSerial a → IsSerial b → compares Eq (serial_value a) (serial_value b) ≡ (a == b)
+unfolding binary
+eq_serial a b in_a in_b = of_truth _ ∙ ap is_eq (value_cmp-Blob (serial_bytes a) (serial_bytes b) ∙ serial_order a b in_a in_b) ∙ is_eq-nat_cmp a b
 
 pub gt_serial : (a b : ℕ) → IsSerial a → b < 2 ^ 159 → compares Gt (serial_value a) (serial_value b) ≡ nat_lt b a
 unfolding binary

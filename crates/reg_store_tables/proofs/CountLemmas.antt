@@ -31,24 +31,23 @@ use Rattle.reg_store_tables.specs.Schema.{register_schema}
 use Rattle.reg_store_tables.specs.Rows.{number, counted_rows}
 use Rattle.reg_store_tables.specs.Columns.{Letter, good, revoked, expired, is_good_letter, ends_before, letter_text, Standing, Columns, stored_standing, stored_counts}
 use Rattle.reg_store_tables.specs.Shows.{AreBoth}
-use Rattle.reg_store_tables.specs.Failing.{IsAsked}
-use Rattle.reg_store_tables.specs.ReadStatements.{IsReading, command_of}
+use Rattle.reg_store_tables.specs.ReadStatements.{command_of}
 use Rattle.reg_store_tables.specs.ShownRows.{shown_counts}
 use Rattle.reg_store_tables.specs.declared.sql.TheConstants.{COUNTS, ENDED_BEFORE}
 use Rattle.reg_store_tables.proofs.Compares.{and_true, compares, lt_number, eq_text}
 use Rattle.reg_store_tables.proofs.Queries.{selects, no_limit, as_command, passes, picked, kept_behind, all_of, Given, keyed_given}
 use Rattle.reg_store_tables.proofs.Selecting.{select_never}
-use Rattle.reg_store_tables.proofs.FailingLemmas.{asked_by, asked_of}
+use Rattle.reg_store_tables.proofs.FailingLemmas.{IsSelect, asked_of, select}
 
 -- ---- how many rows pass
 
-abbrev pub count_rows : Aggregate
+abbrev count_rows : Aggregate
 count_rows = record { op = CountRows; distinct = false; collation = Binary; argument = lit Null }
 
-abbrev pub in_one : Grouping
+abbrev in_one : Grouping
 in_one = record { keys = []; collations = []; aggregates = count_rows ∷ []; having = [] }
 
-abbrev counts_of : ℕ → List Term → Query
+abbrev pub counts_of : ℕ → List Term → Query
 counts_of tree terms = record {
   from = inner tree end;
   filter = terms;
@@ -74,7 +73,7 @@ one_summary order (row ∷ other ∷ more) h = absurd h.1
 abbrev staged_by : Row → List Row → List Env
 staged_by params rows = filter (λ (env : Env). true) (map (λ (r : Row). params ∷ r ∷ []) rows)
 
-pub counted : (tree : ℕ) (terms : List Term) (names : List (List ℕ)) (db : Database) (params : Row) (rows : List Row) → overlay db.trees [] tree ≡ db.trees tree → Reads (as_command (counts_of tree terms) names) db params rows
+counted : (tree : ℕ) (terms : List Term) (names : List (List ℕ)) (db : Database) (params : Row) (rows : List Row) → overlay db.trees [] tree ≡ db.trees tree → Reads (as_command (counts_of tree terms) names) db params rows
     → rows ≡ (count (length (filter (passes terms params) (db.trees tree))) ∷ []) ∷ []
 counted tree terms names db params rows plain reads =
     let q = counts_of tree terms in
@@ -99,14 +98,6 @@ counted tree terms names db params rows plain reads =
 abbrev ended_terms : List Term
 ended_terms = op2 (Compare Eq Binary) (col 1 3) (lit (Text (codes "G"))) ∷ op2 (Compare Lt Binary) (col 1 2) (col 0 0) ∷ []
 
-ended_means : command_of (understood register_schema ENDED_BEFORE.now) ≡ as_command (counts_of 12 ended_terms) (codes "count(*)" ∷ [])
-unfolding understood everything register_schema
-ended_means = refl
-
-pub reading_ended : IsReading ENDED_BEFORE.now
-unfolding understood everything register_schema first
-reading_ended = record { plain = (refl, refl); unlisted = refl; never = select_never ENDED_BEFORE.now _ _ refl refl refl }
-
 -- a count of rows is always a number
 count_known : (group : List Env) (a : Aggregate) → count_rows ≡ a → value_over group a ≡ None → ⊥
 count_known group a is none = let no : Some (count (length (map (λ (env : Env). Null) group))) ≡ None = subst (λ (x : Aggregate). value_over group x ≡ None) (sym is) none in absurd (cc)
@@ -122,9 +113,13 @@ never_overflows tree terms params db (inl overflows) =
     count_known over.1 any.1 (one_aggregate any.0 any.1 any.2 any.3) any.4
 never_overflows tree terms params db (inr any) = any.4
 
-pub asked_ended : (now : ℕ) → IsAsked ENDED_BEFORE.now (number now ∷ [])
-unfolding understood everything register_schema
-asked_ended now = asked_of ENDED_BEFORE.now (counts_of 12 ended_terms) (codes "count(*)" ∷ []) (number now ∷ []) (never_overflows 12 ended_terms (number now ∷ [])) (omega arith, refl) ended_means refl
+pub ended_text : IsSelect ENDED_BEFORE.now (counts_of 12 ended_terms) (codes "count(*)" ∷ []) (λ (now : ℕ). number now ∷ [])
+unfolding understood everything register_schema first
+ended_text = record {
+  means = refl;
+  reading = record { plain = (refl, refl); unlisted = refl; never = select_never ENDED_BEFORE.now _ _ refl refl refl };
+  asked = λ now. asked_of ENDED_BEFORE.now (counts_of 12 ended_terms) (codes "count(*)" ∷ []) (number now ∷ []) (never_overflows 12 ended_terms (number now ∷ [])) (omega arith, refl) refl refl;
+}
 
 pub is_g : (letter : Letter) → bytes_eq (letter_text letter) (codes "G") ≡ is_good_letter letter
 is_g good = refl
@@ -137,51 +132,48 @@ ended_test row now =
     let second = and_true (compares Lt (number row.not_after) (number now)) ∙ lt_number row.not_after now in
     λ i. first i && second i
 
-abbrev pub blank : Row → Output
-blank row = ([], [])
-
-abbrev pub blank_standing : Standing → Output
-blank_standing row = ([], [])
-
-ended_length : (letters : List Standing) (now : ℕ) → length (filter (passes ended_terms (number now ∷ [])) (counted_rows (map stored_standing letters))) ≡ length (filter (ends_before now) letters)
-ended_length letters now =
-    let same = kept_behind (λ _. Unit {0}) stored_standing (passes ended_terms (number now ∷ [])) blank (ends_before now) blank_standing (λ id row any. ended_test row now) (λ id row. refl) 1 letters (all_of (λ _. Unit {0}) (λ _. tt) letters) in
-    let left : length (map blank (filter (passes ended_terms (number now ∷ [])) (counted_rows (map stored_standing letters)))) ≡ length (filter (passes ended_terms (number now ∷ [])) (counted_rows (map stored_standing letters))) = rw length-map refl in
-    let right : length (map blank_standing (filter (ends_before now) letters)) ≡ length (filter (ends_before now) letters) = rw length-map refl in
-    sym left ∙ ap length same ∙ right
-
-pub at_most_all : {A : Type 0} (p : A → Bool) (xs : List A) → length (filter p xs) ≤ length xs
+at_most_all : {A : Type 0} (p : A → Bool) (xs : List A) → length (filter p xs) ≤ length xs
 at_most_all p [] = omega arith
 at_most_all p (x ∷ xs) = let rest = at_most_all p xs in elim (cases_Bool (p x)) [
   | inl passed ↦ rw passed (omega arith)
   | inr failed ↦ rw failed (omega arith)
 ]
 
-pub min_is : (n most : ℕ) → n ≤ most → min n most ≡ n
+min_is : (n most : ℕ) → n ≤ most → min n most ≡ n
 min_is n most le = grind (arith, nat_tests)
 
-module _ (db : Database) (records : Records) (kept : Columns) (both : AreBoth db records kept) (now : ℕ) (rows : List Row) (reads : Reads (command_of (understood register_schema ENDED_BEFORE.now)) db (number now ∷ []) rows) where
-  pub ended_shown : length kept.letters ≤ 1000000 → rows ≡ (number (length (filter (ends_before now) kept.letters)) ∷ []) ∷ []
-  ended_shown few =
-      let shown = counted 12 ended_terms (codes "count(*)" ∷ []) db (number now ∷ []) rows refl (subst (λ c. Reads c db (number now ∷ []) rows) ended_means reads) in
-      let size : length (filter (passes ended_terms (number now ∷ [])) (db.trees 12)) ≡ length (filter (ends_before now) kept.letters) =
-      ap (λ t. length (filter (passes ended_terms (number now ∷ [])) t)) both.kept.letters ∙ ended_length kept.letters now in
-      let most = at_most_all (ends_before now) kept.letters in
-      shown ∙ ap (λ n. (count n ∷ []) ∷ []) size ∙ ap (λ n. (number n ∷ []) ∷ []) (min_is (length (filter (ends_before now) kept.letters)) 9223372036854775807 (omega arith))
+abbrev blank : Row → Output
+blank row = ([], [])
+
+abbrev blank_standing : Standing → Output
+blank_standing row = ([], [])
+
+-- a text that counts the letters that pass a test
+module _ (text : List ℕ) (terms : List Term) (params : Row) (keep : Standing → Bool) (tests : (id : ℕ) (row : Standing) → passes terms params (number id ∷ stored_standing row) ≡ keep row)
+    (means : command_of (understood register_schema text) ≡ as_command (counts_of 12 terms) (codes "count(*)" ∷ [])) (db : Database) (records : Records) (kept : Columns) (both : AreBoth db records kept) (rows : List Row)
+    (reads : Reads (command_of (understood register_schema text)) db params rows) where
+  pub letters_counted : length kept.letters ≤ 1000000 → rows ≡ (number (length (filter keep kept.letters)) ∷ []) ∷ []
+  letters_counted few =
+      let shown = counted 12 terms (codes "count(*)" ∷ []) db params rows refl (subst (λ c. Reads c db params rows) means reads) in
+      let same = kept_behind (λ _. Unit {0}) stored_standing (passes terms params) blank keep blank_standing (λ id row any. tests id row) (λ id row. refl) 1 kept.letters (all_of (λ _. Unit {0}) (λ _. tt) kept.letters) in
+      let left : length (map blank (filter (passes terms params) (counted_rows (map stored_standing kept.letters)))) ≡ length (filter (passes terms params) (counted_rows (map stored_standing kept.letters))) = rw length-map refl in
+      let right : length (map blank_standing (filter keep kept.letters)) ≡ length (filter keep kept.letters) = rw length-map refl in
+      let size : length (filter (passes terms params) (db.trees 12)) ≡ length (filter keep kept.letters) =
+      ap (λ t. length (filter (passes terms params) t)) both.kept.letters ∙ sym left ∙ ap length same ∙ right in
+      let most = at_most_all keep kept.letters in
+      shown ∙ ap (λ n. (count n ∷ []) ∷ []) size ∙ ap (λ n. (number n ∷ []) ∷ []) (min_is (length (filter keep kept.letters)) 9223372036854775807 (omega arith))
+
+pub ended_shown : (db : Database) (records : Records) (kept : Columns) → AreBoth db records kept → (now : ℕ) (rows : List Row) → Reads (command_of (understood register_schema ENDED_BEFORE.now)) db (number now ∷ []) rows
+    → length kept.letters ≤ 1000000 → rows ≡ (number (length (filter (ends_before now) kept.letters)) ∷ []) ∷ []
+ended_shown db records kept both now rows =
+    letters_counted ENDED_BEFORE.now ended_terms (number now ∷ []) (ends_before now) (λ id row. ended_test row now) ended_text.means db records kept both rows
 
 -- ---- the kept counts
 
-counts_mean : command_of (understood register_schema COUNTS.now) ≡ as_command (selects 14 [] (col 1 2 ∷ col 1 3 ∷ col 1 4 ∷ []) [] no_limit) (codes "n_good" ∷ codes "n_revoked" ∷ codes "n_expired" ∷ [])
-unfolding understood everything register_schema
-counts_mean = refl
-
-pub reading_counts : IsReading COUNTS.now
+pub counts_text : IsSelect COUNTS.now (selects 14 [] (col 1 2 ∷ col 1 3 ∷ col 1 4 ∷ []) [] no_limit) (codes "n_good" ∷ codes "n_revoked" ∷ codes "n_expired" ∷ []) (λ (_ : Unit {0}). [])
 unfolding understood everything register_schema first
-reading_counts = record { plain = (refl, refl); unlisted = refl; never = select_never COUNTS.now _ _ refl refl refl }
-
-pub asked_counts : IsAsked COUNTS.now []
-unfolding understood everything register_schema
-asked_counts = asked_by COUNTS.now 14 [] (col 1 2 ∷ col 1 3 ∷ col 1 4 ∷ []) [] no_limit (codes "n_good" ∷ codes "n_revoked" ∷ codes "n_expired" ∷ []) [] (omega arith, refl) counts_mean refl
+counts_text =
+    select COUNTS.now 14 [] (col 1 2 ∷ col 1 3 ∷ col 1 4 ∷ []) [] no_limit (codes "n_good" ∷ codes "n_revoked" ∷ codes "n_expired" ∷ []) (λ (_ : Unit {0}). []) refl (refl, refl) refl (select_never COUNTS.now _ _ refl refl refl) (λ it. (omega arith, refl)) (λ it. refl)
 
 abbrev counts_out : Counts → Output
 counts_out counts = ([], shown_counts counts)
@@ -189,7 +181,7 @@ counts_out counts = ([], shown_counts counts)
 module _ (db : Database) (records : Records) (kept : Columns) (both : AreBoth db records kept) (rows : List Row) (reads : Reads (command_of (understood register_schema COUNTS.now)) db [] rows) where
   counts_given : Given (λ _. true) counts_out (kept.counts ∷ []) (selects 14 [] (col 1 2 ∷ col 1 3 ∷ col 1 4 ∷ []) [] no_limit) [] rows
   counts_given =
-      keyed_given (λ _. Unit {0}) stored_counts (λ _. true) counts_out (kept.counts ∷ []) (tt, tt) 14 [] (col 1 2 ∷ col 1 3 ∷ col 1 4 ∷ []) [] no_limit [] COUNTS.now (codes "n_good" ∷ codes "n_revoked" ∷ codes "n_expired" ∷ []) counts_mean db refl rows reads
+      keyed_given (λ _. Unit {0}) stored_counts (λ _. true) counts_out (kept.counts ∷ []) (tt, tt) 14 [] (col 1 2 ∷ col 1 3 ∷ col 1 4 ∷ []) [] no_limit [] COUNTS.now (codes "n_good" ∷ codes "n_revoked" ∷ codes "n_expired" ∷ []) counts_text.means db refl rows reads
       both.kept.counts (λ counts any. refl) (λ counts. refl)
 
   -- the one row is there

@@ -18,15 +18,14 @@ use Rattle.reg_core.specs.declared.rows.CrlRow.{CrlRow}
 use Rattle.reg_store_tables.specs.Schema.{register_schema}
 use Rattle.reg_store_tables.specs.Rows.{number, stored_crl}
 use Rattle.reg_store_tables.specs.Shows.{IsShownBy}
-use Rattle.reg_store_tables.specs.Failing.{IsAsked}
-use Rattle.reg_store_tables.specs.ReadStatements.{IsReading, command_of, shown_crl}
+use Rattle.reg_store_tables.specs.ReadStatements.{command_of, shown_crl}
 use Rattle.reg_store_tables.specs.ShownRows.{IsRowOf}
 use Rattle.reg_store_tables.specs.declared.sql.TheConstants.{LATEST_CRL, CRL_BYTES}
 use Rattle.reg_store_tables.proofs.Compares.{and_true, eq_number}
-use Rattle.reg_store_tables.proofs.Queries.{column_is, selects, as_command, no_limit, Given, keyed_given, all_of}
+use Rattle.reg_store_tables.proofs.Queries.{column_is, selects, no_limit, Given, keyed_given, all_of}
 use Rattle.reg_store_tables.proofs.Queries as query
 use Rattle.reg_store_tables.proofs.Selecting.{select_never}
-use Rattle.reg_store_tables.proofs.FailingLemmas.{asked_by}
+use Rattle.reg_store_tables.proofs.FailingLemmas.{IsSelect, select}
 use Rattle.reg_store_tables.proofs.Few.{all_both, given_few, numbers_differ, one_number, taken_few}
 use Rattle.reg_store_tables.proofs.Greatest.{one_row, greatest_none, greatest_one, latest_is}
 use Rattle.reg_store_tables.proofs.Sorting.{descending_key}
@@ -44,17 +43,10 @@ latest_names = codes "number" ∷ codes "this_update" ∷ []
 abbrev by_number : List (Term × Key)
 by_number = (col 1 0, descending_key) ∷ []
 
-latest_means : command_of (understood register_schema LATEST_CRL.now) ≡ as_command (selects 11 [] latest_columns by_number one_row) latest_names
-unfolding understood everything register_schema
-latest_means = refl
-
-pub reading_latest : IsReading LATEST_CRL.now
+pub latest_text : IsSelect LATEST_CRL.now (selects 11 [] latest_columns by_number one_row) latest_names (λ (_ : Unit {0}). [])
 unfolding understood everything register_schema first
-reading_latest = record { plain = (refl, refl); unlisted = refl; never = select_never LATEST_CRL.now _ _ refl refl refl }
-
-pub asked_latest : IsAsked LATEST_CRL.now []
-unfolding understood everything register_schema
-asked_latest = asked_by LATEST_CRL.now 11 [] latest_columns by_number one_row latest_names [] (omega arith, refl) latest_means refl
+latest_text =
+    select LATEST_CRL.now 11 [] latest_columns by_number one_row latest_names (λ (_ : Unit {0}). []) refl (refl, refl) refl (select_never LATEST_CRL.now _ _ refl refl refl) (λ it. (omega arith, refl)) (λ it. refl)
 
 module _ (db : Database) (records : Records) (shown : IsShownBy db records) (rows : List Row) (reads : Reads (command_of (understood register_schema LATEST_CRL.now)) db [] rows) where
   abbrev view : Crl → Row
@@ -63,7 +55,7 @@ module _ (db : Database) (records : Records) (shown : IsShownBy db records) (row
   latest_given : Given (λ _. true) (λ (crl : Crl). (number crl.number ∷ [], view crl)) records.crls (selects 11 [] latest_columns by_number one_row) [] rows
   latest_given =
       keyed_given (λ _. Unit {0}) stored_crl (λ _. true) (λ (crl : Crl). (number crl.number ∷ [], view crl)) records.crls (all_of (λ _. Unit {0}) (λ _. tt) records.crls) 11 [] latest_columns by_number one_row []
-      LATEST_CRL.now latest_names latest_means db refl rows reads shown.rows.crls (λ crl any. refl) (λ crl. refl)
+      LATEST_CRL.now latest_names latest_text.means db refl rows reads shown.rows.crls (λ crl any. refl) (λ crl. refl)
 
   pub latest_few : length rows ≤ 1
   latest_few = taken_few rows (map view latest_given.to) latest_given.shown
@@ -79,17 +71,10 @@ module _ (db : Database) (records : Records) (shown : IsShownBy db records) (row
         record { it = row_of it.it; first = ap (option_map row_of) (it.holds.0 it.counts); holds = its it.it it.holds.1; shown = it.shown };
   }
 
-bytes_mean : command_of (understood register_schema CRL_BYTES.now) ≡ as_command (selects 11 (column_is 0) (col 1 3 ∷ []) [] no_limit) (codes "der" ∷ [])
-unfolding understood everything register_schema
-bytes_mean = refl
-
-pub reading_bytes : IsReading CRL_BYTES.now
+pub bytes_text : IsSelect CRL_BYTES.now (selects 11 (column_is 0) (col 1 3 ∷ []) [] no_limit) (codes "der" ∷ []) (λ (n : ℕ). number n ∷ [])
 unfolding understood everything register_schema first
-reading_bytes = record { plain = (refl, refl); unlisted = refl; never = select_never CRL_BYTES.now _ _ refl refl refl }
-
-pub asked_bytes : (n : ℕ) → IsAsked CRL_BYTES.now (number n ∷ [])
-unfolding understood everything register_schema
-asked_bytes n = asked_by CRL_BYTES.now 11 (column_is 0) (col 1 3 ∷ []) [] no_limit (codes "der" ∷ []) (number n ∷ []) (omega arith, refl) bytes_mean refl
+bytes_text =
+    select CRL_BYTES.now 11 (column_is 0) (col 1 3 ∷ []) [] no_limit (codes "der" ∷ []) (λ (n : ℕ). number n ∷ []) refl (refl, refl) refl (select_never CRL_BYTES.now _ _ refl refl refl) (λ it. (omega arith, refl)) (λ it. refl)
 
 abbrev out : Crl → Output
 out crl = ([], Blob crl.bytes ∷ [])
@@ -97,7 +82,7 @@ out crl = ([], Blob crl.bytes ∷ [])
 module _ (db : Database) (records : Records) (shown : IsShownBy db records) (n : ℕ) (rows : List Row) (reads : Reads (command_of (understood register_schema CRL_BYTES.now)) db (number n ∷ []) rows) where
   bytes_given : Given (λ (crl : Crl). crl.number == n) out records.crls (selects 11 (column_is 0) (col 1 3 ∷ []) [] no_limit) (number n ∷ []) rows
   bytes_given =
-      keyed_given (λ _. Unit {0}) stored_crl (λ (crl : Crl). crl.number == n) out records.crls (all_of (λ _. Unit {0}) (λ _. tt) records.crls) 11 (column_is 0) (col 1 3 ∷ []) [] no_limit (number n ∷ []) CRL_BYTES.now (codes "der" ∷ []) bytes_mean db
+      keyed_given (λ _. Unit {0}) stored_crl (λ (crl : Crl). crl.number == n) out records.crls (all_of (λ _. Unit {0}) (λ _. tt) records.crls) 11 (column_is 0) (col 1 3 ∷ []) [] no_limit (number n ∷ []) CRL_BYTES.now (codes "der" ∷ []) bytes_text.means db
       refl rows reads shown.rows.crls (λ crl any. and_true _ ∙ eq_number crl.number n) (λ crl. refl)
 
   pub bytes_few : length rows ≤ 1

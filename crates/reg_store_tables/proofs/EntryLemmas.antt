@@ -37,15 +37,14 @@ use Rattle.reg_store_tables.specs.Rows.{number, serial_value}
 use Rattle.reg_store_tables.specs.Columns.{Listed, Columns, stored_listed, number_or_null}
 use Rattle.reg_store_tables.specs.Shows.{AreBoth}
 use Rattle.reg_store_tables.specs.Kept.{Kept, listed_of}
-use Rattle.reg_store_tables.specs.Failing.{IsAsked}
-use Rattle.reg_store_tables.specs.ReadStatements.{IsReading, command_of, shown_entry}
+use Rattle.reg_store_tables.specs.ReadStatements.{command_of, shown_entry}
 use Rattle.reg_store_tables.specs.RecordValues.{AreMomentAndReason}
 use Rattle.reg_store_tables.specs.declared.sql.TheConstants.{ENTRIES}
 use Rattle.reg_store_tables.proofs.AscendLemmas.{serial_of, ascending_same, ascending_sorted}
 use Rattle.reg_store_tables.proofs.Compares.{and_true, compares, le_number, number_order, is_ge-nat_cmp, serial_order}
-use Rattle.reg_store_tables.proofs.FailingLemmas.{asked_by}
+use Rattle.reg_store_tables.proofs.FailingLemmas.{IsSelect, select}
 use Rattle.reg_store_tables.proofs.Few.{fewer}
-use Rattle.reg_store_tables.proofs.Queries.{selects, as_command, no_limit, Given, counted_given, kept_have}
+use Rattle.reg_store_tables.proofs.Queries.{selects, no_limit, Given, counted_given, kept_have}
 use Rattle.reg_store_tables.proofs.Selecting.{select_never}
 use Rattle.reg_store_tables.proofs.Sorting.{ascending_key, sorted_same}
 
@@ -77,17 +76,10 @@ by_serial = (col 1 1, ascending_key) ∷ []
 abbrev names : List (List ℕ)
 names = codes "serial" ∷ codes "at" ∷ codes "reason" ∷ []
 
-entries_mean : command_of (understood register_schema ENTRIES.now) ≡ as_command (selects 15 listing_terms columns by_serial no_limit) names
-unfolding understood everything register_schema
-entries_mean = refl
-
-pub reading_entries : IsReading ENTRIES.now
+pub entries_text : IsSelect ENTRIES.now (selects 15 listing_terms columns by_serial no_limit) names (λ (n : ℕ). number n ∷ [])
 unfolding understood everything register_schema first
-reading_entries = record { plain = (refl, refl); unlisted = refl; never = select_never ENTRIES.now _ _ refl refl refl }
-
-pub asked_entries : (n : ℕ) → IsAsked ENTRIES.now (number n ∷ [])
-unfolding understood everything register_schema
-asked_entries n = asked_by ENTRIES.now 15 listing_terms columns by_serial no_limit names (number n ∷ []) (omega arith, refl) entries_mean refl
+entries_text =
+    select ENTRIES.now 15 listing_terms columns by_serial no_limit names (λ (n : ℕ). number n ∷ []) refl (refl, refl) refl (select_never ENTRIES.now _ _ refl refl refl) (λ it. (omega arith, refl)) (λ it. refl)
 
 or_truth : (a b : Bool) → is_true (from_truth (or3 (truth (from_truth (Some a))) (truth (from_truth (Some b))))) ≡ (a || b)
 or_truth true true = refl
@@ -196,7 +188,7 @@ module _ (db : Database) (records : Records) (kept : Columns) (both : AreBoth db
     (reads : Reads (command_of (understood register_schema ENTRIES.now)) db (number n ∷ []) rows) where
   pub entries_given : Given (lists n) out kept.listed (selects 15 listing_terms columns by_serial no_limit) (number n ∷ []) rows
   entries_given =
-      counted_given in_range stored_listed (lists n) out kept.listed both.kept.listed_serials 15 listing_terms columns by_serial no_limit (number n ∷ []) ENTRIES.now names entries_mean db refl rows reads
+      counted_given in_range stored_listed (lists n) out kept.listed both.kept.listed_serials 15 listing_terms columns by_serial no_limit (number n ∷ []) ENTRIES.now names entries_text.means db refl rows reads
       both.kept.listed (λ id row any. tests_are row n) (λ id row. refl)
 
   abbrev pub found_entries : List Entry

@@ -7,7 +7,6 @@ use Rattle.sqlite_disk.specs.Disk.{MoreFaults}
 use Rattle.sqlite_value.specs.Order.{Row}
 use Rattle.sqlite_value.specs.declared.keys.Key.{Key}
 use Rattle.sqlite_trees.specs.Tree.{Trees}
-use Rattle.sqlite_trees.specs.View.{doubt}
 use Rattle.sqlite_trees.specs.declared.error.StoreError.{StoreError}
 use Rattle.sqlite_trees.specs.declared.error.StoreError.TheVariants.{OutOfMemory, Io, Corrupt, Full, Broken, Unstorable}
 use Rattle.sqlite_trees.specs.declared.store.Store.{Ghosts}
@@ -30,12 +29,12 @@ use Rattle.reg_store_tables.specs.declared.fault.DatabaseFault.{DatabaseFault}
 use Rattle.reg_store_tables.specs.declared.fault.DatabaseFault.TheVariants as call
 use Rattle.reg_store_tables.specs.declared.fault.DatabaseFault.TheVariants.{Store}
 use Rattle.reg_store_tables.specs.Failing.{HasFailed, ShowsWritten, IsTaken, IsAsked}
-use Rattle.reg_store_tables.specs.ReadStatements.{Answers, IsReading, command_of}
+use Rattle.reg_store_tables.specs.ReadStatements.{IsReading, NeverReturns, command_of}
 use Rattle.reg_store_tables.specs.ShownRows.{IsRowOf}
-use Rattle.reg_store_tables.specs.Shows.{Shows, IsShownBy, AreBoth}
+use Rattle.reg_store_tables.specs.Shows.{Shows}
 use Rattle.reg_store_tables.specs.Stays.{IsRegister, Looked}
 use Rattle.reg_store_tables.proofs.Queries.{selects, as_command}
-use Rattle.reg_store_tables.proofs.Staying.{kept_shows, shows_register, shown_then, both_then, stays_kept}
+use Rattle.reg_store_tables.proofs.Staying.{kept_shows, shows_register, stays_kept}
 
 -- ---- why a query fails
 
@@ -114,11 +113,22 @@ never_overflows : (tree : ℕ) (terms project : List Term) (order : List (Term �
 never_overflows tree terms project order most params db (inl overflows) = overflows
 never_overflows tree terms project order most params db (inr any) = any.4
 
--- on one table
-pub asked_by : (text : List ℕ) (tree : ℕ) (terms project : List Term) (order : List (Term × Key)) (most : Term) (names : List (List ℕ)) (params : Row) → IsTaken (understood register_schema text) text params
-    → command_of (understood register_schema text) ≡ as_command (selects tree terms project order most) names → accepts_program register_schema [] (selects tree terms project order most) params ≡ true → IsAsked text params
-asked_by text tree terms project order most names params =
-    asked_of text (selects tree terms project order most) names params (never_overflows tree terms project order most params)
+-- a text that selects from a register's tables: it means this query, it only reads, and with these parameters it is asked
+pub record IsSelect {K : Type 0} (text : List ℕ) (q : Query) (names : List (List ℕ)) (params : K → Row) : Type 0 where
+  pub means : command_of (understood register_schema text) ≡ as_command q names
+  pub reading : IsReading text
+  pub asked : (k : K) → IsAsked text (params k)
+
+-- from one table
+pub select : {K : Type 0} (text : List ℕ) (tree : ℕ) (terms project : List Term) (order : List (Term × Key)) (most : Term) (names : List (List ℕ)) (params : K → Row)
+    → command_of (understood register_schema text) ≡ as_command (selects tree terms project order most) names → IsPlain (understood register_schema text) → reads_listing register_schema text ≡ false → NeverReturns text
+    → ((k : K) → IsTaken (understood register_schema text) text (params k)) → ((k : K) → accepts_program register_schema [] (selects tree terms project order most) (params k) ≡ true)
+    → IsSelect text (selects tree terms project order most) names params
+select text tree terms project order most names params means plain unlisted never taken accepts = record {
+  means = means;
+  reading = record { plain = plain; unlisted = unlisted; never = never };
+  asked = λ k. asked_of text (selects tree terms project order most) names (params k) (never_overflows tree terms project order most (params k)) (taken k) means (accepts k);
+}
 
 -- ---- what a register's own tables show to a text that answered
 

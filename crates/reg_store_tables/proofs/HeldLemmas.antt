@@ -16,17 +16,16 @@ use Rattle.reg_store_tables.specs.Rows.{number, stored_subscriber, stored_order,
 use Rattle.reg_store_tables.specs.Shows.{IsShownBy}
 use Rattle.reg_store_tables.specs.ShownRows.{IsRowOf, shown_number}
 use Rattle.reg_store_tables.specs.Tables.{rows_of, text_of_last}
-use Rattle.reg_store_tables.specs.Failing.{IsAsked}
-use Rattle.reg_store_tables.specs.ReadStatements.{IsReading, command_of}
+use Rattle.reg_store_tables.specs.ReadStatements.{command_of}
 use Rattle.reg_store_tables.specs.declared.sizes.Table.{Table}
 use Rattle.reg_store_tables.specs.declared.sizes.Table.TheVariants.{Subscribers, Orders, Certs, Requests, Crls}
 use Rattle.reg_store_tables.specs.declared.sql.TheConstants.{LAST_SUBSCRIBER, LAST_ORDER, LAST_CERT, LAST_REQUEST, LAST_CRL}
-use Rattle.reg_store_tables.proofs.Queries.{selects, as_command, shows, Given, keyed_given, all_of}
+use Rattle.reg_store_tables.proofs.Queries.{selects, shows, Given, keyed_given, all_of}
 use Rattle.reg_store_tables.proofs.Selecting.{select_never}
 use Rattle.reg_store_tables.proofs.Sorting.{descending_key}
 use Rattle.reg_store_tables.proofs.Greatest.{one_row, numbered_from, greatest_none, greatest_one}
 use Rattle.reg_store_tables.proofs.Rowids.{with_rowids, behind, rowids_are, rowids_numbered, length-with_rowids}
-use Rattle.reg_store_tables.proofs.FailingLemmas.{asked_by}
+use Rattle.reg_store_tables.proofs.FailingLemmas.{IsSelect, select}
 use Rattle.reg_store_tables.proofs.Few.{taken_few}
 
 abbrev tree_of : Table → ℕ
@@ -49,29 +48,13 @@ by_number = (col 1 0, descending_key) ∷ []
 abbrev last_query : ℕ → Query
 last_query tree = selects tree [] (col 1 0 ∷ []) by_number one_row
 
-last_means : (table : Table) → command_of (understood register_schema (text_of_last table)) ≡ as_command (last_query (tree_of table)) (names_of table)
-unfolding understood everything register_schema
-last_means Subscribers = refl
-last_means Orders = refl
-last_means Certs = refl
-last_means Requests = refl
-last_means Crls = refl
-
-pub reading_last : (table : Table) → IsReading (text_of_last table)
+pub last_text : (table : Table) → IsSelect (text_of_last table) (last_query (tree_of table)) (names_of table) (λ (_ : Unit {0}). [])
 unfolding understood everything register_schema first
-reading_last Subscribers = record { plain = (refl, refl); unlisted = refl; never = select_never LAST_SUBSCRIBER.now _ _ refl refl refl }
-reading_last Orders = record { plain = (refl, refl); unlisted = refl; never = select_never LAST_ORDER.now _ _ refl refl refl }
-reading_last Certs = record { plain = (refl, refl); unlisted = refl; never = select_never LAST_CERT.now _ _ refl refl refl }
-reading_last Requests = record { plain = (refl, refl); unlisted = refl; never = select_never LAST_REQUEST.now _ _ refl refl refl }
-reading_last Crls = record { plain = (refl, refl); unlisted = refl; never = select_never LAST_CRL.now _ _ refl refl refl }
-
-pub asked_last : (table : Table) → IsAsked (text_of_last table) []
-unfolding understood everything register_schema
-asked_last Subscribers = asked_by LAST_SUBSCRIBER.now 1 [] (col 1 0 ∷ []) by_number one_row (names_of Subscribers) [] (omega arith, refl) (last_means Subscribers) refl
-asked_last Orders = asked_by LAST_ORDER.now 3 [] (col 1 0 ∷ []) by_number one_row (names_of Orders) [] (omega arith, refl) (last_means Orders) refl
-asked_last Certs = asked_by LAST_CERT.now 4 [] (col 1 0 ∷ []) by_number one_row (names_of Certs) [] (omega arith, refl) (last_means Certs) refl
-asked_last Requests = asked_by LAST_REQUEST.now 7 [] (col 1 0 ∷ []) by_number one_row (names_of Requests) [] (omega arith, refl) (last_means Requests) refl
-asked_last Crls = asked_by LAST_CRL.now 11 [] (col 1 0 ∷ []) by_number one_row (names_of Crls) [] (omega arith, refl) (last_means Crls) refl
+last_text Subscribers = select LAST_SUBSCRIBER.now 1 [] (col 1 0 ∷ []) by_number one_row (names_of Subscribers) (λ _. []) refl (refl, refl) refl (select_never LAST_SUBSCRIBER.now _ _ refl refl refl) (λ it. (omega arith, refl)) (λ it. refl)
+last_text Orders = select LAST_ORDER.now 3 [] (col 1 0 ∷ []) by_number one_row (names_of Orders) (λ _. []) refl (refl, refl) refl (select_never LAST_ORDER.now _ _ refl refl refl) (λ it. (omega arith, refl)) (λ it. refl)
+last_text Certs = select LAST_CERT.now 4 [] (col 1 0 ∷ []) by_number one_row (names_of Certs) (λ _. []) refl (refl, refl) refl (select_never LAST_CERT.now _ _ refl refl refl) (λ it. (omega arith, refl)) (λ it. refl)
+last_text Requests = select LAST_REQUEST.now 7 [] (col 1 0 ∷ []) by_number one_row (names_of Requests) (λ _. []) refl (refl, refl) refl (select_never LAST_REQUEST.now _ _ refl refl refl) (λ it. (omega arith, refl)) (λ it. refl)
+last_text Crls = select LAST_CRL.now 11 [] (col 1 0 ∷ []) by_number one_row (names_of Crls) (λ _. []) refl (refl, refl) refl (select_never LAST_CRL.now _ _ refl refl refl) (λ it. (omega arith, refl)) (λ it. refl)
 
 -- the number of the last row, where there is one
 abbrev pub last_of : ℕ → Option ℕ
@@ -112,7 +95,7 @@ module _ (P : ℕ → Type 0) (each : (n : ℕ) → P n) (db : Database) where
     last_keyed : ((x : A) → shows (last_query (tree_of table)) [] (stored x) ≡ (number (n x) ∷ [], shown_number (n x))) → IsRowOf P shown_number rows (last_of (length xs)) × (length rows ≤ 1)
     last_keyed views =
         last_shown n xs numbered (tree_of table) rows
-        (keyed_given (λ _. Unit {0}) stored (λ _. true) (λ a. (number (n a) ∷ [], shown_number (n a))) xs (all_of (λ _. Unit {0}) (λ _. tt) xs) (tree_of table) [] (col 1 0 ∷ []) by_number one_row [] (text_of_last table) (names_of table) (last_means table) db
+        (keyed_given (λ _. Unit {0}) stored (λ _. true) (λ a. (number (n a) ∷ [], shown_number (n a))) xs (all_of (λ _. Unit {0}) (λ _. tt) xs) (tree_of table) [] (col 1 0 ∷ []) by_number one_row [] (text_of_last table) (names_of table) (last_text table).means db
         plain rows reads is (λ x any. refl) views)
 
   -- the last row of a table

@@ -17,7 +17,7 @@ use Rattle.sqlite.specs.State.{State, mode_of, Writes}
 use Rattle.sqlite.proofs.Callers.{runs_as, statement_of}
 use Rattle.reg_store_tables.specs.ReadStatements.{command_of}
 use Rattle.reg_store_tables.specs.Schema.{register_schema}
-use Rattle.reg_store_tables.specs.Ran.{Ran}
+use Rattle.reg_store_tables.specs.Stays.{Ran}
 use Rattle.reg_store_tables.specs.Steps.{WritesRows}
 use Rattle.reg_store_tables.proofs.Edits.{went, same_value}
 

@@ -1,5 +1,5 @@
 -- The letters of the records, and their counts.
-use Rattle.std.proofs.Common.{◌≡◌, ℕ, Bool, true, false, cond, List, [], ◌∷◌, map, filter, length, Option, Some, None, refl, sym, ap, ap₂, subst, ◌∙◌}
+use Rattle.std.proofs.Common.{◌≡◌, ℕ, Bool, true, false, cond, List, [], ◌∷◌, map, length, Option, Some, None, refl, sym, ap, ap₂, subst, ◌∙◌}
 use Rattle.std.specs.Prelude.{nat_lt}
 use Rattle.std.specs.List.{AllByRecursion}
 use Rattle.std.specs.List.Sorted.{IsPermutation}
@@ -15,26 +15,9 @@ use Rattle.reg_core.specs.declared.command.Status.{Status}
 use Rattle.reg_core.specs.declared.command.Status.TheVariants.{Good, Expired, Revoked}
 use Rattle.reg_core.specs.declared.rows.CertRow.{CertRow}
 use Rattle.reg_core.specs.declared.rows.RevocationRow.{RevocationRow}
-use Rattle.reg_store_tables.specs.Columns.{Letter, good, revoked, expired, is_good_letter, Standing}
+use Rattle.reg_store_tables.specs.Columns.{Letter, good, revoked, expired, is_good_letter, is_revoked_letter, is_expired_letter, Standing, with_letter, letter_counts}
 use Rattle.reg_store_tables.specs.Kept.{letter_of, standing_of}
 use Rattle.reg_core_laws.proofs.PublicLaws.{same_length, all_weaker, each_found}
-
-abbrev pub is_revoked : Letter → Bool
-is_revoked good = false
-is_revoked revoked = true
-is_revoked expired = false
-
-abbrev pub is_expired : Letter → Bool
-is_expired good = false
-is_expired revoked = false
-is_expired expired = true
-
-abbrev pub with_letter : (Letter → Bool) → List Standing → ℕ
-with_letter test rows = length (filter (λ (row : Standing). test row.letter) rows)
-
--- how many rows have each letter
-abbrev pub letter_counts : List Standing → Counts
-letter_counts rows = record { good = with_letter is_good_letter rows; revoked = with_letter is_revoked rows; expired = with_letter is_expired rows }
 
 pub same_counts : (a b : Counts) → a.good ≡ b.good → a.revoked ≡ b.revoked → a.expired ≡ b.expired → a ≡ b
 same_counts a b p q r = λ i. record { good = p i; revoked = q i; expired = r i }
@@ -73,5 +56,5 @@ module _ (records : Records) (found : AllByRecursion (λ (row : CertRow). certif
   pub counts_stand : letter_counts letters ≡ counts records records.last
   counts_stand = same_counts _ _
       (counted_by is_good_letter core.is_good (letter_as is_good_letter core.is_good refl refl (λ at reason. refl) records.last))
-      (counted_by is_revoked core.is_revoked (letter_as is_revoked core.is_revoked refl refl (λ at reason. refl) records.last))
-      (counted_by is_expired core.is_expired (letter_as is_expired core.is_expired refl refl (λ at reason. refl) records.last))
+      (counted_by is_revoked_letter core.is_revoked (letter_as is_revoked_letter core.is_revoked refl refl (λ at reason. refl) records.last))
+      (counted_by is_expired_letter core.is_expired (letter_as is_expired_letter core.is_expired refl refl (λ at reason. refl) records.last))

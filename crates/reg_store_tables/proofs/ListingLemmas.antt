@@ -24,14 +24,13 @@ use Rattle.reg_store_tables.specs.Rows.{number, serial_value}
 use Rattle.reg_store_tables.specs.Columns.{Listed, Columns, stored_listed, number_or_null}
 use Rattle.reg_store_tables.specs.Shows.{AreBoth}
 use Rattle.reg_store_tables.specs.Kept.{Kept, listed_of}
-use Rattle.reg_store_tables.specs.Failing.{IsAsked}
-use Rattle.reg_store_tables.specs.ReadStatements.{IsReading, command_of}
+use Rattle.reg_store_tables.specs.ReadStatements.{command_of}
 use Rattle.reg_store_tables.specs.ShownRows.{IsRowOf, shown_listing}
 use Rattle.reg_store_tables.specs.declared.sql.TheConstants.{LISTED_BY_SERIAL}
 use Rattle.reg_store_tables.proofs.Compares.{and_true, eq_serial}
-use Rattle.reg_store_tables.proofs.Queries.{column_is, selects, as_command, no_limit, Given, counted_given, all_of, row_of}
+use Rattle.reg_store_tables.proofs.Queries.{column_is, selects, no_limit, Given, counted_given, all_of, row_of}
 use Rattle.reg_store_tables.proofs.Selecting.{select_never}
-use Rattle.reg_store_tables.proofs.FailingLemmas.{asked_by}
+use Rattle.reg_store_tables.proofs.FailingLemmas.{IsSelect, select}
 use Rattle.reg_store_tables.proofs.Few.{given_few, one_number}
 
 abbrev columns : List Term
@@ -40,17 +39,10 @@ columns = col 1 4 ∷ col 1 6 ∷ []
 abbrev names : List (List ℕ)
 names = codes "first_crl" ∷ codes "last_listed" ∷ []
 
-listed_means : command_of (understood register_schema LISTED_BY_SERIAL.now) ≡ as_command (selects 15 (column_is 1) columns [] no_limit) names
-unfolding understood everything register_schema
-listed_means = refl
-
-pub reading_listed : IsReading LISTED_BY_SERIAL.now
+pub listed_text : IsSelect LISTED_BY_SERIAL.now (selects 15 (column_is 1) columns [] no_limit) names (λ (serial : ℕ). serial_value serial ∷ [])
 unfolding understood everything register_schema first
-reading_listed = record { plain = (refl, refl); unlisted = refl; never = select_never LISTED_BY_SERIAL.now _ _ refl refl refl }
-
-pub asked_listed : (serial : ℕ) → IsAsked LISTED_BY_SERIAL.now (serial_value serial ∷ [])
-unfolding understood everything register_schema
-asked_listed serial = asked_by LISTED_BY_SERIAL.now 15 (column_is 1) columns [] no_limit names (serial_value serial ∷ []) (omega arith, refl) listed_means refl
+listed_text =
+    select LISTED_BY_SERIAL.now 15 (column_is 1) columns [] no_limit names (λ (serial : ℕ). serial_value serial ∷ []) refl (refl, refl) refl (select_never LISTED_BY_SERIAL.now _ _ refl refl refl) (λ it. (omega arith, refl)) (λ it. refl)
 
 abbrev shown_listed : Listed → Row
 shown_listed row = number row.first ∷ number_or_null row.last ∷ []
@@ -82,7 +74,7 @@ module _ (db : Database) (records : Records) (kept : Columns) (both : AreBoth db
 
   in_kept : Given has_serial out kept.listed (selects 15 (column_is 1) columns [] no_limit) (serial_value serial ∷ []) rows
   in_kept =
-      counted_given (λ (row : Listed). IsSerial row.serial) stored_listed has_serial out kept.listed both.kept.listed_serials 15 (column_is 1) columns [] no_limit (serial_value serial ∷ []) LISTED_BY_SERIAL.now names listed_means db refl rows reads
+      counted_given (λ (row : Listed). IsSerial row.serial) stored_listed has_serial out kept.listed both.kept.listed_serials 15 (column_is 1) columns [] no_limit (serial_value serial ∷ []) LISTED_BY_SERIAL.now names listed_text.means db refl rows reads
       both.kept.listed (λ id row in_row. and_true _ ∙ eq_serial row.serial serial in_row is_serial) (λ id row. refl)
 
   -- of the rows of the revocations themselves

@@ -11,7 +11,7 @@ use Rattle.sqlite_tied.specs.Compute.{everything}
 use Rattle.reg_store_tables.specs.Schema.{register_schema}
 use Rattle.reg_store_tables.specs.ReadStatements.{command_of}
 use Rattle.reg_store_tables.proofs.Queries.{selects, no_limit}
-use Rattle.reg_store_tables.specs.declared.write_sql.TheConstants.{SET_COUNTS, PUT_STEP}
+use Rattle.reg_store_tables.specs.declared.sql.TheConstants.{SET_COUNTS, PUT_STEP}
 
 -- an UPDATE of a table: which rows, and what it makes of their columns
 abbrev pub updates : ℕ → ℕ → List Term → List Term → Command

@@ -7,8 +7,7 @@ use Rattle.sqlite.specs.Effect.{Database}
 use Rattle.sqlite.specs.Held.{state}
 use Rattle.sqlite.specs.State.{State, HasCleanDisk, IsUnchanged}
 use Rattle.sqlite.specs.declared.transaction.Transaction.{Transaction}
-use Rattle.reg_store_tables.specs.Stays.{Moves, Stepped}
-use Rattle.reg_store_tables.specs.Ran.{Ran}
+use Rattle.reg_store_tables.specs.Stays.{Moves, Stepped, Ran}
 use Rattle.reg_store_tables.specs.Steps.{IsUnderWay}
 
 -- a statement that ran is a step, to tables of which this holds

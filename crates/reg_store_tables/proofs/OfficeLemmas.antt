@@ -13,12 +13,11 @@ use Rattle.reg_core.specs.Records.{Records}
 use Rattle.reg_store_tables.specs.Schema.{register_schema}
 use Rattle.reg_store_tables.specs.Rows.{number, stored_office}
 use Rattle.reg_store_tables.specs.Shows.{IsShownBy}
-use Rattle.reg_store_tables.specs.Failing.{IsAsked}
-use Rattle.reg_store_tables.specs.ReadStatements.{IsReading, command_of}
+use Rattle.reg_store_tables.specs.ReadStatements.{command_of}
 use Rattle.reg_store_tables.specs.declared.sql.TheConstants.{LAST, ISSUER, RESPONDING, TERMS}
 use Rattle.reg_store_tables.proofs.Queries.{selects, as_command, no_limit, Given, keyed_given}
 use Rattle.reg_store_tables.proofs.Selecting.{select_never}
-use Rattle.reg_store_tables.proofs.FailingLemmas.{asked_by}
+use Rattle.reg_store_tables.proofs.FailingLemmas.{IsSelect, select}
 
 module _ (project : List Term) (text : List ℕ) (names : List (List ℕ)) (means : command_of (understood register_schema text) ≡ as_command (selects 0 [] project [] no_limit) names)
     (db : Database) (records : Records) (shown : IsShownBy db records) (rows : List Row) (reads : Reads (command_of (understood register_schema text)) db [] rows) where
@@ -36,64 +35,36 @@ module _ (project : List Term) (text : List ℕ) (names : List (List ℕ)) (mean
   office_rows =
       office_given.shown ∙ ap (λ to. page (selects 0 [] project [] no_limit) [] (map (λ a. (out a).1) to)) (one_permutation records office_given.to office_given.same)
 
-last_means : command_of (understood register_schema LAST.now) ≡ as_command (selects 0 [] (col 1 9 ∷ []) [] no_limit) (codes "last_at" ∷ [])
-unfolding understood everything register_schema
-last_means = refl
-
-pub reading_last : IsReading LAST.now
+pub last_text : IsSelect LAST.now (selects 0 [] (col 1 9 ∷ []) [] no_limit) (codes "last_at" ∷ []) (λ (_ : Unit {0}). [])
 unfolding understood everything register_schema first
-reading_last = record { plain = (refl, refl); unlisted = refl; never = select_never LAST.now _ _ refl refl refl }
+last_text =
+    select LAST.now 0 [] (col 1 9 ∷ []) [] no_limit (codes "last_at" ∷ []) (λ (_ : Unit {0}). []) refl (refl, refl) refl (select_never LAST.now _ _ refl refl refl) (λ it. (omega arith, refl)) (λ it. refl)
 
-pub asked_last : IsAsked LAST.now []
-unfolding understood everything register_schema
-asked_last = asked_by LAST.now 0 [] (col 1 9 ∷ []) [] no_limit (codes "last_at" ∷ []) [] (omega arith, refl) last_means refl
-
-issuer_means : command_of (understood register_schema ISSUER.now) ≡ as_command (selects 0 [] (col 1 3 ∷ col 1 4 ∷ []) [] no_limit) (codes "name" ∷ codes "pubkey" ∷ [])
-unfolding understood everything register_schema
-issuer_means = refl
-
-pub reading_issuer : IsReading ISSUER.now
+pub issuer_text : IsSelect ISSUER.now (selects 0 [] (col 1 3 ∷ col 1 4 ∷ []) [] no_limit) (codes "name" ∷ codes "pubkey" ∷ []) (λ (_ : Unit {0}). [])
 unfolding understood everything register_schema first
-reading_issuer = record { plain = (refl, refl); unlisted = refl; never = select_never ISSUER.now _ _ refl refl refl }
+issuer_text =
+    select ISSUER.now 0 [] (col 1 3 ∷ col 1 4 ∷ []) [] no_limit (codes "name" ∷ codes "pubkey" ∷ []) (λ (_ : Unit {0}). []) refl (refl, refl) refl (select_never ISSUER.now _ _ refl refl refl) (λ it. (omega arith, refl)) (λ it. refl)
 
-pub asked_issuer : IsAsked ISSUER.now []
-unfolding understood everything register_schema
-asked_issuer = asked_by ISSUER.now 0 [] (col 1 3 ∷ col 1 4 ∷ []) [] no_limit (codes "name" ∷ codes "pubkey" ∷ []) [] (omega arith, refl) issuer_means refl
-
-responding_means : command_of (understood register_schema RESPONDING.now) ≡ as_command (selects 0 [] (col 1 9 ∷ col 1 3 ∷ col 1 4 ∷ col 1 7 ∷ []) [] no_limit) (codes "last_at" ∷ codes "name" ∷ codes "pubkey" ∷ codes "ocsp_life" ∷ [])
-unfolding understood everything register_schema
-responding_means = refl
-
-pub reading_responding : IsReading RESPONDING.now
+pub responding_text : IsSelect RESPONDING.now (selects 0 [] (col 1 9 ∷ col 1 3 ∷ col 1 4 ∷ col 1 7 ∷ []) [] no_limit) (codes "last_at" ∷ codes "name" ∷ codes "pubkey" ∷ codes "ocsp_life" ∷ []) (λ (_ : Unit {0}). [])
 unfolding understood everything register_schema first
-reading_responding = record { plain = (refl, refl); unlisted = refl; never = select_never RESPONDING.now _ _ refl refl refl }
+responding_text =
+    select RESPONDING.now 0 [] (col 1 9 ∷ col 1 3 ∷ col 1 4 ∷ col 1 7 ∷ []) [] no_limit (codes "last_at" ∷ codes "name" ∷ codes "pubkey" ∷ codes "ocsp_life" ∷ []) (λ (_ : Unit {0}). []) refl (refl, refl) refl (select_never RESPONDING.now _ _ refl refl refl) (λ it. (omega arith, refl)) (λ it. refl)
 
-pub asked_responding : IsAsked RESPONDING.now []
-unfolding understood everything register_schema
-asked_responding = asked_by RESPONDING.now 0 [] (col 1 9 ∷ col 1 3 ∷ col 1 4 ∷ col 1 7 ∷ []) [] no_limit (codes "last_at" ∷ codes "name" ∷ codes "pubkey" ∷ codes "ocsp_life" ∷ []) [] (omega arith, refl) responding_means refl
-
-terms_means : command_of (understood register_schema TERMS.now) ≡ as_command (selects 0 [] (col 1 6 ∷ col 1 7 ∷ col 1 8 ∷ []) [] no_limit) (codes "crl_life" ∷ codes "ocsp_life" ∷ codes "cap" ∷ [])
-unfolding understood everything register_schema
-terms_means = refl
-
-pub reading_terms : IsReading TERMS.now
+pub terms_text : IsSelect TERMS.now (selects 0 [] (col 1 6 ∷ col 1 7 ∷ col 1 8 ∷ []) [] no_limit) (codes "crl_life" ∷ codes "ocsp_life" ∷ codes "cap" ∷ []) (λ (_ : Unit {0}). [])
 unfolding understood everything register_schema first
-reading_terms = record { plain = (refl, refl); unlisted = refl; never = select_never TERMS.now _ _ refl refl refl }
-
-pub asked_terms : IsAsked TERMS.now []
-unfolding understood everything register_schema
-asked_terms = asked_by TERMS.now 0 [] (col 1 6 ∷ col 1 7 ∷ col 1 8 ∷ []) [] no_limit (codes "crl_life" ∷ codes "ocsp_life" ∷ codes "cap" ∷ []) [] (omega arith, refl) terms_means refl
+terms_text =
+    select TERMS.now 0 [] (col 1 6 ∷ col 1 7 ∷ col 1 8 ∷ []) [] no_limit (codes "crl_life" ∷ codes "ocsp_life" ∷ codes "cap" ∷ []) (λ (_ : Unit {0}). []) refl (refl, refl) refl (select_never TERMS.now _ _ refl refl refl) (λ it. (omega arith, refl)) (λ it. refl)
 
 module _ (db : Database) (records : Records) (shown : IsShownBy db records) (rows : List Row) where
   pub last_rows : Reads (command_of (understood register_schema LAST.now)) db [] rows → rows ≡ (number records.last ∷ []) ∷ []
-  last_rows reads = office_rows (col 1 9 ∷ []) LAST.now (codes "last_at" ∷ []) last_means db records shown rows reads
+  last_rows reads = office_rows (col 1 9 ∷ []) LAST.now (codes "last_at" ∷ []) last_text.means db records shown rows reads
 
   pub issuer_rows : Reads (command_of (understood register_schema ISSUER.now)) db [] rows → rows ≡ (Blob records.issuer.name ∷ Blob records.issuer.key ∷ []) ∷ []
-  issuer_rows reads = office_rows (col 1 3 ∷ col 1 4 ∷ []) ISSUER.now (codes "name" ∷ codes "pubkey" ∷ []) issuer_means db records shown rows reads
+  issuer_rows reads = office_rows (col 1 3 ∷ col 1 4 ∷ []) ISSUER.now (codes "name" ∷ codes "pubkey" ∷ []) issuer_text.means db records shown rows reads
 
   pub terms_rows : Reads (command_of (understood register_schema TERMS.now)) db [] rows → rows ≡ (number records.policy.crl_life ∷ number records.policy.ocsp_life ∷ number records.policy.cap ∷ []) ∷ []
-  terms_rows reads = office_rows (col 1 6 ∷ col 1 7 ∷ col 1 8 ∷ []) TERMS.now (codes "crl_life" ∷ codes "ocsp_life" ∷ codes "cap" ∷ []) terms_means db records shown rows reads
+  terms_rows reads = office_rows (col 1 6 ∷ col 1 7 ∷ col 1 8 ∷ []) TERMS.now (codes "crl_life" ∷ codes "ocsp_life" ∷ codes "cap" ∷ []) terms_text.means db records shown rows reads
 
   pub responding_rows : Reads (command_of (understood register_schema RESPONDING.now)) db [] rows
       → rows ≡ (number records.last ∷ Blob records.issuer.name ∷ Blob records.issuer.key ∷ number records.policy.ocsp_life ∷ []) ∷ []
-  responding_rows reads = office_rows (col 1 9 ∷ col 1 3 ∷ col 1 4 ∷ col 1 7 ∷ []) RESPONDING.now (codes "last_at" ∷ codes "name" ∷ codes "pubkey" ∷ codes "ocsp_life" ∷ []) responding_means db records shown rows reads
+  responding_rows reads = office_rows (col 1 9 ∷ col 1 3 ∷ col 1 4 ∷ col 1 7 ∷ []) RESPONDING.now (codes "last_at" ∷ codes "name" ∷ codes "pubkey" ∷ codes "ocsp_life" ∷ []) responding_text.means db records shown rows reads

@@ -1,5 +1,5 @@
 -- What the look-ups of orders show.
-use Rattle.std.proofs.Common.{◌≡◌, ◌≤◌, ℕ, List, [], ◌∷◌, length, codes, refl, ◌∙◌, arith}
+use Rattle.std.proofs.Common.{◌≤◌, ℕ, List, [], ◌∷◌, length, codes, refl, ◌∙◌, arith}
 use Rattle.std.specs.Prelude.{◌==◌}
 use Rattle.std.specs.List.{AllByRecursion}
 use Rattle.sqlite_value.specs.Order.{Row}
@@ -14,14 +14,13 @@ use Rattle.reg_core.specs.declared.rows.OrderRow.{OrderRow}
 use Rattle.reg_store_tables.specs.Schema.{register_schema}
 use Rattle.reg_store_tables.specs.Rows.{number, stored_order}
 use Rattle.reg_store_tables.specs.Shows.{IsShownBy}
-use Rattle.reg_store_tables.specs.Failing.{IsAsked}
-use Rattle.reg_store_tables.specs.ReadStatements.{IsReading, command_of, shown_order}
+use Rattle.reg_store_tables.specs.ReadStatements.{command_of, shown_order}
 use Rattle.reg_store_tables.specs.ShownRows.{IsRowOf}
 use Rattle.reg_store_tables.specs.declared.sql.TheConstants.{ORDER_BY_ID}
 use Rattle.reg_store_tables.proofs.Compares.{and_true, eq_number}
-use Rattle.reg_store_tables.proofs.Queries.{column_is, selects, as_command, no_limit, Given, keyed_given, all_of, row_of}
+use Rattle.reg_store_tables.proofs.Queries.{column_is, selects, no_limit, Given, keyed_given, all_of, row_of}
 use Rattle.reg_store_tables.proofs.Selecting.{select_never}
-use Rattle.reg_store_tables.proofs.FailingLemmas.{asked_by}
+use Rattle.reg_store_tables.proofs.FailingLemmas.{IsSelect, select}
 use Rattle.reg_store_tables.proofs.Few.{given_few, numbers_differ, one_number}
 
 abbrev columns : List Term
@@ -33,22 +32,15 @@ names = codes "id" ∷ codes "subscriber" ∷ codes "days" ∷ []
 abbrev out : OrderRow → Output
 out row = ([], shown_order row)
 
-by_id_means : command_of (understood register_schema ORDER_BY_ID.now) ≡ as_command (selects 3 (column_is 0) columns [] no_limit) names
-unfolding understood everything register_schema
-by_id_means = refl
-
-pub reading_by_id : IsReading ORDER_BY_ID.now
+pub by_id_text : IsSelect ORDER_BY_ID.now (selects 3 (column_is 0) columns [] no_limit) names (λ (id : ℕ). number id ∷ [])
 unfolding understood everything register_schema first
-reading_by_id = record { plain = (refl, refl); unlisted = refl; never = select_never ORDER_BY_ID.now _ _ refl refl refl }
-
-pub asked_by_id : (id : ℕ) → IsAsked ORDER_BY_ID.now (number id ∷ [])
-unfolding understood everything register_schema
-asked_by_id id = asked_by ORDER_BY_ID.now 3 (column_is 0) columns [] no_limit names (number id ∷ []) (omega arith, refl) by_id_means refl
+by_id_text =
+    select ORDER_BY_ID.now 3 (column_is 0) columns [] no_limit names (λ (id : ℕ). number id ∷ []) refl (refl, refl) refl (select_never ORDER_BY_ID.now _ _ refl refl refl) (λ it. (omega arith, refl)) (λ it. refl)
 
 module _ (db : Database) (records : Records) (shown : IsShownBy db records) (id : ℕ) (rows : List Row) (reads : Reads (command_of (understood register_schema ORDER_BY_ID.now)) db (number id ∷ []) rows) where
   by_id_given : Given (λ row. row.id == id) out records.orders (selects 3 (column_is 0) columns [] no_limit) (number id ∷ []) rows
   by_id_given =
-      keyed_given (λ _. Unit {0}) stored_order (λ row. row.id == id) out records.orders (all_of (λ _. Unit {0}) (λ _. tt) records.orders) 3 (column_is 0) columns [] no_limit (number id ∷ []) ORDER_BY_ID.now names by_id_means db refl rows reads
+      keyed_given (λ _. Unit {0}) stored_order (λ row. row.id == id) out records.orders (all_of (λ _. Unit {0}) (λ _. tt) records.orders) 3 (column_is 0) columns [] no_limit (number id ∷ []) ORDER_BY_ID.now names by_id_text.means db refl rows reads
       shown.rows.orders (λ row in_row. and_true _ ∙ eq_number row.id id) (λ row. refl)
 
   pub by_id_few : length rows ≤ 1

@@ -27,13 +27,12 @@ use Rattle.reg_core.specs.declared.rows.RequestRow.{RequestRow}
 use Rattle.reg_store_tables.specs.Schema.{register_schema}
 use Rattle.reg_store_tables.specs.Rows.{number, stored_request}
 use Rattle.reg_store_tables.specs.Shows.{IsShownBy}
-use Rattle.reg_store_tables.specs.Failing.{IsAsked}
-use Rattle.reg_store_tables.specs.ReadStatements.{IsReading, command_of, shown_request}
+use Rattle.reg_store_tables.specs.ReadStatements.{command_of, shown_request}
 use Rattle.reg_store_tables.specs.declared.sql.TheConstants.{UNDECLINED}
 use Rattle.reg_store_tables.proofs.Compares.{and_true, eq_number}
-use Rattle.reg_store_tables.proofs.Queries.{selects, as_command, no_limit, Given, keyed_given, kept_have}
+use Rattle.reg_store_tables.proofs.Queries.{selects, no_limit, Given, keyed_given, kept_have}
 use Rattle.reg_store_tables.proofs.Selecting.{select_never}
-use Rattle.reg_store_tables.proofs.FailingLemmas.{asked_by}
+use Rattle.reg_store_tables.proofs.FailingLemmas.{IsSelect, select}
 use Rattle.reg_store_tables.proofs.Few.{fewer}
 use Rattle.reg_store_tables.proofs.Sorting.{ascending_key, ascends, Rises, sorted_same}
 use Rattle.reg_store_tables.proofs.Greatest.{numbered_rises}
@@ -50,17 +49,10 @@ undeclined_terms = op2 (Compare Eq Binary) (col 1 5) (lit (Int (pos 0))) ∷ []
 abbrev by_id : List (Term × Key)
 by_id = (col 1 0, ascending_key) ∷ []
 
-undeclined_means : command_of (understood register_schema UNDECLINED.now) ≡ as_command (selects 7 undeclined_terms columns by_id no_limit) names
-unfolding understood everything register_schema
-undeclined_means = refl
-
-pub reading_undeclined : IsReading UNDECLINED.now
+pub undeclined_text : IsSelect UNDECLINED.now (selects 7 undeclined_terms columns by_id no_limit) names (λ (_ : Unit {0}). [])
 unfolding understood everything register_schema first
-reading_undeclined = record { plain = (refl, refl); unlisted = refl; never = select_never UNDECLINED.now _ _ refl refl refl }
-
-pub asked_undeclined : IsAsked UNDECLINED.now []
-unfolding understood everything register_schema
-asked_undeclined = asked_by UNDECLINED.now 7 undeclined_terms columns by_id no_limit names [] (omega arith, refl) undeclined_means refl
+undeclined_text =
+    select UNDECLINED.now 7 undeclined_terms columns by_id no_limit names (λ (_ : Unit {0}). []) refl (refl, refl) refl (select_never UNDECLINED.now _ _ refl refl refl) (λ it. (omega arith, refl)) (λ it. refl)
 
 abbrev id_of : RequestRow → ℕ
 id_of row = row.id
@@ -88,7 +80,7 @@ kept_rises p (x ∷ xs) rises = elim (cases_Bool (p x)) [
 module _ (db : Database) (records : Records) (shown : IsShownBy db records) (rows : List Row) (reads : Reads (command_of (understood register_schema UNDECLINED.now)) db [] rows) where
   undeclined_given : Given undeclined out records.requests (selects 7 undeclined_terms columns by_id no_limit) [] rows
   undeclined_given =
-      keyed_given (λ (row : RequestRow). IsSerial row.serial) stored_request undeclined out records.requests shown.rows.request_serials 7 undeclined_terms columns by_id no_limit [] UNDECLINED.now names undeclined_means db refl rows reads
+      keyed_given (λ (row : RequestRow). IsSerial row.serial) stored_request undeclined out records.requests shown.rows.request_serials 7 undeclined_terms columns by_id no_limit [] UNDECLINED.now names undeclined_text.means db refl rows reads
       shown.rows.requests (λ row in_row. and_true _ ∙ eq_number (cond row.declined 1 0) 0 ∙ flag_is row.declined) (λ row. refl)
 
   pub undeclined_are : rows ≡ map shown_request (filter undeclined records.requests)

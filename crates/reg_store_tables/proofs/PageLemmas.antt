@@ -32,11 +32,10 @@ use Rattle.reg_core_lists.proofs.PublicLaws as orders
 use Rattle.reg_store_tables.specs.Schema.{register_schema}
 use Rattle.reg_store_tables.specs.Rows.{number, serial_value, counted_rows, stored_certificate, stored_crl, stored_revocation}
 use Rattle.reg_store_tables.specs.Shows.{IsShownBy}
-use Rattle.reg_store_tables.specs.Failing.{IsAsked}
-use Rattle.reg_store_tables.specs.ReadStatements.{IsReading, command_of, shown_certificate, shown_crl, shown_revocation}
+use Rattle.reg_store_tables.specs.ReadStatements.{command_of, shown_certificate, shown_crl, shown_revocation}
 use Rattle.reg_store_tables.specs.declared.sql.TheConstants.{CERTS_AFTER, CRLS_AFTER, REVOCATIONS_AFTER}
 use Rattle.reg_store_tables.proofs.Compares.{and_true, gt_number, gt_serial, serial_order}
-use Rattle.reg_store_tables.proofs.FailingLemmas.{asked_by}
+use Rattle.reg_store_tables.proofs.FailingLemmas.{IsSelect, select}
 use Rattle.reg_store_tables.proofs.Few.{numbers_differ}
 use Rattle.reg_store_tables.proofs.Queries.{selects, as_command, passes, shows, Given, all_of, counted_given, keyed_given, kept_have}
 use Rattle.reg_store_tables.proofs.Selecting.{select_never}
@@ -129,23 +128,16 @@ cert_columns = col 1 1 ∷ col 1 2 ∷ col 1 3 ∷ col 1 4 ∷ []
 abbrev cert_names : List (List ℕ)
 cert_names = codes "serial" ∷ codes "order_id" ∷ codes "not_before" ∷ codes "not_after" ∷ []
 
-certs_mean : command_of (understood register_schema CERTS_AFTER.now) ≡ as_command (selects 4 past_serial cert_columns by_serial as_many) cert_names
-unfolding understood everything register_schema
-certs_mean = refl
-
-pub reading_certs : IsReading CERTS_AFTER.now
+pub certs_text : IsSelect CERTS_AFTER.now (selects 4 past_serial cert_columns by_serial as_many) cert_names (λ (it : ℕ × ℕ). serial_value it.0 ∷ number it.1 ∷ [])
 unfolding understood everything register_schema first
-reading_certs = record { plain = (refl, refl); unlisted = refl; never = select_never CERTS_AFTER.now _ _ refl refl refl }
-
-pub asked_certs : (after most : ℕ) → IsAsked CERTS_AFTER.now (serial_value after ∷ number most ∷ [])
-unfolding understood everything register_schema
-asked_certs after most = asked_by CERTS_AFTER.now 4 past_serial cert_columns by_serial as_many cert_names (serial_value after ∷ number most ∷ []) (omega arith, refl) certs_mean refl
+certs_text =
+    select CERTS_AFTER.now 4 past_serial cert_columns by_serial as_many cert_names (λ (it : ℕ × ℕ). serial_value it.0 ∷ number it.1 ∷ []) refl (refl, refl) refl (select_never CERTS_AFTER.now _ _ refl refl refl) (λ it. (omega arith, refl)) (λ it. refl)
 
 module _ (db : Database) (records : Records) (shown : IsShownBy db records) (after most : ℕ) (low : after < 2 ^ 159) (rows : List Row)
     (reads : Reads (command_of (understood register_schema CERTS_AFTER.now)) db (serial_value after ∷ number most ∷ []) rows) where
   pub certs_shown : KeysDiffer (λ (row : CertRow). row.serial) records.certificates → rows ≡ map shown_certificate (take most (past (λ (row : CertRow). row.serial) after records.certificates))
   certs_shown =
-      page_shown (λ row. row.serial) stored_certificate shown_certificate records.certificates shown.rows.certificate_serials 4 cert_columns CERTS_AFTER.now cert_names certs_mean db refl shown.rows.certificates after most rows reads
+      page_shown (λ row. row.serial) stored_certificate shown_certificate records.certificates shown.rows.certificate_serials 4 cert_columns CERTS_AFTER.now cert_names certs_text.means db refl shown.rows.certificates after most rows reads
       (λ id row in_row. and_true _ ∙ gt_serial row.serial after in_row low) (λ id row. refl)
 
   pub certs_serials : AllByRecursion (λ (row : CertRow). IsSerial row.serial) (take most (past (λ (row : CertRow). row.serial) after records.certificates))
@@ -159,24 +151,16 @@ revocation_columns = col 1 1 ∷ col 1 2 ∷ col 1 3 ∷ col 1 4 ∷ col 1 5 ∷
 abbrev revocation_names : List (List ℕ)
 revocation_names = codes "serial" ∷ codes "at" ∷ codes "reason" ∷ codes "request" ∷ codes "first_crl" ∷ []
 
-revocations_mean : command_of (understood register_schema REVOCATIONS_AFTER.now) ≡ as_command (selects 8 past_serial revocation_columns by_serial as_many) revocation_names
-unfolding understood everything register_schema
-revocations_mean = refl
-
-pub reading_revocations : IsReading REVOCATIONS_AFTER.now
+pub revocations_text : IsSelect REVOCATIONS_AFTER.now (selects 8 past_serial revocation_columns by_serial as_many) revocation_names (λ (it : ℕ × ℕ). serial_value it.0 ∷ number it.1 ∷ [])
 unfolding understood everything register_schema first
-reading_revocations = record { plain = (refl, refl); unlisted = refl; never = select_never REVOCATIONS_AFTER.now _ _ refl refl refl }
-
-pub asked_revocations : (after most : ℕ) → IsAsked REVOCATIONS_AFTER.now (serial_value after ∷ number most ∷ [])
-unfolding understood everything register_schema
-asked_revocations after most =
-    asked_by REVOCATIONS_AFTER.now 8 past_serial revocation_columns by_serial as_many revocation_names (serial_value after ∷ number most ∷ []) (omega arith, refl) revocations_mean refl
+revocations_text =
+    select REVOCATIONS_AFTER.now 8 past_serial revocation_columns by_serial as_many revocation_names (λ (it : ℕ × ℕ). serial_value it.0 ∷ number it.1 ∷ []) refl (refl, refl) refl (select_never REVOCATIONS_AFTER.now _ _ refl refl refl) (λ it. (omega arith, refl)) (λ it. refl)
 
 module _ (db : Database) (records : Records) (shown : IsShownBy db records) (after most : ℕ) (low : after < 2 ^ 159) (rows : List Row)
     (reads : Reads (command_of (understood register_schema REVOCATIONS_AFTER.now)) db (serial_value after ∷ number most ∷ []) rows) where
   pub revocations_shown : KeysDiffer (λ (row : RevocationRow). row.serial) records.revocations → rows ≡ map shown_revocation (take most (past (λ (row : RevocationRow). row.serial) after records.revocations))
   revocations_shown =
-      page_shown (λ row. row.serial) stored_revocation shown_revocation records.revocations shown.rows.revocation_serials 8 revocation_columns REVOCATIONS_AFTER.now revocation_names revocations_mean db refl shown.rows.revocations after most rows reads
+      page_shown (λ row. row.serial) stored_revocation shown_revocation records.revocations shown.rows.revocation_serials 8 revocation_columns REVOCATIONS_AFTER.now revocation_names revocations_text.means db refl shown.rows.revocations after most rows reads
       (λ id row in_row. and_true _ ∙ gt_serial row.serial after in_row low) (λ id row. refl)
 
   pub revocations_serials : AllByRecursion (λ (row : RevocationRow). IsSerial row.serial) (take most (past (λ (row : RevocationRow). row.serial) after records.revocations))
@@ -190,18 +174,10 @@ past_number = op2 (Compare Gt Binary) (col 1 0) (col 0 0) ∷ []
 abbrev by_number : List (Term × Key)
 by_number = (col 1 0, ascending_key) ∷ []
 
-crls_mean : command_of (understood register_schema CRLS_AFTER.now) ≡ as_command (selects 11 past_number (col 1 0 ∷ col 1 2 ∷ []) by_number as_many) (codes "number" ∷ codes "this_update" ∷ [])
-unfolding understood everything register_schema
-crls_mean = refl
-
-pub reading_crls : IsReading CRLS_AFTER.now
+pub crls_text : IsSelect CRLS_AFTER.now (selects 11 past_number (col 1 0 ∷ col 1 2 ∷ []) by_number as_many) (codes "number" ∷ codes "this_update" ∷ []) (λ (it : ℕ × ℕ). number it.0 ∷ number it.1 ∷ [])
 unfolding understood everything register_schema first
-reading_crls = record { plain = (refl, refl); unlisted = refl; never = select_never CRLS_AFTER.now _ _ refl refl refl }
-
-pub asked_crls : (after most : ℕ) → IsAsked CRLS_AFTER.now (number after ∷ number most ∷ [])
-unfolding understood everything register_schema
-asked_crls after most =
-    asked_by CRLS_AFTER.now 11 past_number (col 1 0 ∷ col 1 2 ∷ []) by_number as_many (codes "number" ∷ codes "this_update" ∷ []) (number after ∷ number most ∷ []) (omega arith, refl) crls_mean refl
+crls_text =
+    select CRLS_AFTER.now 11 past_number (col 1 0 ∷ col 1 2 ∷ []) by_number as_many (codes "number" ∷ codes "this_update" ∷ []) (λ (it : ℕ × ℕ). number it.0 ∷ number it.1 ∷ []) refl (refl, refl) refl (select_never CRLS_AFTER.now _ _ refl refl refl) (λ it. (omega arith, refl)) (λ it. refl)
 
 abbrev pub crl_out : Crl → Output
 crl_out crl = (number crl.number ∷ [], shown_crl (row_of crl))
@@ -218,7 +194,7 @@ module _ (db : Database) (records : Records) (shown : IsShownBy db records) (aft
   crls_given : Given is_later crl_out records.crls (selects 11 past_number (col 1 0 ∷ col 1 2 ∷ []) by_number as_many) (number after ∷ number most ∷ []) rows
   crls_given =
       keyed_given (λ _. Unit {0}) stored_crl is_later crl_out records.crls (all_of (λ _. Unit {0}) (λ _. tt) records.crls) 11 past_number (col 1 0 ∷ col 1 2 ∷ []) by_number as_many (number after ∷ number most ∷ []) CRLS_AFTER.now
-      (codes "number" ∷ codes "this_update" ∷ []) crls_mean db refl rows reads shown.rows.crls (λ crl any. and_true _ ∙ gt_number crl.number after) (λ crl. refl)
+      (codes "number" ∷ codes "this_update" ∷ []) crls_text.means db refl rows reads shown.rows.crls (λ crl any. and_true _ ∙ gt_number crl.number after) (λ crl. refl)
 
   crls_are : crls_given.to ≡ past (λ (crl : Crl). crl.number) after records.crls
   crls_are =

@@ -1,16 +1,16 @@
 -- The laws of look-ups, for proofs above: look-ups one after another.
 pub use Rattle.reg_store_tables.proofs.AscendLemmas.{ascending_same, ascending_sorted, ascends_tested, serial_of}
-pub use Rattle.reg_store_tables.proofs.CertificateLemmas.{by_serial_row, reading_by_serial}
+pub use Rattle.reg_store_tables.proofs.CertificateLemmas.{by_serial_row, by_serial_text}
 pub use Rattle.reg_store_tables.proofs.Committing.{changes, clean_before, commits, keeps, keeps_days, led, left, looked_changes, looked_fails, turns}
 pub use Rattle.reg_store_tables.proofs.Compares.{and_true, as_numbers, compares, eq_number, eq_serial, eq_text, lt_number}
-pub use Rattle.reg_store_tables.proofs.CountLemmas.{blank, blank_standing, counted, in_one, is_g, min_is}
+pub use Rattle.reg_store_tables.proofs.CountLemmas.{counts_of, is_g, letters_counted}
 pub use Rattle.reg_store_tables.proofs.Days.{stays_days}
 pub use Rattle.reg_store_tables.proofs.Edits.{Empties, Puts, Turns, cast_int, cast_null, does_empty, made, same_value, uncounted_is, went}
 pub use Rattle.reg_store_tables.proofs.EntryLemmas.{and_false, is_le, not_le}
 pub use Rattle.reg_store_tables.proofs.Few.{mapped}
 pub use Rattle.reg_store_tables.proofs.Greatest.{numbered_rises}
 pub use Rattle.reg_store_tables.proofs.Keeping.{deletes_keep, deletes_rows, inserts_rows, updates_rows, writes_on}
-pub use Rattle.reg_store_tables.proofs.Letters.{counts_stand, found_each, is_expired, is_revoked, letter_counts, map_same, same_counts, with_letter}
+pub use Rattle.reg_store_tables.proofs.Letters.{counts_stand, found_each, map_same, same_counts}
 pub use Rattle.reg_store_tables.proofs.LookingUp.{on_err}
 pub use Rattle.reg_store_tables.proofs.Meaning.{IsWriting, deletes, inserts, updates}
 pub use Rattle.reg_store_tables.proofs.Moving.{asked_moves, here, leading, moves, moves_as, moves_on, ok_if, stays_here, stepped_clean, then_moves, unchanged_before, under_way, was_clean as moving-was_clean}
@@ -22,7 +22,7 @@ pub use Rattle.reg_store_tables.proofs.Queries.{Given, all_kept, all_of, as_comm
 pub use Rattle.reg_store_tables.proofs.Registers.{at_known, empties_rows, empties_spares, none_acts, puts_row, puts_spares, spares, turns_rows, turns_spares, unequal_trees}
 pub use Rattle.reg_store_tables.proofs.Resting.{at_rest, leaves_first, leaves_less, resting, rests_sound}
 pub use Rattle.reg_store_tables.proofs.Rowids.{behind, rowids_are, rowids_numbered, with_rowids}
-pub use Rattle.reg_store_tables.proofs.ScheduleLemmas.{ascends_rises, moment_of, reading_steps, steps_are}
+pub use Rattle.reg_store_tables.proofs.ScheduleLemmas.{ascends_rises, moment_of, steps_are}
 pub use Rattle.reg_store_tables.proofs.Selecting.{select_never, select_planned, selected}
 pub use Rattle.reg_store_tables.proofs.Sorting.{Rises, ascending_key, ascends, sorted_same}
 pub use Rattle.reg_store_tables.proofs.Spared.{Counted, Numbered, both_after, columns_after, rows_after}

@@ -1,5 +1,5 @@
 -- What a statement that writes makes of the tables of a register.
-use Rattle.std.proofs.Common.{◌≡◌, ◌≢◌, ◌/◌, ◌-◌, ℕ, Bool, true, false, ◌==◌, List, [], ◌∷◌, map, length, slice_get, Some, None, Ok, refl, sym, ap, subst, ◌∙◌, arith}
+use Rattle.std.proofs.Common.{◌≡◌, ◌≢◌, ◌/◌, ℕ, Bool, true, false, ◌==◌, List, [], ◌∷◌, map, length, slice_get, Some, None, Ok, refl, sym, ap, subst, ◌∙◌, arith}
 use Rattle.std.specs.List.{AllByRecursion, list_any, flat_map, filter_map}
 use Rattle.std.proofs.lemmas.Bool.Decides.{nat_tests}
 use Rattle.sqlite_value.specs.Order.{Row}
@@ -21,7 +21,7 @@ use Rattle.sqlite.proofs.Callers.{runs_as, statement_of}
 use Rattle.reg_core_laws.proofs.PublicLaws.{equal_numbers}
 use Rattle.reg_store_tables.specs.Schema.{register_schema, table_trees}
 use Rattle.reg_store_tables.proofs.Queries.{passes}
-use Rattle.reg_store_tables.specs.Ran.{Ran}
+use Rattle.reg_store_tables.specs.Stays.{Ran}
 use Rattle.reg_store_tables.proofs.Meaning.{updates, inserts, deletes, IsWriting}
 use Rattle.reg_store_tables.proofs.Turning.{IsKeyed}
 use Rattle.reg_store_tables.proofs.Edits.{made, Turns, Puts, Empties, does_turn, does_put, does_empty}

@@ -1,5 +1,5 @@
 -- What the look-ups of requests show.
-use Rattle.std.proofs.Common.{◌≡◌, ◌≤◌, ℕ, List, [], ◌∷◌, length, codes, refl, ◌∙◌, arith}
+use Rattle.std.proofs.Common.{◌≤◌, ℕ, List, [], ◌∷◌, length, codes, refl, ◌∙◌, arith}
 use Rattle.std.specs.Prelude.{◌==◌}
 use Rattle.std.specs.List.{AllByRecursion}
 use Rattle.sqlite_value.specs.Order.{Row}
@@ -15,14 +15,13 @@ use Rattle.reg_core.specs.declared.rows.RequestRow.{RequestRow}
 use Rattle.reg_store_tables.specs.Schema.{register_schema}
 use Rattle.reg_store_tables.specs.Rows.{number, stored_request}
 use Rattle.reg_store_tables.specs.Shows.{IsShownBy}
-use Rattle.reg_store_tables.specs.Failing.{IsAsked}
-use Rattle.reg_store_tables.specs.ReadStatements.{IsReading, command_of, shown_request}
+use Rattle.reg_store_tables.specs.ReadStatements.{command_of, shown_request}
 use Rattle.reg_store_tables.specs.ShownRows.{IsRowOf}
 use Rattle.reg_store_tables.specs.declared.sql.TheConstants.{REQUEST_BY_ID}
 use Rattle.reg_store_tables.proofs.Compares.{and_true, eq_number}
-use Rattle.reg_store_tables.proofs.Queries.{column_is, selects, as_command, no_limit, Given, keyed_given, row_of}
+use Rattle.reg_store_tables.proofs.Queries.{column_is, selects, no_limit, Given, keyed_given, row_of}
 use Rattle.reg_store_tables.proofs.Selecting.{select_never}
-use Rattle.reg_store_tables.proofs.FailingLemmas.{asked_by}
+use Rattle.reg_store_tables.proofs.FailingLemmas.{IsSelect, select}
 use Rattle.reg_store_tables.proofs.Few.{given_few, numbers_differ, one_number}
 
 abbrev columns : List Term
@@ -34,22 +33,15 @@ names = codes "id" ∷ codes "serial" ∷ codes "ground" ∷ codes "received" �
 abbrev out : RequestRow → Output
 out row = ([], shown_request row)
 
-by_id_means : command_of (understood register_schema REQUEST_BY_ID.now) ≡ as_command (selects 7 (column_is 0) columns [] no_limit) names
-unfolding understood everything register_schema
-by_id_means = refl
-
-pub reading_by_id : IsReading REQUEST_BY_ID.now
+pub by_id_text : IsSelect REQUEST_BY_ID.now (selects 7 (column_is 0) columns [] no_limit) names (λ (id : ℕ). number id ∷ [])
 unfolding understood everything register_schema first
-reading_by_id = record { plain = (refl, refl); unlisted = refl; never = select_never REQUEST_BY_ID.now _ _ refl refl refl }
-
-pub asked_by_id : (id : ℕ) → IsAsked REQUEST_BY_ID.now (number id ∷ [])
-unfolding understood everything register_schema
-asked_by_id id = asked_by REQUEST_BY_ID.now 7 (column_is 0) columns [] no_limit names (number id ∷ []) (omega arith, refl) by_id_means refl
+by_id_text =
+    select REQUEST_BY_ID.now 7 (column_is 0) columns [] no_limit names (λ (id : ℕ). number id ∷ []) refl (refl, refl) refl (select_never REQUEST_BY_ID.now _ _ refl refl refl) (λ it. (omega arith, refl)) (λ it. refl)
 
 module _ (db : Database) (records : Records) (shown : IsShownBy db records) (id : ℕ) (rows : List Row) (reads : Reads (command_of (understood register_schema REQUEST_BY_ID.now)) db (number id ∷ []) rows) where
   by_id_given : Given (λ row. row.id == id) out records.requests (selects 7 (column_is 0) columns [] no_limit) (number id ∷ []) rows
   by_id_given =
-      keyed_given (λ row. IsSerial row.serial) stored_request (λ row. row.id == id) out records.requests shown.rows.request_serials 7 (column_is 0) columns [] no_limit (number id ∷ []) REQUEST_BY_ID.now names by_id_means db refl rows reads
+      keyed_given (λ row. IsSerial row.serial) stored_request (λ row. row.id == id) out records.requests shown.rows.request_serials 7 (column_is 0) columns [] no_limit (number id ∷ []) REQUEST_BY_ID.now names by_id_text.means db refl rows reads
       shown.rows.requests (λ row in_row. and_true _ ∙ eq_number row.id id) (λ row. refl)
 
   pub by_id_few : length rows ≤ 1

@@ -1,5 +1,5 @@
 -- What the look-ups of revocations show.
-use Rattle.std.proofs.Common.{◌≡◌, ◌≤◌, ℕ, List, [], ◌∷◌, length, codes, refl, ◌∙◌, arith}
+use Rattle.std.proofs.Common.{◌≤◌, ℕ, List, [], ◌∷◌, length, codes, refl, ◌∙◌, arith}
 use Rattle.std.specs.Prelude.{◌==◌}
 use Rattle.std.specs.List.{AllByRecursion}
 use Rattle.sqlite_value.specs.Order.{Row}
@@ -16,14 +16,13 @@ use Rattle.reg_core.specs.declared.rows.RevocationRow.{RevocationRow}
 use Rattle.reg_store_tables.specs.Schema.{register_schema}
 use Rattle.reg_store_tables.specs.Rows.{serial_value, stored_revocation}
 use Rattle.reg_store_tables.specs.Shows.{IsShownBy}
-use Rattle.reg_store_tables.specs.Failing.{IsAsked}
-use Rattle.reg_store_tables.specs.ReadStatements.{IsReading, command_of, shown_revocation}
+use Rattle.reg_store_tables.specs.ReadStatements.{command_of, shown_revocation}
 use Rattle.reg_store_tables.specs.ShownRows.{IsRowOf}
 use Rattle.reg_store_tables.specs.declared.sql.TheConstants.{REVOCATION_BY_SERIAL}
 use Rattle.reg_store_tables.proofs.Compares.{and_true, eq_serial}
-use Rattle.reg_store_tables.proofs.Queries.{column_is, selects, as_command, no_limit, Given, counted_given, row_of}
+use Rattle.reg_store_tables.proofs.Queries.{column_is, selects, no_limit, Given, counted_given, row_of}
 use Rattle.reg_store_tables.proofs.Selecting.{select_never}
-use Rattle.reg_store_tables.proofs.FailingLemmas.{asked_by}
+use Rattle.reg_store_tables.proofs.FailingLemmas.{IsSelect, select}
 use Rattle.reg_store_tables.proofs.Few.{given_few, one_number}
 
 abbrev columns : List Term
@@ -35,22 +34,15 @@ names = codes "serial" ∷ codes "at" ∷ codes "reason" ∷ codes "request" ∷
 abbrev out : RevocationRow → Output
 out row = ([], shown_revocation row)
 
-by_serial_means : command_of (understood register_schema REVOCATION_BY_SERIAL.now) ≡ as_command (selects 8 (column_is 1) columns [] no_limit) names
-unfolding understood everything register_schema
-by_serial_means = refl
-
-pub reading_by_serial : IsReading REVOCATION_BY_SERIAL.now
+pub by_serial_text : IsSelect REVOCATION_BY_SERIAL.now (selects 8 (column_is 1) columns [] no_limit) names (λ (serial : ℕ). serial_value serial ∷ [])
 unfolding understood everything register_schema first
-reading_by_serial = record { plain = (refl, refl); unlisted = refl; never = select_never REVOCATION_BY_SERIAL.now _ _ refl refl refl }
-
-pub asked_by_serial : (serial : ℕ) → IsAsked REVOCATION_BY_SERIAL.now (serial_value serial ∷ [])
-unfolding understood everything register_schema
-asked_by_serial serial = asked_by REVOCATION_BY_SERIAL.now 8 (column_is 1) columns [] no_limit names (serial_value serial ∷ []) (omega arith, refl) by_serial_means refl
+by_serial_text =
+    select REVOCATION_BY_SERIAL.now 8 (column_is 1) columns [] no_limit names (λ (serial : ℕ). serial_value serial ∷ []) refl (refl, refl) refl (select_never REVOCATION_BY_SERIAL.now _ _ refl refl refl) (λ it. (omega arith, refl)) (λ it. refl)
 
 module _ (db : Database) (records : Records) (shown : IsShownBy db records) (serial : ℕ) (is_serial : IsSerial serial) (rows : List Row) (reads : Reads (command_of (understood register_schema REVOCATION_BY_SERIAL.now)) db (serial_value serial ∷ []) rows) where
   by_serial_given : Given (λ row. row.serial == serial) out records.revocations (selects 8 (column_is 1) columns [] no_limit) (serial_value serial ∷ []) rows
   by_serial_given =
-      counted_given (λ row. IsSerial row.serial) stored_revocation (λ row. row.serial == serial) out records.revocations shown.rows.revocation_serials 8 (column_is 1) columns [] no_limit (serial_value serial ∷ []) REVOCATION_BY_SERIAL.now names by_serial_means db refl rows reads
+      counted_given (λ row. IsSerial row.serial) stored_revocation (λ row. row.serial == serial) out records.revocations shown.rows.revocation_serials 8 (column_is 1) columns [] no_limit (serial_value serial ∷ []) REVOCATION_BY_SERIAL.now names by_serial_text.means db refl rows reads
       shown.rows.revocations (λ id row in_row. and_true _ ∙ eq_serial row.serial serial in_row is_serial) (λ id row. refl)
 
   pub by_serial_few : KeysDiffer (λ (row : RevocationRow). row.serial) records.revocations → length rows ≤ 1

@@ -16,12 +16,11 @@ use Rattle.reg_core.specs.Schedule.{Ascends}
 use Rattle.reg_store_tables.specs.Schema.{register_schema}
 use Rattle.reg_store_tables.specs.Rows.{number, stored_step}
 use Rattle.reg_store_tables.specs.Shows.{IsShownBy}
-use Rattle.reg_store_tables.specs.Failing.{IsAsked}
-use Rattle.reg_store_tables.specs.ReadStatements.{IsReading, command_of, shown_step}
+use Rattle.reg_store_tables.specs.ReadStatements.{command_of, shown_step}
 use Rattle.reg_store_tables.specs.declared.sql.TheConstants.{STEPS}
-use Rattle.reg_store_tables.proofs.Queries.{selects, as_command, no_limit, Given, keyed_given, all_of}
+use Rattle.reg_store_tables.proofs.Queries.{selects, no_limit, Given, keyed_given, all_of}
 use Rattle.reg_store_tables.proofs.Selecting.{select_never}
-use Rattle.reg_store_tables.proofs.FailingLemmas.{asked_by}
+use Rattle.reg_store_tables.proofs.FailingLemmas.{IsSelect, select}
 use Rattle.reg_store_tables.proofs.Sorting.{ascending_key, ascends, Rises, sorted_same}
 
 abbrev pub moment_of : ℕ × ℕ → ℕ
@@ -41,17 +40,10 @@ ascends_rises (x ∷ y ∷ xs) up =
 abbrev by_moment : List (Term × Key)
 by_moment = (col 1 0, ascending_key) ∷ []
 
-steps_mean : command_of (understood register_schema STEPS.now) ≡ as_command (selects 17 [] (col 1 0 ∷ col 1 2 ∷ []) by_moment no_limit) (codes "from_at" ∷ codes "days" ∷ [])
-unfolding understood everything register_schema
-steps_mean = refl
-
-pub reading_steps : IsReading STEPS.now
+pub steps_text : IsSelect STEPS.now (selects 17 [] (col 1 0 ∷ col 1 2 ∷ []) by_moment no_limit) (codes "from_at" ∷ codes "days" ∷ []) (λ (_ : Unit {0}). [])
 unfolding understood everything register_schema first
-reading_steps = record { plain = (refl, refl); unlisted = refl; never = select_never STEPS.now _ _ refl refl refl }
-
-pub asked_steps : IsAsked STEPS.now []
-unfolding understood everything register_schema
-asked_steps = asked_by STEPS.now 17 [] (col 1 0 ∷ col 1 2 ∷ []) by_moment no_limit (codes "from_at" ∷ codes "days" ∷ []) [] (omega arith, refl) steps_mean refl
+steps_text =
+    select STEPS.now 17 [] (col 1 0 ∷ col 1 2 ∷ []) by_moment no_limit (codes "from_at" ∷ codes "days" ∷ []) (λ (_ : Unit {0}). []) refl (refl, refl) refl (select_never STEPS.now _ _ refl refl refl) (λ it. (omega arith, refl)) (λ it. refl)
 
 abbrev out : ℕ × ℕ → Output
 out step = (number (moment_of step) ∷ [], shown_step step)
@@ -59,7 +51,7 @@ out step = (number (moment_of step) ∷ [], shown_step step)
 module _ (db : Database) (records : Records) (shown : IsShownBy db records) (rows : List Row) (reads : Reads (command_of (understood register_schema STEPS.now)) db [] rows) where
   steps_given : Given (λ _. true) out records.policy.schedule (selects 17 [] (col 1 0 ∷ col 1 2 ∷ []) by_moment no_limit) [] rows
   steps_given =
-      keyed_given (λ _. Unit {0}) stored_step (λ _. true) out records.policy.schedule (all_of (λ _. Unit {0}) (λ _. tt) records.policy.schedule) 17 [] (col 1 0 ∷ col 1 2 ∷ []) by_moment no_limit [] STEPS.now (codes "from_at" ∷ codes "days" ∷ []) steps_mean db
+      keyed_given (λ _. Unit {0}) stored_step (λ _. true) out records.policy.schedule (all_of (λ _. Unit {0}) (λ _. tt) records.policy.schedule) 17 [] (col 1 0 ∷ col 1 2 ∷ []) by_moment no_limit [] STEPS.now (codes "from_at" ∷ codes "days" ∷ []) steps_text.means db
       refl rows reads shown.rows.schedule (λ step any. refl) (λ step. refl)
 
   pub steps_are : rows ≡ map shown_step records.policy.schedule

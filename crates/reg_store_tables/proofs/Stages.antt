@@ -11,19 +11,18 @@ use Rattle.sqlite.specs.State.{State}
 use Rattle.reg_core.specs.Schedule.{Ascends}
 use Rattle.reg_store_tables.specs.Schema.{register_schema, longest, kept}
 use Rattle.reg_store_tables.specs.Rows.{number, stored_step}
-use Rattle.reg_store_tables.specs.Ran.{Ran}
+use Rattle.reg_store_tables.specs.Stays.{Ran}
 use Rattle.reg_store_tables.specs.Staged.{AddsStep, AreBefore}
 use Rattle.reg_store_tables.specs.Steps.{Turns}
-use Rattle.reg_store_tables.specs.declared.write_sql.TheConstants.{PUT_STEP, SET_COUNTS}
+use Rattle.reg_store_tables.specs.declared.sql.TheConstants.{PUT_STEP, SET_COUNTS}
 use Rattle.reg_store_tables.proofs.Meaning.{put_step_means, set_counts_means}
 use Rattle.reg_store_tables.proofs.Placing.{put_behind}
 use Rattle.reg_store_tables.proofs.Edits as Edits
 use Rattle.reg_store_tables.proofs.Edits.{cast_int, cast_null, made}
 use Rattle.reg_store_tables.proofs.Registers.{puts_row, puts_spares, turns_rows, turns_spares}
 use Rattle.reg_core.specs.declared.command.Counts.{Counts}
-use Rattle.reg_store_tables.specs.Columns.{stored_counts}
+use Rattle.reg_store_tables.specs.Columns.{stored_counts, turned, with_counts}
 use Rattle.reg_store_tables.proofs.Queries.{passes}
-use Rattle.reg_store_tables.specs.RowEffects.{turned, with_counts}
 use Rattle.reg_store_tables.proofs.Turning.{IsKeyed}
 use Rattle.reg_store_tables.proofs.Spared.{both_after}
 

@@ -1,5 +1,5 @@
 -- What a query leaves: nothing has changed, or a failure has undone a transaction.
-use Rattle.std.specs.Prelude.{OnOk, option_map}
+use Rattle.std.specs.Prelude.{OnOk}
 use Rattle.std.specs.Option.{ok_or, IfSome}
 use Rattle.std.proofs.Common.{◌≡◌, ◌≤◌, ◌⊎◌, inl, inr, ℕ, List, Option, None, Some, Ok, Err, IfOk, Result, IsTrue, refl, sym, ap, subst, ◌∙◌, arith}
 use Rattle.sqlite_value.specs.Order.{Row}
@@ -177,11 +177,6 @@ stays_then a b c forgets first second = record {
       then_either a b c (first.now was was_up) (first.committed was was_up) (second.now clean up);
   committed = λ clean up. second.committed clean up ∙ first.committed (was_clean b c forgets clean) (second.was_open clean up);
 }
-
--- what was shown when a statement answered
-pub shown_then : {S : Type 0} (g : Ghosts S) (old new : Held S) (records : Records) → doubt (state g old).is_clean ≤ doubt (state g new).is_clean → HasCleanDisk (state g new) → IsTrue (state g old).is_open → Shows g old records
-    → IsShownBy (state g old).now records
-shown_then g old new records forgets clean up shows = shows.tables (was_clean (state g old) (state g new) forgets clean) up
 
 -- what a result gives gives more
 pub ok_then : {T E : Type 0} {P Q : T → Type 0} (r : Result T E) → IfOk r P → ((x : T) → P x → Q x) → IfOk r Q

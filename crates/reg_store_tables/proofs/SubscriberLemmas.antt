@@ -17,14 +17,13 @@ use Rattle.reg_core.specs.declared.rows.SubscriberRow.{SubscriberRow}
 use Rattle.reg_store_tables.specs.Schema.{register_schema}
 use Rattle.reg_store_tables.specs.Rows.{number, stored_subscriber}
 use Rattle.reg_store_tables.specs.Shows.{IsShownBy}
-use Rattle.reg_store_tables.specs.Failing.{IsAsked}
-use Rattle.reg_store_tables.specs.ReadStatements.{IsReading, command_of, shown_subscriber}
+use Rattle.reg_store_tables.specs.ReadStatements.{command_of, shown_subscriber}
 use Rattle.reg_store_tables.specs.ShownRows.{IsRowOf}
 use Rattle.reg_store_tables.specs.declared.sql.TheConstants.{SUBSCRIBER_BY_ID, SUBSCRIBER_BY_NAME}
 use Rattle.reg_store_tables.proofs.Compares.{and_true, eq_number, eq_text}
-use Rattle.reg_store_tables.proofs.Queries.{column_is, selects, as_command, no_limit, Given, keyed_given, all_of, row_of}
+use Rattle.reg_store_tables.proofs.Queries.{column_is, selects, no_limit, Given, keyed_given, all_of, row_of}
 use Rattle.reg_store_tables.proofs.Selecting.{select_never}
-use Rattle.reg_store_tables.proofs.FailingLemmas.{asked_by}
+use Rattle.reg_store_tables.proofs.FailingLemmas.{IsSelect, select}
 use Rattle.reg_store_tables.proofs.Few.{at_most_one, given_few, numbers_differ, one_number}
 
 abbrev columns : List Term
@@ -36,22 +35,15 @@ names = codes "id" ∷ codes "name" ∷ []
 abbrev out : SubscriberRow → Output
 out row = ([], shown_subscriber row)
 
-by_id_means : command_of (understood register_schema SUBSCRIBER_BY_ID.now) ≡ as_command (selects 1 (column_is 0) columns [] no_limit) names
-unfolding understood everything register_schema
-by_id_means = refl
-
-pub reading_by_id : IsReading SUBSCRIBER_BY_ID.now
+pub by_id_text : IsSelect SUBSCRIBER_BY_ID.now (selects 1 (column_is 0) columns [] no_limit) names (λ (id : ℕ). number id ∷ [])
 unfolding understood everything register_schema first
-reading_by_id = record { plain = (refl, refl); unlisted = refl; never = select_never SUBSCRIBER_BY_ID.now _ _ refl refl refl }
-
-pub asked_by_id : (id : ℕ) → IsAsked SUBSCRIBER_BY_ID.now (number id ∷ [])
-unfolding understood everything register_schema
-asked_by_id id = asked_by SUBSCRIBER_BY_ID.now 1 (column_is 0) columns [] no_limit names (number id ∷ []) (omega arith, refl) by_id_means refl
+by_id_text =
+    select SUBSCRIBER_BY_ID.now 1 (column_is 0) columns [] no_limit names (λ (id : ℕ). number id ∷ []) refl (refl, refl) refl (select_never SUBSCRIBER_BY_ID.now _ _ refl refl refl) (λ it. (omega arith, refl)) (λ it. refl)
 
 module _ (db : Database) (records : Records) (shown : IsShownBy db records) (id : ℕ) (rows : List Row) (reads : Reads (command_of (understood register_schema SUBSCRIBER_BY_ID.now)) db (number id ∷ []) rows) where
   by_id_given : Given (λ row. row.id == id) out records.subscribers (selects 1 (column_is 0) columns [] no_limit) (number id ∷ []) rows
   by_id_given =
-      keyed_given (λ _. Unit {0}) stored_subscriber (λ row. row.id == id) out records.subscribers (all_of (λ _. Unit {0}) (λ _. tt) records.subscribers) 1 (column_is 0) columns [] no_limit (number id ∷ []) SUBSCRIBER_BY_ID.now names by_id_means db refl rows reads
+      keyed_given (λ _. Unit {0}) stored_subscriber (λ row. row.id == id) out records.subscribers (all_of (λ _. Unit {0}) (λ _. tt) records.subscribers) 1 (column_is 0) columns [] no_limit (number id ∷ []) SUBSCRIBER_BY_ID.now names by_id_text.means db refl rows reads
       shown.rows.subscribers (λ row in_row. and_true _ ∙ eq_number row.id id) (λ row. refl)
 
   pub by_id_few : length rows ≤ 1
@@ -61,17 +53,10 @@ module _ (db : Database) (records : Records) (shown : IsShownBy db records) (id 
   pub by_id_row : (P : SubscriberRow → Type 0) → AllByRecursion P records.subscribers → IsRowOf P shown_subscriber rows (subscriber_in records.subscribers id)
   by_id_row P all = row_of (λ row. row.id == id) out records.subscribers 1 (column_is 0) columns [] (number id ∷ []) rows by_id_given P all
 
-by_name_means : command_of (understood register_schema SUBSCRIBER_BY_NAME.now) ≡ as_command (selects 1 (column_is 2) columns [] no_limit) names
-unfolding understood everything register_schema
-by_name_means = refl
-
-pub reading_by_name : IsReading SUBSCRIBER_BY_NAME.now
+pub by_name_text : IsSelect SUBSCRIBER_BY_NAME.now (selects 1 (column_is 2) columns [] no_limit) names (λ (name : List ℕ). Text name ∷ [])
 unfolding understood everything register_schema first
-reading_by_name = record { plain = (refl, refl); unlisted = refl; never = select_never SUBSCRIBER_BY_NAME.now _ _ refl refl refl }
-
-pub asked_by_name : (name : List ℕ) → IsAsked SUBSCRIBER_BY_NAME.now (Text name ∷ [])
-unfolding understood everything register_schema
-asked_by_name name = asked_by SUBSCRIBER_BY_NAME.now 1 (column_is 2) columns [] no_limit names (Text name ∷ []) (omega arith, refl) by_name_means refl
+by_name_text =
+    select SUBSCRIBER_BY_NAME.now 1 (column_is 2) columns [] no_limit names (λ (name : List ℕ). Text name ∷ []) refl (refl, refl) refl (select_never SUBSCRIBER_BY_NAME.now _ _ refl refl refl) (λ it. (omega arith, refl)) (λ it. refl)
 
 same_name : (one other : List ℕ) → bytes_eq one other ≡ true → one ≡ other
 same_name one other same = (bytes_eq-Decides one other).0 same
@@ -79,7 +64,7 @@ same_name one other same = (bytes_eq-Decides one other).0 same
 module _ (db : Database) (records : Records) (shown : IsShownBy db records) (name : List ℕ) (rows : List Row) (reads : Reads (command_of (understood register_schema SUBSCRIBER_BY_NAME.now)) db (Text name ∷ []) rows) where
   by_name_given : Given (λ row. bytes_eq row.name name) out records.subscribers (selects 1 (column_is 2) columns [] no_limit) (Text name ∷ []) rows
   by_name_given =
-      keyed_given (λ _. Unit {0}) stored_subscriber (λ row. bytes_eq row.name name) out records.subscribers (all_of (λ _. Unit {0}) (λ _. tt) records.subscribers) 1 (column_is 2) columns [] no_limit (Text name ∷ []) SUBSCRIBER_BY_NAME.now names by_name_means db refl rows reads
+      keyed_given (λ _. Unit {0}) stored_subscriber (λ row. bytes_eq row.name name) out records.subscribers (all_of (λ _. Unit {0}) (λ _. tt) records.subscribers) 1 (column_is 2) columns [] no_limit (Text name ∷ []) SUBSCRIBER_BY_NAME.now names by_name_text.means db refl rows reads
       shown.rows.subscribers (λ row in_row. and_true _ ∙ eq_text row.name name) (λ row. refl)
 
   pub by_name_few : KeysDiffer (λ (row : SubscriberRow). row.name) records.subscribers → length rows ≤ 1

@@ -24,16 +24,15 @@ use Rattle.reg_core.specs.declared.rows.RevocationRow.{RevocationRow}
 use Rattle.reg_store_tables.specs.Schema.{register_schema}
 use Rattle.reg_store_tables.specs.Rows.{number, stored_revocation}
 use Rattle.reg_store_tables.specs.Shows.{IsShownBy}
-use Rattle.reg_store_tables.specs.Failing.{IsAsked}
-use Rattle.reg_store_tables.specs.ReadStatements.{IsReading, command_of}
+use Rattle.reg_store_tables.specs.ReadStatements.{command_of}
 use Rattle.reg_store_tables.specs.ShownRows.{Found, IsRowOf, shown_number}
 use Rattle.reg_store_tables.specs.declared.sql.TheConstants.{EARLIEST_ABOVE}
 use Rattle.reg_store_tables.proofs.Compares.{and_true, gt_number}
-use Rattle.reg_store_tables.proofs.Queries.{selects, as_command, Given, counted_given, all_of, kept_have}
+use Rattle.reg_store_tables.proofs.Queries.{selects, Given, counted_given, all_of, kept_have}
 use Rattle.reg_store_tables.proofs.Selecting.{select_never}
 use Rattle.reg_store_tables.proofs.Sorting.{ascending_key, ascends, least_first, first_is_one}
 use Rattle.reg_store_tables.proofs.Greatest.{one_row, all_map}
-use Rattle.reg_store_tables.proofs.FailingLemmas.{asked_by}
+use Rattle.reg_store_tables.proofs.FailingLemmas.{IsSelect, select}
 use Rattle.reg_store_tables.proofs.Few.{taken_few}
 use Rattle.reg_store_tables.proofs.EntryLemmas.{same_filter}
 
@@ -110,17 +109,10 @@ first_above = op2 (Compare Gt Binary) (col 1 5) (col 0 0) ∷ []
 abbrev query_order : List (Term × Key)
 query_order = (col 1 2, ascending_key) ∷ []
 
-above_means : command_of (understood register_schema EARLIEST_ABOVE.now) ≡ as_command (selects 8 first_above (col 1 2 ∷ []) query_order one_row) (codes "at" ∷ [])
-unfolding understood everything register_schema
-above_means = refl
-
-pub reading_above : IsReading EARLIEST_ABOVE.now
+pub above_text : IsSelect EARLIEST_ABOVE.now (selects 8 first_above (col 1 2 ∷ []) query_order one_row) (codes "at" ∷ []) (λ (n : ℕ). number n ∷ [])
 unfolding understood everything register_schema first
-reading_above = record { plain = (refl, refl); unlisted = refl; never = select_never EARLIEST_ABOVE.now _ _ refl refl refl }
-
-pub asked_above : (n : ℕ) → IsAsked EARLIEST_ABOVE.now (number n ∷ [])
-unfolding understood everything register_schema
-asked_above n = asked_by EARLIEST_ABOVE.now 8 first_above (col 1 2 ∷ []) query_order one_row (codes "at" ∷ []) (number n ∷ []) (omega arith, refl) above_means refl
+above_text =
+    select EARLIEST_ABOVE.now 8 first_above (col 1 2 ∷ []) query_order one_row (codes "at" ∷ []) (λ (n : ℕ). number n ∷ []) refl (refl, refl) refl (select_never EARLIEST_ABOVE.now _ _ refl refl refl) (λ it. (omega arith, refl)) (λ it. refl)
 
 abbrev out : RevocationRow → Output
 out row = (number row.at ∷ [], number row.at ∷ [])
@@ -139,7 +131,7 @@ module _ (db : Database) (records : Records) (shown : IsShownBy db records) (n :
 
   above_given : Given waits out records.revocations (selects 8 first_above (col 1 2 ∷ []) query_order one_row) (number n ∷ []) rows
   above_given =
-      counted_given (λ _. Unit {0}) stored_revocation waits out records.revocations (all_of (λ _. Unit {0}) (λ _. tt) records.revocations) 8 first_above (col 1 2 ∷ []) query_order one_row (number n ∷ []) EARLIEST_ABOVE.now (codes "at" ∷ []) above_means db
+      counted_given (λ _. Unit {0}) stored_revocation waits out records.revocations (all_of (λ _. Unit {0}) (λ _. tt) records.revocations) 8 first_above (col 1 2 ∷ []) query_order one_row (number n ∷ []) EARLIEST_ABOVE.now (codes "at" ∷ []) above_text.means db
       refl rows reads shown.rows.revocations (λ id row any. and_true _ ∙ gt_number row.first n) (λ id row. refl)
 
   pub above_few : length rows ≤ 1

@@ -1,5 +1,5 @@
 -- What is kept beside the records: the state letters, their counts, what CRLs list, and the days that the office was made with.
-use Rattle.std.specs.Prelude.{ℕ, ℤ, Bool, true, false, ◌&&◌, nat_lt, List, [], ◌∷◌, codes, Option, Some, None}
+use Rattle.std.specs.Prelude.{ℕ, ℤ, Bool, true, false, ◌&&◌, nat_lt, List, [], ◌∷◌, codes, filter, length, Option, Some, None, cond}
 use Rattle.sqlite_value.specs.declared.value.Value.{Value}
 use Rattle.sqlite_value.specs.declared.value.Value.TheVariants.{Null, Text}
 use Rattle.sqlite_value.specs.Order.{Row, column}
@@ -22,11 +22,29 @@ is_good_letter good = true
 is_good_letter revoked = false
 is_good_letter expired = false
 
+abbrev pub is_revoked_letter : Letter → Bool
+is_revoked_letter good = false
+is_revoked_letter revoked = true
+is_revoked_letter expired = false
+
+abbrev pub is_expired_letter : Letter → Bool
+is_expired_letter good = false
+is_expired_letter revoked = false
+is_expired_letter expired = true
+
 -- a certificate's state letter
 pub record Standing : Type 0 where
   pub serial : ℕ
   pub not_after : ℕ
   pub letter : Letter
+
+-- how many rows have a letter
+abbrev pub with_letter : (Letter → Bool) → List Standing → ℕ
+with_letter test rows = length (filter (λ row. test row.letter) rows)
+
+-- how many rows have each letter
+abbrev pub letter_counts : List Standing → Counts
+letter_counts rows = record { good = with_letter is_good_letter rows; revoked = with_letter is_revoked_letter rows; expired = with_letter is_expired_letter rows }
 
 -- the certificate is good, and ends before a moment
 abbrev pub ends_before : ℕ → Standing → Bool
@@ -68,3 +86,11 @@ number_or_null (Some n) = number n
 -- listed: serial, at, reason, first_crl, not_after, last_listed
 abbrev pub stored_listed : Listed → Row
 stored_listed row = serial_value row.serial ∷ number row.at ∷ number row.reason ∷ number row.first ∷ number row.not_after ∷ number_or_null row.last ∷ []
+
+-- what passes the test is turned, and all else stays
+abbrev pub turned : {A : Type 0} → (A → Bool) → (A → A) → A → A
+turned test turn x = cond (test x) (turn x) x
+
+-- other counts
+abbrev pub with_counts : Counts → Columns → Columns
+with_counts counts columns = record columns { counts = counts }

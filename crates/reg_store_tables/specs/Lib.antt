@@ -13,7 +13,5 @@ pub mod Failing
 pub mod LookUps
 pub mod AfterStop
 pub mod Commits
-pub mod Ran
-pub mod RowEffects
 pub mod Staged
 pub mod Steps

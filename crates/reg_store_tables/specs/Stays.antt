@@ -1,14 +1,15 @@
 -- What a look-up leaves, and what a step of a change leaves.
-use Rattle.std.specs.Prelude.{◌≡◌, ◌⊎◌, false, true, IsTrue, Result, OnOk, OnErr}
+use Rattle.std.specs.Prelude.{◌≡◌, ◌⊎◌, false, true, IsTrue, Result, OnOk, OnErr, ℕ, List, Ok}
 use Rattle.sqlite_trees.specs.Tree.{Trees}
 use Rattle.sqlite_trees.specs.declared.store.Store.{Ghosts}
 use Rattle.sqlite.specs.Held.{Held, state}
 use Rattle.sqlite.specs.Effect.{Database}
-use Rattle.sqlite.specs.State.{State, HasCleanDisk, KeepsCommit, Survives}
+use Rattle.sqlite.specs.State.{State, HasCleanDisk, KeepsCommit, Survives, Executes}
 use Rattle.sqlite.specs.declared.transaction.Transaction.{Transaction}
 use Rattle.reg_store_tables.specs.Schema.{register_schema}
 use Rattle.reg_store_tables.specs.declared.fault.StoreFault.{StoreFault}
 use Rattle.reg_store_tables.specs.declared.fault.StoreFault.TheVariants.{Memory, Store}
+use Rattle.sqlite_value.specs.Order.{Row}
 
 -- while the disk is honest and the connection open, its tables are those of a register, and were when it last committed
 pub record IsRegister (s : State) : Type 0 where
@@ -45,6 +46,14 @@ pub record Changed {S T E : Type 0} (g : Ghosts S) (old new : Held S) (Made : Tr
   pub live : HasCleanDisk (state g new) → OnOk result (IsTrue (state g new).is_open)
   pub err : IsRegister (state g old) → OnErr result (Stays (state g old) (state g new))
   pub survives : Survives (state g old) (state g new) Made
+
+-- the statement ran inside the transaction, which is still under way, and nothing was committed
+pub record Ran (sql : List ℕ) (params : Row) (old new : State) (count : ℕ) : Type 0 where
+  pub was_open : IsTrue old.is_open
+  pub is_open : IsTrue new.is_open
+  pub committed : new.committed ≡ old.committed
+  pub under_way : new.in_transaction ≡ true
+  pub ran : Executes sql params old new (Ok count)
 
 -- a step inside a transaction, which leaves it under way with a database that has the property, and nothing committed
 pub record Moves (old new : State) (P : Database → Type 0) : Type 0 where

@@ -14,9 +14,6 @@ use sqlite::{Alter, params};
 
 impl<S: Alter> Tables<S> {
     /// The certificate with a serial number.
-    ///
-    /// # Errors
-    /// `Memory`; `Store` where the database fails, or where its row is one that no register writes.
     pub fn cert(&mut self, serial: Serial) -> Result<Option<CertRow>, DatabaseFault>
         ensures { Finds S.Store self.old self.new result (λ records row.
             row ≡ certificate_in records.certificates serial) }
@@ -28,11 +25,7 @@ impl<S: Alter> Tables<S> {
         )
     }
 
-    /// The certificate that fills an order.
-    ///
-    /// # Errors
-    /// `Memory`; `Store` where the database fails, where its row is one that no register writes, or for a number above
-    /// 2^63 - 1.
+    /// The certificate that fills an order. `Store` too for a number above 2^63 - 1.
     pub fn cert_of_order(&mut self, order: u64) -> Result<Option<CertRow>, DatabaseFault>
         ensures { FindsIf (λ _. order < 2 ^ 63) S.Store self.old self.new result
             (λ records row. row ≡ certificate_of_order records.certificates order) }

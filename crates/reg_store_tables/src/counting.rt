@@ -20,9 +20,6 @@ use sqlite::{Alter, Connection, params};
 
 impl<S: Alter> Tables<S> {
     /// How many registered certificates are good, revoked and expired at a moment, from the last accepted one on.
-    ///
-    /// # Errors
-    /// `Memory`; `Store` where the database fails, or where its rows are ones that no register writes.
     pub fn counts(&mut self, now: Moment) -> Result<Counts, DatabaseFault>
         ensures { Finds S.Store self.old self.new result (λ records found.
             ShowsKept S.Store self.old records → SoundRows records → records.last ≤ now → found ≡ status.counts records now) }
@@ -38,9 +35,6 @@ impl<S: Alter> Tables<S> {
 }
 
 /// The counts as they are kept, of the last accepted moment: one row is read.
-///
-/// # Errors
-/// `Memory`; `Store` where the database fails, or where there is not one row of three numbers.
 pub fn kept_counts<S: Alter>(conn: &mut Connection<S>) -> Result<Counts, DatabaseFault>
     ensures { Finds S.Store conn.old conn.new result (λ records counts.
         (kept : Columns) → ShowsBoth S.Store conn.old records kept → counts ≡ kept.counts) }
@@ -48,7 +42,6 @@ pub fn kept_counts<S: Alter>(conn: &mut Connection<S>) -> Result<Counts, Databas
     look_up_one::<S, Counts>(conn, COUNTS, &[])
 }
 
-/// How many certificates are kept as good and end before a moment.
 fn ended_before<S: Alter>(conn: &mut Connection<S>, now: Moment) -> Result<u64, DatabaseFault>
     ensures { Finds S.Store conn.old conn.new result (λ records ended.
         (kept : Columns) → ShowsBoth S.Store conn.old records kept

@@ -15,10 +15,7 @@ use reg_core::CrlRow;
 use sqlite::{Alter, Connection, params};
 
 impl<S: Alter> Tables<S> {
-    /// The latest CRL, without its bytes, which are not read.
-    ///
-    /// # Errors
-    /// `Memory`; `Store` where the database fails, or where its row is one that no register writes.
+    /// The latest CRL, whose bytes are not read.
     pub fn latest_crl(&mut self) -> Result<Option<CrlRow>, DatabaseFault>
         ensures { Finds S.Store self.old self.new result (λ records row.
             row ≡ option_map row_of (latest records.crls)) }
@@ -27,9 +24,6 @@ impl<S: Alter> Tables<S> {
     }
 
     /// The DER of a CRL, by its number.
-    ///
-    /// # Errors
-    /// As [`crl`].
     pub fn crl(&mut self, number: u64) -> Result<Option<Vec<u8>>, DatabaseFault>
         ensures { Finds S.Store self.old self.new result (λ records der.
             option_map (λ bytes. bytes.items) der ≡ option_map (λ crl. crl.bytes) (crl_in records.crls number)) }
@@ -39,9 +33,6 @@ impl<S: Alter> Tables<S> {
 }
 
 /// The DER of a CRL, by its number, over a bare connection.
-///
-/// # Errors
-/// `Memory`; `Store` where the database fails, or where its row is one that no register writes.
 pub fn crl<S: Alter>(
     conn: &mut Connection<S>,
     number: u64,

@@ -21,8 +21,6 @@ pub mod sql;
 pub mod sql_values;
 mod subscribers;
 mod tables;
-mod write_counts;
-mod write_sql;
 pub mod writing;
 
 pub use counting::kept_counts;
@@ -32,4 +30,4 @@ pub use office::{issuer, policy};
 pub use scheduling::put_schedule_steps;
 pub use sizes::Table;
 pub use tables::Tables;
-pub use write_counts::set_counts;
+pub use writing::set_counts;

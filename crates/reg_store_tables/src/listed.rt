@@ -19,17 +19,14 @@ use crate::tables::Tables;
 use reg_core::{Entry, Listing, Serial};
 use sqlite::{Alter, Row, params};
 
-/// The most entries of a CRL.
 const MOST_ENTRIES: usize = 1_000_000;
 
-/// Whether the serial numbers rise strictly.
 fn ascends(entries: &[Entry]) -> bool
     ensures { IsTrue result ↔ EntriesAscend entries.now }
 {
     entries.is_sorted_by(|earlier, later| earlier.serial < later.serial)
 }
 
-/// The entries that the rows show, where their serial numbers rise and they are no more than 1,000,000.
 fn entries_of(rows: &Vec<Row>) -> Result<Vec<Entry>, DatabaseFault>
     ensures read { (shown : List Entry) → AllByRecursion (λ entry. IsSerial entry.serial) shown
         → rows.now.items ≡ map shown_entry shown → IfOk result (λ found. found.items ≡ shown) }
@@ -52,11 +49,7 @@ fn entries_of(rows: &Vec<Row>) -> Result<Vec<Entry>, DatabaseFault>
 
 impl<S: Alter> Tables<S> {
     /// The entries of the CRL with a number, issued or the next, in ascending order of serial number: at most 1,000,000.
-    /// It walks what is listed.
-    ///
-    /// # Errors
-    /// `Memory`; `Store` where the database fails, where its rows are ones that no register writes or more than 1,000,000,
-    /// or for a number above 2^63 - 1.
+    /// `Store` too for more, and for a number above 2^63 - 1. It walks what is listed.
     pub fn entries(&mut self, number: u64) -> Result<Vec<Entry>, DatabaseFault>
         ensures finds { FindsIf (λ _. number < 2 ^ 63) S.Store self.old self.new result (λ records found.
             ShowsKept S.Store self.old records → found.items ≡ entries records number) }
@@ -68,11 +61,7 @@ impl<S: Alter> Tables<S> {
         entries_of(&found)
     }
 
-    /// The numbers of the first CRL that can list a revoked serial number and, where it has been issued, of the last that
-    /// does. `None` for a serial number that is not revoked, registered or not.
-    ///
-    /// # Errors
-    /// `Memory`; `Store` where the database fails, or where its row is one that no register writes.
+    /// The first CRL that can list a revoked serial number and, where it has been issued, the last. `None` for one that is not revoked.
     pub fn listing(&mut self, serial: Serial) -> Result<Option<Listing>, DatabaseFault>
         ensures { Finds S.Store self.old self.new result (λ records found.
             ShowsKept S.Store self.old records → found ≡ listing records serial) }

@@ -22,9 +22,6 @@ use std::alloc::Global;
 
 impl<S: Alter> Tables<S> {
     /// The last accepted moment.
-    ///
-    /// # Errors
-    /// `Memory`; `Store` where the database fails, or where its row is one that no register writes.
     pub fn last(&mut self) -> Result<Moment, DatabaseFault>
         ensures { Finds S.Store self.old self.new result (λ records last. last ≡ records.last) }
     {
@@ -32,9 +29,6 @@ impl<S: Alter> Tables<S> {
     }
 
     /// The issuer.
-    ///
-    /// # Errors
-    /// As [`issuer`].
     pub fn issuer(&mut self) -> Result<Issuer, DatabaseFault>
         ensures { Finds S.Store self.old self.new result (λ records issuer. issuer ≡ records.issuer) }
     {
@@ -42,20 +36,13 @@ impl<S: Alter> Tables<S> {
     }
 
     /// The policy.
-    ///
-    /// # Errors
-    /// As [`policy`].
     pub fn policy(&mut self) -> Result<Policy, DatabaseFault>
         ensures { Finds S.Store self.old self.new result (λ records policy. policy ≡ records.policy) }
     {
         policy(&mut self.connection)
     }
 
-    /// What OCSP answers are made from beside the certificates, read by one statement: the last accepted moment, the issuer, and
-    /// how many seconds an answer lives.
-    ///
-    /// # Errors
-    /// `Memory`; `Store` where the database fails, or where its row is one that no register writes.
+    /// The last accepted moment, the issuer, and how many seconds an OCSP answer lives, read by one statement.
     pub fn responding(&mut self) -> Result<(Moment, Issuer, u64), DatabaseFault>
         ensures finds { Finds S.Store self.old self.new result (λ records it.
             (it.0 ≡ records.last) × (it.1 ≡ records.issuer) × (it.2 ≡ records.policy.ocsp_life)) }
@@ -66,7 +53,6 @@ impl<S: Alter> Tables<S> {
     }
 }
 
-/// The issuer whose name is in a column, and its key in the next.
 fn issuer_in(alloc: Global, row: &Row, at: usize) -> Result<Issuer, DatabaseFault>
     requires { at < 10 }
     ensures read { (issuer : Kept) → column row.now at ≡ Blob issuer.name
@@ -84,7 +70,6 @@ fn issuer_in(alloc: Global, row: &Row, at: usize) -> Result<Issuer, DatabaseFaul
     }
 }
 
-/// The issuer that the one row shows.
 fn issuer_of(rows: &Vec<Row>) -> Result<Issuer, DatabaseFault>
     ensures read { (issuer : Kept) → rows.now.items ≡ (Blob issuer.name ∷ Blob issuer.key ∷ []) ∷ []
         → IfOk result (λ read. read ≡ issuer) }
@@ -96,9 +81,6 @@ fn issuer_of(rows: &Vec<Row>) -> Result<Issuer, DatabaseFault>
 }
 
 /// The issuer, over a bare connection.
-///
-/// # Errors
-/// `Memory`; `Store` where the database fails, or where its row is one that no register writes.
 pub fn issuer<S: Alter>(conn: &mut Connection<S>) -> Result<Issuer, DatabaseFault>
     ensures { Finds S.Store conn.old conn.new result (λ records issuer. issuer ≡ records.issuer) }
 {
@@ -106,7 +88,6 @@ pub fn issuer<S: Alter>(conn: &mut Connection<S>) -> Result<Issuer, DatabaseFaul
     issuer_of(&found)
 }
 
-/// The last accepted moment, the issuer and the life of an answer that a row shows.
 fn responding_in(alloc: Global, row: &Row) -> Result<(Moment, Issuer, u64), DatabaseFault>
     ensures read { (last life : ℕ) → (issuer : Kept) → row.now ≡ shown_responding last issuer life
         → IfOk result (λ it. (it.0 ≡ last) × (it.1 ≡ issuer) × (it.2 ≡ life)) }
@@ -124,7 +105,6 @@ fn responding_in(alloc: Global, row: &Row) -> Result<(Moment, Issuer, u64), Data
     }
 }
 
-/// The lives of CRLs and of OCSP answers, and the cap.
 fn terms<S: Alter>(conn: &mut Connection<S>) -> Result<(u64, u64, u64), DatabaseFault>
     ensures { Finds S.Store conn.old conn.new result (λ records terms.
         (terms.0 ≡ records.policy.crl_life) × (terms.1 ≡ records.policy.ocsp_life) × (terms.2 ≡ records.policy.cap)) }
@@ -132,7 +112,6 @@ fn terms<S: Alter>(conn: &mut Connection<S>) -> Result<(u64, u64, u64), Database
     look_up_one::<S, Terms>(conn, TERMS, &[])
 }
 
-/// The schedule of longest validities.
 fn schedule<S: Alter>(conn: &mut Connection<S>) -> Result<Schedule, DatabaseFault>
     ensures { Finds S.Store conn.old conn.new result (λ records schedule.
         schedule ≡ records.policy.schedule) }
@@ -142,9 +121,6 @@ fn schedule<S: Alter>(conn: &mut Connection<S>) -> Result<Schedule, DatabaseFaul
 }
 
 /// The policy, over a bare connection.
-///
-/// # Errors
-/// `Memory`; `Store` where the database fails, or where its rows are ones that no register writes.
 pub fn policy<S: Alter>(conn: &mut Connection<S>) -> Result<Policy, DatabaseFault>
     ensures { Finds S.Store conn.old conn.new result (λ records policy. policy ≡ records.policy) }
 {

@@ -15,9 +15,6 @@ use sqlite::{Alter, params};
 
 impl<S: Alter> Tables<S> {
     /// The order with an id.
-    ///
-    /// # Errors
-    /// `Memory`; `Store` where the database fails, or where its row is one that no register writes.
     pub fn order(&mut self, id: u64) -> Result<Option<OrderRow>, DatabaseFault>
         ensures { Finds S.Store self.old self.new result (λ records row. row ≡ order_in records.orders id) }
     {

@@ -13,7 +13,6 @@ use crate::tables::Tables;
 use reg_core::{Moment, Overdue, RequestRow, Serial, Status, status_of};
 use sqlite::{Alter, Connection};
 
-/// The requests that are not declined, in the order of entry.
 fn undeclined<S: Alter>(conn: &mut Connection<S>) -> Result<Vec<RequestRow>, DatabaseFault>
     ensures { Finds S.Store conn.old conn.new result (λ records found.
         found.items ≡ filter (λ row. not row.declined) records.requests) }
@@ -54,7 +53,6 @@ impl<S: Alter> Tables<S> {
         Ok(matches!(status_of(now, certificate, revoked), Status::Good))
     }
 
-    /// Whether a request that is not declined is overdue: its deadline is past, and its certificate is still good.
     fn is_late(&mut self, request: RequestRow, now: Moment) -> Result<bool, DatabaseFault>
         ensures { FindsIf (λ records. IsSome (certificate_in records.certificates request.serial))
             S.Store self.old self.new result (λ records late. late ≡ (is_good (status records request.serial now) && nat_lt (deadline request) now)) }
@@ -66,10 +64,6 @@ impl<S: Alter> Tables<S> {
     }
 
     /// How many requests are overdue at a moment, and the least id of them. It walks the requests that are not declined.
-    ///
-    /// # Errors
-    /// `Memory`; `Store` where the database fails, or where its rows are ones that no register writes, such as a request
-    /// without its certificate.
     pub fn open_past_due(&mut self, now: Moment) -> Result<Option<Overdue>, DatabaseFault>
         ensures { Finds S.Store self.old self.new result (λ records report.
             report ≡ overdue_report (overdue records now)) }
@@ -84,11 +78,7 @@ impl<S: Alter> Tables<S> {
         Ok(report)
     }
 
-    /// How many requests are open at a moment: not declined, and their certificate is still good. It walks the requests that
-    /// are not declined.
-    ///
-    /// # Errors
-    /// As [`Tables::open_past_due`].
+    /// How many requests are open at a moment. It walks the requests that are not declined.
     pub fn open_count(&mut self, now: Moment) -> Result<u64, DatabaseFault>
         ensures { Finds S.Store self.old self.new result (λ records count.
             count ≡ length (filter (is_open records now) records.requests)) }

@@ -1,4 +1,4 @@
-//! Look-ups of the first rows past a key, in the order of keys: as many as are wanted. Each stops at the last of them.
+//! Look-ups of the first rows past a key, in the order of keys: as many as are wanted, or `Store` for more than 2^63 - 1.
 
 ghost use Rattle.std.specs.Prelude.{◌≡◌, ◌<◌, ◌^◌, map, take};
 ghost use Rattle.reg_core.specs.Crls.{row_of};
@@ -28,12 +28,7 @@ fn bytes_of(after: Option<Serial>) -> [u8; 20]
 }
 
 impl<S: Alter> Tables<S> {
-    /// The certificates past a serial number, or from the first one on, in ascending order of their serial numbers: as many
-    /// as are wanted, if there are.
-    ///
-    /// # Errors
-    /// `Memory`; `Store` where the database fails, where its rows are ones that no register writes, or where more than
-    /// 2^63 - 1 are wanted.
+    /// The certificates past a serial number, or from the first one on, in ascending order of their serial numbers.
     pub fn certs_after(
         &mut self,
         after: Option<Serial>,
@@ -52,11 +47,7 @@ impl<S: Alter> Tables<S> {
         )
     }
 
-    /// The revocations past a serial number, or from the first one on, in ascending order of their serial numbers: as many
-    /// as are wanted, if there are.
-    ///
-    /// # Errors
-    /// As of [`Tables::certs_after`].
+    /// The revocations past a serial number, or from the first one on, in ascending order of their serial numbers.
     pub fn revocations_after(
         &mut self,
         after: Option<Serial>,
@@ -75,12 +66,7 @@ impl<S: Alter> Tables<S> {
         )
     }
 
-    /// The CRLs past a number, without their bytes, in ascending order of their numbers: as many as are wanted, if there
-    /// are.
-    ///
-    /// # Errors
-    /// `Memory`; `Store` where the database fails, where its rows are ones that no register writes, or for a number above
-    /// 2^63 - 1.
+    /// The CRLs past a number, without their bytes, in ascending order. `Store` too for a number above 2^63 - 1.
     pub fn crls_after(&mut self, after: u64, most: u64) -> Result<Vec<CrlRow>, DatabaseFault>
         ensures { FindsIf (λ _. (after < 2 ^ 63) × (most < 2 ^ 63)) S.Store self.old self.new result (λ records found.
             found.items ≡ map row_of (take most (past (λ crl. crl.number) after records.crls))) }

@@ -25,10 +25,7 @@ pub(crate) fn read<S: Alter>(
     Ok(conn.query_all(sql, params)?)
 }
 
-/// What the one row shows that a query answers, or none where it answers none.
-///
-/// # Errors
-/// `Memory`; `Store` where the database fails, for more rows than one, and for one that has a value that no register writes.
+/// What the one row shows that a query answers, or none where it answers none. `Store` for more.
 pub(crate) fn look_up<S: Alter, T: ShownRow>(
     conn: &mut Connection<S>,
     sql: &str,
@@ -42,10 +39,7 @@ pub(crate) fn look_up<S: Alter, T: ShownRow>(
     row_in::<T>(&rows)
 }
 
-/// What the one row shows that a query answers.
-///
-/// # Errors
-/// As of [`look_up`]; `Store` for no row too.
+/// What the one row shows that a query answers. `Store` for none too.
 pub(crate) fn look_up_one<S: Alter, T: ShownRow>(
     conn: &mut Connection<S>,
     sql: &str,
@@ -63,9 +57,6 @@ pub(crate) fn look_up_one<S: Alter, T: ShownRow>(
 }
 
 /// What each row shows that a query answers.
-///
-/// # Errors
-/// `Memory`; `Store` where the database fails, and for a row that has a value that no register writes.
 pub(crate) fn look_up_all<S: Alter, T: ShownRow>(
     conn: &mut Connection<S>,
     sql: &str,

@@ -15,9 +15,6 @@ use sqlite::{Alter, params};
 
 impl<S: Alter> Tables<S> {
     /// The request with an id.
-    ///
-    /// # Errors
-    /// `Memory`; `Store` where the database fails, or where its row is one that no register writes.
     pub fn request(&mut self, id: u64) -> Result<Option<RequestRow>, DatabaseFault>
         ensures { Finds S.Store self.old self.new result (λ records row.
             row ≡ request_in records.requests id) }

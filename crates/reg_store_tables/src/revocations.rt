@@ -18,9 +18,6 @@ use sqlite::{Alter, Connection, params};
 
 impl<S: Alter> Tables<S> {
     /// The revocation of a serial number.
-    ///
-    /// # Errors
-    /// `Memory`; `Store` where the database fails, or where its row is one that no register writes.
     pub fn revocation(&mut self, serial: Serial) -> Result<Option<RevocationRow>, DatabaseFault>
         ensures { Finds S.Store self.old self.new result (λ records row.
             row ≡ revocation_in records.revocations serial) }
@@ -33,9 +30,6 @@ impl<S: Alter> Tables<S> {
     }
 
     /// The moment of the earliest revocation that no CRL can have listed yet. It walks the revocations.
-    ///
-    /// # Errors
-    /// `Memory`; `Store` where the database fails, or where its row is one that no register writes.
     pub fn earliest_unlisted(&mut self) -> Result<Option<Moment>, DatabaseFault>
         ensures { Finds S.Store self.old self.new result (λ records at. at ≡ earliest (unlisted records)) }
     {
@@ -44,7 +38,6 @@ impl<S: Alter> Tables<S> {
     }
 }
 
-/// The moment of the earliest of the revocations whose first CRL has a number above this one.
 fn earliest_above<S: Alter>(
     conn: &mut Connection<S>,
     number: u64,

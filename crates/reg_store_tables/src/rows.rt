@@ -256,7 +256,6 @@ impl ShownRow for Step {
     }
 }
 
-/// One number.
 pub(crate) struct Number;
 
 impl ShownRow for Number {
@@ -296,7 +295,6 @@ impl ShownRow for ClockMoment {
     }
 }
 
-/// The lives of CRLs and of OCSP answers, and the cap.
 pub(crate) struct Terms;
 
 impl ShownRow for Terms {
@@ -315,10 +313,7 @@ impl ShownRow for Terms {
     }
 }
 
-/// What each row shows, one after the other.
-///
-/// # Errors
-/// `Memory`; `At` with the place, counted from 0, of the first row that has a value that no register writes.
+/// What each row shows. `At` tells the first row that has a value that no register writes.
 pub fn rows_in<T: ShownRow>(alloc: Global, rows: &[Row]) -> Result<Vec<T::Record>, Unshown>
     ensures read { (shown : List T.Record) → AllByRecursion T.is_keyed shown → rows.now ≡ map T.shown shown
         → IfOk result (λ read. read.items ≡ shown) }
@@ -335,10 +330,7 @@ pub fn rows_in<T: ShownRow>(alloc: Global, rows: &[Row]) -> Result<Vec<T::Record
     Ok(found)
 }
 
-/// What the one row shows, or none where there is none.
-///
-/// # Errors
-/// `Store` for more rows than one, and for one that has a value that no register writes.
+/// What the one row shows, or none where there is none. `Store` for more.
 pub(crate) fn row_in<T: ShownRow>(rows: &[Row]) -> Result<Option<T::Record>, DatabaseFault>
     ensures read { (wanted : Option T.Record) → IsRowOf T.is_keyed T.shown rows.now wanted
         → IfOk result (λ found. found ≡ wanted) }

@@ -4,12 +4,12 @@ ghost use Rattle.reg_store_tables.specs.Stays.{Stepped};
 ghost use Rattle.reg_store_tables.specs.Staged.{AddsStep, AddsSteps};
 ghost use Rattle.reg_store_tables.specs.Steps.{ContinuesRows, MakesRows};
 
+use crate::DatabaseFault;
+use crate::sql::PUT_STEP;
 use crate::writing::{sql_moment, sql_number, write};
-use crate::{DatabaseFault, write_sql};
 use reg_core::Moment;
 use sqlite::{Alter, Transaction};
 
-/// Puts a step in, behind those that are before it.
 fn put_schedule_step<S: Alter>(
     tx: &mut Transaction<'_, S>,
     from: Moment,
@@ -20,14 +20,11 @@ fn put_schedule_step<S: Alter>(
 {
     let from = sql_moment(from);
     let days = sql_number(days)?;
-    write(tx, write_sql::PUT_STEP, &[from, days])?;
+    write(tx, PUT_STEP, &[from, days])?;
     Ok(())
 }
 
 /// Puts the steps in, into a table that has none.
-///
-/// # Errors
-/// `Memory`; `Store` where the database fails.
 pub fn put_schedule_steps<S: Alter>(
     tx: &mut Transaction<'_, S>,
     steps: &[(Moment, u64)],

@@ -24,7 +24,6 @@ pub enum Table {
     Crls,
 }
 
-/// The text that finds the last row of a table.
 fn last_row(table: Table) -> &'static str
     ensures { result.now ≡ text_of_last table }
 {
@@ -38,10 +37,7 @@ fn last_row(table: Table) -> &'static str
 }
 
 impl<S: Alter> Tables<S> {
-    /// How many rows a table has, which is the last id, or for CRLs the latest number. It finds the last row alone.
-    ///
-    /// # Errors
-    /// `Memory`; `Store` where the database fails, or where its row is one that no register writes.
+    /// How many rows a table has: it finds the last row alone.
     pub fn held(&mut self, table: Table) -> Result<u64, DatabaseFault>
         ensures { Finds S.Store self.old self.new result (λ records rows. rows ≡ rows_of records table) }
     {
@@ -49,7 +45,6 @@ impl<S: Alter> Tables<S> {
     }
 }
 
-/// How many rows a table has.
 pub(crate) fn held<S: Alter>(conn: &mut Connection<S>, table: Table) -> Result<u64, DatabaseFault>
     ensures finds { Finds S.Store conn.old conn.new result (λ records rows. rows ≡ rows_of records table) }
     ensures live { IsRegister (state S.Store conn.old) → HasCleanDisk (state S.Store conn.new)
@@ -59,8 +54,7 @@ pub(crate) fn held<S: Alter>(conn: &mut Connection<S>, table: Table) -> Result<u
     Ok(last.unwrap_or(0))
 }
 
-/// What a table has at a number that SQL doesn't have: nothing, since its rows are numbered from 1 on and the last row's number is
-/// below.
+/// What a table has at a number that SQL doesn't have: nothing, since the last row's number is below.
 pub(crate) fn none_past<S: Alter, T>(
     conn: &mut Connection<S>,
     table: Table,

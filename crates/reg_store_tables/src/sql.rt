@@ -1,98 +1,74 @@
-//! The texts of the statements that read, each by a key or an index but those that say that they walk a table.
+//! The texts of the statements. Those that read do so by a key or an index but where they say that they walk a table.
 
-/// The last accepted moment.
 pub(crate) const LAST: &str = "SELECT last_at FROM office";
 
-/// The issuer's name and key.
 pub(crate) const ISSUER: &str = "SELECT name, pubkey FROM office";
 
-/// The policy but for its schedule.
 pub(crate) const TERMS: &str = "SELECT crl_life, ocsp_life, cap FROM office";
 
-/// What OCSP answers are made from: the last accepted moment, the issuer, and how long an answer lives.
 pub(crate) const RESPONDING: &str = "SELECT last_at, name, pubkey, ocsp_life FROM office";
-
 /// The steps of the schedule, by their moments.
 pub const STEPS: &str = "SELECT from_at, days FROM longest ORDER BY from_at";
 
-/// The greatest id of a subscriber.
 pub(crate) const LAST_SUBSCRIBER: &str = "SELECT id FROM subscriber ORDER BY id DESC LIMIT 1";
 
-/// The greatest id of an order.
 pub(crate) const LAST_ORDER: &str = "SELECT id FROM orders ORDER BY id DESC LIMIT 1";
 
-/// The rowid of the certificate that was registered last.
 pub(crate) const LAST_CERT: &str = "SELECT rowid FROM cert ORDER BY rowid DESC LIMIT 1";
 
-/// The greatest id of a request.
 pub(crate) const LAST_REQUEST: &str = "SELECT id FROM request ORDER BY id DESC LIMIT 1";
 
-/// The number of the latest CRL.
 pub(crate) const LAST_CRL: &str = "SELECT number FROM crl ORDER BY number DESC LIMIT 1";
 
-/// The latest CRL, without its bytes.
 pub(crate) const LATEST_CRL: &str =
     "SELECT number, this_update FROM crl ORDER BY number DESC LIMIT 1";
 
-/// The subscriber with an id.
 pub(crate) const SUBSCRIBER_BY_ID: &str = "SELECT id, name FROM subscriber WHERE id = ?1";
 
-/// The subscriber with a name.
 pub(crate) const SUBSCRIBER_BY_NAME: &str = "SELECT id, name FROM subscriber WHERE name = ?1";
 
-/// The order with an id.
 pub(crate) const ORDER_BY_ID: &str = "SELECT id, subscriber, days FROM orders WHERE id = ?1";
-
 /// The certificate with a serial number.
 pub const CERT_BY_SERIAL: &str =
     "SELECT serial, order_id, not_before, not_after FROM cert WHERE serial = ?1";
 
-/// The certificate that fills an order.
 pub(crate) const CERT_BY_ORDER: &str =
     "SELECT serial, order_id, not_before, not_after FROM cert WHERE order_id = ?1";
 
-/// The request with an id.
 pub(crate) const REQUEST_BY_ID: &str =
     "SELECT id, serial, ground, received, declined FROM request WHERE id = ?1";
-
 /// The requests that are not declined, by their ids. It walks the requests.
 pub(crate) const UNDECLINED: &str =
     "SELECT id, serial, ground, received, declined FROM request WHERE declined = 0 ORDER BY id";
 
-/// The revocation of a serial number.
 pub(crate) const REVOCATION_BY_SERIAL: &str =
     "SELECT serial, at, reason, request, first_crl FROM revocation WHERE serial = ?1";
-
 /// The earliest of the revocations whose first CRL has a number above this one. It walks the revocations.
 pub(crate) const EARLIEST_ABOVE: &str =
     "SELECT at FROM revocation WHERE first_crl > ?1 ORDER BY at LIMIT 1";
 
-/// The bytes of a CRL.
 pub(crate) const CRL_BYTES: &str = "SELECT der FROM crl WHERE number = ?1";
 
-/// The counts of the state letters.
 pub(crate) const COUNTS: &str = "SELECT n_good, n_revoked, n_expired FROM kept";
 
-/// How many good certificates end before a moment.
 pub(crate) const ENDED_BEFORE: &str =
     "SELECT count(*) FROM standing WHERE state = 'G' AND not_after < ?1";
 
-/// What CRLs list of a serial number.
 pub(crate) const LISTED_BY_SERIAL: &str =
     "SELECT first_crl, last_listed FROM listed WHERE serial = ?1";
-
 /// What a CRL lists, by the serial numbers. It walks what is listed.
 pub(crate) const ENTRIES: &str =
     "SELECT serial, at, reason FROM listed WHERE first_crl <= ?1 AND (last_listed IS NULL OR last_listed >= ?1) ORDER BY serial";
-
 /// The first certificates past a serial number, by the serial numbers: as many as are wanted. It stops at the last of them.
 pub(crate) const CERTS_AFTER: &str =
     "SELECT serial, order_id, not_before, not_after FROM cert WHERE serial > ?1 ORDER BY serial LIMIT ?2";
 
-/// The same of revocations.
 pub(crate) const REVOCATIONS_AFTER: &str =
     "SELECT serial, at, reason, request, first_crl FROM revocation WHERE serial > ?1 ORDER BY serial LIMIT ?2";
-
 /// The first CRLs past a number, without their bytes: as many as are wanted. The index `crl_at` has them.
 pub(crate) const CRLS_AFTER: &str =
     "SELECT number, this_update FROM crl WHERE number > ?1 ORDER BY number LIMIT ?2";
+
+pub(crate) const SET_COUNTS: &str = "UPDATE kept SET n_good = ?1, n_revoked = ?2, n_expired = ?3";
+
+pub(crate) const PUT_STEP: &str = "INSERT INTO longest (from_at, days) VALUES (?1, ?2)";

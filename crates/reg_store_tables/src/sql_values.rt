@@ -15,7 +15,7 @@ use reg_core::{Ground, Label, Moment, Serial};
 use sqlite::Row;
 use sqlite::types::{Value, ValueRef};
 
-/// The number as a key of SQL, or none above 2^63 - 1, which SQL doesn't have.
+/// The number as a key of SQL, which has none above 2^63 - 1.
 pub(crate) fn sql_key(n: u64) -> Option<Value>
     ensures value { MatchOption result (2 ^ 63 ≤ n) (λ value. (n < 2 ^ 63) × (value ≡ number n)) }
 {
@@ -28,7 +28,6 @@ pub(crate) fn sql_key(n: u64) -> Option<Value>
 /// The longest life of a CRL or an OCSP answer, in seconds: a second less than ten days.
 const LONGEST_LIFE: u64 = 863_999;
 
-/// The number as SQL has it. `Store` above 2^63 - 1, which SQL doesn't have.
 pub(crate) fn sql_number(n: u64) -> Result<Value, DatabaseFault>
     ensures value { IfOk result (λ value. value ≡ number n) }
     ensures had { OnOk result (n < 2 ^ 63) }
@@ -90,7 +89,6 @@ pub fn clock_moment_at(row: &Row, at: usize) -> Option<Moment>
     }
 }
 
-/// The seconds in a column that an answer lives, fewer than ten days have.
 pub(crate) fn life_at(row: &Row, at: usize) -> Option<u64>
     ensures read { (n : ℕ) → column row.now at ≡ number n
         → MatchOption result (863999 < n) (λ read. read ≡ n) }

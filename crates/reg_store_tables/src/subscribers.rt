@@ -16,9 +16,6 @@ use sqlite::{Alter, params};
 
 impl<S: Alter> Tables<S> {
     /// The subscriber with an id.
-    ///
-    /// # Errors
-    /// `Memory`; `Store` where the database fails, or where its row is one that no register writes.
     pub fn subscriber(&mut self, id: u64) -> Result<Option<SubscriberRow>, DatabaseFault>
         ensures { Finds S.Store self.old self.new result (λ records row.
             row ≡ subscriber_in records.subscribers id) }
@@ -30,9 +27,6 @@ impl<S: Alter> Tables<S> {
     }
 
     /// The subscriber with a name.
-    ///
-    /// # Errors
-    /// `Memory`; `Store` where the database fails, or where its row is one that no register writes.
     pub fn subscriber_by_name(
         &mut self,
         name: &Label,

@@ -3,7 +3,8 @@
 use sqlite::{Alter, Connection};
 use std::marker::Model;
 
-/// The tables of a register in an SQL database. Its methods are the look-ups.
+/// The tables of a register in an SQL database. Its methods are the look-ups: they fail with `Memory`, or with `Store` where the
+/// database fails or a row is one that no register writes.
 ///
 /// A contract sees them as their connection, which is in no transaction between the calls. So what a contract says of a connection, as
 /// `Shows` and `ShowsKept` do, is said of the tables in the same words.

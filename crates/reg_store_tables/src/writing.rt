@@ -5,19 +5,18 @@ ghost use Rattle.sqlite.specs.Values.{bound};
 ghost use Rattle.sqlite.specs.Held.{state};
 ghost use Rattle.sqlite.specs.State.{HasCleanDisk};
 ghost use Rattle.reg_store_tables.specs.Rows.{ground_place};
-ghost use Rattle.reg_store_tables.specs.Stays.{Stepped};
+ghost use Rattle.reg_store_tables.specs.Stays.{Stepped, Ran};
+ghost use Rattle.reg_store_tables.specs.Columns.{with_counts};
 ghost use Rattle.reg_store_tables.specs.Commits.{Ends};
-ghost use Rattle.reg_store_tables.specs.Ran.{Ran};
+ghost use Rattle.reg_store_tables.specs.Steps.{MakesRows, TurnsColumns};
 
 use crate::DatabaseFault;
-use reg_core::{Ground, Moment};
+use crate::sql::SET_COUNTS;
+use reg_core::{Counts, Ground, Moment};
 use sqlite::types::ValueRef;
 use sqlite::{Alter, Transaction};
 
-/// The number as SQL has it.
-///
-/// # Errors
-/// `Store` above 2^63 - 1, which SQL doesn't have.
+/// The number as SQL has it. `Store` above 2^63 - 1, which SQL doesn't have.
 pub fn sql_number(n: u64) -> Result<ValueRef<'static>, DatabaseFault>
     ensures value { IfOk result (λ value. value ≡ ValueRef.Int (pos n)) }
     ensures had { OnOk result (n < 2 ^ 63) }
@@ -70,9 +69,6 @@ pub fn sql_ground(ground: Ground) -> ValueRef<'static>
 }
 
 /// How many rows the statement wrote, inside the transaction.
-///
-/// # Errors
-/// `Memory`; `Store` where the database fails, or refuses the statement.
 pub fn write<S: Alter>(
     tx: &mut Transaction<'_, S>,
     sql: &str,
@@ -85,12 +81,24 @@ pub fn write<S: Alter>(
     Ok(tx.execute(sql, params)?)
 }
 
-/// Commits the transaction.
-///
-/// # Errors
-/// `Memory`; `Store` where the database fails, or has ended the transaction before. Nothing of it stays then.
+/// Commits the transaction. Nothing of it stays where that fails.
 pub fn commit<S: Alter>(tx: Transaction<'_, S>) -> Result<(), DatabaseFault>
     ensures { Ends S.Store tx.entry.conn.now tx.exit.0.now result }
 {
     Ok(tx.commit()?)
+}
+
+/// Sets the counts.
+pub fn set_counts<S: Alter>(
+    tx: &mut Transaction<'_, S>,
+    counts: Counts,
+) -> Result<(), DatabaseFault>
+    ensures made { MakesRows S.Store tx.old tx.new result (TurnsColumns (with_counts counts)) }
+    ensures stepped { Stepped S.Store tx.old tx.new }
+{
+    let good = sql_number(counts.good)?;
+    let revoked = sql_number(counts.revoked)?;
+    let expired = sql_number(counts.expired)?;
+    write(tx, SET_COUNTS, &[good, revoked, expired])?;
+    Ok(())
 }

@@ -1,13 +1,14 @@
 use Rattle.std.proofs.Common.{map, length, sym, ap, ◌∙◌, arith, rules}
 use Rattle.std.proofs.lemmas.List.{length-map}
 use Rattle.reg_core.specs.Crls.{row_of}
+use Rattle.reg_core.specs.Records.{Records}
 use Rattle.reg_core.specs.Sound.{SoundRows}
+use Rattle.reg_store_tables.specs.Columns.{Columns}
 use Rattle.reg_store_tables.specs.Kept.{Kept}
 use Rattle.reg_audit_rows.specs.Faults as found
 use Rattle.reg_audit_rows.specs.KeptAsRead.{standing_in, listed_in}
 use Rattle.reg_audit.specs.ReadTexts.{whole}
-use Rattle.reg_audit.specs.Faults.{EndsAtBrokenRow}
-use Rattle.reg_audit.specs.ReadableValues.{HasValues}
+use Rattle.reg_audit.specs.ReadableValues.{AreReadable, HasValues}
 use Rattle.reg_audit.specs.declared.sql.What.TheVariants.{Office}
 use Rattle.reg_audit.proofs.Having.{each_has}
 use Rattle.reg_audit.proofs.read_rows.check_read.Goals as goal
@@ -15,6 +16,10 @@ use Rattle.reg_audit.proofs.read_rows.check_read.Goals as goal
 -- what follows from one premise, and what from two
 both : {A B P Q : Type 0} → (A → P) → (A → B → Q) → A → B → P × Q
 both one two a b = (one a, two a b)
+
+-- where readable rows have no such end, those of sound records have none
+never : {End : Type 0} (records : Records) (columns : Columns) → (AreReadable records columns → End → ⊥) → End → HasValues records × SoundRows records × Kept columns records → ⊥
+never records columns has is held = has (each_has records columns held.0 held.1 held.2) is
 
 pub returns-clause-sound : goal.returns-clause-sound
 returns-clause-sound c records columns are =
@@ -59,62 +64,52 @@ returns-clause-counted c records columns are =
 
 pub returns-in_err-office-clause-broken : goal.returns-in_err-office-clause-broken
 returns-in_err-office-clause-broken c records columns are =
-    let no : EndsAtBrokenRow c.in_err-office.field-0.0 → HasValues records × SoundRows records × Kept columns records → ⊥ =
-    λ is held. c.in_err-office.ensures.has records columns (c.rows_at.ensures.read records columns whole Office are (omega arith)) (each_has records columns held.0 held.1 held.2) is in
+    let no = never records columns (c.in_err-office.ensures.has records columns (c.rows_at.ensures.read records columns whole Office are (omega arith))) in
     search rules
 
 pub returns-in_err-subscribers-clause-broken : goal.returns-in_err-subscribers-clause-broken
 returns-in_err-subscribers-clause-broken c records columns are =
-    let no : EndsAtBrokenRow c.in_err-subscribers.field-0.0 → HasValues records × SoundRows records × Kept columns records → ⊥ =
-    λ is held. c.in_err-subscribers.ensures.has records columns (c.rows_at-2.ensures.read records columns whole Office are (omega arith)) (each_has records columns held.0 held.1 held.2) is in
+    let no = never records columns (c.in_err-subscribers.ensures.has records columns (c.rows_at-2.ensures.read records columns whole Office are (omega arith))) in
     search rules
 
 pub returns-in_err-orders-clause-broken : goal.returns-in_err-orders-clause-broken
 returns-in_err-orders-clause-broken c records columns are =
-    let no : EndsAtBrokenRow c.in_err-orders.field-0.0 → HasValues records × SoundRows records × Kept columns records → ⊥ =
-    λ is held. c.in_err-orders.ensures.has records columns (c.rows_at-3.ensures.read records columns whole Office are (omega arith)) (each_has records columns held.0 held.1 held.2) is in
+    let no = never records columns (c.in_err-orders.ensures.has records columns (c.rows_at-3.ensures.read records columns whole Office are (omega arith))) in
     search rules
 
 pub returns-in_err-certificates-clause-broken : goal.returns-in_err-certificates-clause-broken
 returns-in_err-certificates-clause-broken c records columns are =
-    let no : EndsAtBrokenRow c.in_err-certificates.field-0.0 → HasValues records × SoundRows records × Kept columns records → ⊥ =
-    λ is held. c.in_err-certificates.ensures.has records columns (c.rows_at-4.ensures.read records columns whole Office are (omega arith)) (each_has records columns held.0 held.1 held.2) is in
+    let no = never records columns (c.in_err-certificates.ensures.has records columns (c.rows_at-4.ensures.read records columns whole Office are (omega arith))) in
     search rules
 
 pub returns-in_err-requests-clause-broken : goal.returns-in_err-requests-clause-broken
 returns-in_err-requests-clause-broken c records columns are =
-    let no : EndsAtBrokenRow c.in_err-requests.field-0.0 → HasValues records × SoundRows records × Kept columns records → ⊥ =
-    λ is held. c.in_err-requests.ensures.has records columns (c.rows_at-5.ensures.read records columns whole Office are (omega arith)) (each_has records columns held.0 held.1 held.2) is in
+    let no = never records columns (c.in_err-requests.ensures.has records columns (c.rows_at-5.ensures.read records columns whole Office are (omega arith))) in
     search rules
 
 pub returns-in_err-revocations-clause-broken : goal.returns-in_err-revocations-clause-broken
 returns-in_err-revocations-clause-broken c records columns are =
-    let no : EndsAtBrokenRow c.in_err-revocations.field-0.0 → HasValues records × SoundRows records × Kept columns records → ⊥ =
-    λ is held. c.in_err-revocations.ensures.has records columns (c.rows_at-6.ensures.read records columns whole Office are (omega arith)) (each_has records columns held.0 held.1 held.2) is in
+    let no = never records columns (c.in_err-revocations.ensures.has records columns (c.rows_at-6.ensures.read records columns whole Office are (omega arith))) in
     search rules
 
 pub returns-in_err-crls-clause-broken : goal.returns-in_err-crls-clause-broken
 returns-in_err-crls-clause-broken c records columns are =
-    let no : EndsAtBrokenRow c.in_err-crls.field-0.0 → HasValues records × SoundRows records × Kept columns records → ⊥ =
-    λ is held. c.in_err-crls.ensures.has records columns (c.rows_at-7.ensures.read records columns whole Office are (omega arith)) (each_has records columns held.0 held.1 held.2) is in
+    let no = never records columns (c.in_err-crls.ensures.has records columns (c.rows_at-7.ensures.read records columns whole Office are (omega arith))) in
     search rules
 
 pub returns-in_err-letters-clause-broken : goal.returns-in_err-letters-clause-broken
 returns-in_err-letters-clause-broken c records columns are =
-    let no : EndsAtBrokenRow c.in_err-letters.field-0.0 → HasValues records × SoundRows records × Kept columns records → ⊥ =
-    λ is held. c.in_err-letters.ensures.has records columns (c.rows_at-8.ensures.read records columns whole Office are (omega arith)) (each_has records columns held.0 held.1 held.2) is in
+    let no = never records columns (c.in_err-letters.ensures.has records columns (c.rows_at-8.ensures.read records columns whole Office are (omega arith))) in
     search rules
 
 pub returns-in_err-counts-clause-broken : goal.returns-in_err-counts-clause-broken
 returns-in_err-counts-clause-broken c records columns are =
-    let no : EndsAtBrokenRow c.in_err-counts.field-0.0 → HasValues records × SoundRows records × Kept columns records → ⊥ =
-    λ is held. c.in_err-counts.ensures.has records columns (c.rows_at-9.ensures.read records columns whole Office are (omega arith)) (each_has records columns held.0 held.1 held.2) is in
+    let no = never records columns (c.in_err-counts.ensures.has records columns (c.rows_at-9.ensures.read records columns whole Office are (omega arith))) in
     search rules
 
 pub returns-in_err-listed-clause-broken : goal.returns-in_err-listed-clause-broken
 returns-in_err-listed-clause-broken c records columns are =
-    let no : EndsAtBrokenRow c.in_err-listed.field-0.0 → HasValues records × SoundRows records × Kept columns records → ⊥ =
-    λ is held. c.in_err-listed.ensures.has records columns (c.rows_at-10.ensures.read records columns whole Office are (omega arith)) (each_has records columns held.0 held.1 held.2) is in
+    let no = never records columns (c.in_err-listed.ensures.has records columns (c.rows_at-10.ensures.read records columns whole Office are (omega arith))) in
     search rules
 
 pub returns-in_err-check-clause-broken : goal.returns-in_err-check-clause-broken

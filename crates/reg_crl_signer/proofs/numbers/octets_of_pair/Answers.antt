@@ -1,5 +1,5 @@
 use Rattle.std.proofs.Common.{[], sym, ◌∙◌, append-nil}
-use Rattle.reg_crl_signer.proofs.Pairs.{is_all, is_nothing, is_something, second_left, nothing_left, holds_pair}
+use Rattle.reg_crl_signer.proofs.Pairs.{is_all, is_nothing, is_something, left_behind, holds_pair}
 use Rattle.reg_crl_signer.proofs.numbers.octets_of_pair.Goals as goal
 use Rattle.reg_crl_signer.proofs.numbers.octets_of_pair.Goals.{then-sequence-ne-SEQUENCE-via-then-sequence-ne-SEQUENCE, then-sequence-ne-SEQUENCE-via-else-sequence-ne-SEQUENCE+then-not-is_empty}
 
@@ -28,15 +28,16 @@ returns-in_err-second c =
     let found = c.in_ok-sequence.ensures.found in
     rw c.from_residual-in_err-second.ensures (λ first second pair.
     let all = is_all c.args.bytes.now _ _ _ _ _ found.0 found.1 pair.sequence in
-    let left = second_left _ _ _ _ _ _ c.in_ok-first.ensures pair all.same in
+    let left = left_behind _ _ _ _ _ _ c.in_ok-first.ensures pair.first_is all.same in
     c.in_err-second.ensures pair.second_bytes [] second pair.second_is (left ∙ sym (append-nil pair.second_bytes)))
 
 pub returns-then-not-is_empty-2 : goal.returns-then-not-is_empty-2
 returns-then-not-is_empty-2 c first second pair =
     let found = c.in_ok-sequence.ensures.found in
     let all = is_all c.args.bytes.now _ _ _ _ _ found.0 found.1 pair.sequence in
-    let left = second_left _ _ _ _ _ _ c.in_ok-first.ensures pair all.same in
-    is_something _ _ c.is_empty-2.ensures c.if-not-is_empty-2.true (nothing_left _ _ _ _ _ _ c.in_ok-second.ensures pair left)
+    let left = left_behind _ _ _ _ _ _ c.in_ok-first.ensures pair.first_is all.same in
+    is_something _ _ c.is_empty-2.ensures c.if-not-is_empty-2.true
+    (left_behind _ _ _ _ _ _ c.in_ok-second.ensures pair.second_is (left ∙ sym (append-nil pair.second_bytes)))
 
 pub returns : goal.returns
 returns c =

@@ -5,32 +5,32 @@ use Rattle.sqlite_wal.proofs.CleanLemmas.{both_clean}
 use Rattle.reg_desk_files.proofs.Looks.{neither}
 use Rattle.reg_desk_files.proofs.looking.look.Goals as goal
 
-pub returns-in-Ok-true-clause-nothing : goal.returns-in-Ok-true-clause-nothing
-returns-in-Ok-true-clause-nothing g c clean = (λ _. (c.in-Ok-true.ensures.nothing clean).0 c.in-Ok-true.field-0-test, λ _. refl)
+pub returns-then-branch-clause-nothing : goal.returns-then-branch-clause-nothing
+returns-then-branch-clause-nothing g c clean = (λ _. (c.in_ok-is_nothing.ensures.nothing clean).0 c.if-branch.true, λ _. refl)
 
-pub returns-in-Ok-true-begins-clause-nothing : goal.returns-in-Ok-true-begins-clause-nothing
-returns-in-Ok-true-begins-clause-nothing g c clean =
+pub returns-then-branch-2-clause-nothing : goal.returns-then-branch-2-clause-nothing
+returns-then-branch-2-clause-nothing g c clean =
     let second = c.begins.ensures in
-    neither (c.in-Ok-false.ensures.nothing (both_clean _ _ _ _ second.log.clean second.db.clean clean)) c.in-Ok-false.field-0-test (λ is. cc)
+    neither (c.in_ok-is_nothing.ensures.nothing (both_clean _ _ _ _ second.log.clean second.db.clean clean)) c.if-branch.false (λ is. cc)
 
-pub returns-in-Ok-false-begins-clause-nothing : goal.returns-in-Ok-false-begins-clause-nothing
-returns-in-Ok-false-begins-clause-nothing g c clean =
+pub returns-clause-nothing : goal.returns-clause-nothing
+returns-clause-nothing g c clean =
     let second = c.begins.ensures in
-    neither (c.in-Ok-false.ensures.nothing (both_clean _ _ _ _ second.log.clean second.db.clean clean)) c.in-Ok-false.field-0-test (λ is. cc)
+    neither (c.in_ok-is_nothing.ensures.nothing (both_clean _ _ _ _ second.log.clean second.db.clean clean)) c.if-branch.false (λ is. cc)
 
-pub returns-in-Ok-false-begins-clause-other : goal.returns-in-Ok-false-begins-clause-other
-returns-in-Ok-false-begins-clause-other g c clean other db held =
+pub returns-clause-other : goal.returns-clause-other
+returns-clause-other g c clean other db held =
     let first = c.is_nothing.ensures in
-    c.in-Ok-false-begins.ensures.none clean c.in-Ok-false-begins.field-0-test db (subst (λ i. HoldsDatabase i db) (sym (same_image first.log first.db)) held)
+    c.in_ok-begins.ensures.none clean c.if-branch-2.false db (subst (λ i. HoldsDatabase i db) (sym (same_image first.log first.db)) held)
 
-pub returns-in-Ok-true-begins-clause-log : goal.returns-in-Ok-true-begins-clause-log
-returns-in-Ok-true-begins-clause-log g c = reads_then c.is_nothing.ensures.log c.begins.ensures.log
+pub returns-then-branch-2-clause-log : goal.returns-then-branch-2-clause-log
+returns-then-branch-2-clause-log g c = reads_then c.is_nothing.ensures.log c.begins.ensures.log
 
-pub returns-in-Ok-true-begins-clause-db : goal.returns-in-Ok-true-begins-clause-db
-returns-in-Ok-true-begins-clause-db g c = reads_then c.is_nothing.ensures.db c.begins.ensures.db
+pub returns-then-branch-2-clause-db : goal.returns-then-branch-2-clause-db
+returns-then-branch-2-clause-db g c = reads_then c.is_nothing.ensures.db c.begins.ensures.db
 
-pub returns-in-Ok-false-begins-clause-log : goal.returns-in-Ok-false-begins-clause-log
-returns-in-Ok-false-begins-clause-log g c = reads_then c.is_nothing.ensures.log c.begins.ensures.log
+pub returns-clause-log : goal.returns-clause-log
+returns-clause-log g c = reads_then c.is_nothing.ensures.log c.begins.ensures.log
 
-pub returns-in-Ok-false-begins-clause-db : goal.returns-in-Ok-false-begins-clause-db
-returns-in-Ok-false-begins-clause-db g c = reads_then c.is_nothing.ensures.db c.begins.ensures.db
+pub returns-clause-db : goal.returns-clause-db
+returns-clause-db g c = reads_then c.is_nothing.ensures.db c.begins.ensures.db

@@ -2,7 +2,7 @@ use Rattle.reg_desk_jobs.proofs.entering.tell_counted.Goals as goal
 
 pub returns-clause-counted : goal.returns-clause-counted
 returns-clause-counted g c = (
-  c.micros_since-micros.result,
+  c.saturating_sub-micros.result,
   c.tell_word-reply.result.came,
   c.has_failed-is_unsigned.result,
   c.tell_word-reply.ensures.came,

@@ -1,13 +1,9 @@
 use Rattle.std.proofs.Common.{[], inl, inr, refl}
+use Rattle.std.specs.Prelude.{is_some}
 use Rattle.reg_office_api.proofs.PublicLaws.{stays}
-use Rattle.reg_desk_jobs.specs.CounterWords.{Word}
-use Rattle.reg_desk_jobs.specs.Exchanges.{AnswersBy}
-use Rattle.reg_desk_jobs.specs.Given.{GaveAt, WasGiven}
-use Rattle.reg_desk_jobs.specs.Leaving.{FinishesUnsigned, Meets}
 use Rattle.reg_desk_jobs.specs.WhoSigns.{answer_socket}
-use Rattle.reg_desk_jobs.proofs.DeskRuns.{served_moves}
+use Rattle.reg_desk_jobs.proofs.DeskRuns.{desk_moves}
 use Rattle.reg_desk_jobs.proofs.Fates.{unbound}
-use Rattle.reg_desk_jobs.proofs.Finishing.{told_moves}
 use Rattle.reg_desk_jobs.proofs.serve_job.serve_desk.Goals as goal
 
 pub returns-in-Err : goal.returns-in-Err
@@ -20,28 +16,23 @@ returns-in-Err g c = (
 
 pub returns : goal.returns
 returns g c =
-    let ran = rw c.from-requests.ensures at c.serve_hub-ending.ensures in
-    let told = answer_socket c.args.serving.now.signer c.args.serving.now.answerer in (
+    let ran = c.serve_hub-ending.ensures in (
       ran.0,
       ran.1,
-      served_moves
+      desk_moves
           (λ desk. g.M.Office.Office.is_clean desk.office)
           (λ who desk records. g.M.Office.Office.stands who desk.office records)
           (λ desk. desk.is_open)
-          (λ is_open who before came outcome after. Meets (FinishesUnsigned (WasGiven g.M.Machine.gave))
-          (λ text. AnswersBy is_open g.M.Office.Office.signs g.M.Machine.told who before came text after) outcome)
-          (λ is_open who before came outcome after. Meets (FinishesUnsigned (GaveAt g.M.Machine.gave told))
-          (λ text. AnswersBy is_open g.M.Office.Office.signs g.M.Machine.told who before came text after) outcome)
-          (Word g.M.Office.Office.signs g.M.Machine.told)
-          (λ is_open s t came outcome moved. told_moves g.M.Office.Office.is_clean g.M.Office.Office.stands s.office t.office g.M.Machine.gave told
-          (λ who before after text. AnswersBy is_open g.M.Office.Office.signs g.M.Machine.told who before came text after)
-          outcome
-          moved)
+          g.M.Office.Office.signs
+          g.M.Machine.gave
+          (answer_socket c.args.signer.now c.args.answerer.now)
+          g.M.Machine.told
+          (is_some c.args.counter)
           _
           c.serve_hub-ending.new.handler
           ran.0
           ran.1
-          refl
+          c.is_some.ensures
           ran.2,
       inr (c.in-Ok.ensures.ok, ran.3),
     )

@@ -1,7 +1,9 @@
-use Rattle.reg_desk_jobs.proofs.Looks.{requests_had}
+use Rattle.std.proofs.Common.{refl}
+use Rattle.reg_desk_jobs.proofs.Looks.{looks_as, looks_then}
 use Rattle.reg_desk_jobs.proofs.watching.requests_at.Goals as goal
 
 pub returns : goal.returns
 returns g c =
-    requests_had g.M.Office.Office.is_clean g.M.Office.Office.stands c.args.now _ _ _ c.ask_at-asked.result _ _ c.in_ok-overdue.ensures
-    c.ask_at-asked.ensures c.in_ok-waiting.ensures.looks
+    looks_as g.M.Office.Office.is_clean g.M.Office.Office.stands _ _
+    (λ records it. (refl, it.1, c.in_ok-overdue.ensures records c.args.now it.0)) _ _
+    (looks_then g.M.Office.Office.is_clean g.M.Office.Office.stands _ _ _ _ _ c.ask-asked.ensures.asks c.in_ok-waiting.ensures.looks)

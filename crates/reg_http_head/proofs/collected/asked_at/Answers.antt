@@ -1,5 +1,4 @@
 use Rattle.std.proofs.Math.Logic.{∥∥₁_map}
-use Rattle.std.proofs.Common.{◌∙◌}
 use Rattle.reg_http_head.proofs.CollectLemmas.{holds_slices}
 use Rattle.reg_http_head.proofs.collected.asked_at.Goals as goal
 
@@ -12,4 +11,4 @@ target_in-requires c = ∥∥₁_map c.requires.head (λ needs. (needs.head, nee
 pub returns-in-Ok-clause-ok : goal.returns-in-Ok-clause-ok
 returns-in-Ok-clause-ok c =
     ∥∥₁_map c.requires.head
-    (holds_slices c.args.bytes.now c.in-Ok.method c.target_in.result.now c.args.head (c.in-Ok.ensures ∙ c.method_in.ensures) c.target_in.ensures c.requires.whole)
+    (holds_slices c.args.bytes.now c.in-Ok.method c.target_in.result.now c.args.head c.in-Ok.ensures c.target_in.ensures c.requires.whole)

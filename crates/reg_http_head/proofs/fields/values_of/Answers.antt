@@ -1,5 +1,5 @@
 use Rattle.std.proofs.Common.{ℕ, List, sym, subst}
-use Rattle.reg_http_head.specs.Fields.{HasFieldValues}
+use Rattle.reg_http_head.specs.Head.{HasFieldValues}
 use Rattle.reg_http_head.proofs.FieldLemmas.{values_of-more, no_field}
 use Rattle.reg_http_head.proofs.fields.values_of.Goals as goal
 

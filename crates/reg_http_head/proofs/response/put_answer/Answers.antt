@@ -1,5 +1,3 @@
-use Rattle.std.proofs.Common.{◌++◌, ◌∙◌, ap, List, ℕ, cond, Bool}
-use Rattle.std.specs.Prelude.{is_ok}
 use Rattle.reg_http_head.proofs.response.put_answer.Goals as goal
 
 pub returns-in-Ok-clause-ok : goal.returns-in-Ok-clause-ok

@@ -2,7 +2,7 @@ use Rattle.std.proofs.Common.{◌∙◌, refl}
 use Rattle.std.proofs.KnownBytes.{Appends-nil}
 use Rattle.reg_lines.specs.Answer.{HostLines}
 use Rattle.reg_lines.specs.Script.{longest_of}
-use Rattle.reg_lines.proofs.StepLemmas.{ended_last, ended_none, failed_at, failed_last, ran_on, ran_refused, reads_full, reads_short}
+use Rattle.reg_lines.proofs.StepLemmas.{ended_cut, ended_last, ended_none, failed_at, failed_last, ran_on, ran_refused, reads_full, reads_short}
 use Rattle.reg_lines.proofs.lines.run_next.Goals as goal
 
 pub returns-in-Ok-On : goal.returns-in-Ok-On
@@ -32,17 +32,26 @@ returns-in-Ok-End-eq0 g c =
     c.in-Ok-End-eq0.field-0-0 (rw c.in-Ok-End-eq0.field-0-is at c.in-Ok-End-eq0.ensures.ok) c.fill_to_mark.new.buf c.in-Ok-End-eq0.field-0-0-test
     refl (Appends-nil _)
 
+pub returns-then-is_strict : goal.returns-then-is_strict
+returns-then-is_strict g c =
+    ended_cut (HostLines g.O.Office g.H.Host c.args.host.now) (longest_of (g.H.Host.clocked c.args.host.now)) (g.H.Host.clocked c.args.host.now) c.args.is_strict
+    _ _ _ _ _ _ c.args.buffer.now c.fill_to_mark.new.buf c.args.held (c.fill_to_mark.auto.buf ∙ c.requires.room)
+    c.in-Ok-End.held (rw c.in-Ok-End.field-0-is at c.in-Ok-End.ensures.ok) c.fill_to_mark.new.buf
+    c.in-Ok-End.held-test.1 c.if-is_strict.true refl (Appends-nil _)
+
 pub returns-in-Ok : goal.returns-in-Ok
 returns-in-Ok g c =
     ended_last (HostLines g.O.Office g.H.Host c.args.host.now) (longest_of (g.H.Host.clocked c.args.host.now)) (g.H.Host.clocked c.args.host.now) c.args.is_strict
     _ _ _ _ _ _ c.args.buffer.now c.fill_to_mark.new.buf c.args.held (c.fill_to_mark.auto.buf ∙ c.requires.room)
-    c.in-Ok-End.held (rw c.in-Ok-End.field-0-is at c.in-Ok-End.ensures.ok) c.fill_to_mark.new.buf c.in-Ok.ended c.in-Ok-End.held-test.1 c.in-Ok.ensures
+    c.in-Ok-End.held (rw c.in-Ok-End.field-0-is at c.in-Ok-End.ensures.ok) c.fill_to_mark.new.buf
+    c.in-Ok.field-0 c.in-Ok-End.held-test.1 c.if-is_strict.false c.in-Ok.ensures
 
-pub returns-in-Err-tell_last : goal.returns-in-Err-tell_last
-returns-in-Err-tell_last g c =
+pub returns-in-Err-tell_line-2 : goal.returns-in-Err-tell_line-2
+returns-in-Err-tell_line-2 g c =
     failed_last (HostLines g.O.Office g.H.Host c.args.host.now) (longest_of (g.H.Host.clocked c.args.host.now)) (g.H.Host.clocked c.args.host.now) c.args.is_strict
     _ _ _ _ _ _ c.args.buffer.now c.fill_to_mark.new.buf c.args.held (c.fill_to_mark.auto.buf ∙ c.requires.room)
-    c.in-Ok-End.held (rw c.in-Ok-End.field-0-is at c.in-Ok-End.ensures.ok) c.fill_to_mark.new.buf c.in-Err-tell_last.fault c.in-Ok-End.held-test.1 c.in-Err-tell_last.ensures
+    c.in-Ok-End.held (rw c.in-Ok-End.field-0-is at c.in-Ok-End.ensures.ok) c.fill_to_mark.new.buf
+    c.in-Err-tell_line-2.fault c.in-Ok-End.held-test.1 c.in-Err-tell_line-2.ensures
 
 pub returns-in-Ok-Full : goal.returns-in-Ok-Full
 returns-in-Ok-Full g c =

@@ -2,9 +2,6 @@ use Rattle.reg_core_laws.proofs.PublicLaws.{head_from}
 use Rattle.reg_store_tables.proofs.PublicLaws.{and_so, by_finding, looked_then, not_found, so}
 use Rattle.reg_office.proofs.decision_head.head_at.Goals as goal
 
-pub returns-in_err-last : goal.returns-in_err-last
-returns-in_err-last g c = not_found _ c.from_residual.result c.from_residual.ensures.0 c.last.ensures.looked
-
 pub returns-in_err-policy : goal.returns-in_err-policy
 returns-in_err-policy g c = not_found _ c.from_residual-in_err-policy.result c.from_residual-in_err-policy.ensures.0 (looked_then c.last.ensures.looked c.policy.ensures.looked)
 

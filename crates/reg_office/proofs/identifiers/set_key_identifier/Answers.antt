@@ -7,7 +7,7 @@ use Rattle.reg_store_tables.specs.Kept.{ShowsKept}
 use Rattle.reg_store_tables.specs.Stays.{Looked}
 use Rattle.reg_store_tables.specs.AfterStop.{IsAtRest}
 use Rattle.reg_store_tables.proofs.PublicLaws.{after_looked, kept_shows, was_clean, ok_if}
-use Rattle.reg_office.proofs.Changing.{looked_failed, changed_after}
+use Rattle.reg_office.proofs.Standing.{looked_failed, changed_after}
 use Rattle.reg_office.proofs.identifiers.set_key_identifier.Goals as goal
 
 pub returns-clause-ok : goal.returns-clause-ok

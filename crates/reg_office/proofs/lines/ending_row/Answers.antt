@@ -6,7 +6,3 @@ use Rattle.reg_office.proofs.lines.ending_row.Goals as goal
 pub returns-then-ends_before : goal.returns-then-ends_before
 returns-then-ends_before g c =
     so c.good_row.ensures (λ records sound it. ending_is records c.args.now c.args.before c.args.certificate c.good_row.result (sym c.ends_before.ensures ∙ c.if-ends_before.true) it)
-
-pub returns-else-ends_before : goal.returns-else-ends_before
-returns-else-ends_before g c =
-    by_none looked_none (λ records. ending_none records c.args.now c.args.before c.args.certificate (sym c.ends_before.ensures ∙ c.if-ends_before.false))

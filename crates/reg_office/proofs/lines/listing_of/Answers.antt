@@ -5,6 +5,3 @@ use Rattle.reg_office.proofs.lines.listing_of.Goals as goal
 
 pub returns-in-Some : goal.returns-in-Some
 returns-in-Some g c = so (by_finding_kept c.listing.ensures) (λ records sound it is. it)
-
-pub returns-in-None : goal.returns-in-None
-returns-in-None g c = by_none looked_none (λ records is. listed_nowhere records c.args.serial (sym c.in-None.is ∙ is))

@@ -1,32 +1,66 @@
+use Rattle.std.proofs.Common.{ap, inl, inr, refl}
+use Rattle.std.specs.Prelude.{Err, option_copied}
+use Rattle.reg_core.specs.Checks.{clock_checks, first_of_all}
+use Rattle.reg_ocsp.specs.Response.{refusal_response}
+use Rattle.reg_ocsp.specs.Views.{ids_seen}
+use Rattle.reg_ocsp.specs.declared.response.RefusalStatus.TheVariants as status
+use Rattle.reg_office_api.specs.Ocsp.{HasNoReading}
+use Rattle.reg_office_api.specs.declared.response.ResponseKind.TheVariants.{Malformed, TryLater, StoreFailure}
 use Rattle.reg_office.specs.Answering.{responder_named}
-use Rattle.reg_office.proofs.Beginning.{left_draft, message_refuses, message_response, refused_response}
-use Rattle.reg_store_tables.proofs.PublicLaws.{so}
+use Rattle.reg_store_tables.proofs.PublicLaws.{by_none, looked_none, so}
+use Rattle.reg_office.proofs.Beginning.{late_apart, malformed_apart, message_begun, message_refuses, no_malformed, ready_begun, ready_refuses, store_apart, the_refusal, unasked_counts}
+use Rattle.reg_office.proofs.Responding.{internal_apart, try_later_apart}
 use Rattle.reg_office.proofs.ocsp_answer.begin.Goals as goal
 
-pub returns-in-Some-clause-looks : goal.returns-in-Some-clause-looks
-returns-in-Some-clause-looks g c =
-    let who = responder_named (g.S.Signer.identity c.args.signer.now) c.args.naming in
-    so (rw c.in-Ok-Unsigned.field-0-is at c.in-Ok-Unsigned.ensures.looks) (λ records sound told.
-    left_draft g.S.Signer.signs who records c.args.now c.args.request.now c.in-Ok-Unsigned.message c.in-Some.draft told
-    (rw (c.in-Some.is, c.deref.ensures.value) at c.in_ok-draft-in-Ok-Unsigned.ensures))
+pub returns-in-Err-Malformed-clause-looks : goal.returns-in-Err-Malformed-clause-looks
+returns-in-Err-Malformed-clause-looks g c =
+    let unread = c.in-Err-Malformed.ensures.malformed (ap Err c.in-Err-Malformed.field-0-is) in
+    by_none looked_none (λ records. ready_begun g.S.Signer.signs _ records c.args.now c.args.request.now _ _ c.refused.result (inl (unread, refl, refl)) c.refused.ensures)
 
-pub returns-in-Ok-Unsigned-clause-looks : goal.returns-in-Ok-Unsigned-clause-looks
-returns-in-Ok-Unsigned-clause-looks g c =
-    let who = responder_named (g.S.Signer.identity c.args.signer.now) c.args.naming in
-    let response = c.in_ok-signed-in-None.field-0 in
-    so (rw c.in-Ok-Unsigned.field-0-is at c.in-Ok-Unsigned.ensures.looks) (λ records sound told.
-    message_response g.S.Signer.signs who records c.args.now c.args.request.now c.in-Ok-Unsigned.message response.kind response.bytes.items told
-    (rw c.deref-in-None.ensures.value at c.in_ok-signed-in-None.ensures.signed))
+pub returns-in-Err-Malformed-clause-refuses : goal.returns-in-Err-Malformed-clause-refuses
+returns-in-Err-Malformed-clause-refuses g c =
+    let unread = c.in-Err-Malformed.ensures.malformed (ap Err c.in-Err-Malformed.field-0-is) in
+    ready_refuses c.args.request.now Malformed _ c.refused.result ((λ same. unread), (λ again. refl)) (λ failed. absurd (malformed_apart failed)) c.refused.ensures
 
-pub returns-in-Ok-Unsigned-clause-refuses : goal.returns-in-Ok-Unsigned-clause-refuses
-returns-in-Ok-Unsigned-clause-refuses g c =
-    let who = responder_named (g.S.Signer.identity c.args.signer.now) c.args.naming in
-    message_refuses g.S.Signer.signs who c.args.request.now c.deref-in-None.result.now c.in_ok-signed-in-None.field-0 c.in_ok-signed-in-None.ensures.signed
-    (rw c.in-Ok-Unsigned.field-0-is at c.in-Ok-Unsigned.ensures.refuses)
+pub returns-in-Err-Malformed-clause-counts : goal.returns-in-Err-Malformed-clause-counts
+returns-in-Err-Malformed-clause-counts g c = unasked_counts Malformed _ c.refused.result _ malformed_apart c.refused.ensures
 
-pub returns-in-Ok-Ready-clause-looks : goal.returns-in-Ok-Ready-clause-looks
-returns-in-Ok-Ready-clause-looks g c =
-    let who = responder_named (g.S.Signer.identity c.args.signer.now) c.args.naming in
-    let response = c.in-Ok-Ready.response in
-    so (rw c.in-Ok-Ready.field-0-is at c.in-Ok-Ready.ensures.looks) (λ records sound told.
-    refused_response g.S.Signer.signs who records c.args.now c.args.request.now response.kind response.bytes.items told)
+pub returns-in-Ok-ocsp_data-clause-looks : goal.returns-in-Ok-ocsp_data-clause-looks
+returns-in-Ok-ocsp_data-clause-looks g c =
+    so c.in-Ok-ocsp_data.ensures.looks (λ records sound told.
+    message_begun g.S.Signer.signs _ records c.args.now c.args.request.now (ids_seen c.in-Ok.asked.ids.items) (option_copied c.in-Ok.asked.nonce) c.in-Ok-ocsp_data.message.items c.respond.result
+    c.in-Ok.ensures.found told.0 told.1 (rw c.deref.ensures.value at c.respond.ensures.responds))
+
+pub returns-in-Ok-ocsp_data-clause-refuses : goal.returns-in-Ok-ocsp_data-clause-refuses
+returns-in-Ok-ocsp_data-clause-refuses g c =
+    message_refuses g.S.Signer.signs _ c.args.request.now c.deref.result.now c.respond.result
+    (λ unread. unread (ids_seen c.in-Ok.asked.ids.items) (option_copied c.in-Ok.asked.nonce) c.in-Ok.ensures.found) c.respond.ensures.responds
+
+pub returns-in-Err-Clock-clause-looks : goal.returns-in-Err-Clock-clause-looks
+returns-in-Err-Clock-clause-looks g c =
+    so (rw c.in-Err-Clock.field-0-is at c.in-Err-Clock.ensures.looks) (λ records sound told.
+    let refusal = the_refusal (first_of_all (clock_checks c.args.now records.last)) told in
+    ready_begun g.S.Signer.signs _ records c.args.now c.args.request.now _ _ c.refused-in-Err-Clock.result
+    (inr (ids_seen c.in-Ok.asked.ids.items, option_copied c.in-Ok.asked.nonce, c.in-Ok.ensures.found, (refusal, refl))) c.refused-in-Err-Clock.ensures)
+
+pub returns-in-Err-Clock-clause-refuses : goal.returns-in-Err-Clock-clause-refuses
+returns-in-Err-Clock-clause-refuses g c =
+    let read : ¬ (HasNoReading c.args.request.now) = λ unread. unread (ids_seen c.in-Ok.asked.ids.items) (option_copied c.in-Ok.asked.nonce) c.in-Ok.ensures.found in
+    ready_refuses c.args.request.now TryLater _ c.refused-in-Err-Clock.result (no_malformed c.args.request.now _ read try_later_apart) (λ failed. absurd (late_apart failed)) c.refused-in-Err-Clock.ensures
+
+pub returns-in-Err-Clock-clause-counts : goal.returns-in-Err-Clock-clause-counts
+returns-in-Err-Clock-clause-counts g c = unasked_counts TryLater _ c.refused-in-Err-Clock.result _ late_apart c.refused-in-Err-Clock.ensures
+
+pub returns-in-Err-Store-clause-looks : goal.returns-in-Err-Store-clause-looks
+returns-in-Err-Store-clause-looks g c =
+    so c.in-Err-Store.ensures.looks (λ records sound told.
+    ready_begun g.S.Signer.signs _ records c.args.now c.args.request.now _ _ c.refused-in-Err-Store.result
+    (inr (ids_seen c.in-Ok.asked.ids.items, option_copied c.in-Ok.asked.nonce, c.in-Ok.ensures.found, refl)) c.refused-in-Err-Store.ensures)
+
+pub returns-in-Err-Store-clause-refuses : goal.returns-in-Err-Store-clause-refuses
+returns-in-Err-Store-clause-refuses g c =
+    let read : ¬ (HasNoReading c.args.request.now) = λ unread. unread (ids_seen c.in-Ok.asked.ids.items) (option_copied c.in-Ok.asked.nonce) c.in-Ok.ensures.found in
+    ready_refuses c.args.request.now StoreFailure _ c.refused-in-Err-Store.result (no_malformed c.args.request.now _ read internal_apart) (λ failed. refl) c.refused-in-Err-Store.ensures
+
+pub returns-in-Err-Store-clause-counts : goal.returns-in-Err-Store-clause-counts
+returns-in-Err-Store-clause-counts g c = unasked_counts StoreFailure _ c.refused-in-Err-Store.result _ store_apart c.refused-in-Err-Store.ensures

@@ -2,7 +2,7 @@ use Rattle.std.proofs.Common.{◌≡◌, ap, subst, ◌∙◌}
 use Rattle.sqlite.specs.Held.{state}
 use Rattle.reg_core.specs.Changes.{touched, changed_by}
 use Rattle.reg_store_tables.specs.Shows.{AreBoth}
-use Rattle.reg_store_tables.specs.RowEffects.{with_counts}
+use Rattle.reg_store_tables.specs.Columns.{with_counts}
 use Rattle.reg_store_tables.proofs.PublicLaws.{moves_on, then_moves, stepped_clean, under_way}
 use Rattle.reg_store_changes.specs.ChangeEffects.{lost, added, kept_rows_after, columns_after}
 use Rattle.reg_store_changes.specs.ColumnEffects.{swept, ended_by, shifted}

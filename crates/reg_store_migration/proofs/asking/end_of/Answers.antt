@@ -4,11 +4,11 @@ use Rattle.reg_core.specs.Records.{certificate_in}
 use Rattle.reg_core.specs.Serial.{IsSerial}
 use Rattle.reg_core.specs.declared.rows.CertRow.{CertRow}
 use Rattle.reg_core_laws.proofs.PublicLaws.{some_and_here}
-use Rattle.reg_store_tables.proofs.PublicLaws.{ok_then, reading_by_serial, by_serial_row}
+use Rattle.reg_store_tables.proofs.PublicLaws.{ok_then, by_serial_text, by_serial_row}
 use Rattle.reg_store_migration.proofs.asking.end_of.Goals as goal
 
 pub ask-requires : goal.ask-requires
-ask-requires g c = reading_by_serial
+ask-requires g c = by_serial_text.reading
 
 pub returns-clause-asked : goal.returns-clause-asked
 returns-clause-asked g c clean =

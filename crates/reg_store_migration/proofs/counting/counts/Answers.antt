@@ -2,10 +2,9 @@ use Rattle.std.proofs.Common.{◌≡◌, codes, refl, sym, subst}
 use Rattle.std.specs.Prelude.{bytes_eq}
 use Rattle.sqlite.specs.Effect.{Database}
 use Rattle.sqlite.proofs.Callers.{unchanged_then}
-use Rattle.reg_store_tables.specs.Columns.{Letter, good, revoked, expired, letter_text, is_good_letter}
+use Rattle.reg_store_tables.specs.Columns.{Letter, good, revoked, expired, letter_text, is_good_letter, is_revoked_letter, is_expired_letter}
 use Rattle.reg_store_tables.specs.Shows.{AreBoth}
 use Rattle.reg_store_tables.proofs.PublicLaws.{is_g, stepped_clean}
-use Rattle.reg_store_migration.specs.Refilled.{is_revoked_letter, is_expired_letter}
 use Rattle.reg_store_migration.proofs.counting.counts.Goals as goal
 
 is_r : (letter : Letter) → bytes_eq (letter_text letter) (codes "R") ≡ is_revoked_letter letter

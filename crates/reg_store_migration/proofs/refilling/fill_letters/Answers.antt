@@ -1,6 +1,6 @@
 use Rattle.std.proofs.Common.{[], ◌∷◌, subst}
 use Rattle.sqlite.specs.Held.{state}
-use Rattle.reg_store_tables.specs.Ran.{Ran}
+use Rattle.reg_store_tables.specs.Stays.{Ran}
 use Rattle.reg_store_tables.proofs.PublicLaws.{inserts_rows, moves, moment_is}
 use Rattle.reg_store_migration.specs.declared.sql.TheConstants.{FILL_LETTERS}
 use Rattle.reg_store_migration.proofs.Lettering.{fills_letters, fill_means, fill_plain}

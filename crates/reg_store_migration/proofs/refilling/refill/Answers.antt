@@ -7,7 +7,7 @@ use Rattle.reg_store_tables.specs.Kept.{Kept, listed_of}
 use Rattle.reg_store_tables.specs.Schema.{register_schema}
 use Rattle.reg_store_tables.specs.Shows.{AreBoth}
 use Rattle.reg_store_tables.specs.Stays.{Moves}
-use Rattle.reg_store_tables.specs.RowEffects.{with_counts}
+use Rattle.reg_store_tables.specs.Columns.{with_counts}
 use Rattle.reg_store_tables.proofs.PublicLaws.{moves_on, stays_here, stepped_clean, then_moves, under_way}
 use Rattle.reg_store_migration.specs.Refilled.{no_columns, with_letters}
 use Rattle.reg_store_migration.proofs.Refills.{few_letters, kept_counted}

@@ -4,7 +4,7 @@ use Rattle.reg_store_tables.proofs.PublicLaws.{params-ok_then as ok_then}
 use Rattle.reg_store_schema.specs.Versions.{version_schema}
 use Rattle.reg_store_schema.specs.declared.versions.Version.{Version}
 use Rattle.reg_store_migration.specs.declared.version.OlderVersion.TheVariants.{First, Second}
-use Rattle.reg_store_opening.specs.Compared.{TellsVersion, version_told}
+use Rattle.reg_store_opening.specs.Said.{TellsVersion, version_told}
 use Rattle.reg_store_opening.proofs.comparing.look.Goals as goal
 
 each_told : (schema : Schema) (tables : Option Version) → ((version : Version) → (tables ≡ Some version) ↔ (schema ≡ version_schema version)) → TellsVersion tables schema

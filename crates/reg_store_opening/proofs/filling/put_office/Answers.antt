@@ -4,7 +4,7 @@ use Rattle.sqlite.specs.Held.{state}
 use Rattle.reg_core.specs.Policy.{IsPolicy}
 use Rattle.reg_core.specs.Schedule.{IsSchedule, greatest_of}
 use Rattle.reg_store_tables.specs.Rows.{number}
-use Rattle.reg_store_tables.specs.Ran.{Ran}
+use Rattle.reg_store_tables.specs.Stays.{Ran}
 use Rattle.reg_store_tables.proofs.PublicLaws.{moves, number_is}
 use Rattle.reg_store_opening.specs.declared.sql.TheConstants.{PUT_OFFICE}
 use Rattle.reg_store_opening.proofs.FirstRows.{puts_office}

@@ -6,14 +6,14 @@ use Rattle.reg_core.specs.declared.rows.RequestRow.{RequestRow}
 use Rattle.reg_store_tables.proofs.Few.{all_both}
 use Rattle.reg_store_tables.proofs.FailingLemmas.{written_shows}
 use Rattle.reg_store_tables.proofs.LookingUp.{by_statement}
-use Rattle.reg_store_tables.proofs.OverdueLemmas.{reading_undeclined, undeclined, undeclined_are, undeclined_serials, asked_undeclined}
+use Rattle.reg_store_tables.proofs.OverdueLemmas.{undeclined_text, undeclined, undeclined_are, undeclined_serials}
 use Rattle.reg_store_tables.proofs.Queries.{kept_have}
 use Rattle.reg_store_tables.proofs.Written.{received_early}
 use Rattle.reg_store_tables.proofs.overdue.undeclined.Goals as goal
 
 pub returns : goal.returns
 returns g c =
-    by_statement (c.look_up_all.ensures.reads reading_undeclined) refl asked_undeclined (λ records. filter undeclined records.requests)
+    by_statement (c.look_up_all.ensures.reads undeclined_text.reading) refl (undeclined_text.asked tt) (λ records. filter undeclined records.requests)
     (λ records written clean rows answers.
     let shown = (written_shows g.S.Store _ records written).tables clean answers.is_open in
     let early = kept_have (λ (row : RequestRow). row.received < clock_end) undeclined records.requests (received_early records written.sound) in (

@@ -8,7 +8,7 @@ use Rattle.reg_store_tables.proofs.Few.{all_both}
 use Rattle.reg_store_tables.proofs.FailingLemmas.{written_shows}
 use Rattle.reg_store_tables.proofs.LookingUp.{by_statement, not_asked, with_open}
 use Rattle.reg_store_tables.proofs.Queries.{all_of}
-use Rattle.reg_store_tables.proofs.UnlistedLemmas.{reading_above, asked_above, above_row, above_few}
+use Rattle.reg_store_tables.proofs.UnlistedLemmas.{above_text, above_row, above_few}
 use Rattle.reg_store_tables.proofs.Written.{revoked_early}
 use Rattle.reg_store_tables.proofs.revocations.earliest_above.Goals as goal
 
@@ -17,9 +17,9 @@ returns-in_err-value g c = not_asked _ c.from_residual.ensures.0 (λ records bel
 
 pub returns : goal.returns
 returns g c =
-    let reads = c.look_up.ensures.reads reading_above in
+    let reads = c.look_up.ensures.reads above_text.reading in
     let any = all_of (λ (row : RevocationRow). Unit {0}) (λ _. tt) in
-    with_open reads (by_statement reads (rw (c.params-to_sql.ensures, c.in_ok-value.ensures.value) refl) (asked_above c.args.number) (λ records. earliest (filter (λ (row : RevocationRow). nat_lt c.args.number row.first) records.revocations))
+    with_open reads (by_statement reads (rw (c.params-to_sql.ensures, c.in_ok-value.ensures.value) refl) (above_text.asked c.args.number) (λ records. earliest (filter (λ (row : RevocationRow). nat_lt c.args.number row.first) records.revocations))
     (λ records written clean rows answers.
     let shown = (written_shows g.S.Store _ records written).tables clean answers.is_open in
     let each = all_both (λ (row : RevocationRow). Unit {0}) (λ (row : RevocationRow). row.at < clock_end) records.revocations (any records.revocations) (revoked_early records written.sound) in

@@ -1,7 +1,7 @@
 use Rattle.std.proofs.Common.{[], ◌∷◌, subst}
 use Rattle.sqlite.specs.Held.{state}
-use Rattle.reg_store_tables.specs.Ran.{Ran}
-use Rattle.reg_store_tables.specs.declared.write_sql.TheConstants.{PUT_STEP}
+use Rattle.reg_store_tables.specs.Stays.{Ran}
+use Rattle.reg_store_tables.specs.declared.sql.TheConstants.{PUT_STEP}
 use Rattle.reg_store_tables.proofs.Keeping.{inserts_rows}
 use Rattle.reg_store_tables.proofs.Meaning.{put_step_means}
 use Rattle.reg_store_tables.proofs.Moving.{moves}

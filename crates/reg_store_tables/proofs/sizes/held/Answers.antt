@@ -1,13 +1,13 @@
 use Rattle.std.proofs.Common.{◌∙◌, ap, unwrap_or, rules, refl}
 use Rattle.reg_store_tables.specs.Tables.{rows_of}
 use Rattle.reg_store_tables.proofs.FailingLemmas.{written_shows}
-use Rattle.reg_store_tables.proofs.HeldLemmas.{reading_last, asked_last, last_of, last_is, last_row}
+use Rattle.reg_store_tables.proofs.HeldLemmas.{last_text, last_of, last_is, last_row}
 use Rattle.reg_store_tables.proofs.LookingUp.{by_statement, finds_ok, passed_on}
 use Rattle.reg_store_tables.proofs.sizes.held.Goals as goal
 
 pub returns-in_err-last-clause-finds : goal.returns-in_err-last-clause-finds
 returns-in_err-last-clause-finds g c =
-    passed_on _ _ (search rules) (λ records written may. may) (by_statement ((rw c.last_row.ensures at c.in_err-last.ensures.reads) (reading_last c.args.table)) refl (asked_last c.args.table)
+    passed_on _ _ (search rules) (λ records written may. may) (by_statement ((rw c.last_row.ensures at c.in_err-last.ensures.reads) (last_text c.args.table).reading) refl ((last_text c.args.table).asked tt)
     (λ records. last_of (rows_of records c.args.table))
     (λ records written clean rows answers.
     last_row (λ _. Unit {0} × Unit {0}) (λ _. (tt, tt)) _ records ((written_shows g.S.Store _ records written).tables clean answers.is_open) c.args.table rows answers.reads)
@@ -15,7 +15,7 @@ returns-in_err-last-clause-finds g c =
 
 pub returns-clause-finds : goal.returns-clause-finds
 returns-clause-finds g c =
-    finds_ok {Might = λ _. Unit {0}} (by_statement ((rw c.last_row.ensures at c.in_ok-last.ensures.reads) (reading_last c.args.table)) refl (asked_last c.args.table)
+    finds_ok {Might = λ _. Unit {0}} (by_statement ((rw c.last_row.ensures at c.in_ok-last.ensures.reads) (last_text c.args.table).reading) refl ((last_text c.args.table).asked tt)
     (λ records. last_of (rows_of records c.args.table))
     (λ records written clean rows answers.
     last_row (λ _. Unit {0} × Unit {0}) (λ _. (tt, tt)) _ records ((written_shows g.S.Store _ records written).tables clean answers.is_open) c.args.table rows answers.reads)
@@ -23,4 +23,4 @@ returns-clause-finds g c =
     (λ records shows last. c.unwrap_or.ensures ∙ ap (λ it. unwrap_or it 0) last ∙ last_is (rows_of records c.args.table))
 
 pub returns-clause-live : goal.returns-clause-live
-returns-clause-live g c register clean = ((rw c.last_row.ensures at c.in_ok-last.ensures.reads) (reading_last c.args.table)).live register clean
+returns-clause-live g c register clean = ((rw c.last_row.ensures at c.in_ok-last.ensures.reads) (last_text c.args.table).reading).live register clean

@@ -3,7 +3,7 @@ use Rattle.sqlite_value.specs.Order.{Row}
 use Rattle.sqlite.specs.declared.error.Error.{Error}
 use Rattle.sqlite.specs.Held.{state}
 use Rattle.sqlite.specs.State.{State, ExecutesInside}
-use Rattle.reg_store_tables.specs.Ran.{Ran}
+use Rattle.reg_store_tables.specs.Stays.{Ran}
 use Rattle.reg_store_tables.proofs.writing.write.Goals as goal
 
 inside : (b : Bool) (count : ℕ) (e : Error) → (b ≡ false → Ok count ≡ Err e) → IsTrue b

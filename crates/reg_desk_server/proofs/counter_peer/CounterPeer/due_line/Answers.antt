@@ -1,6 +1,6 @@
 use Rattle.std.proofs.Common.{arith}
 use Rattle.std.proofs.lemmas.List.{nil_from_length}
-use Rattle.reg_desk_server.specs.Unsent.{unsent_of}
+use Rattle.reg_desk_server.specs.Held.{unsent_of}
 use Rattle.reg_desk_server.proofs.Holdings.{due_or_none}
 use Rattle.reg_desk_server.proofs.counter_peer.CounterPeer.due_line.Goals as goal
 

@@ -5,8 +5,8 @@ use Rattle.reg_desk_server.proofs.hub.Hub.answer_all.Goals as goal
 pub loop-index-init : goal.loop-index-init
 loop-index-init g c = (handled_none g.H.Handler _ _ _ _ refl refl, c.requires)
 
-pub returns-in-Err-clause-exchanged : goal.returns-in-Err-clause-exchanged
-returns-in-Err-clause-exchanged g c =
+pub returns-in_err-answer_due-clause-exchanged : goal.returns-in_err-answer_due-clause-exchanged
+returns-in_err-answer_due-clause-exchanged g c =
     handled_then g.H.Handler _ _ _ _ _ _ c.loop-index.invariant.0 c.answer_due.ensures.exchanged
 
 pub loop-index-preserved : goal.loop-index-preserved

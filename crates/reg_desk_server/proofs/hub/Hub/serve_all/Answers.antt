@@ -5,12 +5,17 @@ use Rattle.reg_desk_server.proofs.hub.Hub.serve_all.Goals as goal
 pub loop-init : goal.loop-init
 loop-init g c = (handled_none g.H.Handler _ _ _ _ refl refl, c.requires)
 
-pub returns-in-Err-clause-exchanged : goal.returns-in-Err-clause-exchanged
-returns-in-Err-clause-exchanged g c =
-    handled_then g.H.Handler _ _ _ _ _ _ c.loop.invariant.0 c.poll_once.ensures.exchanged
+pub returns-in_err-tell_all-clause-exchanged : goal.returns-in_err-tell_all-clause-exchanged
+returns-in_err-tell_all-clause-exchanged g c = handled_then g.H.Handler _ _ _ _ _ _ c.loop.invariant.0 (c.tell_all.ensures _)
+
+pub returns-in_err-answered-clause-exchanged : goal.returns-in_err-answered-clause-exchanged
+returns-in_err-answered-clause-exchanged g c =
+    handled_then g.H.Handler _ _ _ _ _ _ c.loop.invariant.0
+    (handled_then g.H.Handler _ _ _ _ _ _ (c.tell_all.ensures _) c.answer_all-answered.ensures.exchanged)
 
 pub loop-preserved : goal.loop-preserved
 loop-preserved g c = (
-  handled_then g.H.Handler _ _ _ _ _ _ c.loop.invariant.0 c.poll_once.ensures.exchanged,
-  c.poll_once.ensures.within,
+  handled_then g.H.Handler _ _ _ _ _ _ c.loop.invariant.0
+      (handled_then g.H.Handler _ _ _ _ _ _ (c.tell_all.ensures _) c.answer_all-answered.ensures.exchanged),
+  c.answer_all-answered.ensures.within,
 )

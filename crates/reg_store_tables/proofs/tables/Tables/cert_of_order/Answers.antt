@@ -3,7 +3,7 @@ use Rattle.reg_core.specs.Records.{certificate_of_order}
 use Rattle.reg_core.specs.Serial.{IsSerial}
 use Rattle.reg_core.specs.declared.rows.CertRow.{CertRow}
 use Rattle.reg_store_tables.specs.RecordValues.{IsValidity}
-use Rattle.reg_store_tables.proofs.CertificateLemmas.{reading_by_order, asked_by_order, by_order_row, by_order_few}
+use Rattle.reg_store_tables.proofs.CertificateLemmas.{by_order_text, by_order_row, by_order_few}
 use Rattle.reg_store_tables.proofs.Few.{all_both}
 use Rattle.reg_store_tables.proofs.FailingLemmas.{written_shows}
 use Rattle.reg_store_tables.proofs.LookingUp.{by_statement, not_asked}
@@ -14,7 +14,7 @@ returns-in_err-value g c = not_asked _ c.from_residual.ensures.0 (λ records bel
 
 pub returns : goal.returns
 returns g c =
-    rw (← c.self.view_is) (by_statement (c.look_up.ensures.reads reading_by_order) (rw (c.params-to_sql.ensures, c.in_ok-value.ensures.value) refl) (asked_by_order c.args.order)
+    rw (← c.self.view_is) (by_statement (c.look_up.ensures.reads by_order_text.reading) (rw (c.params-to_sql.ensures, c.in_ok-value.ensures.value) refl) (by_order_text.asked c.args.order)
     (λ records. certificate_of_order records.certificates c.args.order)
     (λ records written clean rows answers.
     let shown = (written_shows g.S.Store _ records written).tables clean answers.is_open in

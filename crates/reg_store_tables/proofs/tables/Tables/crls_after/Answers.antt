@@ -8,7 +8,7 @@ use Rattle.reg_core_laws.proofs.PublicLaws.{all_map}
 use Rattle.reg_store_tables.proofs.Few.{all_both}
 use Rattle.reg_store_tables.proofs.FailingLemmas.{written_shows}
 use Rattle.reg_store_tables.proofs.LookingUp.{by_statement, not_asked}
-use Rattle.reg_store_tables.proofs.PageLemmas.{reading_crls, asked_crls, crls_shown, past_have}
+use Rattle.reg_store_tables.proofs.PageLemmas.{crls_text, crls_shown, past_have}
 use Rattle.reg_store_tables.proofs.Queries.{all_of}
 use Rattle.reg_store_tables.proofs.Written.{updated_early}
 use Rattle.reg_store_tables.proofs.tables.Tables.crls_after.Goals as goal
@@ -23,7 +23,7 @@ pub returns : goal.returns
 returns g c =
     let page = λ (crls : List Crl). take c.args.most (past (λ (crl : Crl). crl.number) c.args.after crls) in
     let any = all_of (λ (crl : CrlRow). Unit {0}) (λ _. tt) in
-    rw (← c.self.view_is) (by_statement (c.look_up_all.ensures.reads reading_crls) (rw (c.params-to_sql.ensures, c.params-to_sql-2.ensures, c.in_ok-key.ensures.value, c.in_ok-limit.ensures.value) refl) (asked_crls c.args.after c.args.most)
+    rw (← c.self.view_is) (by_statement (c.look_up_all.ensures.reads crls_text.reading) (rw (c.params-to_sql.ensures, c.params-to_sql-2.ensures, c.in_ok-key.ensures.value, c.in_ok-limit.ensures.value) refl) (crls_text.asked (c.args.after, c.args.most))
     (λ records. map row_of (page records.crls))
     (λ records written clean rows answers.
     let shown = (written_shows g.S.Store _ records written).tables clean answers.is_open in

@@ -1,6 +1,6 @@
 use Rattle.std.proofs.Common.{◌≤◌, ◌∙◌, length, refl, subst, arith, rules}
 use Rattle.reg_core.specs.Crls.{EntriesAscend}
-use Rattle.reg_store_tables.proofs.EntryLemmas.{reading_entries, found_entries, entries_lists, entries_are, asked_entries, entries_have, entries_within, entries_rise, entries_sorted}
+use Rattle.reg_store_tables.proofs.EntryLemmas.{entries_text, found_entries, entries_lists, entries_are, entries_have, entries_within, entries_rise, entries_sorted}
 use Rattle.reg_store_tables.proofs.FailingLemmas.{memory_alone}
 use Rattle.reg_store_tables.proofs.LookingUp.{by_rows, not_asked, unasked}
 use Rattle.reg_store_tables.proofs.Staying.{ok_also, ok_if}
@@ -12,12 +12,12 @@ returns-in_err-value-clause-finds g c = not_asked _ c.from_residual.ensures.0 (�
 
 pub returns-in_err-found-clause-finds : goal.returns-in_err-found-clause-finds
 returns-in_err-found-clause-finds g c =
-    rw (← c.self.view_is) (unasked _ _ (search rules) (c.in_err-found.ensures.reads reading_entries) (rw (c.params-to_sql.ensures, c.in_ok-value.ensures.value) refl) (asked_entries c.args.number))
+    rw (← c.self.view_is) (unasked _ _ (search rules) (c.in_err-found.ensures.reads entries_text.reading) (rw (c.params-to_sql.ensures, c.in_ok-value.ensures.value) refl) (entries_text.asked c.args.number))
 
 pub returns-clause-finds : goal.returns-clause-finds
 returns-clause-finds g c =
     let rows = c.in_ok-found.found.items in
-    rw (← c.self.view_is) (by_rows (c.in_ok-found.ensures.reads reading_entries) (rw (c.params-to_sql.ensures, c.in_ok-value.ensures.value) refl) c.entries_of.result
+    rw (← c.self.view_is) (by_rows (c.in_ok-found.ensures.reads entries_text.reading) (rw (c.params-to_sql.ensures, c.in_ok-value.ensures.value) refl) c.entries_of.result
     (λ records shows clean answers. ok_if _ _ c.entries_of.result (λ kept.
     let both = kept.1.tables clean answers.is_open in
     let it = entries_lists _ records kept.0 both kept.2 c.args.number rows answers.reads in

@@ -2,13 +2,13 @@ use Rattle.std.proofs.Common.{refl}
 use Rattle.reg_core.specs.Queries.{listing}
 use Rattle.reg_core.specs.declared.command.Listing.{Listing}
 use Rattle.reg_store_tables.specs.Kept.{ShowsKept}
-use Rattle.reg_store_tables.proofs.ListingLemmas.{reading_listed, asked_listed, listed_row, listed_few}
+use Rattle.reg_store_tables.proofs.ListingLemmas.{listed_text, listed_row, listed_few}
 use Rattle.reg_store_tables.proofs.LookingUp.{by_statement_if}
 use Rattle.reg_store_tables.proofs.tables.Tables.listing.Goals as goal
 
 pub returns : goal.returns
 returns g c =
-    rw (← c.self.view_is) (by_statement_if (c.look_up.ensures.reads reading_listed) (rw (c.params-to_sql.ensures, c.as_slice.ensures, c.bytes20.ensures.bytes) refl) (asked_listed c.args.serial) (λ records. listing records c.args.serial)
+    rw (← c.self.view_is) (by_statement_if (c.look_up.ensures.reads listed_text.reading) (rw (c.params-to_sql.ensures, c.as_slice.ensures, c.bytes20.ensures.bytes) refl) (listed_text.asked c.args.serial) (λ records. listing records c.args.serial)
     (λ records written clean rows answers.
     let kept = written.kept in
     let both = kept.1.tables clean answers.is_open in (

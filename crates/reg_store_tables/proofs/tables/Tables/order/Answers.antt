@@ -5,7 +5,7 @@ use Rattle.reg_store_tables.specs.Rows.{number}
 use Rattle.reg_store_tables.proofs.FailingLemmas.{none_made, written_shows}
 use Rattle.reg_store_tables.proofs.Greatest.{none_past}
 use Rattle.reg_store_tables.proofs.LookingUp.{by_statement, past_rows}
-use Rattle.reg_store_tables.proofs.OrderLemmas.{reading_by_id, asked_by_id, by_id_row, by_id_few}
+use Rattle.reg_store_tables.proofs.OrderLemmas.{by_id_text, by_id_row, by_id_few}
 use Rattle.reg_store_tables.proofs.Queries.{all_of}
 use Rattle.reg_store_tables.specs.declared.sizes.Table.TheVariants.{Orders}
 use Rattle.reg_store_tables.proofs.tables.Tables.order.Goals as goal
@@ -18,7 +18,7 @@ returns-in_default g c =
 pub returns : goal.returns
 returns g c =
     let value : c.in-Some.value ≡ number c.args.id = (rw c.in-Some.is at c.sql_key.ensures.value).1 in
-    rw (← c.self.view_is) (by_statement (c.look_up.ensures.reads reading_by_id) (rw (c.params-to_sql.ensures, value) refl) (asked_by_id c.args.id) (λ records. order_in records.orders c.args.id)
+    rw (← c.self.view_is) (by_statement (c.look_up.ensures.reads by_id_text.reading) (rw (c.params-to_sql.ensures, value) refl) (by_id_text.asked c.args.id) (λ records. order_in records.orders c.args.id)
     (λ records written clean rows answers.
     let shown = (written_shows g.S.Store _ records written).tables clean answers.is_open in
     let each = all_of (λ (row : OrderRow). Unit {0} × Unit {0}) (λ _. (tt, tt)) records.orders in

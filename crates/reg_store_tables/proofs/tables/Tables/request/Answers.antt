@@ -8,7 +8,7 @@ use Rattle.reg_store_tables.proofs.Few.{all_both}
 use Rattle.reg_store_tables.proofs.FailingLemmas.{none_made, written_shows}
 use Rattle.reg_store_tables.proofs.Greatest.{none_past}
 use Rattle.reg_store_tables.proofs.LookingUp.{by_statement, past_rows}
-use Rattle.reg_store_tables.proofs.RequestLemmas.{reading_by_id, asked_by_id, by_id_row, by_id_few}
+use Rattle.reg_store_tables.proofs.RequestLemmas.{by_id_text, by_id_row, by_id_few}
 use Rattle.reg_store_tables.proofs.Written.{received_early}
 use Rattle.reg_store_tables.specs.declared.sizes.Table.TheVariants.{Requests}
 use Rattle.reg_store_tables.proofs.tables.Tables.request.Goals as goal
@@ -21,7 +21,7 @@ returns-in_default g c =
 pub returns : goal.returns
 returns g c =
     let value : c.in-Some.value ≡ number c.args.id = (rw c.in-Some.is at c.sql_key.ensures.value).1 in
-    rw (← c.self.view_is) (by_statement (c.look_up.ensures.reads reading_by_id) (rw (c.params-to_sql.ensures, value) refl) (asked_by_id c.args.id) (λ records. request_in records.requests c.args.id)
+    rw (← c.self.view_is) (by_statement (c.look_up.ensures.reads by_id_text.reading) (rw (c.params-to_sql.ensures, value) refl) (by_id_text.asked c.args.id) (λ records. request_in records.requests c.args.id)
     (λ records written clean rows answers.
     let shown = (written_shows g.S.Store _ records written).tables clean answers.is_open in
     let each = all_both (λ (row : RequestRow). IsSerial row.serial) (λ (row : RequestRow). row.received < clock_end) records.requests shown.rows.request_serials (received_early records written.sound) in

@@ -6,13 +6,13 @@ use Rattle.reg_store_tables.specs.RecordValues.{AreMomentAndReason}
 use Rattle.reg_store_tables.proofs.Few.{all_both}
 use Rattle.reg_store_tables.proofs.FailingLemmas.{written_shows}
 use Rattle.reg_store_tables.proofs.LookingUp.{by_statement}
-use Rattle.reg_store_tables.proofs.RevocationLemmas.{reading_by_serial, asked_by_serial, by_serial_row, by_serial_few}
+use Rattle.reg_store_tables.proofs.RevocationLemmas.{by_serial_text, by_serial_row, by_serial_few}
 use Rattle.reg_store_tables.proofs.Written.{revocations_have}
 use Rattle.reg_store_tables.proofs.tables.Tables.revocation.Goals as goal
 
 pub returns : goal.returns
 returns g c =
-    rw (← c.self.view_is) (by_statement (c.look_up.ensures.reads reading_by_serial) (rw (c.params-to_sql.ensures, c.as_slice.ensures, c.bytes20.ensures.bytes) refl) (asked_by_serial c.args.serial)
+    rw (← c.self.view_is) (by_statement (c.look_up.ensures.reads by_serial_text.reading) (rw (c.params-to_sql.ensures, c.as_slice.ensures, c.bytes20.ensures.bytes) refl) (by_serial_text.asked c.args.serial)
     (λ records. revocation_in records.revocations c.args.serial)
     (λ records written clean rows answers.
     let shown = (written_shows g.S.Store _ records written).tables clean answers.is_open in

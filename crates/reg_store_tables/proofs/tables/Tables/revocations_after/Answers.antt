@@ -7,7 +7,7 @@ use Rattle.reg_store_tables.specs.RecordValues.{AreMomentAndReason}
 use Rattle.reg_store_tables.proofs.Few.{all_both}
 use Rattle.reg_store_tables.proofs.FailingLemmas.{written_shows}
 use Rattle.reg_store_tables.proofs.LookingUp.{by_statement_if, not_asked}
-use Rattle.reg_store_tables.proofs.PageLemmas.{reading_revocations, asked_revocations, revocations_shown, revocations_serials, past_have}
+use Rattle.reg_store_tables.proofs.PageLemmas.{revocations_text, revocations_shown, revocations_serials, past_have}
 use Rattle.reg_store_tables.proofs.Written.{revocations_have}
 use Rattle.reg_store_tables.proofs.tables.Tables.revocations_after.Goals as goal
 
@@ -18,7 +18,7 @@ pub returns : goal.returns
 returns g c =
     let after = key_of c.args.after in
     let low = c.bytes_of-key.ensures.low in
-    rw (← c.self.view_is) (by_statement_if (c.look_up_all.ensures.reads reading_revocations) (rw (c.params-to_sql.ensures, c.params-to_sql-2.ensures, c.as_slice.ensures, c.bytes_of-key.ensures.bytes, c.in_ok-limit.ensures.value) refl) (asked_revocations after c.args.most)
+    rw (← c.self.view_is) (by_statement_if (c.look_up_all.ensures.reads revocations_text.reading) (rw (c.params-to_sql.ensures, c.params-to_sql-2.ensures, c.as_slice.ensures, c.bytes_of-key.ensures.bytes, c.in_ok-limit.ensures.value) refl) (revocations_text.asked (after, c.args.most))
     (λ records. take c.args.most (past (λ (row : RevocationRow). row.serial) after records.revocations))
     (λ records written clean rows answers.
     let shown = (written_shows g.S.Store _ records written).tables clean answers.is_open in

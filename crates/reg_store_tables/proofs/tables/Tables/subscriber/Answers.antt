@@ -8,7 +8,7 @@ use Rattle.reg_store_tables.proofs.FailingLemmas.{none_made, written_shows}
 use Rattle.reg_store_tables.proofs.Greatest.{none_past}
 use Rattle.reg_store_tables.proofs.LookingUp.{by_statement, past_rows}
 use Rattle.reg_store_tables.proofs.Queries.{all_of}
-use Rattle.reg_store_tables.proofs.SubscriberLemmas.{reading_by_id, asked_by_id, by_id_row, by_id_few}
+use Rattle.reg_store_tables.proofs.SubscriberLemmas.{by_id_text, by_id_row, by_id_few}
 use Rattle.reg_store_tables.specs.declared.sizes.Table.TheVariants.{Subscribers}
 use Rattle.reg_store_tables.proofs.tables.Tables.subscriber.Goals as goal
 
@@ -21,7 +21,7 @@ pub returns : goal.returns
 returns g c =
     let value : c.in-Some.value ≡ number c.args.id = (rw c.in-Some.is at c.sql_key.ensures.value).1 in
     let any = all_of (λ (row : SubscriberRow). Unit {0}) (λ _. tt) in
-    rw (← c.self.view_is) (by_statement (c.look_up.ensures.reads reading_by_id) (rw (c.params-to_sql.ensures, value) refl) (asked_by_id c.args.id) (λ records. subscriber_in records.subscribers c.args.id)
+    rw (← c.self.view_is) (by_statement (c.look_up.ensures.reads by_id_text.reading) (rw (c.params-to_sql.ensures, value) refl) (by_id_text.asked c.args.id) (λ records. subscriber_in records.subscribers c.args.id)
     (λ records written clean rows answers.
     let shown = (written_shows g.S.Store _ records written).tables clean answers.is_open in
     let each = all_both (λ (row : SubscriberRow). Unit {0}) (λ (row : SubscriberRow). IsLabel row.name) records.subscribers (any records.subscribers) written.values.names in
