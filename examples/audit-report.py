@@ -8,12 +8,12 @@ It writes these files into the folder audit-FROM-TO, or the one that --folder na
 
     report.html        findings, figures, and the tables below, of each the first 1,000 rows
     certificates.csv   the certificates whose notBefore is in the time
-    revocations.csv    the revocations of the time, with the first CRL that lists each one and when that came
-    requests.csv       the requests that are open, received before TO, with how long each one is overdue
+    revocations.csv    the revocations of the time, with the first CRL that lists each one and when that came, and the request that led to each, with how late it was decided
+    requests.csv       the requests that were received or decided in the time, and those that are open, received before TO: with their state, and how late each one was decided
     crls.csv           the CRLs of the time, with their entries and bytes, when each was due, how late it was, and how long no CRL was valid before it
 
-All of it is what the lists and the CRLs of the desk say when the report is made (docs/RULES.md, "Lists" and "CRLs"). No list has the moment of a registration, nor
-the requests that were decided: so certificates are taken by their notBefore, and a revocation has neither its ground nor the moment of its request.
+All of it is what the lists and the CRLs of the desk say when the report is made (docs/RULES.md, "Lists" and "CRLs"). The register has no moment of a
+registration, and none of a decline: so certificates are taken by their notBefore, and declined requests by their receipt alone, with no word of whether that was in time.
 
 FROM and TO are days, as 2026-01-01, or moments, as 2026-01-01T12:00:00Z, in UTC. DESK names the program, if it is not the `desk` of PATH. The exit status is 0 if
 the report was written, 1 if the desk, or a file, could not be read or written, and 2 if the words can't be read.
@@ -170,7 +170,9 @@ class Report:
             if is_inside(row["notBefore"]):
                 self.certificates.append({name: row[name] for name in ("serial", "subscriber", "name", "order", "notBefore", "notAfter", "status")})
         self.revocations = [self.revocation(row) for row in revoked if is_inside(row["revokedAt"])]
-        self.requests = [self.request(row) for row in source.rows("open-requests") if row["received"] < moment_of(end)]
+        ended = lambda row: row["notAfter"] if row["state"] == "expired" else row["decided"]
+        is_of_time = lambda row: row["state"] == "open" or is_inside(row["received"]) or is_inside(ended(row) or "")
+        self.requests = [self.request(row) for row in source.rows("requests") if row["received"] < moment_of(end) and is_of_time(row)]
         self.crls, self.issuer = self.series(source, revoked)
         self.read = int(time.time())
 
@@ -181,12 +183,12 @@ class Report:
             "serial": row["serial"], "subscriber": row["subscriber"], "name": row["name"], "order": row["order"], "revokedAt": row["revokedAt"],
             "reason": row["reason"], "firstCrl": first if listed is not None else None, "listedAt": listed and moment_of(listed),
             "listedAfterSeconds": None if listed is None else listed - at,
+            "request": row["request"], "ground": row["ground"], "received": row["received"], "due": row["due"], "lateSeconds": row["lateness"],
         }  # fmt: skip
 
     def request(self, row):
-        overdue = max(0, self.began - seconds_of(row["due"]))
-        told = {name: row[name] for name in ("request", "serial", "ground", "received", "due", "subscriber", "name")}
-        return {**told, "state": "overdue" if overdue else "open", "overdueSeconds": overdue}
+        told = {name: row[name] for name in ("request", "serial", "ground", "received", "due", "subscriber", "name", "state", "decided")}
+        return {**told, "lateSeconds": row["lateness"]}
 
     def series(self, source, revoked):
         """The CRLs of the time. When each was due follows from the one before it and from the revocations that it lists first."""
@@ -220,7 +222,9 @@ class Report:
         """What an auditor asks about first: a sentence each."""
         for row in self.requests:
             if is_finding(row):
-                yield f"Request {row['request']} for {short(row['serial'])} ({row['ground']}) of {row['received']} was due at {row['due']} and is open: {span(row['overdueSeconds'])} overdue."
+                ended = {"open": "is open", "revoked": f"was decided at {row['decided']}", "expired": "was not decided before its certificate ended"}[row["state"]]
+                late = "overdue" if row["state"] == "open" else "late"
+                yield f"Request {row['request']} for {short(row['serial'])} ({row['ground']}) of {row['received']} was due at {row['due']} and {ended}: {span(row['lateSeconds'])} {late}."
         for row in self.crls:
             if is_finding(row):
                 gap = f", and no CRL was valid for {span(row['gapSeconds'])} before it" if row["gapSeconds"] else ""
@@ -233,15 +237,23 @@ class Report:
 
     def figures(self):
         """The figures of the report, by name."""
-        reasons = Counter(row["reason"] for row in self.revocations)
+        grounds = Counter(row["ground"] for row in self.revocations)
+        states = Counter(row["state"] for row in self.requests)
+        late = Counter(row["state"] for row in self.requests if row["lateSeconds"])
         listed = [row["listedAfterSeconds"] for row in self.revocations if row["listedAfterSeconds"] is not None]
         return [
             ("Certificates whose notBefore is in the time", len(self.certificates)),
             ("Revocations", len(self.revocations)),
-            *((f"  for reason {reason}, {REASONS.get(reason, '')}", reasons[reason]) for reason in sorted(reasons)),
+            *((f"  {ground}", grounds[ground]) for ground in sorted(grounds)),
+            ("  later than their deadline", sum(row["lateSeconds"] > 0 for row in self.revocations)),
             ("  longest time from a revocation to its first CRL", span(max(listed)) if listed else "–"),
-            ("Open requests, received before the end of the time", len(self.requests)),
-            ("  of them overdue", sum(row["state"] == "overdue" for row in self.requests)),
+            ("Requests that are open, received before the end of the time", states["open"]),
+            ("  of them overdue", late["open"]),
+            ("Requests that led to a revocation, received or decided in the time", states["revoked"]),
+            ("  of them late", late["revoked"]),
+            ("Requests whose certificate ended undecided, received or ended in the time", states["expired"]),
+            ("  of them late", late["expired"]),
+            ("Requests that were declined, received in the time", states["declined"]),
             ("CRLs", len(self.crls)),
             ("  of them over two hours late", sum(row["lateSeconds"] > LATE for row in self.crls)),
             ("Times in which no CRL was valid", sum(row["gapSeconds"] > 0 for row in self.crls) + bool(self.gap_at_end)),
@@ -256,19 +268,24 @@ class Report:
 
 COLUMNS = {
     "crls": ["crl", "thisUpdate", "nextUpdate", "entries", "bytes", "due", "lateSeconds", "gapSeconds"],
-    "requests": ["request", "serial", "ground", "received", "due", "subscriber", "name", "state", "overdueSeconds"],
-    "revocations": ["serial", "subscriber", "name", "order", "revokedAt", "reason", "firstCrl", "listedAt", "listedAfterSeconds"],
+    "requests": ["request", "serial", "ground", "received", "due", "subscriber", "name", "state", "decided", "lateSeconds"],
+    "revocations": ["serial", "subscriber", "name", "order", "revokedAt", "reason", "firstCrl", "listedAt", "listedAfterSeconds", "request", "ground", "received", "due", "lateSeconds"],
     "certificates": ["serial", "subscriber", "name", "order", "notBefore", "notAfter", "status"],
 }
-HEADINGS = {"crls": "CRLs", "requests": "Open requests", "revocations": "Revocations", "certificates": "Certificates whose notBefore is in the time"}
+# Of the page, where it has fewer columns than the CSV.
+SHOWN = {
+    "requests": ["request", "serial", "ground", "state", "received", "due", "decided", "lateSeconds", "name"],
+    "revocations": ["serial", "ground", "request", "due", "revokedAt", "lateSeconds", "firstCrl", "listedAfterSeconds", "name"],
+}
+HEADINGS = {"crls": "CRLs", "requests": "Requests", "revocations": "Revocations", "certificates": "Certificates whose notBefore is in the time"}
 # Of the page, where a column has another name than in its CSV.
-NAMES = {"crl": "CRL", "lateSeconds": "late by", "gapSeconds": "none valid before, for", "overdueSeconds": "overdue by", "listedAfterSeconds": "listed after", "firstCrl": "first CRL",
+NAMES = {"crl": "CRL", "lateSeconds": "late by", "gapSeconds": "none valid before, for", "listedAfterSeconds": "listed after", "firstCrl": "first CRL",
          "listedAt": "listed at", "revokedAt": "revoked at", "serial": "serial number", "subscriber": "no.", "name": "subscriber"}
 
 
 def is_finding(row):
-    """Whether a row is one that an auditor asks about: a request that is overdue, a CRL that is late or had none valid before it."""
-    return bool(row.get("overdueSeconds") or row.get("gapSeconds") or row.get("lateSeconds", 0) > LATE)
+    """Whether a row is one that an auditor asks about: a request or a revocation after its deadline, a CRL that is late or had none valid before it."""
+    return bool(row.get("gapSeconds") or (row.get("lateSeconds") or 0) > (LATE if "crl" in row else 0))
 
 
 def short(serial):
@@ -290,7 +307,7 @@ th { color: #5a6473; font-weight: normal; border-bottom: 1px solid #b9bfca } td 
 .figures td:first-child { white-space: pre; min-width: 27rem } .serial { font-family: ui-monospace, monospace; font-size: .93em } ul { margin: 0; padding-left: 1.2rem } li { color: #a3221c }
 @media print { body { max-width: none; padding: 0; font-size: 9px } tr { break-inside: avoid } }
 """
-NUMBERS = {"crl", "entries", "bytes", "lateSeconds", "gapSeconds", "request", "subscriber", "overdueSeconds", "order", "reason", "firstCrl", "listedAfterSeconds"}
+NUMBERS = {"crl", "entries", "bytes", "lateSeconds", "gapSeconds", "request", "subscriber", "order", "reason", "firstCrl", "listedAfterSeconds"}
 
 
 def cell(name, value):
@@ -311,7 +328,7 @@ def cell(name, value):
 
 
 def table_of(word, rows):
-    columns = COLUMNS[word]
+    columns = SHOWN.get(word, COLUMNS[word])
     yield f"<h2>{html.escape(HEADINGS[word])} <span class=soft>{len(rows):,}</span></h2>"
     if not rows:
         yield "<p class=soft>None.</p>"
@@ -333,15 +350,15 @@ def page_of(report):
     yield f"<h1>{html.escape(title)}</h1><p>{html.escape(times)}, in UTC. <span class=soft>Read from the register at {moment_of(report.began)} to {moment_of(report.read)}.</span></p>"
     found = list(report.findings())
     yield f"<h2>Findings <span class=soft>{len(found):,}</span></h2>"
-    yield "<p>None: no request is overdue, no CRL was more than two hours late, and one was valid at any time since the first.</p>" if not found else ""
+    yield "<p>None: no request is overdue or was decided late, no CRL was more than two hours late, and one was valid at any time since the first.</p>" if not found else ""
     yield "<ul>" + "".join(f"<li>{html.escape(it)}</li>" for it in found[:MOST_ROWS]) + "</ul>" if found else ""
     yield f"<p class=soft>The first {MOST_ROWS:,} of {len(found):,}.</p>" if len(found) > MOST_ROWS else ""
     rows = "".join(f"<tr><td>{html.escape(name)}</td><td class=n>{f'{value:,}' if isinstance(value, int) else html.escape(value)}</td></tr>" for name, value in report.figures())
     yield f'<h2>Figures</h2><table class="figures"><tbody>{rows}</tbody></table>'
     for word, rows in report.tables().items():
         yield from table_of(word, rows)
-    yield "<h2>What this report can't tell</h2><p>The register keeps no moment of a registration, so certificates are taken by their notBefore. Its lists have no requests that were decided: so the report has"
-    yield "no request that was declined, and a revocation has neither its ground nor the moment of its request, by which it was late or in time. CRLs were not verified: <code>openssl crl -verify</code> does.</p>"
+    yield "<h2>What this report can't tell</h2><p>The register keeps no moment of a registration, so certificates are taken by their notBefore. It keeps none of a decline: so declined requests are taken by"
+    yield "their receipt alone, and whether they were declined in time is not told. CRLs were not verified: <code>openssl crl -verify</code> does.</p>"
     yield "<p class=soft>A CRL is due seven days after the one before it, when that one ends, or a day after a revocation that no CRL lists, whichever comes first.</p></body></html>"
 
 
@@ -380,7 +397,7 @@ def main():
         return 1
     for it in report.findings():
         print(it)
-    counts = {"certificate": report.certificates, "revocation": report.revocations, "open request": report.requests, "CRL": report.crls, "finding": list(report.findings())}
+    counts = {"certificate": report.certificates, "revocation": report.revocations, "request": report.requests, "CRL": report.crls, "finding": list(report.findings())}
     print(f"{folder}/report.html: " + ", ".join(f"{len(rows)} {name}{'s' * (len(rows) != 1)}" for name, rows in counts.items()))
     return 0
 

@@ -20,7 +20,7 @@ _desk() {
     --*:?*) COMPREPLY=() ;;
     *)
         if [[ ${COMP_WORDS[at]} == list && $COMP_CWORD -eq $((at + 2)) ]]; then
-            mapfile -t COMPREPLY < <(compgen -W "revoked certificates ending open-requests overdue subscribers orders crls" -- "$cur")
+            mapfile -t COMPREPLY < <(compgen -W "revoked certificates ending open-requests overdue requests subscribers orders crls" -- "$cur")
         elif [[ $cur == -* ]]; then
             mapfile -t COMPREPLY < <(compgen -W "$(grep -oE -- '^ +(-., )?--[a-z-]+' <<<"$help" | grep -oE -- '--[a-z-]+')" -- "$cur")
         else

@@ -36,7 +36,8 @@ def inline(text):
 
 
 def head(name, section, title):
-    return [f'.TH {name} {section} {DATE} durshavon "{title}"', ".nh", ".ad l"]
+    # On a terminal it is one long page, so that no row of a table meets a page's end.
+    return [f'.TH {name} {section} {DATE} durshavon "{title}"', ".if n .pl 20000v", ".nh", ".ad l"]
 
 
 # Markdown

@@ -2,11 +2,13 @@
 """Reports what the pages name that is not there: files and functions of docs/PROOFS.md and docs/ARCHITECTURE.md, definitions of docs/PROOFS.md, crates and
 what they stand on in docs/ARCHITECTURE.md, files and definitions of the chain in docs/MODEL.md, and links to headings. Also reports a name that two crates
 give to definitions, because the pages refer to a definition by its name; a promise of docs/PROOFS.md whose functions no call from `main` reaches; and a
-proof that cites another crate's proofs beside its PublicLaws. Prints a line for each, and exits with 1 if there is one."""
+proof that cites another crate's proofs beside its PublicLaws; and a docs/architecture.svg that is out of date. Prints a line for each, and exits with 1
+if there is one."""
 import re
 import sys
 from pathlib import Path
 
+import architecture
 import calls
 
 TOP = Path(__file__).resolve().parent.parent
@@ -156,6 +158,8 @@ def look_at_crates():
         wanted = {it for it in stands.get(crate, set()) if not any(it in below(other) for other in stands[crate] if other != it)}
         if crate in stands and told != wanted and "stands on" in text(page):
             miss(page, f"{crate} stands on {' '.join(sorted(wanted))}, and not on {' '.join(sorted(told))}")
+    if not architecture.is_drawn():
+        miss(architecture.PICTURE, "is not what tools/architecture.py draws")
 
 
 def look_at_chain():

@@ -128,8 +128,8 @@ class Page(HTMLParser):
 @test(seconds=15)
 def its_figures_are_those_of_the_desk(t):
     made = Made(t)
-    lists = {word: listed(t, "ca.db", word) for word in ("certificates", "revoked", "open-requests", "overdue", "crls")}
-    t.true(len(made.crls) > 20 and len(lists["revoked"]) > 20 and lists["overdue"] and len(lists["open-requests"]) > len(lists["overdue"]), f"there is something of all: {[(word, len(it)) for word, it in lists.items()]}")
+    lists = {word: listed(t, "ca.db", word) for word in ("certificates", "revoked", "requests", "overdue", "crls")}
+    t.true(len(made.crls) > 20 and len(lists["revoked"]) > 20 and lists["overdue"] and {it["state"] for it in lists["requests"]} == {"open", "declined", "revoked", "expired"}, f"there is something of all: {[(word, len(it)) for word, it in lists.items()]}")
     desk = t.open("ca.db")
     url = f"http://127.0.0.1:{desk.port}"
     told = report(t, "--url", url, "--folder", "all", moment_of(made.begun), moment_of(made.now + DAY))
@@ -140,7 +140,7 @@ def its_figures_are_those_of_the_desk(t):
     counts = json.loads(parted(desk.ask("GET", "/counts"))[2])
     t.same({status: sum(row["status"] == status for row in certificates) for status in counts}, counts, "statuses beside counts")
     # Revocations.
-    names = ("serial", "subscriber", "name", "order", "revokedAt", "reason")
+    names = ("serial", "subscriber", "name", "order", "revokedAt", "reason", "request", "ground", "received", "due")
     revocations = table(t, "all", "revocations")
     t.same(columns(revocations, *names), columns(lists["revoked"], *names), "revocations")
     for row, of_list in zip(revocations, lists["revoked"]):
@@ -148,11 +148,18 @@ def its_figures_are_those_of_the_desk(t):
         at = made.crls[first]["thisUpdate"] if first in made.crls else ""
         after = str(program.seconds_of(at) - program.seconds_of(row["revokedAt"])) if at else ""
         t.same((row["firstCrl"], row["listedAt"], row["listedAfterSeconds"]), (str(first) if at else "", at, after), f"where {row['serial']} is listed")
+        t.same(row["lateSeconds"], str(max(0, program.seconds_of(row["revokedAt"]) - program.seconds_of(row["due"]))), f"how late {row['serial']} was revoked")
     # Requests.
-    names = ("request", "serial", "ground", "received", "due", "subscriber", "name")
+    names = ("request", "serial", "ground", "received", "due", "subscriber", "name", "state", "decided")
     requests = table(t, "all", "requests")
-    t.same(columns(requests, *names), columns(lists["open-requests"], *names), "open requests")
-    overdue = [row["request"] for row in requests if row["state"] == "overdue"]
+    t.same(columns(requests, *names), columns(lists["requests"], *names), "requests")
+    revoked = {row["request"]: row for row in revocations}
+    for row in requests:
+        if row["request"] in revoked:
+            t.same((row["decided"], row["lateSeconds"]), (revoked[row["request"]]["revokedAt"], revoked[row["request"]]["lateSeconds"]), f"request {row['request']} beside its revocation")
+        if row["state"] == "declined":
+            t.same((row["decided"], row["lateSeconds"]), ("", ""), "nobody knows when it was declined")
+    overdue = [row["request"] for row in requests if row["state"] == "open" and row["lateSeconds"] != "0"]
     t.same(overdue, [str(row["request"]) for row in lists["overdue"]], "overdue requests beside their list")
     t.same(t.counter().ask("overdue"), f"overdue {len(overdue)} first {overdue[0]}", "and beside the query")
     # CRLs: entries as the desk counted them, bytes as it gives them, due as it told before each.
@@ -174,20 +181,23 @@ def its_figures_are_those_of_the_desk(t):
 def the_page(t, told, certificates, revocations, requests, crls):
     """The page has the rows of the tables, and its findings are those that are printed."""
     page = Page((t.room / "all/report.html").read_text(encoding="utf-8"))
-    for heading, rows in (("CRLs", crls), ("Open requests", requests), ("Revocations", revocations), ("Certificates whose notBefore is in the time", certificates)):
+    for heading, rows in (("CRLs", crls), ("Requests", requests), ("Revocations", revocations), ("Certificates whose notBefore is in the time", certificates)):
         t.same(len(page.rows[heading]), len(rows) + 1, f"rows of {heading}")
     short = lambda serial: serial.lstrip("0")
     t.same([row[0] for row in page.rows["Revocations"][1:]], [short(row["serial"]) for row in revocations], "serial numbers")
     figures = {name.strip(): value for name, value in page.rows["Figures"]}
     late, gaps = sum(int(row["lateSeconds"]) > 2 * HOUR for row in crls), sum(row["gapSeconds"] != "0" for row in crls)
-    overdue = sum(row["state"] == "overdue" for row in requests)
+    behind = [row for row in requests if row["lateSeconds"] not in ("", "0")]
+    overdue = sum(row["state"] == "open" for row in behind)
+    t.same({row["state"] for row in behind}, {"open", "revoked", "expired"}, "late requests that came")
     t.true(late > 2 and gaps > 2, f"some CRLs were late, and some not there: {late}, {gaps}")
     wanted = {"Revocations": len(revocations), "CRLs": len(crls), "of them over two hours late": late, "of them overdue": overdue, "Times in which no CRL was valid": gaps,
-              "Certificates whose notBefore is in the time": len(certificates), "Open requests, received before the end of the time": len(requests)}
+              "Certificates whose notBefore is in the time": len(certificates), "Requests that are open, received before the end of the time": sum(row["state"] == "open" for row in requests),
+              "later than their deadline": sum(row["lateSeconds"] != "0" for row in revocations), "Requests that were declined, received in the time": sum(row["state"] == "declined" for row in requests)}
     t.same({name: figures[name] for name in wanted}, {name: str(number) for name, number in wanted.items()}, "figures")
     t.same(page.findings, told.splitlines()[:-1], "findings, as they are printed")
     t.same([it.split()[1] for it in page.findings if it.startswith("CRL ")], [row["crl"] for row in crls if int(row["lateSeconds"]) > 2 * HOUR or row["gapSeconds"] != "0"], "CRLs that are findings")
-    t.same(sum(it.startswith("Request ") for it in page.findings), overdue, "requests that are findings")
+    t.same([it.split()[1] for it in page.findings if it.startswith("Request ")], [row["request"] for row in behind], "requests that are findings")
     t.true(f"{len(page.findings)} findings" in told.splitlines()[-1], f"how many: {told.splitlines()[-1]}")
 
 
@@ -204,7 +214,11 @@ def a_part_of_the_time(t, made, url, desk, crls):
     inside = [dict(row) for row in crls if is_inside(row["thisUpdate"])]
     inside[0]["gapSeconds"] = str(program.seconds_of(gap["thisUpdate"]) - program.seconds_of(f"{begin}T00:00:00Z"))
     t.same(table(t, "part", "crls"), inside, "CRLs")
-    t.same([row["request"] for row in table(t, "part", "requests")], [row["request"] for row in table(t, "all", "requests") if row["received"][:10] < end], "open requests")
+    ended = {row["serial"]: row["notAfter"] for row in table(t, "all", "certificates")}
+    is_of_time = lambda row: row["state"] == "open" or is_inside(row["received"]) or is_inside(ended[row["serial"]] if row["state"] == "expired" else row["decided"])
+    of_part = [row["request"] for row in table(t, "all", "requests") if row["received"][:10] < end and is_of_time(row)]
+    t.same([row["request"] for row in table(t, "part", "requests")], of_part, "requests")
+    t.true(len(of_part) < len(table(t, "all", "requests")), "some requests are of another time")
     desk.end()
     report(t, "--register", "ca.db", "--folder", "closed", begin, end)
     for word in ("certificates", "revocations", "crls"):
@@ -215,7 +229,7 @@ def a_part_of_the_time(t, made, url, desk, crls):
 def a_register_with_nothing_in_it(t):
     t.register()
     told = report(t, "--register", "ca.db", "2026-01-01", "2026-02-01")
-    t.same(told, "audit-2026-01-01-2026-02-01/report.html: 0 certificates, 0 revocations, 0 open requests, 0 CRLs, 0 findings\n")
+    t.same(told, "audit-2026-01-01-2026-02-01/report.html: 0 certificates, 0 revocations, 0 requests, 0 CRLs, 0 findings\n")
     t.same(Page((t.room / "audit-2026-01-01-2026-02-01/report.html").read_text()).findings, [], "findings")
     for word in ("certificates", "revocations", "requests", "crls"):
         t.same(table(t, "audit-2026-01-01-2026-02-01", word), [], word)

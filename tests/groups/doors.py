@@ -161,14 +161,14 @@ def the_log_has_each_exchange_also_revocations_and_refusals(t):
     t.desk("at", "counter", given="revoke 1\nrevoke 1\nnonsense\n")
     opened.ask("GET", "/status/05")
     told = opened.end().told
-    bare = [re.sub(r"127\.0\.0\.1:\d+", "PEER", re.sub(r" \d+ \d+$", "", it)) for it in told]
-    at = "2026-01-02T00:00:00Z"
+    bare = [re.sub(r"127\.0\.0\.1:\d+", "PEER", re.sub(r'" \d+ \d+', '"', it)) for it in told]
+    at, serial = "2026-01-02T00:00:00Z", f"{5:040x}"
     t.same(
         bare,
         [
-            f'{at} PEER "POST /requests HTTP/1.1" "HTTP/1.1 200 OK"',
+            f'{at} PEER "POST /requests HTTP/1.1" "HTTP/1.1 200 OK" request 1 {serial} superseded',
             f'{at} PEER "GET /nowhere HTTP/1.1" "HTTP/1.1 404 Not Found"',
-            f'{at} counter "revoke 1" "revoked"',
+            f'{at} counter "revoke 1" "revoked" request 1 {serial}',
             f'{at} counter "revoke 1" "E19 revoked-before {at}"',
             f'{at} counter "nonsense" "E22 syntax"',
             f'{at} PEER "GET /status/05 HTTP/1.1" "HTTP/1.1 200 OK"',

@@ -10,14 +10,16 @@ from model import lines as model_lines
 from model.moments import DAY, read, text_of
 from model.register import Register
 
-WORDS = ("revoked", "certificates", "open-requests", "overdue", "subscribers", "orders", "crls")
+WORDS = ("revoked", "certificates", "open-requests", "overdue", "requests", "subscribers", "orders", "crls")
 OF_CERTIFICATES = "serial subscriber name order notBefore notAfter status revokedAt reason firstCrl lastCrl".split()
+OF_REVOCATIONS = [*OF_CERTIFICATES, *"request ground received due lateness".split()]
 OF_REQUESTS = "request serial ground received due subscriber name order notBefore notAfter".split()
+OF_HISTORIES = [*OF_REQUESTS, "state", "decided", "lateness"]
 FIELDS = {
-    "revoked": OF_CERTIFICATES, "certificates": OF_CERTIFICATES, "ending": OF_CERTIFICATES, "open-requests": OF_REQUESTS, "overdue": OF_REQUESTS,
+    "revoked": OF_REVOCATIONS, "requests": OF_HISTORIES, "certificates": OF_CERTIFICATES, "ending": OF_CERTIFICATES, "open-requests": OF_REQUESTS, "overdue": OF_REQUESTS,
     "subscribers": ["subscriber", "name"], "orders": ["order", "subscriber", "name", "days", "serial"], "crls": ["crl", "thisUpdate"],
 }  # fmt: skip
-NUMBERS = {"subscriber", "order", "reason", "firstCrl", "lastCrl", "request", "days", "crl"}
+NUMBERS = {"subscriber", "order", "reason", "firstCrl", "lastCrl", "request", "days", "crl", "lateness"}
 # Names with each byte that a name may have.
 NAMES = ("ABCDEFGHIJKLMNOPQRSTUVWXYZ", "abcdefghijklmnopqrstuvwxyz", "0123456789", "-._", "a" * 64, ".")
 MOST = 250
@@ -53,6 +55,27 @@ def of_certificate(register, now, it):
     return row
 
 
+def of_revocation(register, now, it):
+    revoked = register.revocations[it.serial]
+    led = register.requests[revoked.request - 1]
+    return {
+        **of_certificate(register, now, it), "request": revoked.request, "ground": led.ground.decode(), "received": text_of(led.received),
+        "due": text_of(led.due), "lateness": max(0, revoked.at - led.due),
+    }  # fmt: skip
+
+
+def of_history(register, now, id, it):
+    """What became of a request: one that is not declined is open until its certificate is revoked or has ended."""
+    row, status = of_request(register, id, it), register.status_of(now, it.serial)
+    if it.declined:
+        return {**row, "state": "declined", "decided": None, "lateness": None}
+    if status == "revoked":
+        at = register.revocations[it.serial].at
+        return {**row, "state": "revoked", "decided": text_of(at), "lateness": max(0, at - it.due)}
+    until = now if status == "good" else register.certificates[it.serial].not_after
+    return {**row, "state": "open" if status == "good" else "expired", "decided": None, "lateness": max(0, until - it.due)}
+
+
 def of_request(register, id, it):
     certificate = register.certificates[it.serial]
     return {
@@ -75,13 +98,15 @@ def rows_of(register, now, word, before=None):
     certificates = sorted(register.certificates.values(), key=lambda it: it.serial)
     requests = list(enumerate(register.requests, 1))
     if word == "revoked":
-        return [of_certificate(register, now, it) for it in certificates if it.serial in register.revocations]
+        return [of_revocation(register, now, it) for it in certificates if it.serial in register.revocations]
     if word == "certificates":
         return [of_certificate(register, now, it) for it in certificates]
     if word == "ending":
         return [of_certificate(register, now, it) for it in certificates if register.status_of(now, it.serial) == "good" and it.not_after < before]
     if word == "open-requests":
         return [of_request(register, id, it) for id, it in requests if is_open(register, now, it)]
+    if word == "requests":
+        return [of_history(register, now, id, it) for id, it in requests]
     if word == "overdue":
         return [of_request(register, id, it) for id, it in requests if is_open(register, now, it) and now > it.due]
     if word == "subscribers":
@@ -124,7 +149,7 @@ def entered(count=24):
         told.append(f"{text_of(FIRST + at * DAY // 4)} request {serial:x} {grounds[at % 6]}")
     told += [f"{text_of(FIRST + 5 * DAY)} {'decline' if at % 3 == 2 else 'revoke'} {at}" for at in range(1, 10)]
     told += [f"{text_of(FIRST + day * DAY)} crl" for day in (6, 13, 19)]
-    told += [f"{text_of(NOW)} revoke 17", f"{text_of(NOW)} request {serials[20]:x} asked"]
+    told += [f"{text_of(NOW)} revoke 17", f"{text_of(NOW)} request {serials[20]:x} asked", f"{text_of(NOW)} request {serials[10]:x} misuse"]
     return "".join(f"{it}\n" for it in told)
 
 
@@ -149,6 +174,11 @@ def each_list_has_its_rows(t):
     for word in WORDS:
         t.true(rows_of(register, NOW, word), f"no row of {word} came")
     t.same({it["status"] for it in rows_of(register, NOW, "certificates")}, {"good", "revoked", "expired"}, "statuses that came")
+    # Each state came, and of each a request in time and one that was late; of a declined one nobody knows.
+    requests = rows_of(register, NOW, "requests") + rows_of(register, NOW + 400 * DAY, "requests")
+    t.same({it["state"] for it in requests}, {"open", "declined", "revoked", "expired"}, "states that came")
+    for state in ("open", "revoked", "expired"):
+        t.same({it["lateness"] > 0 for it in requests if it["state"] == state}, {True, False}, f"late and in time, of {state}")
 
 
 @test
@@ -185,6 +215,62 @@ def the_machines_clock_tells_the_moment(t):
     for words, line in ((("--now", "2026-01-01T00:00:00Z"), f"E01 clock-back {text_of(NOW)}"), (("--now", "9999-12-22T00:00:00Z"), "E02 clock-end")):
         ran = t.desk("list", "ca.db", "crls", *words)
         t.same((ran.status, ran.out, ran.err), (1, b"", f"{line}\n".encode()), str(words))
+
+
+# Filters
+
+
+MOMENT_OF = {"revoked": "revokedAt", "crls": "thisUpdate", "certificates": "notBefore", "ending": "notBefore", "requests": "received", "open-requests": "received", "overdue": "received"}
+OF_SUBSCRIBER, OF_SERIAL = {"--subscriber": "a" * 64}, {"--serial": "8"}
+
+
+def is_wanted(word, row, told):
+    """Whether the row of a list has what is told."""
+    moment = row.get(MOMENT_OF.get(word))
+    serial, prefix = row.get("serial"), told.get("--serial", "").lower()
+    return all((
+        "--subscriber" not in told or row.get("name") == told["--subscriber"],
+        "--serial" not in told or serial is not None and (serial.startswith(prefix) or serial.lstrip("0").startswith(prefix)),
+        "--from" not in told or moment >= told["--from"],
+        "--to" not in told or moment < told["--to"],
+    ))  # fmt: skip
+
+
+def takes(word, told):
+    """Whether the rows of a list have what is told."""
+    wanted = {it.removeprefix("--") for it in told}
+    return not wanted & {"crls": {"subscriber", "serial"}, "subscribers": {"serial", "from", "to"}, "orders": {"from", "to"}}.get(word, set())
+
+
+DAYS = {"--from": text_of(FIRST + DAY), "--to": text_of(FIRST + 5 * DAY)}
+TOLD = {
+    "a subscriber": OF_SUBSCRIBER, "another": {"--subscriber": "0123456789"}, "nobody": {"--subscriber": "nobody"}, "the begin of serial numbers": OF_SERIAL,
+    "in capitals": {"--serial": "0A"}, "with zeros": {"--serial": "0" * 38}, "one serial number": {"--serial": serial_text(1)},
+    "a digit": {"--serial": "1"}, "from": {"--from": DAYS["--from"]}, "to": {"--to": DAYS["--to"]}, "days": DAYS, "no time at all": {"--from": DAYS["--to"], "--to": DAYS["--from"]},
+    "all": {**OF_SUBSCRIBER, **OF_SERIAL, **DAYS},
+}  # fmt: skip
+
+
+@each({name: (told,) for name, told in TOLD.items()}, seconds=6)
+def a_filter_leaves_the_rows_that_are_wanted(t, told):
+    register = made(t, entered())
+    t.clock(NOW)
+    words = [it for option, value in told.items() for it in (option, value)]
+    lists = [*((it, {}) for it in WORDS), ("ending", {"before": text_of(NOW + 1000 * DAY)})]
+    taken = [(word, more, [it for it in rows_of(register, NOW, word, NOW + 1000 * DAY) if is_wanted(word, it, told)]) for word, more in lists if takes(word, told)]
+    for word, more, rows in taken:
+        before = NOW + 1000 * DAY if more else None
+        t.same(t.done(*asked(t, word, before, *words)), as_csv(word, rows), f"{word} as CSV")
+        t.same(t.done(*asked(t, word, before, *words, "--json")), as_lines([in_fields(word, it) for it in rows]), f"{word} as JSON")
+    desk = t.open()
+    query = {option.removeprefix("--"): value for option, value in told.items()}
+    for word, more, rows in taken:
+        for limit in (5, 250):
+            t.same(pages(t, desk, word, limit, **more, **query)[0], [in_fields(word, it) for it in rows], f"{word} by {limit}")
+    for word, _ in lists:
+        if not takes(word, told):
+            status, _, body = parted(desk.ask("GET", f"/list/{word}?" + "&".join(f"{name}={it}" for name, it in query.items())))
+            t.same((status, body), (400, b'{"error":"E22 syntax"}'), word)
 
 
 # Pages of an open desk
@@ -257,6 +343,9 @@ UNREAD = (
     "revoked?after=", "revoked?after=0", "revoked?after=xyz", "revoked?after=" + "f" * 41, "subscribers?after=5a", "subscribers?after=-1",
     "subscribers?after=1000000000000000000", "revoked?limit=0", "revoked?limit=1001", "revoked?limit=", "revoked?limit=1&limit=1", "revoked?after=05&after=06",
     "revoked?limit", "revoked?limit=1&", "revoked?&limit=1", "revoked?page=1", "revoked?Limit=1", "revoked?limit=1;after=05",
+    "revoked?subscriber=", "revoked?subscriber=" + "a" * 65, "revoked?serial=", "revoked?serial=xyz", "revoked?serial=" + "0" * 41, "revoked?from=2026-01-01", "revoked?to=",
+    "revoked?from=2026-01-01T00:00:00Z&from=2026-01-01T00:00:00Z", "revoked?serial=1&serial=1", "crls?serial=1", "crls?subscriber=a", "orders?from=2026-01-01T00:00:00Z",
+    "subscribers?to=2026-01-01T00:00:00Z", "subscribers?serial=1",
 )  # fmt: skip
 
 

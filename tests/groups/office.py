@@ -133,6 +133,7 @@ def the_office_view_shows_what_the_desk_says(t):
     t.same([(row[0], *row[2:]) for row in cells], told, "open requests")
     t.same(cells[0][1].split(" ")[0], "overdue")
     t.same([(row[0], row[3]) for row in (row.split("|") for row in rows(browser, "endingrows"))], [(shown(end), f"{serial:x}") for end, serial in soon], "certificates that end soon")
+    recent(t, desk, browser)
     gaps_and_plot(t, year, browser)
     months(t, year, browser)
     t.same(texts(browser, "health", "fault", "issuer"), ["failing", "", "Example CA"], "health; no fault; the issuer")
@@ -170,16 +171,28 @@ def gaps_and_plot(t, year, browser):
 
 
 def months(t, year, browser):
-    """Each month's revocations by the grounds of one reason."""
-    columns = [("key-compromise",), ("control-lost", "superseded", "nonconforming"), ("unauthorized", "misuse", "inaccurate"), ("cessation", "name-not-permitted"), ("affiliation",), ("asked",)]
-    t.same(browser.value("Array.from(document.querySelectorAll('#monthshead th'), it => it.innerText.trim().replaceAll('\\n', ' ')).slice(3)"), [", ".join(it) for it in columns], "the columns")
+    """Each month's revocations by their grounds, of which each that came has a column."""
+    columns = ["key-compromise", "control-lost", "superseded", "unauthorized", "misuse", "cessation", "affiliation", "asked"]
+    t.same(browser.value("Array.from(document.querySelectorAll('#monthshead th'), it => it.innerText.trim().replaceAll('\\n', '')).slice(3)"), columns, "the columns")
     wanted = {}
     for at, ground in year.revoked:
         month = wanted.setdefault(time.strftime("%Y-%m", time.gmtime(at)), [0] * len(columns))
-        month[next(place for place, it in enumerate(columns) if ground in it)] += 1
+        month[columns.index(ground)] += 1
     got = {cells[0]: cells[2:] for cells in (row.split("|") for row in rows(browser, "monthrows"))}
     t.same(max(wanted) in got and min(wanted) == list(got)[-1], True, f"months up to the first revocation: {list(got)}")
     t.same({month: cells for month, cells in got.items() if cells[0] != "0"}, {month: [str(sum(it)), *(str(n) if n else "·" for n in it)] for month, it in wanted.items()}, "revocations by month")
+
+
+def recent(t, desk, browser):
+    """The requests of the last 30 days, the latest first, with what the list of all tells of each."""
+    listed = json.loads(desk.ask("GET", "/list/requests").split(b"\r\n\r\n")[1])["rows"]
+    of_days = [it for it in reversed(listed) if it["received"] >= moment_of(authority.now() - 30 * DAY)]
+    t.same({it["state"] for it in of_days} >= {"open", "revoked", "declined"}, True, "states that came")
+    cells = [row.split("|") for row in rows(browser, "recentrows")]
+    when = lambda text: text[:16].replace("T", " ") if text else "–"
+    told = [["!" * bool(it["lateness"]) + when(it["received"]), str(it["request"]), it["ground"], it["name"], it["serial"].lstrip("0"), it["state"], when(it["decided"])] for it in of_days]
+    t.same([row[:7] for row in cells], told, "requests of the last days")
+    t.same([row[7] != "–" for row in cells], [bool(it["lateness"]) for it in of_days], "which of them were late")
 
 
 def later(t, year, desk, browser, overdue):
@@ -207,10 +220,10 @@ def later(t, year, desk, browser, overdue):
 def a_new_register(t):
     _, _, front, browser = opened(t)
     load(browser, front)
-    t.same(texts(browser, "good", "open", "overdue", "ending", "requestsnote", "endingnote", "crlsnote", "monthsnote", "health", "fault"),
-           ["0", "0", "0", "0", "none", "none", "none was issued yet", "none", "failing", ""], "what is shown")  # fmt: skip
+    t.same(texts(browser, "good", "open", "overdue", "ending", "requestsnote", "recentnote", "endingnote", "crlsnote", "monthsnote", "health", "fault"),
+           ["0", "0", "0", "0", "none", "none", "none", "none was issued yet", "none", "failing", ""], "what is shown")  # fmt: skip
     t.has("\n".join(rows(browser, "healthrows")), "no CRL was issued yet", "why")
-    t.same([rows(browser, name) for name in ("requestrows", "endingrows", "gaprows", "monthrows")], [[]] * 4, "rows")
+    t.same([rows(browser, name) for name in ("requestrows", "recentrows", "endingrows", "gaprows", "monthrows")], [[]] * 5, "rows")
     t.same(complaints(browser), [], "what the page complained of")
 
 

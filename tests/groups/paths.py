@@ -111,7 +111,7 @@ def a_responder(t, beginning):
     need("curl", "bash")
     authority.need_cryptography(t)
     port = str(program.free_port())
-    asks = re.search(r"^`(openssl ocsp -issuer ca\.pem [^`]*)` says `Response verify OK`", document(), re.MULTILINE)[1]
+    asks = re.search(r"^`(openssl ocsp -issuer ca\.pem [^`]*)` then prints `Response verify OK`", document(), re.MULTILINE)[1]
     lines = [*of_a_responder(beginning, port), asks.replace("8080", port)]
     told = typed(t, folder_of(t), [*block("From the repository", "./desk init"), *lines])
     ends_well(t, told, crls=2, answers=2, replies=("created\n", "crl 1 entries 0\n", "crl 2 entries 0\n"))

@@ -188,7 +188,7 @@ def a_responder_is_told_whole(t, words, named):
         t.has(refused(t, *command, *words), f"{named}: {TOGETHER}")
 
 
-LISTED = "a list is revoked, certificates, ending, open-requests, overdue, subscribers, orders or crls; ending wants --before, and no other takes it"
+LISTED = "a list is revoked, certificates, ending, open-requests, overdue, requests, subscribers, orders or crls; ending wants --before, and no other takes it; crls takes neither --subscriber nor --serial, orders no --from or --to, subscribers --subscriber alone"
 
 
 @each({
@@ -197,9 +197,24 @@ LISTED = "a list is revoked, certificates, ending, open-requests, overdue, subsc
     "no word": ("",),
     "ending without a moment": ("ending",),
     "another with one": ("revoked", "--before=2026-01-01T00:00:00Z"),
+    "CRLs of a subscriber": ("crls", "--subscriber=acme"),
+    "CRLs by serial number": ("crls", "--serial=0a"),
+    "orders of a time": ("orders", "--from=2026-01-01T00:00:00Z"),
+    "subscribers of a time": ("subscribers", "--to=2026-01-01T00:00:00Z"),
+    "subscribers by serial number": ("subscribers", "--serial=0a"),
 })
 def a_list_has_its_word(t, *words):
     t.same(refused(t, "list", "none.db", *words).splitlines()[0], f"error: {LISTED}", "the one line that says which there are")
+
+
+@each({" ".join(it)[:40]: it for it in (
+    ("--subscriber", "", "a subscriber's name is 1 to 64 bytes"), ("--subscriber", "a" * 65, "a subscriber's name is 1 to 64 bytes"),
+    ("--serial", "", "a serial number begins with 1 to 40 hexadecimal digits"), ("--serial", "0x1f", "a serial number begins with 1 to 40 hexadecimal digits"),
+    ("--serial", "0" * 41, "a serial number begins with 1 to 40 hexadecimal digits"), ("--from", "2026-01-01", "a moment is written as 2026-01-01T00:00:00Z"),
+    ("--to", "", "a moment is written as 2026-01-01T00:00:00Z"),
+)})
+def what_a_filter_tells_has_a_form(t, option, value, wanted):
+    t.same(refused(t, "list", "none.db", "requests", f"{option}={value}").splitlines()[0], f"error: invalid value '{value}' for '{option}': {wanted}")
 
 
 @each({" ".join(it): it for it in (
@@ -237,8 +252,8 @@ def the_version_is_told(t, word):
 
 # What is told of each command.
 HELPED = {
-    "--help": ("init", "script", "import", "crl", "serve", "open", "at", "schedule", "key-id", "list", "copy", "audit", "--why", "-V, --version"),
-    "-h": ("init", "script", "import", "crl", "serve", "open", "at", "schedule", "key-id", "list", "copy", "audit"),
+    "--help": ("init", "script", "import", "crl", "serve", "open", "at", "replay", "schedule", "key-id", "list", "copy", "audit", "--why", "-V, --version"),
+    "-h": ("init", "script", "import", "crl", "serve", "open", "at", "replay", "schedule", "key-id", "list", "copy", "audit"),
     "init --help": ("<FILE>", "--name <HEX>", "--key <HEX>", "--key-id <HEX>", "--days <N>", "--crl-life <N>", "--ocsp-life <N>", "--cap <N>", "--why"),
     "init -h": ("<FILE>", "--name <HEX>"),
     "script --help": ("[FILE]", "--signer <SOCKET>", "--algorithm <NAME>", "--clock", "--strict", "--why", "desk script ca.db"),
@@ -247,6 +262,7 @@ HELPED = {
     "serve --help": ("<FILE>", "--port <N>", "--requests <N>", "--signer <SOCKET>", "--algorithm <NAME>", *RESPONDER_HELP, "--log", "--log-file <PATH>", "--why"),
     "open --help": ("<FILE>", "--port <N>", "--counter <SOCKET>", "--signer <SOCKET>", "--algorithm <NAME>", "--unsigned", *RESPONDER_HELP, "--log", "--log-file <PATH>", "--why"),
     "at --help": ("<SOCKET>", "--why", "desk at ca.counter"),
+    "replay --help": ("<SOCKET>", "<LOG>", "--why", "desk replay ca.counter ca.log"),
     "schedule F --help": ("<FILE>", "<MOMENT=DAYS>...", "--why"),
     "key-id --help": ("<FILE>", "<HEX>", "--why"),
     "list --help": ("<FILE>", "<LIST>", "--before <MOMENT>", "--now <MOMENT>", "--json", "--why", "desk list ca.db revoked"),
@@ -280,7 +296,8 @@ TAKEN = {
     "strict before --": ("script", "--strict", "--", "none.db"),
     "a strict import": ("import", "none.db", "--now", "2026-01-01T00:00:00Z", "--strict"),
     "a strict import, strict first": ("import", "--strict", "none.db", "--now=2026-01-01T00:00:00Z"),
-    **{f"the list {it}": ("list", "none.db", it) for it in ("revoked", "certificates", "open-requests", "overdue", "subscribers", "orders", "crls")},
+    **{f"the list {it}": ("list", "none.db", it) for it in ("revoked", "certificates", "open-requests", "overdue", "requests", "subscribers", "orders", "crls")},
+    "a list with all that a filter tells": ("list", "none.db", "requests", "--serial=0A", "--from=2026-01-01T00:00:00Z", "--to", "2026-02-01T00:00:00Z", "--subscriber", "acme"),
     "the list of what ends, with all options": ("list", "--json", "--now", "2026-01-01T00:00:00Z", "none.db", "ending", "--before=9999-12-31T23:59:59Z"),
     "a schedule of 16 steps": (*SCHEDULE, FIRST_STEP, *[f"20{it}-01-01T00:00:00Z=0{it}" for it in range(27, 42)]),
     **{

@@ -74,6 +74,8 @@ class Revocation:
     at: int
     reason: int
     first: int
+    # The id of the request that led to it.
+    request: int
 
 
 @dataclass
@@ -166,7 +168,7 @@ class Register:
 
     def revoke(self, now, number):
         request = self.open_request(now, number)
-        self.revocations[request.serial] = Revocation(request.serial, now, GROUNDS[request.ground][1], len(self.crls) + 1)
+        self.revocations[request.serial] = Revocation(request.serial, now, GROUNDS[request.ground][1], len(self.crls) + 1, number)
         return "revoked late" if now > request.due else "revoked"
 
     def crl(self, now):

@@ -22,38 +22,38 @@ module _ (left : ℕ) (rest : List ℕ) (params : Params) where
   one_piece = refl
 
 -- With so many pieces read, where a piece ends.
-module _ (read : ℕ) (rest : List ℕ) (params : Params) (end : ℕ) (below : read < 3) (is : end ≡ position_or_len (λ byte. byte == 38) rest) where
-  left_one : params_from (3 - read) rest params ≡ params_from (suc (3 - (read + 1))) rest params
-  left_one = let more : 3 - read ≡ suc (3 - (read + 1)) = omega arith in ap (λ n. params_from n rest params) more
+module _ (read : ℕ) (rest : List ℕ) (params : Params) (end : ℕ) (below : read < 7) (is : end ≡ position_or_len (λ byte. byte == 38) rest) where
+  left_one : params_from (7 - read) rest params ≡ params_from (suc (7 - (read + 1))) rest params
+  left_one = let more : 7 - read ≡ suc (7 - (read + 1)) = omega arith in ap (λ n. params_from n rest params) more
 
-  at_piece : (found : Option Params) → found ≡ with_piece params (take end rest) → params_from (3 - read) rest params ≡ option_and_then (goes_on (3 - (read + 1)) rest params) found
+  at_piece : (found : Option Params) → found ≡ with_piece params (take end rest) → params_from (7 - read) rest params ≡ option_and_then (goes_on (7 - (read + 1)) rest params) found
   at_piece found told =
-      left_one ∙ one_piece (3 - (read + 1)) rest params
-      ∙ ap (option_and_then (goes_on (3 - (read + 1)) rest params)) (sym (told ∙ ap (λ n. with_piece params (take n rest)) is))
+      left_one ∙ one_piece (7 - (read + 1)) rest params
+      ∙ ap (option_and_then (goes_on (7 - (read + 1)) rest params)) (sym (told ∙ ap (λ n. with_piece params (take n rest)) is))
 
   -- it can't be read
-  pub unread_piece : None ≡ with_piece params (take end rest) → params_from (3 - read) rest params ≡ None
+  pub unread_piece : None ≡ with_piece params (take end rest) → params_from (7 - read) rest params ≡ None
   unread_piece told = at_piece None told
 
   -- it is the last
-  pub last_piece : (more : Params) → Some more ≡ with_piece params (take end rest) → end ≡ length rest → params_from (3 - read) rest params ≡ Some more
+  pub last_piece : (more : Params) → Some more ≡ with_piece params (take end rest) → end ≡ length rest → params_from (7 - read) rest params ≡ Some more
   last_piece more told last =
       let test : (position_or_len (λ byte. byte == 38) rest == length rest) ≡ true = grind (arith, nat_tests) in
-      at_piece (Some more) told ∙ ap (λ b. cond b (Some more) (params_from (3 - (read + 1)) (drop (position_or_len (λ byte. byte == 38) rest + 1) rest) more)) test
+      at_piece (Some more) told ∙ ap (λ b. cond b (Some more) (params_from (7 - (read + 1)) (drop (position_or_len (λ byte. byte == 38) rest + 1) rest) more)) test
 
   -- more follow
   pub next_piece : (more : Params) → Some more ≡ with_piece params (take end rest) → (end ≡ length rest → ⊥)
-      → params_from (3 - read) rest params ≡ params_from (3 - (read + 1)) (drop (end + 1) rest) more
+      → params_from (7 - read) rest params ≡ params_from (7 - (read + 1)) (drop (end + 1) rest) more
   next_piece more told other =
       let test : (position_or_len (λ byte. byte == 38) rest == length rest) ≡ false = grind (arith, nat_tests) in
-      at_piece (Some more) told ∙ ap (λ b. cond b (Some more) (params_from (3 - (read + 1)) (drop (position_or_len (λ byte. byte == 38) rest + 1) rest) more)) test
-      ∙ ap (λ n. params_from (3 - (read + 1)) (drop (n + 1) rest) more) (sym is)
+      at_piece (Some more) told ∙ ap (λ b. cond b (Some more) (params_from (7 - (read + 1)) (drop (position_or_len (λ byte. byte == 38) rest + 1) rest) more)) test
+      ∙ ap (λ n. params_from (7 - (read + 1)) (drop (n + 1) rest) more) (sym is)
 
 -- any
-pub some_told : (told : List ℕ) (empty : Bool) → empty ≡ (length told == 0) → empty ≡ false → params_of told ≡ params_from 3 told no_params
+pub some_told : (told : List ℕ) (empty : Bool) → empty ≡ (length told == 0) → empty ≡ false → params_of told ≡ params_from 7 told no_params
 some_told [] empty is told_some = absurd (false≢true (sym told_some ∙ is))
 some_told (byte ∷ told) empty is told_some = refl
 
 -- too many
-pub too_many : (read : ℕ) (rest : List ℕ) (params : Params) → 3 ≤ read → params_from (3 - read) rest params ≡ None
-too_many read rest params past = let none : 3 - read ≡ 0 = omega arith in ap (λ n. params_from n rest params) none
+pub too_many : (read : ℕ) (rest : List ℕ) (params : Params) → 7 ≤ read → params_from (7 - read) rest params ≡ None
+too_many read rest params past = let none : 7 - read ≡ 0 = omega arith in ap (λ n. params_from n rest params) none

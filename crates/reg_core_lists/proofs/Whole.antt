@@ -10,10 +10,10 @@ use Rattle.reg_core.specs.declared.rows.OrderRow.{OrderRow}
 use Rattle.reg_core.specs.declared.rows.RequestRow.{RequestRow}
 use Rattle.reg_core.specs.declared.rows.RevocationRow.{RevocationRow}
 use Rattle.reg_core.specs.declared.rows.SubscriberRow.{SubscriberRow}
-use Rattle.reg_core_lists.specs.Lists.{certificate_row, crl_row, ending_row, key_of, next_behind, open_row, order_row, overdue_row, page, past, revoked_row, rows_from, subscriber_row}
+use Rattle.reg_core_lists.specs.Lists.{certificate_row, crl_row, ending_row, history_row, key_of, next_behind, open_row, order_row, overdue_row, page, past, revoked_row, rows_from, subscriber_row}
 use Rattle.reg_core_lists.specs.Pages.{ArePages}
 use Rattle.reg_core_lists.specs.declared.cursor.Cursor.{Cursor}
-use Rattle.reg_core_lists.specs.declared.cursor.Cursor.TheVariants.{Revoked, Certificates, Ending, OpenRequests, Overdue, Subscribers, Orders, Crls}
+use Rattle.reg_core_lists.specs.declared.cursor.Cursor.TheVariants.{Revoked, Certificates, Ending, OpenRequests, Overdue, Requests, Subscribers, Orders, Crls}
 use Rattle.reg_core_lists.specs.declared.rows.Row.{Row}
 use Rattle.reg_core_lists.proofs.Orders.{last_of, numbers_differ, past_behind, taken_whole}
 
@@ -61,6 +61,9 @@ module _ (records : Records) (now m : ℕ) where
       (numbers_differ (λ (row : RequestRow). row.id) 1 records.requests sound.requests.numbered) (λ k. refl) after
   page_step sound (Overdue after) =
       step_over (λ (row : RequestRow). row.id) (overdue_row records now) (λ id. Overdue id) records.requests
+      (numbers_differ (λ (row : RequestRow). row.id) 1 records.requests sound.requests.numbered) (λ k. refl) after
+  page_step sound (Requests after) =
+      step_over (λ (row : RequestRow). row.id) (history_row records now) (λ id. Requests id) records.requests
       (numbers_differ (λ (row : RequestRow). row.id) 1 records.requests sound.requests.numbered) (λ k. refl) after
   page_step sound (Subscribers after) =
       step_over (λ (row : SubscriberRow). row.id) subscriber_row (λ id. Subscribers id) records.subscribers

@@ -4,7 +4,7 @@ use Rattle.reg_core.specs.Number.{number_of}
 use Rattle.reg_core.specs.Serial.{serial_of}
 use Rattle.reg_core_lists.specs.Fields.{serial_or_empty}
 use Rattle.reg_core_lists.specs.declared.cursor.Cursor.{Cursor}
-use Rattle.reg_core_lists.specs.declared.cursor.Cursor.TheVariants.{Revoked, Certificates, Ending, OpenRequests, Overdue, Subscribers, Orders, Crls}
+use Rattle.reg_core_lists.specs.declared.cursor.Cursor.TheVariants.{Revoked, Certificates, Ending, OpenRequests, Overdue, Requests, Subscribers, Orders, Crls}
 use Rattle.reg_core_lists.specs.declared.fields.Cell.{Cell}
 use Rattle.reg_core_lists.specs.declared.fields.Cell.TheVariants.{Number}
 
@@ -15,6 +15,7 @@ list_words =
     ∷ (codes "certificates", Certificates None)
     ∷ (codes "open-requests", OpenRequests 0)
     ∷ (codes "overdue", Overdue 0)
+    ∷ (codes "requests", Requests 0)
     ∷ (codes "subscribers", Subscribers 0)
     ∷ (codes "orders", Orders 0)
     ∷ (codes "crls", Crls 0)
@@ -32,6 +33,7 @@ cursor_past key (Certificates after) = option_map (λ serial. Certificates (Some
 cursor_past key (Ending before after) = option_map (λ serial. Ending before (Some serial)) (serial_of key)
 cursor_past key (OpenRequests after) = option_map (λ id. OpenRequests id) (number_of key)
 cursor_past key (Overdue after) = option_map (λ id. Overdue id) (number_of key)
+cursor_past key (Requests after) = option_map (λ id. Requests id) (number_of key)
 cursor_past key (Subscribers after) = option_map (λ id. Subscribers id) (number_of key)
 cursor_past key (Orders after) = option_map (λ id. Orders id) (number_of key)
 cursor_past key (Crls after) = option_map (λ number. Crls number) (number_of key)
@@ -43,6 +45,7 @@ list_word (Certificates after) = codes "certificates"
 list_word (Ending before after) = codes "ending"
 list_word (OpenRequests after) = codes "open-requests"
 list_word (Overdue after) = codes "overdue"
+list_word (Requests after) = codes "requests"
 list_word (Subscribers after) = codes "subscribers"
 list_word (Orders after) = codes "orders"
 list_word (Crls after) = codes "crls"
@@ -54,6 +57,7 @@ key_cell (Certificates after) = serial_or_empty after
 key_cell (Ending before after) = serial_or_empty after
 key_cell (OpenRequests after) = Number after
 key_cell (Overdue after) = Number after
+key_cell (Requests after) = Number after
 key_cell (Subscribers after) = Number after
 key_cell (Orders after) = Number after
 key_cell (Crls after) = Number after

@@ -1,5 +1,5 @@
 -- The fields of each kind of row: names, and what stands in them.
-use Rattle.std.specs.Prelude.{ℕ, List, [], ◌∷◌, ◌++◌, Option, Some, None, codes, decimal}
+use Rattle.std.specs.Prelude.{ℕ, Bool, true, false, ◌-◌, List, [], ◌∷◌, ◌++◌, Option, Some, None, codes, decimal, cond}
 use Rattle.reg_core.specs.Calendar.{moment_text}
 use Rattle.reg_core.specs.Serial.{serial_text}
 use Rattle.reg_core.specs.declared.command.Listing.{Listing}
@@ -14,9 +14,11 @@ use Rattle.reg_core_lists.specs.declared.fields.Cell.TheVariants.{Empty, Number,
 use Rattle.reg_core_lists.specs.declared.fields.Field.{Field}
 use Rattle.reg_core_lists.specs.declared.rows.CertificateLine.{CertificateLine}
 use Rattle.reg_core_lists.specs.declared.rows.OrderLine.{OrderLine}
+use Rattle.reg_core_lists.specs.declared.rows.RequestHistory.{RequestHistory}
 use Rattle.reg_core_lists.specs.declared.rows.RequestLine.{RequestLine}
+use Rattle.reg_core_lists.specs.declared.rows.RevokedLine.{RevokedLine}
 use Rattle.reg_core_lists.specs.declared.rows.Row.{Row}
-use Rattle.reg_core_lists.specs.declared.rows.Row.TheVariants.{Certificate, Request, Subscriber, Order, Crl}
+use Rattle.reg_core_lists.specs.declared.rows.Row.TheVariants as kind
 
 -- a field: its name, and what stands there
 abbrev pub told_field : Field → List ℕ × Cell
@@ -29,13 +31,26 @@ status_word Good = codes "good"
 status_word Expired = codes "expired"
 status_word (Revoked at reason) = codes "revoked"
 
--- the moment of revocation (RFC 5280 5.1.2.6), and its reasonCode (5.3.1)
+-- the moment of revocation (RFC 5280 5.1.2.6)
 abbrev pub revoked_at_cell : Status → Cell
 revoked_at_cell (Revoked at reason) = At at
 revoked_at_cell Unknown = Empty
 revoked_at_cell Good = Empty
 revoked_at_cell Expired = Empty
 
+-- the state of a request, by whether it was declined and by the status of its certificate
+abbrev pub state_word : Bool → Status → List ℕ
+state_word true status = codes "declined"
+state_word false Good = codes "open"
+state_word false (Revoked at reason) = status_word (Revoked at reason)
+state_word false Expired = status_word Expired
+state_word false Unknown = status_word Unknown
+
+-- the moment at which its certificate was revoked; of a declined one no record holds when that was
+abbrev pub decided_cell : Bool → Status → Cell
+decided_cell declined status = cond declined Empty (revoked_at_cell status)
+
+-- its reasonCode (RFC 5280 5.3.1)
 abbrev pub reason_cell : Status → Cell
 reason_cell (Revoked at reason) = Number reason
 reason_cell Unknown = Empty
@@ -89,6 +104,17 @@ certificate_fields line =
     ∷ (codes "lastCrl", last_listing_cell line.listing)
     ∷ []
 
+-- of a revocation those of its certificate, and behind them those of its request
+abbrev pub revoked_fields : RevokedLine → List (List ℕ × Cell)
+revoked_fields line =
+    certificate_fields line.certificate
+    ++ ((codes "request", Number line.request.id)
+    ∷ (codes "ground", Text (ground_word line.request.ground))
+    ∷ (codes "received", At line.request.received)
+    ∷ (codes "due", At line.due)
+    ∷ (codes "lateness", Number (line.revocation.at - line.due))
+    ∷ [])
+
 abbrev pub request_fields : RequestLine → List (List ℕ × Cell)
 request_fields line =
     (codes "request", Number line.request.id)
@@ -102,6 +128,14 @@ request_fields line =
     ∷ (codes "notBefore", At line.certificate.not_before)
     ∷ (codes "notAfter", At line.certificate.not_after)
     ∷ []
+
+abbrev pub history_fields : RequestHistory → List (List ℕ × Cell)
+history_fields history =
+    request_fields history.request
+    ++ ((codes "state", Text (state_word history.request.request.declined history.status))
+    ∷ (codes "decided", decided_cell history.request.request.declined history.status)
+    ∷ (codes "lateness", number_or_empty history.lateness)
+    ∷ [])
 
 abbrev pub subscriber_fields : SubscriberRow → List (List ℕ × Cell)
 subscriber_fields subscriber =
@@ -126,11 +160,13 @@ crl_fields crl =
 
 -- the same of any row
 abbrev pub row_fields : Row → List (List ℕ × Cell)
-row_fields (Certificate line) = certificate_fields line
-row_fields (Request line) = request_fields line
-row_fields (Subscriber subscriber) = subscriber_fields subscriber
-row_fields (Order line) = order_fields line
-row_fields (Crl crl) = crl_fields crl
+row_fields (kind.Certificate line) = certificate_fields line
+row_fields (kind.Revoked line) = revoked_fields line
+row_fields (kind.Request line) = request_fields line
+row_fields (kind.History history) = history_fields history
+row_fields (kind.Subscriber subscriber) = subscriber_fields subscriber
+row_fields (kind.Order line) = order_fields line
+row_fields (kind.Crl crl) = crl_fields crl
 
 -- what stands in a field, as its bytes
 unfoldable pub plain_text : Cell → List ℕ

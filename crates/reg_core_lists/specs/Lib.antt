@@ -1,6 +1,7 @@
 pub mod Asked
 pub mod Cursors
 pub mod Fields
+pub mod Filters
 pub mod Lists
 pub mod Pages
 pub mod Texts

@@ -3,19 +3,22 @@ use Rattle.std.specs.Prelude.{◌≡◌, ℕ, Bool, ◌&&◌, ◌-◌, ◌==◌,
 use Rattle.reg_core.specs.Crls.{row_of}
 use Rattle.reg_core.specs.Due.{deadline, is_open}
 use Rattle.reg_core.specs.Queries.{listing}
-use Rattle.reg_core.specs.Records.{Records, Crl, certificate_in, certificate_of_order, order_in, revocation_in, subscriber_in}
-use Rattle.reg_core.specs.Status.{is_good, status_by}
+use Rattle.reg_core.specs.Records.{Records, Crl, certificate_in, certificate_of_order, order_in, request_in, revocation_in, subscriber_in}
+use Rattle.reg_core.specs.Status.{is_good, status, status_by}
 use Rattle.reg_core.specs.declared.command.Status.{Status}
+use Rattle.reg_core.specs.declared.command.Status.TheVariants as state
 use Rattle.reg_core.specs.declared.rows.CertRow.{CertRow}
 use Rattle.reg_core.specs.declared.rows.OrderRow.{OrderRow}
 use Rattle.reg_core.specs.declared.rows.RequestRow.{RequestRow}
 use Rattle.reg_core.specs.declared.rows.RevocationRow.{RevocationRow}
 use Rattle.reg_core.specs.declared.rows.SubscriberRow.{SubscriberRow}
 use Rattle.reg_core_lists.specs.declared.cursor.Cursor.{Cursor}
-use Rattle.reg_core_lists.specs.declared.cursor.Cursor.TheVariants.{Revoked, Certificates, Ending, OpenRequests, Overdue, Subscribers, Orders, Crls}
+use Rattle.reg_core_lists.specs.declared.cursor.Cursor.TheVariants.{Revoked, Certificates, Ending, OpenRequests, Overdue, Requests, Subscribers, Orders, Crls}
 use Rattle.reg_core_lists.specs.declared.rows.CertificateLine.{CertificateLine}
 use Rattle.reg_core_lists.specs.declared.rows.OrderLine.{OrderLine}
+use Rattle.reg_core_lists.specs.declared.rows.RequestHistory.{RequestHistory}
 use Rattle.reg_core_lists.specs.declared.rows.RequestLine.{RequestLine}
+use Rattle.reg_core_lists.specs.declared.rows.RevokedLine.{RevokedLine}
 use Rattle.reg_core_lists.specs.declared.rows.Row.{Row}
 use Rattle.reg_core_lists.specs.declared.rows.Row.TheVariants as kind
 
@@ -50,6 +53,38 @@ request_line records request =
     (subscriber_of_order records certificate.order))
     (certificate_in records.certificates request.serial)
 
+-- what is told of a revocation: its certificate, and the request that led to it
+abbrev pub revoked_line : Records → ℕ → RevocationRow → Option RevokedLine
+revoked_line records now revocation =
+    option_and_then
+    (λ request. option_map
+    (λ line. record { certificate = line; revocation = revocation; request = request; due = deadline request })
+    (option_and_then (certificate_line records now) (certificate_in records.certificates revocation.serial)))
+    (request_in records.requests revocation.request)
+
+-- up to when a request was open that nobody declined: until its certificate was revoked or ended, or up to now
+abbrev pub open_until : ℕ → CertRow → Status → ℕ
+open_until now certificate (state.Revoked at reason) = at
+open_until now certificate state.Expired = certificate.not_after
+open_until now certificate state.Good = now
+open_until now certificate state.Unknown = now
+
+-- for how many seconds a request was open behind its deadline; none of a declined one, of which no record holds when that was
+abbrev pub lateness_of : ℕ → RequestRow → CertRow → Status → Option ℕ
+lateness_of now request certificate standing =
+    cond request.declined None (Some (open_until now certificate standing - deadline request))
+
+-- what became of a request up to a moment
+abbrev pub request_history : Records → ℕ → RequestRow → Option RequestHistory
+request_history records now request =
+    option_map
+    (λ line. record {
+      request = line;
+      status = status records request.serial now;
+      lateness = lateness_of now request line.certificate (status records request.serial now);
+    })
+    (request_line records request)
+
 -- what is told of an order
 abbrev pub order_line : Records → OrderRow → Option OrderLine
 order_line records order =
@@ -67,10 +102,8 @@ order_line records order =
 abbrev pub certificate_row : Records → ℕ → CertRow → Option Row
 certificate_row records now certificate = option_map (λ line. kind.Certificate line) (certificate_line records now certificate)
 
--- a revocation is the row of its certificate
 abbrev pub revoked_row : Records → ℕ → RevocationRow → Option Row
-revoked_row records now revocation =
-    option_and_then (certificate_row records now) (certificate_in records.certificates revocation.serial)
+revoked_row records now revocation = option_map (λ line. kind.Revoked line) (revoked_line records now revocation)
 
 -- a certificate is good, and its notAfter is before a moment
 abbrev pub is_ending : Records → ℕ → ℕ → CertRow → Bool
@@ -88,6 +121,10 @@ open_row records now request =
 -- one whose deadline is past, too
 abbrev pub overdue_row : Records → ℕ → RequestRow → Option Row
 overdue_row records now request = cond (nat_lt (deadline request) now) (open_row records now request) None
+
+-- any request
+abbrev pub history_row : Records → ℕ → RequestRow → Option Row
+history_row records now request = option_map (λ history. kind.History history) (request_history records now request)
 
 abbrev pub subscriber_row : SubscriberRow → Option Row
 subscriber_row subscriber = Some (kind.Subscriber subscriber)
@@ -146,6 +183,8 @@ page records now most (OpenRequests after) =
     page_over (λ row. row.id) (open_row records now) (λ id. OpenRequests id) after most records.requests
 page records now most (Overdue after) =
     page_over (λ row. row.id) (overdue_row records now) (λ id. Overdue id) after most records.requests
+page records now most (Requests after) =
+    page_over (λ row. row.id) (history_row records now) (λ id. Requests id) after most records.requests
 page records now most (Subscribers after) =
     page_over (λ row. row.id) subscriber_row (λ id. Subscribers id) after most records.subscribers
 page records now most (Orders after) =
@@ -160,6 +199,7 @@ rows_from records now (Certificates after) = filter_map (certificate_row records
 rows_from records now (Ending before after) = filter_map (ending_row records now before) (past (λ row. row.serial) (key_of after) records.certificates)
 rows_from records now (OpenRequests after) = filter_map (open_row records now) (past (λ row. row.id) after records.requests)
 rows_from records now (Overdue after) = filter_map (overdue_row records now) (past (λ row. row.id) after records.requests)
+rows_from records now (Requests after) = filter_map (history_row records now) (past (λ row. row.id) after records.requests)
 rows_from records now (Subscribers after) = filter_map subscriber_row (past (λ row. row.id) after records.subscribers)
 rows_from records now (Orders after) = filter_map (order_row records) (past (λ row. row.id) after records.orders)
 rows_from records now (Crls after) = filter_map crl_row (past (λ crl. crl.number) after records.crls)

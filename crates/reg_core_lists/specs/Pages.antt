@@ -5,9 +5,11 @@ use Rattle.reg_core.specs.Records.{Records}
 use Rattle.reg_core.specs.Sound.{SoundRows}
 use Rattle.reg_core.specs.declared.refusal.Fault.{Fault}
 use Rattle.reg_core.specs.declared.refusal.Fault.TheVariants.{Refused, Memory, Store, Signer, Read, Write}
+use Rattle.reg_core_lists.specs.Filters.{wanted_rows}
 use Rattle.reg_core_lists.specs.Lists.{page, rows_from}
 use Rattle.reg_core_lists.specs.Texts.{list_text}
 use Rattle.reg_core_lists.specs.declared.cursor.Cursor.{Cursor}
+use Rattle.reg_core_lists.specs.declared.filter.Filter.{Filter}
 use Rattle.reg_core_lists.specs.declared.rows.Page.{Page}
 use Rattle.reg_core_lists.specs.declared.rows.Row.{Row}
 use Rattle.reg_core_lists.specs.declared.texts.Form.{Form}
@@ -45,16 +47,17 @@ ArePages records now most (Some from) rows (first ∷ rest) =
     (first ≡ (page records now most from).rows)
     × ((others : List Row) × (rows ≡ first ++ others) × ArePages records now most (page records now most from).next others rest)
 
--- what is given for a whole list as a text: all its rows from a key on, each once and in order
-abbrev pub IsWholeList : Records → ℕ → Form → Cursor → Result (List ℕ) Fault → Type 0
-IsWholeList records now form from (Ok text) = (first_of_all (clock_checks now records.last) ≡ None) × (text ≡ list_text form from (rows_from records now from))
-IsWholeList records now form from (Err (Refused refusal)) = first_of_all (clock_checks now records.last) ≡ Some refusal
-IsWholeList records now form from (Err Memory) = Unit {0}
-IsWholeList records now form from (Err Store) = Unit {0}
-IsWholeList records now form from (Err Signer) = ⊥
-IsWholeList records now form from (Err Read) = ⊥
-IsWholeList records now form from (Err Write) = ⊥
+-- what is given for a whole list as a text: all its rows from a key on that are wanted, each once and in order
+abbrev pub IsWholeList : Records → ℕ → Form → Filter → Cursor → Result (List ℕ) Fault → Type 0
+IsWholeList records now form wanted from (Ok text) =
+    (first_of_all (clock_checks now records.last) ≡ None) × (text ≡ list_text form from (wanted_rows wanted (rows_from records now from)))
+IsWholeList records now form wanted from (Err (Refused refusal)) = first_of_all (clock_checks now records.last) ≡ Some refusal
+IsWholeList records now form wanted from (Err Memory) = Unit {0}
+IsWholeList records now form wanted from (Err Store) = Unit {0}
+IsWholeList records now form wanted from (Err Signer) = ⊥
+IsWholeList records now form wanted from (Err Read) = ⊥
+IsWholeList records now form wanted from (Err Write) = ⊥
 
 -- the same of records that stay
-abbrev pub GivesWholeList : Records → ℕ → Form → Cursor → Result (List ℕ) Fault → Records → Type 0
-GivesWholeList before now form from given after = IsWholeList before now form from given × (after ≡ before)
+abbrev pub GivesWholeList : Records → ℕ → Form → Filter → Cursor → Result (List ℕ) Fault → Records → Type 0
+GivesWholeList before now form wanted from given after = IsWholeList before now form wanted from given × (after ≡ before)

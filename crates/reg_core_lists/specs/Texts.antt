@@ -4,7 +4,7 @@ use Rattle.std.specs.Prelude.{ℕ, List, [], ◌∷◌, ◌++◌, Option, Some, 
 use Rattle.reg_core_lists.specs.Cursors.{key_cell, list_word}
 use Rattle.reg_core_lists.specs.Fields.{json_text, plain_text, row_fields}
 use Rattle.reg_core_lists.specs.declared.cursor.Cursor.{Cursor}
-use Rattle.reg_core_lists.specs.declared.cursor.Cursor.TheVariants.{Revoked, Certificates, Ending, OpenRequests, Overdue, Subscribers, Orders, Crls}
+use Rattle.reg_core_lists.specs.declared.cursor.Cursor.TheVariants.{Revoked, Certificates, Ending, OpenRequests, Overdue, Requests, Subscribers, Orders, Crls}
 use Rattle.reg_core_lists.specs.declared.fields.Cell.{Cell}
 use Rattle.reg_core_lists.specs.declared.rows.Row.{Row}
 use Rattle.reg_core_lists.specs.declared.texts.Form.{Form}
@@ -12,11 +12,13 @@ use Rattle.reg_core_lists.specs.declared.texts.Form.TheVariants.{Csv, Json}
 
 -- the header of a list as CSV: the names of its fields
 abbrev pub header_text : Cursor → List ℕ
-header_text (Revoked after) = codes "serial,subscriber,name,order,notBefore,notAfter,status,revokedAt,reason,firstCrl,lastCrl\n"
+header_text (Revoked after) =
+    codes "serial,subscriber,name,order,notBefore,notAfter,status,revokedAt,reason,firstCrl,lastCrl,request,ground,received,due,lateness\n"
 header_text (Certificates after) = codes "serial,subscriber,name,order,notBefore,notAfter,status,revokedAt,reason,firstCrl,lastCrl\n"
 header_text (Ending before after) = codes "serial,subscriber,name,order,notBefore,notAfter,status,revokedAt,reason,firstCrl,lastCrl\n"
 header_text (OpenRequests after) = codes "request,serial,ground,received,due,subscriber,name,order,notBefore,notAfter\n"
 header_text (Overdue after) = codes "request,serial,ground,received,due,subscriber,name,order,notBefore,notAfter\n"
+header_text (Requests after) = codes "request,serial,ground,received,due,subscriber,name,order,notBefore,notAfter,state,decided,lateness\n"
 header_text (Subscribers after) = codes "subscriber,name\n"
 header_text (Orders after) = codes "order,subscriber,name,days,serial\n"
 header_text (Crls after) = codes "crl,thisUpdate\n"

@@ -1,11 +1,14 @@
-//! What is asked of a list: a page, by its word and what is told beside it, `after=KEY&limit=N&before=MOMENT`.
+//! What is asked of a list: a page, by its word and what is told beside it, `after=KEY&limit=N&before=MOMENT` and a filter,
+//! `subscriber=NAME&serial=PREFIX&from=MOMENT&to=MOMENT`.
 
 ghost use Rattle.std.specs.Prelude.{◌≡◌, ◌≤◌, ◌<◌, ◌+◌, ◌==◌, drop, length};
-ghost use Rattle.std.specs.List.{position, position_or_len};
+ghost use Rattle.std.specs.Char.{is_ascii_hexdigit};
+ghost use Rattle.std.specs.List.{list_all, position, position_or_len};
 ghost use Rattle.reg_core.specs.Calendar.{moment_of};
-ghost use Rattle.reg_core_lists.specs.Asked.{at_most, cursor_at, label_of, page_asked, params_of, with_after, with_before, with_limit, with_piece, with_value};
+ghost use Rattle.reg_core_lists.specs.Asked.{at_most, cursor_at, filter_with, label_of, page_asked, params_of, prefix_of, with_after, with_before, with_filter, filtered_from, with_limit, with_piece, filtered_by_serial, filtered_by_name, filtered_to, with_value};
 
 use crate::cursor::Cursor;
+use crate::filter::Filter;
 use reg_core::{Label, Moment, read_number};
 
 /// The most rows that a page may be asked for.
@@ -14,7 +17,10 @@ const LONGEST_LIMIT: u64 = 1_000;
 /// The most rows that a page looks at that is asked for from outside, so that nobody else waits long.
 const MOST_ROWS: u64 = 250;
 
-const MOST_PARAMS: usize = 3;
+const MOST_PARAMS: usize = 7;
+
+/// The most hexadecimal digits of a serial number.
+const MOST_DIGITS: usize = 40;
 
 /// What is told beside the word of a list.
 #[derive(Clone, Copy)]
@@ -22,17 +28,34 @@ struct Params {
     after: Option<Label>,
     before: Option<Moment>,
     limit: Option<u64>,
+    filter: Filter,
 }
 
-/// The page of a list that a word and what is told beside it ask for: from where on, and how many rows it looks at, which
-/// are 250 at most. `None` where the word names no list, a name stands twice or is none of the three, a value can't be
-/// read, or a limit is not 1 to 1,000.
-pub fn read_page(word: &[u8], told: &[u8]) -> Option<(Cursor, u64)>
+/// A page that is asked for: from where on, how many rows it looks at, and which of them are wanted.
+#[derive(Clone, Copy)]
+pub struct PageAsked {
+    pub from: Cursor,
+    pub most: u64,
+    pub filter: Filter,
+}
+
+/// The page of a list that a word and what is told beside it ask for, which looks at 250 rows at most. `None` where the word
+/// names no list, a name stands twice or is none of the seven, a value can't be read, a limit is not 1 to 1,000, or the rows
+/// of the list have not what the filter tells.
+pub fn read_page(word: &[u8], told: &[u8]) -> Option<PageAsked>
     ensures { result ≡ page_asked word.now told.now }
 {
     let params = read_params(told)?;
     let from = cursor_of(Cursor::named(word, params.before)?, params.after)?;
-    Some((from, rows_of(params.limit)?))
+    let most = rows_of(params.limit)?;
+    if !params.filter.fits(from) {
+        return None;
+    }
+    Some(PageAsked {
+        from,
+        most,
+        filter: params.filter,
+    })
 }
 
 fn cursor_of(from: Cursor, after: Option<Label>) -> Option<Cursor>
@@ -61,6 +84,12 @@ fn read_params(told: &[u8]) -> Option<Params>
         after: None,
         before: None,
         limit: None,
+        filter: Filter {
+            subscriber: None,
+            serial: None,
+            from: None,
+            to: None,
+        },
     };
     if told.is_empty() {
         return Some(params);
@@ -110,7 +139,7 @@ fn with_piece(params: Params, piece: &[u8]) -> Option<Params>
     with_value(params, &piece[..end], behind(piece, end))
 }
 
-/// What is told with one value more. `None` where the name stands already, or is none of the three.
+/// What is told with one value more. `None` where the name stands already, or is none of the seven.
 fn with_value(params: Params, name: &[u8], value: &[u8]) -> Option<Params>
     ensures { result ≡ with_value params name.now value.now }
 {
@@ -118,7 +147,7 @@ fn with_value(params: Params, name: &[u8], value: &[u8]) -> Option<Params>
         _ if name == b"after".as_slice() => with_after(params, value),
         _ if name == b"before".as_slice() => with_before(params, value),
         _ if name == b"limit".as_slice() => with_limit(params, value),
-        _ => None,
+        _ => with_filter(params, name, value),
     }
 }
 
@@ -128,11 +157,8 @@ fn with_after(params: Params, value: &[u8]) -> Option<Params>
     if params.after.is_some() {
         return None;
     }
-    Some(Params {
-        after: Some(read_key(value)?),
-        before: params.before,
-        limit: params.limit,
-    })
+    let after = Some(read_key(value)?);
+    Some(Params { after, ..params })
 }
 
 fn with_before(params: Params, value: &[u8]) -> Option<Params>
@@ -141,11 +167,8 @@ fn with_before(params: Params, value: &[u8]) -> Option<Params>
     if params.before.is_some() {
         return None;
     }
-    Some(Params {
-        after: params.after,
-        before: Some(read_moment(value)?),
-        limit: params.limit,
-    })
+    let before = Some(read_moment(value)?);
+    Some(Params { before, ..params })
 }
 
 fn with_limit(params: Params, value: &[u8]) -> Option<Params>
@@ -154,17 +177,94 @@ fn with_limit(params: Params, value: &[u8]) -> Option<Params>
     if params.limit.is_some() {
         return None;
     }
-    Some(Params {
-        after: params.after,
-        before: params.before,
-        limit: Some(read_number(value)?),
+    let limit = Some(read_number(value)?);
+    Some(Params { limit, ..params })
+}
+
+/// What is told with one value more of a filter. `None` as of [`with_value`].
+fn with_filter(params: Params, name: &[u8], value: &[u8]) -> Option<Params>
+    ensures { result ≡ with_filter params name.now value.now }
+{
+    let filter = filter_with(params.filter, name, value)?;
+    Some(Params { filter, ..params })
+}
+
+fn filter_with(filter: Filter, name: &[u8], value: &[u8]) -> Option<Filter>
+    ensures { result ≡ filter_with filter name.now value.now }
+{
+    match name {
+        _ if name == b"subscriber".as_slice() => filtered_by_name(filter, value),
+        _ if name == b"serial".as_slice() => filtered_by_serial(filter, value),
+        _ if name == b"from".as_slice() => filtered_from(filter, value),
+        _ if name == b"to".as_slice() => filtered_to(filter, value),
+        _ => None,
+    }
+}
+
+fn filtered_by_name(filter: Filter, value: &[u8]) -> Option<Filter>
+    ensures { result ≡ filtered_by_name filter value.now }
+{
+    if filter.subscriber.is_some() {
+        return None;
+    }
+    let subscriber = Some(read_key(value)?);
+    Some(Filter {
+        subscriber,
+        ..filter
     })
+}
+
+fn filtered_by_serial(filter: Filter, value: &[u8]) -> Option<Filter>
+    ensures { result ≡ filtered_by_serial filter value.now }
+{
+    if filter.serial.is_some() {
+        return None;
+    }
+    let serial = Some(read_prefix(value)?);
+    Some(Filter { serial, ..filter })
+}
+
+fn filtered_from(filter: Filter, value: &[u8]) -> Option<Filter>
+    ensures { result ≡ filtered_from filter value.now }
+{
+    if filter.from.is_some() {
+        return None;
+    }
+    let from = Some(read_moment(value)?);
+    Some(Filter { from, ..filter })
+}
+
+fn filtered_to(filter: Filter, value: &[u8]) -> Option<Filter>
+    ensures { result ≡ filtered_to filter value.now }
+{
+    if filter.to.is_some() {
+        return None;
+    }
+    let to = Some(read_moment(value)?);
+    Some(Filter { to, ..filter })
 }
 
 fn read_key(text: &[u8]) -> Option<Label>
     ensures { result ≡ label_of text.now }
 {
     Label::of(text)
+}
+
+/// Reads 1 to 40 hexadecimal digits with which serial numbers begin; `None` for any other text.
+pub fn read_prefix(text: &[u8]) -> Option<Label>
+    ensures { result ≡ prefix_of text.now }
+{
+    if are_digits(text) && text.len() <= MOST_DIGITS {
+        read_key(text)
+    } else {
+        None
+    }
+}
+
+fn are_digits(text: &[u8]) -> bool
+    ensures { result ≡ list_all is_ascii_hexdigit text.now }
+{
+    text.iter().all(|digit| digit.is_ascii_hexdigit())
 }
 
 fn read_moment(text: &[u8]) -> Option<Moment>

@@ -18,6 +18,8 @@ pub enum Cursor {
     OpenRequests(u64),
     /// The open requests whose deadline is past, by their ids.
     Overdue(u64),
+    /// All requests, by their ids.
+    Requests(u64),
     Subscribers(u64),
     Orders(u64),
     Crls(u64),
@@ -49,6 +51,7 @@ impl Cursor {
             }),
             Cursor::OpenRequests(_) => Some(Cursor::OpenRequests(read_number(key)?)),
             Cursor::Overdue(_) => Some(Cursor::Overdue(read_number(key)?)),
+            Cursor::Requests(_) => Some(Cursor::Requests(read_number(key)?)),
             Cursor::Subscribers(_) => Some(Cursor::Subscribers(read_number(key)?)),
             Cursor::Orders(_) => Some(Cursor::Orders(read_number(key)?)),
             Cursor::Crls(_) => Some(Cursor::Crls(read_number(key)?)),
@@ -64,6 +67,7 @@ impl Cursor {
             Cursor::Ending { .. } => "ending",
             Cursor::OpenRequests(_) => "open-requests",
             Cursor::Overdue(_) => "overdue",
+            Cursor::Requests(_) => "requests",
             Cursor::Subscribers(_) => "subscribers",
             Cursor::Orders(_) => "orders",
             Cursor::Crls(_) => "crls",
@@ -92,6 +96,7 @@ fn whole(word: &[u8]) -> Option<Cursor>
         _ if word == b"certificates".as_slice() => Some(Cursor::Certificates(None)),
         _ if word == b"open-requests".as_slice() => Some(Cursor::OpenRequests(0)),
         _ if word == b"overdue".as_slice() => Some(Cursor::Overdue(0)),
+        _ if word == b"requests".as_slice() => Some(Cursor::Requests(0)),
         _ if word == b"subscribers".as_slice() => Some(Cursor::Subscribers(0)),
         _ if word == b"orders".as_slice() => Some(Cursor::Orders(0)),
         _ if word == b"crls".as_slice() => Some(Cursor::Crls(0)),

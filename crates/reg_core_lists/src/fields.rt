@@ -1,9 +1,9 @@
 //! The fields of a row: the name of each, and what stands there.
 
-ghost use Rattle.std.specs.Prelude.{◌≡◌, ◌≤◌, IfOk, length, map};
-ghost use Rattle.reg_core_lists.specs.Fields.{certificate_fields, crl_fields, first_listing, ground_word, last_listing_cell, order_fields, reason_cell, request_fields, revoked_at_cell, row_fields, serial_or_empty, status_word, subscriber_fields, told_field};
+ghost use Rattle.std.specs.Prelude.{◌≡◌, ◌≤◌, ◌-◌, IfOk, length, map};
+ghost use Rattle.reg_core_lists.specs.Fields.{certificate_fields, crl_fields, decided_cell, first_listing, ground_word, history_fields, last_listing_cell, number_or_empty, order_fields, reason_cell, request_fields, revoked_at_cell, revoked_fields, row_fields, serial_or_empty, state_word, status_word, subscriber_fields, told_field};
 
-use crate::rows::{CertificateLine, OrderLine, RequestLine, Row};
+use crate::rows::{CertificateLine, OrderLine, RequestHistory, RequestLine, RevokedLine, Row};
 use reg_core::{CrlRow, Ground, Label, Listing, Moment, Serial, Status, SubscriberRow};
 use std::alloc::{AllocError, Global};
 
@@ -30,7 +30,9 @@ pub(crate) fn fields_of(alloc: Global, row: &Row) -> Result<Vec<Field>, AllocErr
 {
     match row {
         Row::Certificate(line) => of_certificate(alloc, line),
+        Row::Revoked(line) => of_revocation(alloc, line),
         Row::Request(line) => of_request(alloc, line),
+        Row::History(history) => of_history(alloc, history),
         Row::Subscriber(subscriber) => of_subscriber(alloc, subscriber),
         Row::Order(line) => of_order(alloc, line),
         Row::Crl(crl) => of_crl(alloc, crl),
@@ -59,6 +61,23 @@ fn of_certificate(alloc: Global, line: &CertificateLine) -> Result<Vec<Field>, A
     )
 }
 
+fn of_revocation(alloc: Global, line: &RevokedLine) -> Result<Vec<Field>, AllocError>
+    ensures { IfOk result (λ fields. map told_field fields.items ≡ revoked_fields line.now) }
+{
+    let mut fields = of_certificate(alloc, &line.certificate)?;
+    fields.extend_from_slice(&[
+        named("request", Cell::Number(line.request.id)),
+        named("ground", ground_in(line.request.ground)),
+        named("received", Cell::At(line.request.received)),
+        named("due", Cell::At(line.due)),
+        named(
+            "lateness",
+            Cell::Number(seconds_past(line.due, line.revocation.at)),
+        ),
+    ])?;
+    Ok(fields)
+}
+
 fn of_request(alloc: Global, line: &RequestLine) -> Result<Vec<Field>, AllocError>
     ensures { IfOk result (λ fields. map told_field fields.items ≡ request_fields line.now) }
 {
@@ -78,6 +97,19 @@ fn of_request(alloc: Global, line: &RequestLine) -> Result<Vec<Field>, AllocErro
             named("notAfter", Cell::At(line.certificate.not_after)),
         ],
     )
+}
+
+fn of_history(alloc: Global, history: &RequestHistory) -> Result<Vec<Field>, AllocError>
+    ensures { IfOk result (λ fields. map told_field fields.items ≡ history_fields history.now) }
+{
+    let declined = history.request.request.declined;
+    let mut fields = of_request(alloc, &history.request)?;
+    fields.extend_from_slice(&[
+        named("state", state_in(declined, history.status)),
+        named("decided", decided_in(declined, history.status)),
+        named("lateness", number_in(history.lateness)),
+    ])?;
+    Ok(fields)
 }
 
 fn of_subscriber(alloc: Global, subscriber: &SubscriberRow) -> Result<Vec<Field>, AllocError>
@@ -144,6 +176,28 @@ fn word_of(status: Status) -> Cell
     }
 }
 
+fn state_in(declined: bool, status: Status) -> Cell
+    ensures { result ≡ Cell.Text (state_word declined status) }
+{
+    match status {
+        _ if declined => word(b"declined"),
+        Status::Good => word(b"open"),
+        _ => word_of(status),
+    }
+}
+
+fn decided_in(declined: bool, status: Status) -> Cell
+    ensures { result ≡ decided_cell declined status }
+{
+    if declined { Cell::Empty } else { at_of(status) }
+}
+
+fn seconds_past(due: Moment, at: Moment) -> u64
+    ensures { result ≡ at - due }
+{
+    at.secs().saturating_sub(due.secs())
+}
+
 fn at_of(status: Status) -> Cell
     ensures { result ≡ revoked_at_cell status }
 {
@@ -176,13 +230,17 @@ fn last_in(listing: Option<Listing>) -> Cell
     ensures { result ≡ last_listing_cell listing }
 {
     match listing {
-        Some(
-            Listing {
-                first: _,
-                last: Some(last),
-            },
-        ) => Cell::Number(last),
-        _ => Cell::Empty,
+        Some(listing) => number_in(listing.last),
+        None => Cell::Empty,
+    }
+}
+
+fn number_in(number: Option<u64>) -> Cell
+    ensures { result ≡ number_or_empty number }
+{
+    match number {
+        Some(number) => Cell::Number(number),
+        None => Cell::Empty,
     }
 }
 

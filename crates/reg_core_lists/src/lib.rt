@@ -4,10 +4,12 @@
 mod asked;
 mod cursor;
 mod fields;
+mod filter;
 mod rows;
 mod texts;
 
-pub use asked::read_page;
+pub use asked::{PageAsked, read_page, read_prefix};
 pub use cursor::Cursor;
-pub use rows::{CertificateLine, OrderLine, Page, RequestLine, Row};
+pub use filter::Filter;
+pub use rows::{CertificateLine, OrderLine, Page, RequestHistory, RequestLine, RevokedLine, Row};
 pub use texts::{Form, header, page_text, put_rows};

@@ -1,6 +1,7 @@
 use crate::cursor::Cursor;
 use reg_core::{
-    CertRow, CrlRow, Listing, Moment, OrderRow, RequestRow, Serial, Status, SubscriberRow,
+    CertRow, CrlRow, Listing, Moment, OrderRow, RequestRow, RevocationRow, Serial, Status,
+    SubscriberRow,
 };
 
 /// What is told of a certificate at a moment.
@@ -14,6 +15,17 @@ pub struct CertificateLine {
     pub listing: Option<Listing>,
 }
 
+/// What is told of a revocation.
+#[derive(Clone, Copy)]
+pub struct RevokedLine {
+    pub certificate: CertificateLine,
+    pub revocation: RevocationRow,
+    /// The request that led to it.
+    pub request: RequestRow,
+    /// Up to when that was to be decided.
+    pub due: Moment,
+}
+
 /// What is told of a request for revocation.
 #[derive(Clone, Copy)]
 pub struct RequestLine {
@@ -23,6 +35,16 @@ pub struct RequestLine {
     pub certificate: CertRow,
     /// Whose order the certificate fills.
     pub subscriber: SubscriberRow,
+}
+
+/// What became of a request up to a moment.
+#[derive(Clone, Copy)]
+pub struct RequestHistory {
+    pub request: RequestLine,
+    /// The status of its certificate.
+    pub status: Status,
+    /// For how many seconds it was open behind its deadline. `None` where it was declined: no record holds when.
+    pub lateness: Option<u64>,
 }
 
 /// What is told of an order.
@@ -38,7 +60,9 @@ pub struct OrderLine {
 #[derive(Clone, Copy)]
 pub enum Row {
     Certificate(CertificateLine),
+    Revoked(RevokedLine),
     Request(RequestLine),
+    History(RequestHistory),
     Subscriber(SubscriberRow),
     Order(OrderLine),
     Crl(CrlRow),

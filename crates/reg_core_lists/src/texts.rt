@@ -8,7 +8,7 @@ ghost use Rattle.reg_core_lists.specs.Texts.{header_text, member_rest, member_te
 
 use crate::cursor::Cursor;
 use crate::fields::{Cell, Field, fields_of, serial_in};
-use crate::rows::{Page, Row};
+use crate::rows::Row;
 use reg_core::Decimal;
 use std::alloc::{AllocError, Global};
 
@@ -24,16 +24,24 @@ pub enum Form {
 const OF_CERTIFICATES: &str =
     "serial,subscriber,name,order,notBefore,notAfter,status,revokedAt,reason,firstCrl,lastCrl\n";
 
+const OF_REVOCATIONS: &str =
+    "serial,subscriber,name,order,notBefore,notAfter,status,revokedAt,reason,firstCrl,lastCrl,request,ground,received,due,lateness\n";
+
 const OF_REQUESTS: &str =
     "request,serial,ground,received,due,subscriber,name,order,notBefore,notAfter\n";
+
+const OF_HISTORIES: &str =
+    "request,serial,ground,received,due,subscriber,name,order,notBefore,notAfter,state,decided,lateness\n";
 
 /// The header of a list as CSV, with its LF.
 pub fn header(from: Cursor) -> &'static str
     ensures { result.now ≡ header_text from }
 {
     match from {
-        Cursor::Revoked(_) | Cursor::Certificates(_) | Cursor::Ending { .. } => OF_CERTIFICATES,
+        Cursor::Revoked(_) => OF_REVOCATIONS,
+        Cursor::Certificates(_) | Cursor::Ending { .. } => OF_CERTIFICATES,
         Cursor::OpenRequests(_) | Cursor::Overdue(_) => OF_REQUESTS,
+        Cursor::Requests(_) => OF_HISTORIES,
         Cursor::Subscribers(_) => "subscriber,name\n",
         Cursor::Orders(_) => "order,subscriber,name,days,serial\n",
         Cursor::Crls(_) => "crl,thisUpdate\n",
@@ -162,15 +170,20 @@ fn put_string(out: &mut Vec<u8>, cell: &Cell) -> Result<(), AllocError>
 
 /// A page as a JSON object: the word of its list, the key behind which the next page goes on, or `null`, and its rows.
 #[tactic(auto, unfolding(crate::specs::Texts::page_body))]
-pub fn page_text(alloc: Global, from: Cursor, page: &Page) -> Result<Vec<u8>, AllocError>
-    ensures { IfOk result (λ text. text.items ≡ page_body from page.now.next page.now.rows.items) }
+pub fn page_text(
+    alloc: Global,
+    from: Cursor,
+    rows: &[Row],
+    next: Option<Cursor>,
+) -> Result<Vec<u8>, AllocError>
+    ensures { IfOk result (λ text. text.items ≡ page_body from next rows.now) }
 {
     let mut out = Vec::from_slice(alloc, b"{\"list\":\"")?;
     out.extend_from_slice(from.word().as_bytes())?;
     out.extend_from_slice(b"\",\"next\":")?;
-    put_next(&mut out, page.next)?;
+    put_next(&mut out, next)?;
     out.extend_from_slice(b",\"rows\":[")?;
-    put_json_rows(alloc, &mut out, &page.rows)?;
+    put_json_rows(alloc, &mut out, rows)?;
     out.extend_from_slice(b"]}")?;
     Ok(out)
 }
@@ -194,6 +207,7 @@ fn key_of(from: Cursor) -> Cell
         Cursor::Ending { before: _, after } => serial_in(after),
         Cursor::OpenRequests(after) => Cell::Number(after),
         Cursor::Overdue(after) => Cell::Number(after),
+        Cursor::Requests(after) => Cell::Number(after),
         Cursor::Subscribers(after) => Cell::Number(after),
         Cursor::Orders(after) => Cell::Number(after),
         Cursor::Crls(after) => Cell::Number(after),

@@ -73,6 +73,10 @@ open_app = with_rules (new_app (codes "open"))
 abbrev pub at_app : App
 at_app = with_rules (new_app (codes "at")) (must (codes "counter") ∷ takes_value (codes "import") ∷ flag (codes "why") ∷ [])
 
+-- `replay SOCKET LOG [--why]`
+abbrev pub replay_app : App
+replay_app = with_rules (new_app (codes "replay")) (must (codes "counter") ∷ must (codes "log") ∷ flag (codes "why") ∷ [])
+
 -- `schedule FILE MOMENT=DAYS .. [--why]`
 abbrev pub schedule_app : App
 schedule_app = with_rules (new_app (codes "schedule")) (must (codes "file") ∷ some (codes "steps") ∷ flag (codes "why") ∷ [])
@@ -81,10 +85,11 @@ schedule_app = with_rules (new_app (codes "schedule")) (must (codes "file") ∷ 
 abbrev pub key_id_app : App
 key_id_app = with_rules (new_app (codes "key-id")) (must (codes "file") ∷ must (codes "key-id") ∷ flag (codes "why") ∷ [])
 
--- `list FILE LIST [--before MOMENT] [--now MOMENT] [--json] [--why]`
+-- `list FILE LIST [--before MOMENT] [--now MOMENT] [--subscriber NAME] [--serial PREFIX] [--from MOMENT] [--to MOMENT] [--json] [--why]`
 abbrev pub list_app : App
 list_app = with_rules (new_app (codes "list"))
-    (must (codes "file") ∷ must (codes "list") ∷ takes_value (codes "before") ∷ takes_value (codes "now") ∷ flag (codes "json") ∷ flag (codes "why") ∷ [])
+    (must (codes "file") ∷ must (codes "list") ∷ takes_value (codes "before") ∷ takes_value (codes "now") ∷ takes_value (codes "subscriber")
+    ∷ takes_value (codes "serial") ∷ takes_value (codes "from") ∷ takes_value (codes "to") ∷ flag (codes "json") ∷ flag (codes "why") ∷ [])
 
 -- `copy FILE PATH [--why]`
 abbrev pub copy_app : App
@@ -111,7 +116,7 @@ with_commands app (command ∷ rest) = with_commands (with_subcommand app comman
 
 -- the commands that make, run and serve a register, and those that set, list, copy and audit what it has
 abbrev pub running_apps : List App
-running_apps = init_app ∷ script_app ∷ import_app ∷ crl_app ∷ serve_app ∷ open_app ∷ at_app ∷ []
+running_apps = init_app ∷ script_app ∷ import_app ∷ crl_app ∷ serve_app ∷ open_app ∷ at_app ∷ replay_app ∷ []
 
 abbrev pub keeping_apps : List App
 keeping_apps = schedule_app ∷ key_id_app ∷ list_app ∷ copy_app ∷ audit_app ∷ []

@@ -7,7 +7,11 @@ use Rattle.clap.specs.declared.error.kind.ErrorKind.TheVariants.{DisplayHelp, Di
 use Rattle.reg_core.specs.Calendar.{moment_of}
 use Rattle.reg_core.specs.Number.{number_of}
 use Rattle.reg_core.specs.Sequence.{◌>>=◌}
+use Rattle.reg_core_lists.specs.Asked.{label_of, prefix_of}
 use Rattle.reg_core_lists.specs.Cursors.{cursor_named}
+use Rattle.reg_core_lists.specs.Filters.{fits}
+use Rattle.reg_core_lists.specs.declared.cursor.Cursor.{Cursor}
+use Rattle.reg_core_lists.specs.declared.filter.Filter.{Filter}
 use Rattle.reg_core_lists.specs.declared.texts.Form.{Form}
 use Rattle.reg_core_lists.specs.declared.texts.Form.TheVariants.{Csv, Json}
 use Rattle.reg_desk_cli.specs.Desk.{desk_app}
@@ -16,7 +20,7 @@ use Rattle.reg_crl_signer.specs.Algorithms.{algorithm_named}
 use Rattle.reg_desk_cli.specs.declared.job.Answerer.{Answerer}
 use Rattle.reg_desk_cli.specs.declared.job.Answerer.TheVariants.{Issuer, Delegate}
 use Rattle.reg_desk_cli.specs.declared.job.Job.{Job}
-use Rattle.reg_desk_cli.specs.declared.job.Job.TheVariants.{Init, Script, Lines, Import, Crl, Serve, Open, At, Schedule, KeyId, Listing, Copy, Audit}
+use Rattle.reg_desk_cli.specs.declared.job.Job.TheVariants.{Init, Script, Lines, Import, Crl, Serve, Open, At, Replay, Schedule, KeyId, Listing, Copy, Audit}
 use Rattle.reg_desk_cli.specs.declared.job.KeyHolder.{KeyHolder}
 use Rattle.reg_desk_cli.specs.declared.job.Invocation.{Invocation}
 use Rattle.reg_desk_cli.specs.declared.job.Usage.{Usage}
@@ -159,6 +163,12 @@ at_of rows = do
   counter ← first_of (codes "counter") rows
   Some (At counter (first_of (codes "import") rows))
 
+unfoldable pub replay_of : List Row → Option Job
+replay_of rows = do
+  counter ← first_of (codes "counter") rows
+  log ← first_of (codes "log") rows
+  Some (Replay counter log)
+
 unfoldable pub schedule_of : List Row → Option Job
 schedule_of rows = do
   file ← first_of (codes "file") rows
@@ -179,6 +189,28 @@ moment_given id rows = option_map_or (λ text. option_map (λ moment. Some momen
 abbrev pub form_in : List Row → Form
 form_in rows = if is_given (codes "json") rows then Json else Csv
 
+-- the text of an option, if it is given, of 1 to 64 bytes; and of 1 to 40 hexadecimal digits
+abbrev pub label_given : Text → List Row → Option (Option Text)
+label_given id rows = option_map_or (λ text. option_map (λ label. Some label) (label_of text)) (first_of id rows) (Some None)
+
+abbrev pub prefix_given : Text → List Row → Option (Option Text)
+prefix_given id rows = option_map_or (λ text. option_map (λ digits. Some digits) (prefix_of text)) (first_of id rows) (Some None)
+
+-- the filter that the four options give, each its own part; none where the value of one can't be read
+unfoldable pub filter_in : List Row → Option Filter
+filter_in rows = do
+  subscriber ← label_given (codes "subscriber") rows
+  serial ← prefix_given (codes "serial") rows
+  from ← moment_given (codes "from") rows
+  to ← moment_given (codes "to") rows
+  Some (record { subscriber = subscriber; serial = serial; from = from; to = to })
+
+-- the same, where the rows of the list have each field that it selects by
+unfoldable pub filter_for : Cursor → List Row → Option Filter
+filter_for list rows = do
+  filter ← filter_in rows
+  if fits filter list then Some filter else None
+
 unfoldable pub list_of : List Row → Option Job
 list_of rows = do
   file ← first_of (codes "file") rows
@@ -186,7 +218,8 @@ list_of rows = do
   before ← moment_given (codes "before") rows
   from ← cursor_named word before
   moment ← moment_given (codes "now") rows
-  Some (Listing (record { file = file; from = from; moment = moment; form = form_in rows }))
+  filter ← filter_for from rows
+  Some (Listing (record { file = file; from = from; moment = moment; filter = filter; form = form_in rows }))
 
 unfoldable pub copy_of : List Row → Option Job
 copy_of rows = do
@@ -214,6 +247,7 @@ serving_job_in name rows =
     if bytes_eq name (codes "serve") then serve_of rows
     else if bytes_eq name (codes "open") then open_of rows
     else if bytes_eq name (codes "at") then at_of rows
+    else if bytes_eq name (codes "replay") then replay_of rows
     else keeping_job_in name rows
 
 unfoldable pub job_in : Text → List Row → Option Job

@@ -2,11 +2,11 @@
 
 ghost use Rattle.std.specs.Prelude.{◌≡◌, codes, IfOk};
 ghost use Rattle.clap.specs.Words.{found_of, rows_of};
-ghost use Rattle.reg_desk_cli.specs.Jobs.{job_in, serving_job_in, keeping_job_in, init_of, script_by, script_of, import_of, crl_job, number_in, serve_of, open_of, at_of, schedule_of, key_id_of, form_in, list_of, copy_of, audit_of};
+ghost use Rattle.reg_desk_cli.specs.Jobs.{job_in, serving_job_in, keeping_job_in, init_of, script_by, script_of, import_of, crl_job, number_in, serve_of, open_of, at_of, replay_of, schedule_of, key_id_of, filter_for, form_in, list_of, copy_of, audit_of};
 
 use crate::given_values::{
-    answerer, chosen_holder, is_set, key_holder, moment, moment_if_given, number_if_given,
-    number_or, number_within, steps, text_of, way_of, word_of,
+    answerer, chosen_holder, filter_if_given, is_set, key_holder, moment, moment_if_given,
+    number_if_given, number_or, number_within, steps, text_of, way_of, word_of,
 };
 use crate::job::{
     Job, KeptOpen, KeyHolder, LinedScript, ListToWrite, NewRegister, RowsToImport, Serving, Way,
@@ -14,7 +14,7 @@ use crate::job::{
 use crate::word::Word;
 use crate::wrong::{LAST_PORT, MOST_REQUESTS};
 use clap::ArgMatches;
-use reg_core_lists::{Cursor, Form};
+use reg_core_lists::{Cursor, Filter, Form};
 use std::alloc::{AllocError, Global};
 
 /// The most days of validity of the usual policy.
@@ -65,6 +65,8 @@ fn read_serving<'a>(
         Ok(read_open(given))
     } else if name == "at" {
         Ok(read_at(given))
+    } else if name == "replay" {
+        Ok(read_replay(given))
     } else {
         read_keeping(alloc, name, given)
     }
@@ -202,6 +204,16 @@ fn read_at<'a>(given: &ArgMatches<'a>) -> Option<Job<'a>>
     })
 }
 
+#[tactic(auto, unfolding(crate::specs::Jobs::replay_of))]
+fn read_replay<'a>(given: &ArgMatches<'a>) -> Option<Job<'a>>
+    ensures { result ≡ replay_of (rows_of (found_of given.now)) }
+{
+    Some(Job::Replay {
+        counter: word_of(given, "counter")?,
+        log: word_of(given, "log")?,
+    })
+}
+
 #[tactic(auto, unfolding(crate::specs::Jobs::schedule_of))]
 fn read_schedule<'a>(alloc: Global, given: &ArgMatches<'a>) -> Result<Option<Job<'a>>, AllocError>
     ensures { IfOk result (λ job. job ≡ schedule_of (rows_of (found_of given.now))) }
@@ -234,12 +246,27 @@ fn read_list<'a>(given: &ArgMatches<'a>) -> Option<Job<'a>>
     let before = moment_if_given(given, "before")?;
     let from = Cursor::named(word.as_bytes(), before)?;
     let moment = moment_if_given(given, "now")?;
+    let filter = filter_for(given, &from)?;
     Some(Job::Listing(ListToWrite {
         file,
         from,
         moment,
+        filter,
         form: form_of(given),
     }))
+}
+
+/// The filter of a list; `None` where its rows lack a field that an option selects by.
+#[tactic(auto, unfolding(crate::specs::Jobs::filter_for))]
+fn filter_for(given: &ArgMatches<'_>, list: &Cursor) -> Option<Filter>
+    ensures { result ≡ filter_for list.now (rows_of (found_of given.now)) }
+{
+    let filter = filter_if_given(given)?;
+    if filter.fits(*list) {
+        Some(filter)
+    } else {
+        None
+    }
 }
 
 fn form_of(given: &ArgMatches<'_>) -> Form

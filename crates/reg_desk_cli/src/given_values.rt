@@ -2,14 +2,16 @@
 
 ghost use Rattle.std.specs.Prelude.{◌≡◌, ◌≤◌, ◌==◌, IfOk, IfSome, List, ℕ, map, option_and_then, option_map, position};
 ghost use Rattle.reg_core.specs.Calendar.{moment_of};
+ghost use Rattle.reg_core_lists.specs.Asked.{label_of};
 ghost use Rattle.clap.specs.Words.{all_of, first_of, found_of, rows_of};
-ghost use Rattle.reg_desk_cli.specs.Jobs.{answerer_in, answerer_told, given, given_or, chosen, has_own_key, holder_by_options, holder_chosen, holder_in, is_given, moment_given, number_in, way_in};
+ghost use Rattle.reg_desk_cli.specs.Jobs.{answerer_in, answerer_told, given, given_or, chosen, filter_in, has_own_key, holder_by_options, holder_chosen, holder_in, is_given, label_given, moment_given, number_in, prefix_given, way_in};
 ghost use Rattle.reg_desk_cli.specs.WordValues.{step_of, step_told, steps_of, within};
 
 use crate::job::{Answerer, KeyHolder, Way};
 use crate::word::{Steps, Word};
 use clap::ArgMatches;
-use reg_core::{Moment, read_number};
+use reg_core::{Label, Moment, read_number};
+use reg_core_lists::{Filter, read_prefix};
 use reg_crl_signer::Algorithm;
 use std::alloc::{AllocError, Global};
 
@@ -81,6 +83,45 @@ pub(crate) fn moment_if_given(matches: &ArgMatches<'_>, id: &str) -> Option<Opti
 {
     match text_of(matches, id) {
         Some(text) => Some(Some(read_moment(text.as_bytes())?)),
+        None => Some(None),
+    }
+}
+
+/// The filter that the four options of `list` give; `None` where the value of one can't be read.
+#[tactic(auto, unfolding(crate::specs::Jobs::filter_in))]
+pub(crate) fn filter_if_given(matches: &ArgMatches<'_>) -> Option<Filter>
+    ensures { result ≡ filter_in (rows_of (found_of matches.now)) }
+{
+    Some(Filter {
+        subscriber: label_if_given(matches, "subscriber")?,
+        serial: prefix_if_given(matches, "serial")?,
+        from: moment_if_given(matches, "from")?,
+        to: moment_if_given(matches, "to")?,
+    })
+}
+
+/// The text of an option, if it is given; `None` where it is given and not of 1 to 64 bytes.
+pub(crate) fn label_if_given(matches: &ArgMatches<'_>, id: &str) -> Option<Option<Label>>
+    ensures { result ≡ label_given id.now (rows_of (found_of matches.now)) }
+{
+    match text_of(matches, id) {
+        Some(text) => Some(Some(read_label(text.as_bytes())?)),
+        None => Some(None),
+    }
+}
+
+fn read_label(text: &[u8]) -> Option<Label>
+    ensures { result ≡ label_of text.now }
+{
+    Label::of(text)
+}
+
+/// The hexadecimal digits of an option, if it is given; `None` where it is given and not of 1 to 40 of them.
+pub(crate) fn prefix_if_given(matches: &ArgMatches<'_>, id: &str) -> Option<Option<Label>>
+    ensures { result ≡ prefix_given id.now (rows_of (found_of matches.now)) }
+{
+    match text_of(matches, id) {
+        Some(text) => Some(Some(read_prefix(text.as_bytes())?)),
         None => Some(None),
     }
 }

@@ -5,7 +5,7 @@ ghost use Rattle.reg_desk_cli.specs.Statuses.{usage_status};
 
 use crate::word::{Steps, Word};
 use reg_core::Moment;
-use reg_core_lists::{Cursor, Form};
+use reg_core_lists::{Cursor, Filter, Form};
 use reg_crl_signer::Algorithm;
 
 /// What listens at a Unix socket and holds a key, and the algorithm of its signatures.
@@ -104,6 +104,7 @@ pub struct ListToWrite<'a> {
     pub from: Cursor,
     /// The moment of which it is told, where it is not that of the machine's clock.
     pub moment: Option<Moment>,
+    pub filter: Filter,
     pub form: Form,
 }
 
@@ -135,6 +136,11 @@ pub enum Job<'a> {
     At {
         counter: Word<'a>,
         rows: Option<Word<'a>>,
+    },
+    /// Sends the accepted commands of the log at a path to the control socket at a path once more.
+    Replay {
+        counter: Word<'a>,
+        log: Word<'a>,
     },
     Schedule {
         file: Word<'a>,

@@ -96,19 +96,31 @@ const AT_COUNTER: &str = "The Unix socket of an open desk's counter";
 const AT_IMPORT: &str =
     "In place of standard input: register each certificate of this CSV file, order,serial,notBefore,notAfter";
 
+const REPLAY: &str = "The log of an open desk, as --log and --log-file write it";
+
 const COPY: &str = "The path of the copy; nothing may lie there";
 
 const STEPS: &str =
     "From MOMENT on at most DAYS days, 1 to 398; 1 to 16 steps, the first at 1970-01-01T00:00:00Z, moments ascending";
 
 const LIST: &str =
-    "revoked, certificates, ending, open-requests, overdue, subscribers, orders or crls";
+    "revoked, certificates, ending, open-requests, overdue, requests, subscribers, orders or crls";
 
 const BEFORE_MOMENT: &str =
     "Of the list ending: certificates whose notAfter is before it, in UTC, as 2026-02-01T00:00:00Z";
 
 const LIST_NOW: &str =
     "The moment of which statuses are told, in UTC, as 2026-01-01T00:00:00Z [default: the machine's clock]";
+
+const SUBSCRIBER: &str = "Only rows of the subscriber with this name";
+
+const SERIAL: &str =
+    "Only serial numbers that begin with these 1 to 40 hexadecimal digits, with their leading zeros or without";
+
+const FROM: &str =
+    "Only rows from this moment on: of its notBefore, or of a request when it was received, of a revocation when it was made, of a CRL its thisUpdate";
+
+const TO: &str = "Only rows before this moment, as of --from";
 
 const JSON: &str = "Write an object of JSON a line [default: CSV with a header]";
 
@@ -230,6 +242,16 @@ pub(crate) const RUNNING: &[CommandEntry] = &[
             Part::Flag("why", CAUSE),
         ],
     },
+    CommandEntry {
+        name: "replay",
+        about: "Tell the accepted commands of a log to an open desk once more, and write one reply line for each; a request is named by its serial number.",
+        example: "Example:\n  desk replay ca.counter ca.log\n\nExit status 3 at the first reply that differs from that in the log: its line stands behind that reply, and nothing behind it is told.",
+        parts: &[
+            Part::Must("counter", "SOCKET", AT_COUNTER),
+            Part::Must("log", "LOG", REPLAY),
+            Part::Flag("why", CAUSE),
+        ],
+    },
 ];
 
 /// The commands that set, list, copy and audit what a register has; help lists them behind the others.
@@ -257,12 +279,16 @@ pub(crate) const KEEPING: &[CommandEntry] = &[
     CommandEntry {
         name: "list",
         about: "Write a list of the register to standard output, in the order of keys.",
-        example: "Examples:\n  desk list ca.db revoked\n  desk list ca.db ending --before 2026-02-01T00:00:00Z --json",
+        example: "Examples:\n  desk list ca.db revoked\n  desk list ca.db ending --before 2026-02-01T00:00:00Z --json\n  desk list ca.db requests --from 2026-01-01T00:00:00Z --to 2026-04-01T00:00:00Z",
         parts: &[
             Part::Must("file", "FILE", FILE),
             Part::Must("list", "LIST", LIST),
             Part::Takes("before", "MOMENT", BEFORE_MOMENT),
             Part::Takes("now", "MOMENT", LIST_NOW),
+            Part::Takes("subscriber", "NAME", SUBSCRIBER),
+            Part::Takes("serial", "PREFIX", SERIAL),
+            Part::Takes("from", "MOMENT", FROM),
+            Part::Takes("to", "MOMENT", TO),
             Part::Flag("json", JSON),
             Part::Flag("why", CAUSE),
         ],

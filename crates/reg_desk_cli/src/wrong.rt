@@ -1,6 +1,9 @@
 //! What is said of a value that is out of its form or range.
 
-use crate::given_values::{answerer, key_holder, moment, number_within, read_step, text_of};
+use crate::given_values::{
+    answerer, key_holder, label_if_given, moment, number_within, prefix_if_given, read_step,
+    text_of,
+};
 use clap::ArgMatches;
 use std::alloc::Global;
 
@@ -23,7 +26,12 @@ const NUMBERS: [(&str, &str, u64, u64); 7] = [
 ];
 
 /// The options whose value is a moment: the id and the name of each.
-const MOMENTS: [(&str, &str); 2] = [("before", "--before"), ("now", "--now")];
+const MOMENTS: [(&str, &str); 4] = [
+    ("before", "--before"),
+    ("now", "--now"),
+    ("from", "--from"),
+    ("to", "--to"),
+];
 
 /// The options that tell of a responder: the id and the name of each.
 const RESPONDERS: [(&str, &str); 3] = [
@@ -45,7 +53,11 @@ const RESPONDER_WANTED: &str =
     "--responder, --responder-signer and --responder-algorithm are given together, without --embed; an algorithm is ecdsa-sha256, ecdsa-sha384, rsa-sha256 or ed25519";
 
 const LIST_WANTED: &str =
-    "a list is revoked, certificates, ending, open-requests, overdue, subscribers, orders or crls; ending wants --before, and no other takes it";
+    "a list is revoked, certificates, ending, open-requests, overdue, requests, subscribers, orders or crls; ending wants --before, and no other takes it; crls takes neither --subscriber nor --serial, orders no --from or --to, subscribers --subscriber alone";
+
+const SUBSCRIBER_WANTED: &str = "a subscriber's name is 1 to 64 bytes";
+
+const SERIAL_WANTED: &str = "a serial number begins with 1 to 40 hexadecimal digits";
 
 const FILE_WANTED: &str = "--clock and --strict want a FILE";
 
@@ -99,6 +111,9 @@ fn first_wrong<'a>(matches: &ArgMatches<'a>) -> Option<Wrong<'a>> {
     if let Some(wrong) = wrong_step(given) {
         return Some(wrong);
     }
+    if let Some(wrong) = wrong_filter(given) {
+        return Some(wrong);
+    }
     if let Some(wrong) = wrong_holder(given) {
         return Some(wrong);
     }
@@ -132,6 +147,19 @@ fn wrong_step<'a>(given: &ArgMatches<'a>) -> Option<Wrong<'a>> {
         if read_step(value.as_bytes()).is_none() {
             return Some(Wrong::of("MOMENT=DAYS", value, STEP_WANTED));
         }
+    }
+    None
+}
+
+/// The value of a filter that can't be read.
+fn wrong_filter<'a>(given: &ArgMatches<'a>) -> Option<Wrong<'a>> {
+    if label_if_given(given, "subscriber").is_none() {
+        let value = text_of(given, "subscriber")?;
+        return Some(Wrong::of("--subscriber", value, SUBSCRIBER_WANTED));
+    }
+    if prefix_if_given(given, "serial").is_none() {
+        let value = text_of(given, "serial")?;
+        return Some(Wrong::of("--serial", value, SERIAL_WANTED));
     }
     None
 }

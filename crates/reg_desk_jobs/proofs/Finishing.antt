@@ -95,6 +95,7 @@ module _ (signs : Signs) (gave : List ℕ → List ℕ → Type 0)
             status = it.exchange.status;
             signature = (ocsp_told given).signature;
             store = (ocsp_told given).store;
+            named = (ocsp_told given).named;
             text = it.exchange.text;
           };
           is_exchange = inl (
@@ -102,7 +103,7 @@ module _ (signs : Signs) (gave : List ℕ → List ℕ → Type 0)
             ocsp_told given,
             holds,
             subst Q (sym to) (subst P (sym asks_it) (given, replies, refl)),
-            (refl, refl, told_of it.signature it.finished.given it.exchange it.finished.tells),
+            (refl, refl, refl, told_of it.signature it.finished.given it.exchange it.finished.tells),
           );
           text_is = it.text_is;
           adds = nothing_added now before after drafted.1;

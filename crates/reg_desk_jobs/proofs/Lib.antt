@@ -2,11 +2,15 @@ pub mod Answering
 pub mod CounterLines
 pub mod DeskRuns
 pub mod Fates
+pub mod Finding
 pub mod Finishing
+pub mod FoundRows
 pub mod LookedAt
 pub mod Looks
 pub mod NextLines
 pub mod PageByPage
+pub mod Replaying
+pub mod SerialBytes
 pub mod Setting
 pub mod StepWords
 pub mod Talking

@@ -1,15 +1,18 @@
 -- A list that is given page by page.
 use Rattle.std.proofs.Common.{◌≡◌, ℕ, suc, List, [], ◌∷◌, ◌++◌, append_assoc, append-nil, Option, None, Some, Ok, refl, sym, ap, subst, ◌∙◌}
-use Rattle.std.specs.List.{flat_map}
+use Rattle.std.specs.List.{filter, flat_map}
+use Rattle.std.proofs.lemmas.List.Elements.{filter-append}
 use Rattle.reg_core.specs.Checks.{clock_checks, first_of_all}
 use Rattle.reg_core.specs.Records.{Records}
 use Rattle.reg_office_api.specs.Leads.{Leads}
 use Rattle.reg_office_api.specs.Signatories.{Signatory}
 use Rattle.reg_office_api.proofs.PublicLaws.{chains, follows, stays}
+use Rattle.reg_core_lists.specs.Filters.{keeps}
 use Rattle.reg_core_lists.specs.Lists.{rows_from}
 use Rattle.reg_core_lists.specs.Pages.{IsPagedSoundly, Pages}
 use Rattle.reg_core_lists.specs.Texts.{opening_text, row_text}
 use Rattle.reg_core_lists.specs.declared.cursor.Cursor.{Cursor}
+use Rattle.reg_core_lists.specs.declared.filter.Filter.{Filter}
 use Rattle.reg_core_lists.specs.declared.rows.Page.{Page}
 use Rattle.reg_core_lists.specs.declared.rows.Row.{Row}
 use Rattle.reg_core_lists.specs.declared.texts.Form.{Form}
@@ -20,24 +23,26 @@ abbrev pub IsGoing : ℕ → Cursor → List Row → Option Cursor → Signatory
 IsGoing now from done next identity before after =
     (after ≡ before) × (rows_from before now from ≡ done ++ rest_of before now next) × (next ≡ None → first_of_all (clock_checks now before.last) ≡ None)
 
--- the same as a text
-abbrev pub IsText : Form → Cursor → List Row → List ℕ → Type 0
-IsText form from done text = text ≡ opening_text form from ++ flat_map (row_text form) done
+-- those of them that are wanted, as a text
+abbrev pub IsText : Form → Filter → Cursor → List Row → List ℕ → Type 0
+IsText form wanted from done text = text ≡ opening_text form from ++ flat_map (row_text form) (filter (keeps wanted) done)
 
 flat_append : {A B : Type 0} (f : A → List B) (xs ys : List A) → flat_map f (xs ++ ys) ≡ flat_map f xs ++ flat_map f ys
 flat_append f [] ys = refl
 flat_append f (x ∷ xs) ys = ap (λ l. f x ++ l) (flat_append f xs ys) ∙ sym (append_assoc (f x) (flat_map f xs) (flat_map f ys))
 
 -- the text with the rows of one page more
-pub text_more : (form : Form) (from : Cursor) (done rows : List Row) (text more : List ℕ) → IsText form from done text → more ≡ text ++ flat_map (row_text form) rows
-    → IsText form from (done ++ rows) more
-text_more form from done rows text more is longer =
-    longer ∙ ap (λ l. l ++ flat_map (row_text form) rows) is
-    ∙ append_assoc (opening_text form from) (flat_map (row_text form) done) (flat_map (row_text form) rows)
-    ∙ ap (λ l. opening_text form from ++ l) (sym (flat_append (row_text form) done rows))
+pub text_more : (form : Form) (wanted : Filter) (from : Cursor) (done rows : List Row) (text more : List ℕ) → IsText form wanted from done text
+    → more ≡ text ++ flat_map (row_text form) (filter (keeps wanted) rows) → IsText form wanted from (done ++ rows) more
+text_more form wanted from done rows text more is longer =
+    let kept = filter (keeps wanted) in
+    longer ∙ ap (λ l. l ++ flat_map (row_text form) (kept rows)) is
+    ∙ append_assoc (opening_text form from) (flat_map (row_text form) (kept done)) (flat_map (row_text form) (kept rows))
+    ∙ ap (λ l. opening_text form from ++ l) (sym (flat_append (row_text form) (kept done) (kept rows)))
+    ∙ ap (λ l. opening_text form from ++ flat_map (row_text form) l) (sym (filter-append (keeps wanted) done rows))
 
-pub text_begun : (form : Form) (from : Cursor) (text : List ℕ) → text ≡ opening_text form from → IsText form from [] text
-text_begun form from text is = is ∙ sym (append-nil (opening_text form from))
+pub text_begun : (form : Form) (wanted : Filter) (from : Cursor) (text : List ℕ) → text ≡ opening_text form from → IsText form wanted from [] text
+text_begun form wanted from text is = is ∙ sym (append-nil (opening_text form from))
 
 -- What stands in a register before and after.
 module _ {S : Type 0} (is_clean : S → Type 0) (stands : Signatory → S → Records → Type 0) (now m : ℕ) (from : Cursor) where

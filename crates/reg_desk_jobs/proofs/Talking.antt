@@ -30,7 +30,7 @@ all_push (first ∷ replies) reply =
     )
 
 -- an input, of which some bytes were taken and these are left
-input_is : (input input' : Option (List ℕ)) (front left : List ℕ) → Consumes input input' front → IsInput input' left → IsInput input (front ++ left)
+pub input_is : (input input' : Option (List ℕ)) (front left : List ℕ) → Consumes input input' front → IsInput input' left → IsInput input (front ++ left)
 input_is None input' front left took all = tt
 input_is (Some xs) None front left took all = absurd took
 input_is (Some xs) (Some ys) front left took all = took ∙ ap (λ l. front ++ l) all
@@ -74,7 +74,7 @@ module _ (input sent came out : Option (List ℕ)) where
         → SoFar input'' sent'' came'' out'' after
     goes_on input'' before accepted after so once both =
         let (lines, replies, talked, read, all) = so in
-        let (line, reply, whole, took, told, heard, said, is) = once in
+        let (line, reply, whole, took, (told, heard, said), is) = once in
         let push = all_push replies reply in (
           lines ++ line ∷ [],
           replies ++ reply ∷ [],

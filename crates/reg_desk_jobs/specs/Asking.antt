@@ -61,10 +61,14 @@ IsWhy replies left why =
 
 -- What went out to the control socket, what came from it, and what was written: before and after.
 module _ (sent sent' came came' out out' : Option (List ℕ)) where
+  -- a line was told, and its reply heard and said
+  abbrev pub TalksLine : List ℕ → List ℕ → Type 0
+  TalksLine line reply = Appends sent sent' line × Consumes came came' reply × Appends out out' reply
+
   -- one line of an input: it was told, and its reply was accepted or not; or nothing was told, since it has no end, or none is left
   abbrev pub TalksOnce : Option (List ℕ) → Option (List ℕ) → Result Step Failure → Type 0
   TalksOnce input input' (Ok (step.Told accepted)) =
-      (line reply : List ℕ) × IsWholeLine line × Consumes input input' line × Appends sent sent' line × Consumes came came' reply × Appends out out' reply
+      (line reply : List ℕ) × IsWholeLine line × Consumes input input' line × TalksLine line reply
       × (IsTrue accepted ↔ IsAccepted reply)
   TalksOnce input input' (Ok step.Cut) = (left : List ℕ) × IsCutOff left × IsInput input left × (sent' ≡ sent) × (came' ≡ came) × (out' ≡ out)
   TalksOnce input input' (Ok step.End) = IsInput input [] × (sent' ≡ sent) × (came' ≡ came) × (out' ≡ out)

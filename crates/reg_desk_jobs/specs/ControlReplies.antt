@@ -8,6 +8,7 @@ use Rattle.reg_office_api.specs.declared.effects.SignatureFate.{SignatureFate}
 use Rattle.reg_office_api.specs.declared.effects.SignatureFate.TheVariants as fate
 use Rattle.reg_office_api.specs.declared.effects.StoreEffect.{StoreEffect}
 use Rattle.reg_office_api.specs.declared.effects.StoreEffect.TheVariants as effect
+use Rattle.reg_core.specs.Lines.{fault_line}
 use Rattle.reg_core.specs.declared.command.Command.TheVariants.{Crl}
 use Rattle.reg_core.specs.declared.refusal.Fault.{Fault}
 use Rattle.reg_core.specs.declared.refusal.Fault.TheVariants as fault
@@ -20,6 +21,14 @@ use Rattle.reg_lines.specs.declared.answered.Answered.TheVariants as answered
 use Rattle.reg_lines.specs.declared.answered.Asked.TheVariants.{Command, Ocsp}
 use Rattle.reg_desk_jobs.specs.declared.control_reply.Came.{Came}
 use Rattle.reg_desk_jobs.specs.declared.control_reply.Came.TheVariants.{CameTo, Response, Done, Failed, Silent}
+
+-- these bytes are told, or nothing where there was no memory for them
+abbrev pub IsSaid : List ℕ → List ℕ → Type 0
+IsSaid bytes text = (text ≡ bytes) ⊎ (text ≡ [])
+
+-- the line of a fault is told
+abbrev pub TellsFault : Fault → List ℕ → Type 0
+TellsFault why text = IsSaid (fault_line why ++ 10 ∷ []) text
 
 -- what a command line came to
 abbrev pub came_of : Answered → Came

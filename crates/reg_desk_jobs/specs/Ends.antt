@@ -43,6 +43,7 @@ use Rattle.reg_office_api.specs.LookUps.{IsOfStore}
 use Rattle.reg_office_api.specs.Settings.{Identifies, Reschedules}
 use Rattle.reg_desk_jobs.specs.Given.{GaveAt}
 use Rattle.reg_desk_jobs.specs.Sample.{sample_records}
+use Rattle.reg_desk_jobs.specs.Replays.{ReplaysAt}
 use Rattle.reg_desk_jobs.specs.Registers.{Audits, Unaudited}
 use Rattle.reg_desk_jobs.specs.Serving.{IsBound, Serves, ServedAt}
 use Rattle.reg_desk_jobs.specs.Told.{Explains}
@@ -115,14 +116,14 @@ module _ {M O D S R W : Type 0} (machines : Machine M O D S R) (offices : Office
       × Visits machines offices machine machine' path unsigned (λ identity before after. Crls before number given after)
       × SaysGiven contents writer writer' given result)
 
-  -- a list of the register at a path, of which no record changes, at a moment: all of its rows are said, each once and in order, or
+  -- a list of the register at a path, of which no record changes, at a moment: all of its rows that are wanted are said, each once and in order, or
   -- none; a clock that can't be read is the end before the path is looked at
   abbrev pub ListAt : ListToWrite → Result (Unit {0}) Failure → Type 0
   ListAt it result =
       ((result ≡ Err (failure.Fault fault.Read)) × (writer' ≡ writer) × (machine' ≡ machine))
       ⊎ ((now : ℕ) × IsMomentOf machines.told it.moment now × Over it.file unsigned result ((given : Result (List ℕ) Fault)
       × Visits machines offices machine machine' it.file unsigned
-      (λ identity before after. GivesWholeList before now it.form it.from given after)
+      (λ identity before after. GivesWholeList before now it.form it.filter it.from given after)
       × SaysGiven contents writer writer' given result))
 
   -- an audit of the register at a path: it could not be looked at, or what was found is told; the machine is as it was
@@ -264,6 +265,8 @@ module _ {M O D S R E W : Type 0} (machines : Machine M O D S R) (offices : Offi
       (machine' ≡ machine) × AtCounter (machines.met counter) (remaining reader) (contents writer) (contents writer') result
   Ends (job.At counter (Some file)) = λ result. (machine' ≡ machine)
       × RowsAtCounter (machines.met counter) (remaining reader) (remaining reader') (contents writer) (contents writer') result
+  Ends (job.Replay counter log) = λ result.
+      (machine' ≡ machine) × ReplaysAt (machines.met counter) (remaining reader) (contents writer) (contents writer') result
 
   -- A job that is done and told: how it ended, its exit status, and what standard error got of that, with the cause where it is asked for.
   pub record Performs (job : Job) (is_told : Bool) (errors errors' : Option (List ℕ)) (status : ℕ) : Type 0 where

@@ -1,7 +1,10 @@
 -- The lines of the log: one line an exchange, whatever came.
-use Rattle.std.specs.Prelude.{ℕ, Bool, cond, not, ◌||◌, ◌&&◌, List, [], ◌∷◌, ◌++◌, ◌+◌, ◌/◌, ◌%◌, ◌==◌, nat_le, nat_lt, take, length, codes, decimal}
+use Rattle.std.specs.Prelude.{ℕ, Bool, cond, not, ◌||◌, ◌&&◌, List, [], ◌∷◌, ◌++◌, ◌+◌, ◌/◌, ◌%◌, ◌==◌, nat_le, nat_lt, take, length, codes, decimal, Option, Some, None}
 use Rattle.std.specs.List.{flat_map, position}
+use Rattle.std.specs.Option.{option_map_or}
 use Rattle.reg_core.specs.Calendar.{moment_text}
+use Rattle.reg_core.specs.Serial.{serial_text}
+use Rattle.reg_http.specs.declared.answered.NamedRequest.{NamedRequest}
 use Rattle.reg_http.specs.RouteNames.{before}
 
 -- whether a byte is told as it is: ASCII from the space to the tilde (RFC 20 2), but the quotation mark and the backslash
@@ -32,12 +35,17 @@ told_text text = 34 ∷ flat_map told_byte (take 256 (first_line text)) ++ (34 �
 abbrev pub unsigned_end : Bool → List ℕ
 unsigned_end is_unsigned = cond is_unsigned (codes " signer") []
 
+-- what the line of an exchange names of a request that was entered or decided: its number and serial number; and its ground, where it was entered
+abbrev pub named_end : Option NamedRequest → List ℕ
+named_end None = []
+named_end (Some named) = codes " request" ++ (32 ∷ decimal named.id) ++ (32 ∷ serial_text named.serial) ++ option_map_or (λ word. 32 ∷ word) named.ground []
+
 -- the line of an exchange, without LF: the moment, who asked, what was asked and answered, how many bytes the answer has, in how many
--- microseconds it was made, and whether a signature did not come
-abbrev pub exchange_line : ℕ → List ℕ → List ℕ → List ℕ → ℕ → Bool → List ℕ
-exchange_line now who asked answered micros is_unsigned =
+-- microseconds it was made, the request that it entered or decided, and whether a signature did not come
+abbrev pub exchange_line : ℕ → List ℕ → List ℕ → List ℕ → ℕ → Option NamedRequest → Bool → List ℕ
+exchange_line now who asked answered micros named is_unsigned =
     moment_text now ++ (32 ∷ who) ++ (32 ∷ told_text asked) ++ (32 ∷ told_text answered) ++ (32 ∷ decimal (length answered)) ++ (32 ∷ decimal micros)
-    ++ unsigned_end is_unsigned
+    ++ named_end named ++ unsigned_end is_unsigned
 
 -- the line of a connection that ended by a fault, without LF
 abbrev pub lost_line : ℕ → List ℕ → List ℕ → List ℕ

@@ -1,8 +1,9 @@
--- Why a registration was refused, as it is told behind that.
+-- Why a command was refused, as it is told behind that.
 use Rattle.std.specs.Prelude.{◌≡◌, ℕ, ◌+◌, ◌-◌, ◌*◌, List, [], ◌∷◌, ◌++◌, codes, decimal, Option, Some, None}
 use Rattle.reg_core.specs.Calendar.{moment_text}
+use Rattle.reg_core.specs.Serial.{serial_text}
 use Rattle.reg_desk_jobs.specs.declared.reasons.Reason.{Reason}
-use Rattle.reg_desk_jobs.specs.declared.reasons.Reason.TheVariants.{NoOrder, Filled, Latest}
+use Rattle.reg_desk_jobs.specs.declared.reasons.Reason.TheVariants.{NoOrder, Filled, Latest, OtherSerial}
 
 -- what is told: what was noted, or nothing
 unfoldable pub noted_why_text : List ℕ → List ℕ
@@ -21,11 +22,16 @@ latest_text at = codes "notAfter at most " ++ moment_text at
 abbrev pub order_text : List ℕ → ℕ → List ℕ → List ℕ
 order_text front order end = front ++ decimal order ++ end
 
+-- what is told of a request that is for another serial number
+abbrev pub other_text : ℕ → ℕ → List ℕ
+other_text request serial = codes "request " ++ decimal request ++ codes " is for " ++ serial_text serial
+
 -- the words of a reason
 abbrev pub reason_text : Reason → List ℕ
 reason_text (NoOrder order) = order_text (codes "no order ") order []
 reason_text (Filled order) = order_text (codes "order ") order (codes " has its certificate")
 reason_text (Latest at) = latest_text at
+reason_text (OtherSerial request serial) = other_text request serial
 
 -- the line of a reason, with an LF, behind what stands before it
 abbrev pub IsReasonLine : List ℕ → Option Reason → List ℕ → Type 0

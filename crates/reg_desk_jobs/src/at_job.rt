@@ -4,7 +4,7 @@ ghost use Rattle.std.specs.Prelude.{◌≡◌, ◌⊎◌, ◌↔◌, IsFalse, Is
 ghost use Rattle.std.specs.Io.{StopsAt};
 ghost use Rattle.std.specs.Io.BufRead.{ends_with_byte};
 ghost use Rattle.std.specs.Io.KnownBytes.{Consumes};
-ghost use Rattle.reg_desk_jobs.specs.Asking.{AtCounter, IsOfTalk, IsReadAs, NextIs, RowsAtCounter, Talks, TalksOnce, TalksOver};
+ghost use Rattle.reg_desk_jobs.specs.Asking.{AtCounter, IsOfTalk, IsReadAs, NextIs, RowsAtCounter, Talks, TalksLine, TalksOnce, TalksOver};
 
 use crate::machine::Machine;
 use crate::telling::say;
@@ -17,7 +17,7 @@ use std::os::unix::net::UnixStream;
 
 /// What an input has next.
 #[derive(Drop)]
-enum Next {
+pub(crate) enum Next {
     /// A line, with its LF.
     Line(Vec<u8>),
     /// A last line without its end.
@@ -158,13 +158,29 @@ fn talk_once<R: BufRead, W: Write, C: BufRead, S: Write>(
         Next::Cut => return Ok(Step::Cut),
         Next::End => return Ok(Step::End),
     };
-    say(sent, &line)?;
-    let reply = next_reply(alloc, came)?;
-    say(writer, &reply)?;
+    let reply = exchange(alloc, &line, writer, came, sent)?;
     Ok(Step::Told(is_accepted(&reply)))
 }
 
-fn next_line<R: BufRead>(alloc: Global, input: &mut R) -> Result<Next, Failure>
+/// Sends a line to a control socket, and writes its reply.
+pub(crate) fn exchange<W: Write, C: BufRead, S: Write>(
+    alloc: Global,
+    line: &[u8],
+    writer: &mut W,
+    came: &mut C,
+    sent: &mut S,
+) -> Result<Vec<u8>, Failure>
+    ensures ok { IfOk result (λ reply. TalksLine (S.contents sent.old) (S.contents sent.new) (C.remaining came.old) (C.remaining came.new)
+        (W.contents writer.old) (W.contents writer.new) line.now reply.items) }
+    ensures err { IfErr result IsOfTalk }
+{
+    say(sent, line)?;
+    let reply = next_reply(alloc, came)?;
+    say(writer, &reply)?;
+    Ok(reply)
+}
+
+pub(crate) fn next_line<R: BufRead>(alloc: Global, input: &mut R) -> Result<Next, Failure>
     ensures ok { IfOk result (NextIs (R.remaining input.old) (R.remaining input.new)) }
     ensures err { IfErr result IsOfTalk }
 {

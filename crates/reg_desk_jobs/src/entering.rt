@@ -1,8 +1,9 @@
 //! Lines at the control socket, as an open desk answers them.
 
-ghost use Rattle.std.specs.Prelude.{◌⊎◌, ◌↔◌, ◌<◌, IsTrue};
+ghost use Rattle.std.specs.Prelude.{◌≡◌, ◌⊎◌, ◌↔◌, ◌<◌, ◌≤◌, [], IsTrue, vec_capacity};
+ghost use Rattle.reg_lines.specs.Answer.{reply_of};
 ghost use Rattle.reg_office_api.specs.Leads.{Leads};
-ghost use Rattle.reg_desk_jobs.specs.ControlReplies.{TellsCame};
+ghost use Rattle.reg_desk_jobs.specs.ControlReplies.{TellsCame, came_of};
 ghost use Rattle.reg_desk_jobs.specs.Counted.{CountsLine, SignatureFailed};
 ghost use Rattle.reg_desk_jobs.specs.CounterWords.{CommandAt, WordAt};
 ghost use Rattle.reg_desk_jobs.specs.Schedules.{SetAt, SetsSteps, TellsSetting};
@@ -13,11 +14,13 @@ use crate::jobs::ended;
 use crate::logging::log_line;
 use crate::machine::Machine;
 use crate::reasons::{note, note_reply, told_why};
+use crate::settling::{named_before, named_by, tell_settling};
+use crate::showing::{tell_help, tell_shown};
 use crate::words::{ControlWord, read_word};
 use reg_core::{Fault, Moment};
 use reg_desk_cli::{Failure, Steps, schedule_of};
 use reg_desk_metrics::Tally;
-use reg_lines::{LONGEST_REPLY, run_line};
+use reg_lines::{Answered, LONGEST_REPLY, run_line};
 use reg_office_api::{LineReply, Office};
 use std::alloc::Global;
 
@@ -41,11 +44,22 @@ pub(crate) fn tell_counted<M: Machine>(
         now result.items tally.old tally.new }
 {
     let failures = office.failure_counts();
+    let named = named_before::<M>(alloc, office, machine, now, line);
     let reply = tell_word::<M>(alloc, office, machine, file, now, line, noted);
     let is_unsigned = has_failed::<M>(office, failures);
     let micros = machine.micros().saturating_sub(began);
     tally.count_line(now, reply.came.effects(is_unsigned), micros);
-    log_line(alloc, machine, micros, now, line, &reply.text, is_unsigned);
+    let named = named_by(&reply.came, named);
+    log_line(
+        alloc,
+        machine,
+        micros,
+        now,
+        line,
+        &reply.text,
+        named,
+        is_unsigned,
+    );
     reply.text
 }
 
@@ -64,8 +78,13 @@ fn tell_word<M: Machine>(
     ensures came { TellsCame result.came result.text.items }
 {
     match read_word(alloc, line) {
+        Ok(ControlWord::Help) => tell_help(alloc),
         Ok(ControlWord::Why) => told_why(alloc, noted),
         Ok(ControlWord::Copy(path)) => tell_copy(alloc, machine, file, path, noted),
+        Ok(ControlWord::Show(shown)) => tell_shown::<M>(alloc, office, now, shown, noted),
+        Ok(ControlWord::Settle(settling)) => {
+            tell_settling::<M>(alloc, office, now, settling, noted)
+        }
         Ok(ControlWord::Schedule(steps)) => tell_schedule::<M>(alloc, office, &steps, noted),
         Ok(ControlWord::Line(Some(command))) => {
             tell_command::<M>(alloc, office, now, command, noted)
@@ -75,7 +94,7 @@ fn tell_word<M: Machine>(
     }
 }
 
-/// Runs a command line, which has no end, at a moment. Room for its reply is made before. Why it was refused, if it was, is noted.
+/// Runs a command line, which has no end, at a moment. Room for its reply is made before.
 fn tell_command<M: Machine>(
     alloc: Global,
     office: &mut M::Office,
@@ -92,6 +111,23 @@ fn tell_command<M: Machine>(
         return ControlReply::fault(alloc, Fault::Memory);
     };
     let answered = run_line(alloc, office, now, line);
+    tell_answered::<M>(alloc, office, answered, room, noted)
+}
+
+/// Tells what a command line came to, in a room that is empty. Why it was refused, if it was, is noted.
+pub(crate) fn tell_answered<M: Machine>(
+    alloc: Global,
+    office: &mut M::Office,
+    answered: Answered,
+    room: Vec<u8>,
+    noted: &mut Vec<u8>,
+) -> ControlReply
+    requires empty { room.items ≡ [] }
+    requires room { 84 ≤ vec_capacity room }
+    ensures stays { Leads M.Office.is_clean M.Office.stands (λ identity before after. after ≡ before) office.old office.new }
+    ensures text { result.text.items ≡ reply_of answered }
+    ensures came { result.came ≡ came_of answered }
+{
     let refused = answered.refused();
     let reply = ControlReply::of(answered, room);
     if reply.came.kind() == LineReply::Refused {

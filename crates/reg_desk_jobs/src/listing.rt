@@ -1,6 +1,7 @@
 //! The job `list`: a list of a register, whole.
 
 ghost use Rattle.std.specs.Prelude.{◌≡◌, ◌++◌, IfErr, IfOk, OnOk, flat_map};
+ghost use Rattle.reg_core_lists.specs.Filters.{wanted_rows};
 ghost use Rattle.reg_office_api.specs.Items.{items_of};
 ghost use Rattle.reg_office_api.specs.Leads.{Leads};
 ghost use Rattle.reg_core_lists.specs.Pages.{GivesWholeList};
@@ -11,7 +12,7 @@ use crate::jobs::say_given;
 use crate::machine::Machine;
 use crate::registers::open_unsigned;
 use reg_core::{Fault, Moment};
-use reg_core_lists::{Cursor, Form, Row, header, put_rows};
+use reg_core_lists::{Cursor, Filter, Form, Row, header, put_rows};
 use reg_desk_cli::{Failure, ListToWrite};
 use reg_office_api::Office;
 use std::alloc::Global;
@@ -32,7 +33,7 @@ pub fn list<M: Machine, W: Write>(
     let now = moment_of(machine, wanted.moment)?;
     let path = wanted.file.as_str();
     let mut register = open_unsigned(machine, path)?;
-    let given = given_list::<M>(alloc, &mut register, now, wanted.from, wanted.form);
+    let given = given_list::<M>(alloc, &mut register, now, wanted);
     machine.close(path, register);
     say_given(writer, given)
 }
@@ -54,20 +55,19 @@ fn given_list<M: Machine>(
     alloc: Global,
     register: &mut M::Office,
     now: Moment,
-    from: Cursor,
-    form: Form,
+    wanted: &ListToWrite<'_>,
 ) -> Result<Vec<u8>, Fault>
-    ensures { Leads M.Office.is_clean M.Office.stands (λ identity before after. GivesWholeList before now form from (items_of result) after)
+    ensures { Leads M.Office.is_clean M.Office.stands
+        (λ identity before after. GivesWholeList before now wanted.now.form wanted.now.filter wanted.now.from (items_of result) after)
         register.old register.new }
 {
-    let first = from;
-    let mut text = opening(alloc, form, first)?;
-    let mut next = Some(from);
+    let mut text = opening(alloc, wanted.form, wanted.from)?;
+    let mut next = Some(wanted.from);
     for _ in 0..u64::MAX {
         match next {
             Some(at) => {
                 let page = register.page(alloc, now, at, MOST_ROWS)?;
-                put(alloc, &mut text, form, &page.rows)?;
+                put(alloc, &mut text, wanted.form, &wanted.filter, &page.rows)?;
                 next = page.next;
             }
             None => return Ok(text),
@@ -84,18 +84,19 @@ fn opening(alloc: Global, form: Form, from: Cursor) -> Result<Vec<u8>, Fault>
         Form::Csv => header(from),
         Form::Json => "",
     };
-    match Vec::from_slice(alloc, start.as_bytes()) {
-        Ok(text) => Ok(text),
-        Err(_) => Err(Fault::Memory),
-    }
+    Vec::from_slice(alloc, start.as_bytes()).map_err(|_| Fault::Memory)
 }
 
-fn put(alloc: Global, text: &mut Vec<u8>, form: Form, rows: &[Row]) -> Result<(), Fault>
-    ensures ok { OnOk result (text.new.items ≡ text.old.items ++ flat_map (row_text form) rows.now) }
+fn put(
+    alloc: Global,
+    text: &mut Vec<u8>,
+    form: Form,
+    wanted: &Filter,
+    rows: &[Row],
+) -> Result<(), Fault>
+    ensures ok { OnOk result (text.new.items ≡ text.old.items ++ flat_map (row_text form) (wanted_rows wanted.now rows.now)) }
     ensures err { IfErr result (λ fault. fault ≡ Fault.Memory) }
 {
-    match put_rows(alloc, text, form, rows) {
-        Ok(()) => Ok(()),
-        Err(_) => Err(Fault::Memory),
-    }
+    let kept = wanted.kept(alloc, rows).map_err(|_| Fault::Memory)?;
+    put_rows(alloc, text, form, &kept).map_err(|_| Fault::Memory)
 }

@@ -2,16 +2,18 @@
 
 ghost use Rattle.std.specs.Prelude.{◌≡◌, ◌++◌, ◌∷◌, ◌<◌, ◌≤◌, [], IfOk, IfSome, OnOk, decimal, length, take};
 ghost use Rattle.std.specs.List.{flat_map, position};
-ghost use Rattle.reg_desk_jobs.specs.Log.{digit as hexadecimal, is_plain as plain, ends_line, first_line as first_line_of, told_text, told_byte, exchange_line as exchanged, lost_line as lost, unsigned_end};
+ghost use Rattle.reg_desk_jobs.specs.Log.{digit as hexadecimal, is_plain as plain, ends_line, first_line as first_line_of, told_text, told_byte, exchange_line as exchanged, lost_line as lost, named_end, unsigned_end};
 
 use reg_core::{Decimal, Moment};
+use reg_http::NamedRequest;
 use std::alloc::{AllocError, Global};
 
-const MOST_TOLD: usize = 256;
+/// How many bytes of a text the log tells at most.
+pub(crate) const MOST_TOLD: usize = 256;
 
 /// The line of an exchange, with no LF behind it. Who asked stands there as it is; what was asked and answered puts no control character and
-/// no byte outside ASCII there, so that no peer can put a line of its own into the log. Where a signature did not come, its last word is
-/// `signer`.
+/// no byte outside ASCII there, so that no peer can put a line of its own into the log. A request that was entered or decided is named by its
+/// number and serial number, and one that was entered by its ground, too. Where a signature did not come, the last word is `signer`.
 pub(crate) fn exchange_line(
     alloc: Global,
     now: Moment,
@@ -19,9 +21,10 @@ pub(crate) fn exchange_line(
     asked: &[u8],
     answered: &[u8],
     micros: u64,
+    named: Option<NamedRequest>,
     is_unsigned: bool,
 ) -> Result<Vec<u8>, AllocError>
-    ensures { IfOk result (λ line. line.items ≡ exchanged now who.now asked.now answered.now micros is_unsigned) }
+    ensures { IfOk result (λ line. line.items ≡ exchanged now who.now asked.now answered.now micros named is_unsigned) }
 {
     let mut line = Vec::from_slice(alloc, &now.text())?;
     put_word(&mut line, who)?;
@@ -29,6 +32,7 @@ pub(crate) fn exchange_line(
     put_told(&mut line, answered)?;
     put_number(&mut line, answered.len() as u64)?;
     put_number(&mut line, micros)?;
+    put_named(&mut line, named)?;
     put_unsigned(&mut line, is_unsigned)?;
     Ok(line)
 }
@@ -49,18 +53,33 @@ pub(crate) fn lost_line(
     Ok(line)
 }
 
-fn put_word(line: &mut Vec<u8>, word: &[u8]) -> Result<(), AllocError>
+pub(crate) fn put_word(line: &mut Vec<u8>, word: &[u8]) -> Result<(), AllocError>
     ensures { OnOk result (line.new.items ≡ line.old.items ++ (32 ∷ word.now)) }
 {
     line.push(b' ')?;
     line.extend_from_slice(word)
 }
 
-fn put_number(line: &mut Vec<u8>, number: u64) -> Result<(), AllocError>
+pub(crate) fn put_number(line: &mut Vec<u8>, number: u64) -> Result<(), AllocError>
     ensures { OnOk result (line.new.items ≡ line.old.items ++ (32 ∷ decimal number)) }
 {
     let digits = Decimal::of(number);
     put_word(line, digits.as_bytes())
+}
+
+fn put_named(line: &mut Vec<u8>, named: Option<NamedRequest>) -> Result<(), AllocError>
+    ensures { OnOk result (line.new.items ≡ line.old.items ++ named_end named) }
+{
+    let Some(named) = named else {
+        return Ok(());
+    };
+    line.extend_from_slice(b" request")?;
+    put_number(line, named.id)?;
+    put_word(line, &named.serial.text())?;
+    match named.ground {
+        Some(ground) => put_word(line, ground.as_bytes()),
+        None => Ok(()),
+    }
 }
 
 fn put_unsigned(line: &mut Vec<u8>, is_unsigned: bool) -> Result<(), AllocError>

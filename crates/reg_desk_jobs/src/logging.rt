@@ -4,7 +4,7 @@ use crate::log_lines::{exchange_line, lost_line};
 use crate::machine::Machine;
 use reg_core::{Decimal, Moment};
 use reg_desk_server::PeerFault;
-use reg_http::Exchange;
+use reg_http::{Exchange, NamedRequest};
 use reg_office_api::SignatureFate;
 use std::alloc::{AllocError, Global};
 use std::net::{IpAddr, SocketAddr};
@@ -38,12 +38,14 @@ pub(crate) fn log_exchange<M: Machine>(
             request,
             &exchange.text,
             micros,
+            exchange.named,
             is_unsigned,
         ),
     );
 }
 
-/// Logs what a line at the control socket was answered at a moment, in how many microseconds, and whether a signature did not come for it.
+/// Logs what a line at the control socket was answered at a moment, in how many microseconds, the request that it entered or decided, and
+/// whether a signature did not come for it.
 pub(crate) fn log_line<M: Machine>(
     alloc: Global,
     machine: &M,
@@ -51,6 +53,7 @@ pub(crate) fn log_line<M: Machine>(
     now: Moment,
     line: &[u8],
     reply: &[u8],
+    named: Option<NamedRequest>,
     is_unsigned: bool,
 ) {
     if !machine.has_log() {
@@ -58,7 +61,7 @@ pub(crate) fn log_line<M: Machine>(
     }
     put(
         machine,
-        exchange_line(alloc, now, COUNTER, line, reply, micros, is_unsigned),
+        exchange_line(alloc, now, COUNTER, line, reply, micros, named, is_unsigned),
     );
 }
 

@@ -1,13 +1,13 @@
-//! Why a registration was refused: as the word `why` at the control socket tells it behind the line, and a strict script or import under `--why`.
+//! Why a registration, or a decision of a request, was refused: as the word `why` at the control socket tells it behind the line, and a strict script or import under `--why`.
 
 ghost use Rattle.std.specs.Prelude.{◌≡◌, ◌++◌, ◌∷◌, [], IfOk, IfSome};
 ghost use Rattle.reg_office_api.specs.Leads.{Leads};
 ghost use Rattle.reg_desk_jobs.specs.ControlReplies.{TellsCame};
-ghost use Rattle.reg_desk_jobs.specs.Reasons.{IsReasonLine, last_second, latest_text, order_text, reason_text, noted_why_text};
+ghost use Rattle.reg_desk_jobs.specs.Reasons.{IsReasonLine, last_second, latest_text, order_text, other_text, reason_text, noted_why_text};
 
 use crate::control_reply::{Came, ControlReply};
 use crate::machine::Machine;
-use reg_core::{Command, Decimal, Fault, Moment, Refusal};
+use reg_core::{Command, Decimal, Fault, Moment, Refusal, Serial};
 use reg_lines::{Ended, RefusedCommand};
 use reg_office_api::Office;
 use std::alloc::{AllocError, Global};
@@ -15,7 +15,7 @@ use std::cell::Cell;
 
 const DAY: u64 = 86_400;
 
-/// Why a registration was refused, where more is told of that than the refusal.
+/// Why a command was refused, where more is told of that than the refusal.
 #[derive(Clone, Copy, PartialEq, Eq)]
 pub enum Reason {
     /// There is no order of this number.
@@ -24,6 +24,8 @@ pub enum Reason {
     Filled(u64),
     /// The order and the schedule allow no later notAfter than this.
     Latest(Moment),
+    /// The request of this number is for this serial number, and not for the one that was told.
+    OtherSerial(u64, Serial),
 }
 
 pub(crate) fn told_why(alloc: Global, noted: &[u8]) -> ControlReply
@@ -158,6 +160,7 @@ fn reason_words(alloc: Global, reason: Reason) -> Result<Vec<u8>, AllocError>
         Reason::NoOrder(order) => order_text_of(alloc, b"no order ", order, b""),
         Reason::Filled(order) => order_text_of(alloc, b"order ", order, b" has its certificate"),
         Reason::Latest(at) => latest_text_of(alloc, at),
+        Reason::OtherSerial(request, serial) => other_text_of(alloc, request, serial),
     }
 }
 
@@ -167,6 +170,16 @@ fn latest_text_of(alloc: Global, at: Moment) -> Result<Vec<u8>, AllocError>
 {
     let mut text = Vec::from_slice(alloc, b"notAfter at most ")?;
     text.extend_from_slice(&at.text())?;
+    Ok(text)
+}
+
+fn other_text_of(alloc: Global, request: u64, serial: Serial) -> Result<Vec<u8>, AllocError>
+    ensures { IfOk result (λ text. text.items ≡ other_text request serial) }
+{
+    let mut text = Vec::from_slice(alloc, b"request ")?;
+    text.extend_from_slice(Decimal::of(request).as_bytes())?;
+    text.extend_from_slice(b" is for ")?;
+    text.extend_from_slice(&serial.text())?;
     Ok(text)
 }
 

@@ -1,11 +1,13 @@
 //! What a line at the control socket says.
 
 ghost use Rattle.std.specs.Prelude.{◌≡◌, IfOk};
+ghost use Rattle.reg_core_lists.specs.Asked.{label_of};
 ghost use Rattle.reg_desk_cli.specs.WordValues.{steps_of};
-ghost use Rattle.reg_desk_jobs.specs.CounterWords.{IsWord, steps_set};
+ghost use Rattle.reg_desk_jobs.specs.CounterWords.{IsWord, settling_by, settling_in, shown_by, shown_in, steps_set};
 ghost use Rattle.reg_lines.specs.Fields.{fields_of};
 
 use crate::copying::{asks_copy, path_in};
+use reg_core::{Command, Label, Serial, read_number};
 use reg_desk_cli::{Steps, read_step};
 use reg_lines::{Fields, command_in, without_end};
 use std::alloc::{AllocError, Global};
@@ -13,31 +15,133 @@ use std::alloc::{AllocError, Global};
 /// What a line at the control socket says.
 #[derive(Drop)]
 pub(crate) enum ControlWord<'a> {
+    /// It asks for the words.
+    Help,
     /// It asks why the last refused line of its connection was refused.
     Why,
     /// It has the register copied to this path; `None` where that is no text of UTF-8.
     Copy(Option<&'a str>),
+    /// It asks for a row.
+    Show(Shown),
+    /// It revokes or declines a request that it names with its serial number.
+    Settle(Settling),
     /// It sets another schedule, of these steps.
     Schedule(Steps),
     /// It is a command line, without its end; `None` where it has too many bytes.
     Line(Option<&'a [u8]>),
 }
 
+/// What a line asks to be shown.
+#[derive(Clone, Copy)]
+pub(crate) enum Shown {
+    /// The request of a number.
+    Request(u64),
+    /// The certificate of a serial number.
+    Certificate(Serial),
+    /// The subscriber of a name.
+    Subscriber(Label),
+}
+
+/// A command that decides a request, and the serial number that the request is to be for.
+#[derive(Clone, Copy)]
+pub(crate) struct Settling {
+    pub(crate) command: Command,
+    pub(crate) request: u64,
+    pub(crate) serial: Serial,
+}
+
 pub(crate) fn read_word(alloc: Global, line: &[u8]) -> Result<ControlWord<'_>, AllocError>
     ensures { IfOk result (IsWord line.now) }
 {
     let text = without_end(line);
+    if text == b"help".as_slice() {
+        return Ok(ControlWord::Help);
+    }
     if text == b"why".as_slice() {
         return Ok(ControlWord::Why);
     }
     if asks_copy(line) {
         return Ok(ControlWord::Copy(path_in(line)));
     }
+    if let Some(shown) = shown_in(text) {
+        return Ok(ControlWord::Show(shown));
+    }
+    if let Some(settling) = settling_in(text) {
+        return Ok(ControlWord::Settle(settling));
+    }
     match steps_in(alloc, text) {
         Ok(Some(steps)) => Ok(ControlWord::Schedule(steps)),
         Ok(None) => Ok(ControlWord::Line(command_in(line))),
         Err(fault) => Err(fault),
     }
+}
+
+fn shown_in(text: &[u8]) -> Option<Shown>
+    ensures { result ≡ shown_in (fields_of text.now) }
+{
+    let mut fields = Fields::of(text);
+    if fields.next()? == b"show".as_slice() {
+        read_shown(fields)
+    } else {
+        None
+    }
+}
+
+/// What is to be shown: `SERIAL`, `request N` or `subscriber NAME`.
+fn read_shown(mut fields: Fields<'_>) -> Option<Shown>
+    ensures { result ≡ shown_by fields.entry }
+{
+    let first = fields.next()?;
+    let Some(second) = fields.next() else {
+        return Some(Shown::Certificate(Serial::read(first)?));
+    };
+    if !fields.is_empty() {
+        return None;
+    }
+    if first == b"request".as_slice() {
+        Some(Shown::Request(read_number(second)?))
+    } else if first == b"subscriber".as_slice() {
+        Some(Shown::Subscriber(read_name(second)?))
+    } else {
+        None
+    }
+}
+
+fn read_name(text: &[u8]) -> Option<Label>
+    ensures { result ≡ label_of text.now }
+{
+    Label::of(text)
+}
+
+pub(crate) fn settling_in(text: &[u8]) -> Option<Settling>
+    ensures { result ≡ settling_in (fields_of text.now) }
+{
+    let mut fields = Fields::of(text);
+    let word = fields.next()?;
+    let request = fields.next()?;
+    let serial = fields.next()?;
+    if fields.is_empty() {
+        read_settling(word, read_number(request)?, Serial::read(serial)?)
+    } else {
+        None
+    }
+}
+
+fn read_settling(word: &[u8], request: u64, serial: Serial) -> Option<Settling>
+    ensures { result ≡ settling_by word.now request serial }
+{
+    let command = if word == b"revoke".as_slice() {
+        Command::Revoke { request }
+    } else if word == b"decline".as_slice() {
+        Command::Decline { request }
+    } else {
+        return None;
+    };
+    Some(Settling {
+        command,
+        request,
+        serial,
+    })
 }
 
 fn steps_in(alloc: Global, text: &[u8]) -> Result<Option<Steps>, AllocError>

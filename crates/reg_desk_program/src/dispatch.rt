@@ -7,7 +7,7 @@ use reg_core::{Cause, of_terms};
 use reg_desk_cli::{Failure, Job, status_of};
 use reg_desk_jobs::{
     Machine, Reason, at, at_rows, audit, copy, crl, hold_open, import_rows, init, key_identifier,
-    list, schedule, script, script_by_lines, serve, tell_ending,
+    list, replay, schedule, script, script_by_lines, serve, tell_ending,
 };
 use std::cell::Cell;
 use std::io::{Read, Write};
@@ -97,6 +97,7 @@ fn run<M: Machine, R: Read, W: Write>(
             counter,
             rows: Some(_),
         } => at_rows(alloc, &*machine, counter.as_str(), reader, writer),
+        Job::Replay { counter, .. } => replay(alloc, &*machine, counter.as_str(), reader, writer),
         Job::Schedule { file, steps } => schedule(alloc, machine, file.as_str(), steps, writer),
         Job::KeyId { file, key_id } => key_identifier(
             alloc,

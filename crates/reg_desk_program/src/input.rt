@@ -1,4 +1,4 @@
-//! Standard input, or the file whose rows a job reads.
+//! Standard input, or the file that a job reads.
 
 use reg_desk_cli::Job;
 use std::fs::File;
@@ -8,7 +8,7 @@ use std::io::{Read, Stdin};
 #[derive(Drop)]
 pub(crate) enum Input {
     Standard(Stdin),
-    Rows(File),
+    File(File),
 }
 
 impl Input {
@@ -17,7 +17,8 @@ impl Input {
             Job::At {
                 rows: Some(path),
                 ..
-            } => Ok(Input::Rows(File::open(rt, path.as_str())?)),
+            }
+            | Job::Replay { log: path, .. } => Ok(Input::File(File::open(rt, path.as_str())?)),
             _ => Ok(Input::Standard(rt.stdin())),
         }
     }
@@ -27,7 +28,7 @@ impl Read for Input {
     fn read(&mut self, buf: &mut [u8]) -> io::Result<usize> {
         match self {
             Input::Standard(input) => input.read(buf),
-            Input::Rows(file) => file.read(buf),
+            Input::File(file) => file.read(buf),
         }
     }
 }

@@ -104,7 +104,11 @@ pub(crate) fn seconds(rt: &HostRuntime) -> u64 {
 fn is_long(job: &Job<'_>) -> bool {
     matches!(
         job,
-        Job::Script { .. } | Job::Lines(_) | Job::Import(_) | Job::At { rows: Some(_), .. }
+        Job::Script { .. }
+            | Job::Lines(_)
+            | Job::Import(_)
+            | Job::At { rows: Some(_), .. }
+            | Job::Replay { .. }
     )
 }
 
@@ -123,6 +127,6 @@ fn file_of<'a>(job: &Job<'a>) -> Option<&'a str> {
         // It is read as it lies, and not opened.
         Job::Copy { .. } => None,
         Job::Init(_) => None,
-        Job::At { .. } => None,
+        Job::At { .. } | Job::Replay { .. } => None,
     }
 }

@@ -17,7 +17,7 @@ use Rattle.reg_http_head.specs.Response.{Response}
 use Rattle.reg_http.specs.Asked.{Asked, refused, only, unread, malformed, ocsp_of, crl_of, status_of, counts_of, request_of}
 use Rattle.reg_http.specs.Bodies.{http_refusal, fault_response, der, malformed_text}
 use Rattle.reg_http.specs.Bodies.{only as only_response}
-use Rattle.reg_http.specs.Told.{Told, plain, outcome_told, crl_told, ocsp_told, told}
+use Rattle.reg_http.specs.Told.{Told, plain, outcome_told, request_told, crl_told, ocsp_told, told}
 use Rattle.reg_http.specs.declared.answered.Answered.{Answered}
 use Rattle.reg_ocsp.specs.Drafts.{Drafted}
 use Rattle.reg_io.specs.declared.begun.Begun.{Begun}
@@ -40,7 +40,7 @@ module _ {S : Type 0} (runs : S → ℕ → Command → Result Reply Fault → S
   Answers now s (status_of serial) it t = (given : Result Reply Fault) × asks s now (Status serial) given t × (it ≡ outcome_told given)
   Answers now s counts_of it t = (given : Result Reply Fault) × asks s now Counts given t × (it ≡ outcome_told given)
   Answers now s (request_of serial word) it t =
-      (given : Result Reply Fault) × runs s now (Request serial word) given t × (it ≡ outcome_told given)
+      (given : Result Reply Fault) × runs s now (Request serial word) given t × (it ≡ request_told serial word given)
 
   -- the answer to what is asked; or what is left to be signed for it, where that is an OCSP request
   abbrev pub BeginsTo : (S → ℕ → List ℕ → Drafted → S → Type 0) → ℕ → S → Asked → Begun Answered Drafted → S → Type 0

@@ -1,5 +1,6 @@
 -- One exchange, once its text is made.
 use Rattle.std.specs.Prelude.{◌≡◌, ◌⊎◌, ℕ, List, [], Some, None, Result, Ok, Err}
+use Rattle.reg_office_api.specs.declared.effects.SignatureFate.{SignatureFate}
 use Rattle.reg_office_api.specs.declared.effects.SignatureFate.TheVariants.{NotAsked}
 use Rattle.reg_office_api.specs.declared.effects.StoreEffect.TheVariants.{Unwritten}
 use Rattle.reg_core.specs.declared.memory.Memory.{Memory as NoMemory}
@@ -29,13 +30,18 @@ IsUntold exchange = ((exchange.status ≡ Some 500) × (exchange.text.items ≡ 
 abbrev pub TellsText : ℕ → Response → Exchange → Type 0
 TellsText now response exchange = ((exchange.status ≡ Some response.status) × IsText response now exchange.text.items) ⊎ IsUntold exchange
 
--- the same, with what became of the signature and what is said of the store
+-- the same, with what became of the signature, what is said of the store, and the request for revocation that is named
 abbrev pub TellsAnswered : ℕ → Told → Exchange → Type 0
-TellsAnswered now it exchange = (exchange.signature ≡ it.signature) × (exchange.store ≡ it.store) × TellsText now it.response exchange
+TellsAnswered now it exchange =
+    (exchange.signature ≡ it.signature) × (exchange.store ≡ it.store) × (exchange.named ≡ it.named) × TellsText now it.response exchange
 
--- nothing is said of a signature, nor of the store
+-- this is said of a signature; nothing of the store, and no request is named
+abbrev pub SaysOnly : SignatureFate → Exchange → Type 0
+SaysOnly signature exchange = (exchange.signature ≡ signature) × (exchange.store ≡ Unwritten) × (exchange.named ≡ None)
+
+-- nothing is said of a signature either
 abbrev pub SaysNothing : Exchange → Type 0
-SaysNothing exchange = (exchange.signature ≡ NotAsked) × (exchange.store ≡ Unwritten)
+SaysNothing exchange = SaysOnly NotAsked exchange
 
 -- what a request comes to, as an exchange of this route: it is told; or this is left to be signed for it; or there was no memory
 abbrev pub TellsBegun : ℕ → Route → Result (Begun Answered Drafted) NoMemory → Begun Exchange Left → Type 0

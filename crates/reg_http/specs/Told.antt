@@ -1,5 +1,6 @@
--- What a request is told: its response, with what became of its signature and what it says of the store.
-use Rattle.std.specs.Prelude.{ℕ, List, codes, Result, Ok, Err}
+-- What a request is told: its response, with what became of its signature, what it says of the store, and the request for revocation that it
+-- names.
+use Rattle.std.specs.Prelude.{ℕ, List, codes, Option, Some, Some as ground, None, Result, Ok, Err}
 use Rattle.reg_office_api.specs.Responses.{signature_of, store_of, store_of_fault}
 use Rattle.reg_office_api.specs.declared.effects.SignatureFate.{SignatureFate}
 use Rattle.reg_office_api.specs.declared.effects.SignatureFate.TheVariants.{NotAsked}
@@ -14,21 +15,28 @@ use Rattle.reg_core.specs.declared.refusal.Fault.TheVariants.{Memory, Store}
 use Rattle.reg_http_head.specs.Response.{Response, shown}
 use Rattle.reg_http.specs.Bodies.{counts_text, der, due_text, fault_response, json, status_text}
 use Rattle.reg_http.specs.declared.answered.Answered.{Answered}
+use Rattle.reg_http.specs.declared.answered.NamedRequest.{NamedRequest}
 
 pub record Told : Type 0 where
   pub response : Response
   pub signature : SignatureFate
   pub store : StoreEffect
+  pub named : Option NamedRequest
 
 -- the same of an answer
 abbrev pub told : Answered → Told
-told answered = record { response = shown answered.answer; signature = answered.signature; store = answered.store }
+told answered = record {
+  response = shown answered.answer;
+  signature = answered.signature;
+  store = answered.store;
+  named = answered.named;
+}
 
--- a response without a signature, which says this of the store
+-- a response without a signature, which says this of the store and names no request
 abbrev pub told_unsigned : Response → StoreEffect → Told
-told_unsigned response effect = record { response = response; signature = NotAsked; store = effect }
+told_unsigned response effect = record { response = response; signature = NotAsked; store = effect; named = None }
 
--- a response that says nothing of either
+-- a response that says nothing of the store either
 abbrev pub plain : Response → Told
 plain response = told_unsigned response Unwritten
 
@@ -47,6 +55,15 @@ abbrev pub outcome_told : Result Reply Fault → Told
 outcome_told (Ok reply) = reply_told reply
 outcome_told (Err fault) = fault_told fault
 
+-- the request for revocation that a command entered: by the id that the reply has, and the serial number and the word that the command had
+abbrev pub entered_request : ℕ → List ℕ → Result Reply Fault → Option NamedRequest
+entered_request serial word (Ok (Request id due)) = Some (record { id = id; serial = serial; ground = ground word })
+entered_request serial word other = None
+
+-- the outcome of a command for a revocation, which names the request that it entered
+abbrev pub request_told : ℕ → List ℕ → Result Reply Fault → Told
+request_told serial word outcome = record (outcome_told outcome) { named = entered_request serial word outcome }
+
 -- a CRL (RFC 2585 4.2), or why there is none
 abbrev pub crl_told : Result (List ℕ) Fault → Told
 crl_told (Ok body) = plain (der (codes "application/pkix-crl") body)
@@ -58,5 +75,6 @@ ocsp_told (Ok given) = record {
   response = der (codes "application/ocsp-response") given.1;
   signature = signature_of given.0;
   store = store_of given.0;
+  named = None;
 }
 ocsp_told (Err memory) = fault_told Memory

@@ -5,16 +5,25 @@ ghost use Rattle.reg_office_api.specs.Items.{items_of};
 ghost use Rattle.reg_http_head.specs.Response.{shown};
 ghost use Rattle.reg_http.specs.Answers.{TellsOcsp};
 ghost use Rattle.reg_http.specs.Bodies.{ocsp_reply};
-ghost use Rattle.reg_http.specs.Told.{crl_told, fault_told, ocsp_told, outcome_told, plain as plainly, reply_told, told, told_unsigned as unsigned_told};
+ghost use Rattle.reg_http.specs.Told.{crl_told, entered_request, fault_told, ocsp_told, outcome_told, plain as plainly, reply_told, request_told, told, told_unsigned as unsigned_told};
 
 use crate::bodies::{
     OCSP_RESPONSE, PKIX_CRL, der, fault_answer, json, put_counts, put_due, put_status,
 };
-use reg_core::{Fault, Memory, Outcome, Reply};
+use reg_core::{Fault, Label, Memory, Outcome, Reply, Serial};
 use reg_http_head::{Answer, status};
 use reg_io::Begun;
 use reg_ocsp::Draft;
 use reg_office_api::{OcspResponse, SignatureFate, StoreEffect};
+
+/// A request for revocation, as it is named where it was entered or decided.
+#[derive(Clone, Copy)]
+pub struct NamedRequest {
+    pub id: u64,
+    pub serial: Serial,
+    /// The word of its ground, where it was entered.
+    pub ground: Option<Label>,
+}
 
 /// An answer, with what became of its signature and what it says of the store.
 #[derive(Drop)]
@@ -22,6 +31,8 @@ pub struct Answered {
     pub answer: Answer,
     pub signature: SignatureFate,
     pub store: StoreEffect,
+    /// The request that was entered, for the log.
+    pub named: Option<NamedRequest>,
 }
 
 impl Answered {
@@ -39,6 +50,7 @@ impl Answered {
             answer,
             signature: SignatureFate::NotAsked,
             store,
+            named: None,
         }
     }
 }
@@ -88,6 +100,31 @@ pub(crate) fn told_outcome(room: Vec<u8>, outcome: Outcome) -> Answered
     }
 }
 
+/// The answer to a command for a revocation, which names the request that it entered.
+pub(crate) fn told_request(room: Vec<u8>, serial: Serial, word: Label, outcome: Outcome) -> Answered
+    requires empty { room.items ≡ [] }
+    requires room { 256 ≤ vec_capacity room }
+    ensures { told result ≡ request_told serial word outcome }
+{
+    let named = entered_request(serial, word, &outcome);
+    let mut answered = told_outcome(room, outcome);
+    answered.named = named;
+    answered
+}
+
+fn entered_request(serial: Serial, word: Label, outcome: &Outcome) -> Option<NamedRequest>
+    ensures { result ≡ entered_request serial word outcome.now }
+{
+    match outcome {
+        Ok(Reply::Request { id, .. }) => Some(NamedRequest {
+            id: *id,
+            serial,
+            ground: Some(word),
+        }),
+        _ => None,
+    }
+}
+
 pub(crate) fn told_crl(room: Vec<u8>, given: Result<Vec<u8>, Fault>) -> Answered
     requires empty { room.items ≡ [] }
     requires room { 256 ≤ vec_capacity room }
@@ -107,6 +144,7 @@ fn told_ocsp(response: OcspResponse) -> Answered
         answer: der(OCSP_RESPONSE, bytes),
         signature: kind.signature(),
         store: kind.store(),
+        named: None,
     }
 }
 

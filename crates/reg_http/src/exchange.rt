@@ -4,10 +4,10 @@ ghost use Rattle.std.specs.Prelude.{◌≡◌, ◌≤◌, [], IfOk, vec_capacity
 ghost use Rattle.reg_office_api.specs.Items.{items_of};
 ghost use Rattle.reg_http_head.specs.Response.{shown};
 ghost use Rattle.reg_http.specs.Bodies.{ocsp_reply};
-ghost use Rattle.reg_http.specs.Exchanges.{IsEmpty, IsUntold, PutsText, SaysNothing, TellsAnswered, TellsBegun, TellsText};
+ghost use Rattle.reg_http.specs.Exchanges.{IsEmpty, IsUntold, PutsText, SaysNothing, SaysOnly, TellsAnswered, TellsBegun, TellsText};
 ghost use Rattle.reg_http.specs.Told.{told};
 
-use crate::answered::{Answered, ocsp_answer};
+use crate::answered::{Answered, NamedRequest, ocsp_answer};
 use crate::bodies::json_room;
 use crate::route::Route;
 use reg_core::{Memory, Moment};
@@ -38,6 +38,8 @@ pub struct Exchange {
     pub status: Option<u16>,
     pub signature: SignatureFate,
     pub store: StoreEffect,
+    /// The request for revocation that was entered, for the log.
+    pub named: Option<NamedRequest>,
     pub text: Vec<u8>,
 }
 
@@ -45,7 +47,7 @@ impl Exchange {
     /// One that is answered by nothing, for which this became of its signature.
     pub fn empty(alloc: Global, route: Route, signature: SignatureFate) -> Exchange
         ensures empty { IsEmpty result }
-        ensures effects { (result.signature ≡ signature) × (result.store ≡ StoreEffect.Unwritten) }
+        ensures effects { SaysOnly signature result }
         ensures route { result.route ≡ route }
     {
         Exchange {
@@ -53,6 +55,7 @@ impl Exchange {
             status: None,
             signature,
             store: StoreEffect::Unwritten,
+            named: None,
             text: Vec::new(alloc),
         }
     }
@@ -71,6 +74,7 @@ impl Exchange {
             status: Some(status::INTERNAL_SERVER_ERROR),
             signature: SignatureFate::NotAsked,
             store: StoreEffect::Unwritten,
+            named: None,
             text: room,
         }
     }
@@ -86,6 +90,7 @@ impl Exchange {
             answer,
             signature,
             store,
+            named,
         } = answered;
         let status = put_text(&mut room, &answer, now);
         Exchange {
@@ -93,6 +98,7 @@ impl Exchange {
             status: Some(status),
             signature,
             store,
+            named,
             text: room,
         }
     }
@@ -106,7 +112,7 @@ impl Exchange {
         signature: SignatureFate,
     ) -> Exchange
         ensures tells { TellsText now (ocsp_reply (items_of response)) result }
-        ensures effects { (result.signature ≡ signature) × (result.store ≡ StoreEffect.Unwritten) }
+        ensures effects { SaysOnly signature result }
         ensures route { result.route ≡ route }
     {
         let (Ok(text), Ok(body)) = (text_room(alloc), json_room(alloc)) else {
@@ -116,6 +122,7 @@ impl Exchange {
             answer: ocsp_answer(body, response),
             signature,
             store: StoreEffect::Unwritten,
+            named: None,
         };
         Exchange::of(route, text, answered, now)
     }

@@ -12,7 +12,7 @@ mod route;
 pub mod routes;
 mod serve;
 
-pub use answered::Answered;
+pub use answered::{Answered, NamedRequest};
 pub use bodies::json;
 pub use exchange::{Exchange, Left, begun_exchange, text_room};
 pub use lists::answer_list;

@@ -1,9 +1,9 @@
-//! Requests for lists, `GET /list/WORD?after=KEY&limit=N&before=MOMENT`, which an open desk alone answers: the routes of
-//! `serve` have none of them.
+//! Requests for lists, `GET /list/WORD?after=KEY&limit=N&before=MOMENT` with a filter, which an open desk alone answers: the
+//! routes of `serve` have none of them.
 
 ghost use Rattle.std.specs.Prelude.{◌≡◌, IfOk, OnErr};
 ghost use Rattle.reg_office_api.specs.Leads.{Looks};
-ghost use Rattle.reg_http.specs.Lists.{RespondsList, given_told, list_asked, page_in, page_told};
+ghost use Rattle.reg_http.specs.Lists.{RespondsList, given_told, list_asked, page_in, page_told, wanted_body};
 ghost use Rattle.reg_http.specs.Told.{fault_told, told};
 
 use crate::answered::{Answered, told_fault};
@@ -12,10 +12,10 @@ use crate::routes::only_get;
 use http::Method;
 use percent_encoding::percent_decode;
 use reg_core::{Fault, Memory, Moment, Refusal};
-use reg_core_lists::{Cursor, Page, page_text, read_page};
+use reg_core_lists::{Page, PageAsked, page_text, read_page};
 use reg_http_head::status;
 use reg_office_api::Office;
-use std::alloc::Global;
+use std::alloc::{AllocError, Global};
 
 /// What a request for a list asks.
 #[derive(Clone, Copy)]
@@ -24,8 +24,7 @@ pub(crate) enum ListAsked {
     OnlyGet,
     /// The word of the list, or what is told beside it, can't be read.
     Unread,
-    /// A page of a list: from where on, and how many rows it looks at.
-    Page { from: Cursor, most: u64 },
+    Page(PageAsked),
 }
 
 /// Answers a request for a list, at a moment. The records stay.
@@ -43,10 +42,9 @@ pub fn answer_list<O: Office>(
         office.old office.new }
 {
     match read_list(alloc, method, target) {
-        Ok(ListAsked::Page { from, most }) => {
-            let at = from;
-            let given = office.page(alloc, now, at, most);
-            tell_page(alloc, from, &given)
+        Ok(ListAsked::Page(wanted)) => {
+            let given = office.page(alloc, now, wanted.from, wanted.most);
+            tell_page(alloc, &wanted, &given)
         }
         Ok(ListAsked::OnlyGet) => only_get(alloc),
         Ok(ListAsked::Unread) => tell_fault(alloc, Fault::Refused(Refusal::Syntax)),
@@ -88,22 +86,33 @@ fn page_behind(path: &[u8], told: &[u8]) -> ListAsked
         return ListAsked::Unread;
     }
     match read_page(&path[b"/list/".len()..], told) {
-        Some((from, most)) => ListAsked::Page { from, most },
+        Some(wanted) => ListAsked::Page(wanted),
         None => ListAsked::Unread,
     }
 }
 
-/// The answer with a page of a list, or why there is none.
-fn tell_page(alloc: Global, from: Cursor, given: &Result<Page, Fault>) -> Result<Answered, Memory>
-    ensures { IfOk result (λ answered. told answered ≡ given_told from given.now) }
+/// The answer with the rows of a page that are wanted, or why there is none.
+fn tell_page(
+    alloc: Global,
+    wanted: &PageAsked,
+    given: &Result<Page, Fault>,
+) -> Result<Answered, Memory>
+    ensures { IfOk result (λ answered. told answered ≡ given_told wanted.now given.now) }
 {
     match given {
-        Ok(page) => match page_text(alloc, from, page) {
+        Ok(page) => match wanted_text(alloc, wanted, page) {
             Ok(text) => Ok(Answered::plain(json(status::OK, text))),
             Err(_) => Err(Memory),
         },
         Err(fault) => tell_fault(alloc, *fault),
     }
+}
+
+fn wanted_text(alloc: Global, wanted: &PageAsked, page: &Page) -> Result<Vec<u8>, AllocError>
+    ensures { IfOk result (λ text. text.items ≡ wanted_body wanted.now page.now) }
+{
+    let rows = wanted.filter.kept(alloc, &page.rows)?;
+    page_text(alloc, wanted.from, &rows, page.next)
 }
 
 fn tell_fault(alloc: Global, fault: Fault) -> Result<Answered, Memory>

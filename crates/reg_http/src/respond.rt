@@ -7,7 +7,7 @@ ghost use Rattle.reg_http.specs.Bodies.{der, malformed_text};
 ghost use Rattle.reg_http.specs.Parts.{call_asks};
 ghost use Rattle.reg_http.specs.Told.{told};
 
-use crate::answered::{Answered, told_crl, told_fault, told_outcome};
+use crate::answered::{Answered, told_crl, told_fault, told_outcome, told_request};
 use crate::bodies::{OCSP_RESPONSE, der, only, refusal};
 use crate::parts::Call;
 use reg_core::{Command, Fault, Moment, Query, Refusal};
@@ -56,7 +56,7 @@ pub(crate) fn respond<O: Office>(
                 serial,
                 ground: word,
             };
-            told_outcome(room, office.run_one(alloc, now, &command))
+            told_request(room, serial, word, office.run_one(alloc, now, &command))
         }
     }
 }

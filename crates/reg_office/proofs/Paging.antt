@@ -16,7 +16,7 @@ use Rattle.reg_core.specs.declared.rows.SubscriberRow.{SubscriberRow}
 use Rattle.reg_core.specs.declared.refusal.Fault.{Fault}
 use Rattle.reg_core.specs.declared.refusal.Fault.TheVariants.{Refused, Memory, Store, Signer, Read, Write}
 use Rattle.reg_core.specs.declared.rows.CertRow.{CertRow}
-use Rattle.reg_core_lists.specs.Lists.{certificate_row, crl_row, ending_row, key_of, next_behind, open_row, order_row, overdue_row, page, page_over, past, subscriber_row}
+use Rattle.reg_core_lists.specs.Lists.{certificate_row, crl_row, ending_row, history_row, key_of, next_behind, open_row, order_row, overdue_row, page, page_over, past, subscriber_row}
 use Rattle.reg_core_lists.specs.Pages.{IsPage, IsPaged}
 use Rattle.reg_core_lists.specs.declared.cursor.Cursor.{Cursor}
 use Rattle.reg_core_lists.specs.declared.cursor.Cursor.TheVariants.{Crls}
@@ -31,7 +31,7 @@ use Rattle.reg_office.specs.Faults.{IsTableFault}
 use Rattle.reg_office.specs.Looking.{IsDecidedOr}
 use Rattle.reg_office.specs.Numbered.{certificate_listed, certificates_after, cursor_of, row_at, numbered_table}
 use Rattle.reg_office.specs.declared.pages.Numbered.{Numbered}
-use Rattle.reg_office.specs.declared.pages.Numbered.TheVariants.{OpenRequests, Overdue, Subscribers, Orders}
+use Rattle.reg_office.specs.declared.pages.Numbered.TheVariants.{OpenRequests, Overdue, Requests, Subscribers, Orders}
 
 split_end : {A B : Type 0} (f : A → Option B) (xs : List A) (x : A) → filter_map f (xs ++ x ∷ []) ≡ filter_map f xs ++ filter_map f (x ∷ [])
 split_end f [] x = refl
@@ -292,6 +292,8 @@ module _ (records : Records) (sound : SoundRows records) (now after most end : �
       ids_page (λ (row : RequestRow). row.id) (open_row records now) (λ id. cursor.OpenRequests id) records.requests sound.requests.numbered is has told
   numbered_page Overdue is has told =
       ids_page (λ (row : RequestRow). row.id) (overdue_row records now) (λ id. cursor.Overdue id) records.requests sound.requests.numbered is has told
+  numbered_page Requests is has told =
+      ids_page (λ (row : RequestRow). row.id) (history_row records now) (λ id. cursor.Requests id) records.requests sound.requests.numbered is has told
   numbered_page Subscribers is has told =
       ids_page (λ (row : SubscriberRow). row.id) subscriber_row (λ id. cursor.Subscribers id) records.subscribers sound.subscribers.numbered is has told
   numbered_page Orders is has told =

@@ -6,8 +6,8 @@ use Rattle.std.proofs.lemmas.Bool.{false≢true}
 use Rattle.reg_core.specs.Crls.{last_listing}
 use Rattle.reg_core.specs.Due.{deadline, is_open}
 use Rattle.reg_core.specs.Queries.{listing}
-use Rattle.reg_core.specs.Records.{Records, certificate_in, certificate_of_order, order_in, revocation_in, subscriber_in}
-use Rattle.reg_core.specs.Status.{is_good, status_by}
+use Rattle.reg_core.specs.Records.{Records, certificate_in, certificate_of_order, order_in, request_in, revocation_in, subscriber_in}
+use Rattle.reg_core.specs.Status.{is_good, status, status_by}
 use Rattle.reg_core.specs.declared.command.Listing.{Listing}
 use Rattle.reg_core.specs.declared.command.Status.{Status}
 use Rattle.reg_core.specs.declared.command.Status.TheVariants.{Good}
@@ -16,12 +16,14 @@ use Rattle.reg_core.specs.declared.rows.OrderRow.{OrderRow}
 use Rattle.reg_core.specs.declared.rows.RequestRow.{RequestRow}
 use Rattle.reg_core.specs.declared.rows.RevocationRow.{RevocationRow}
 use Rattle.reg_core.specs.declared.rows.SubscriberRow.{SubscriberRow}
-use Rattle.reg_core_lists.specs.Lists.{certificate_line, certificate_row, ending_row, open_row, order_row, overdue_row, request_line, status_at, subscriber_of_order}
+use Rattle.reg_core_lists.specs.Lists.{certificate_line, certificate_row, ending_row, history_row, lateness_of, open_row, order_row, overdue_row, request_line, revoked_row, status_at, subscriber_of_order}
 use Rattle.reg_core_lists.specs.declared.rows.CertificateLine.{CertificateLine}
 use Rattle.reg_core_lists.specs.declared.rows.OrderLine.{OrderLine}
+use Rattle.reg_core_lists.specs.declared.rows.RequestHistory.{RequestHistory}
 use Rattle.reg_core_lists.specs.declared.rows.RequestLine.{RequestLine}
+use Rattle.reg_core_lists.specs.declared.rows.RevokedLine.{RevokedLine}
 use Rattle.reg_core_lists.specs.declared.rows.Row.{Row}
-use Rattle.reg_core_lists.specs.declared.rows.Row.TheVariants.{Certificate, Request, Order}
+use Rattle.reg_core_lists.specs.declared.rows.Row.TheVariants.{Certificate, History, Order, Request, Revoked}
 use Rattle.reg_store_tables.proofs.PublicLaws.{not_good}
 
 -- ---- what is there
@@ -137,14 +139,12 @@ module _ (records : Records) (request : RequestRow) where
   -- what is told of a request
   pub request_is : (line : RequestLine) (certificate : CertRow) → line.request ≡ request → line.due ≡ deadline request → line.certificate ≡ certificate
       → Some line.subscriber ≡ subscriber_of_order records certificate.order → Some certificate ≡ certificate_in records.certificates request.serial
-      → Some (Request line) ≡ one_of
+      → Some line ≡ request_line records request
   request_is line certificate same due held owner found =
       let whole : line ≡ request_with certificate line.subscriber =
       λ i. record { request = same i; due = due i; certificate = held i; subscriber = line.subscriber } in
-      let told : Some line ≡ request_line records request =
       ap (λ (it : RequestLine). Some it) whole ∙ ap (option_map (request_with certificate)) owner
-      ∙ ap (option_and_then (λ (it : CertRow). option_map (request_with it) (subscriber_of_order records it.order))) found in
-      ap (option_map (λ (it : RequestLine). Request it)) told
+      ∙ ap (option_and_then (λ (it : CertRow). option_map (request_with it) (subscriber_of_order records it.order))) found
 
 module _ (records : Records) (now : ℕ) (request : RequestRow) where
   -- one that is declined is no row of the list
@@ -158,10 +158,10 @@ module _ (records : Records) (now : ℕ) (request : RequestRow) where
   open_is certificate revocation good undeclined found revoked is =
       (λ i. not (undeclined i) && is_good (status_by now ((sym found) i) ((sym revoked) i))) ∙ sym is
 
-  pub open_told : {E : Type 0} (good : Bool) (r : Result (Option Row) E) → is_open records now request ≡ good → good ≡ true
-      → IfOk r (λ row. row ≡ (one_of records request)) → IfOk r (λ row. row ≡ open_row records now request)
-  open_told good (Ok row) is passed told = told ∙ sym (ap (λ b. cond b (one_of records request) None) (is ∙ passed))
-  open_told good (Err why) is passed told = tt
+  pub open_told : (good : Bool) (line : RequestLine) → is_open records now request ≡ good → good ≡ true
+      → Some line ≡ request_line records request → Some (Request line) ≡ open_row records now request
+  open_told good line is passed told =
+      ap (option_map (λ (it : RequestLine). Request it)) told ∙ sym (ap (λ b. cond b (one_of records request) None) (is ∙ passed))
 
   pub open_none : (good : Bool) → is_open records now request ≡ good → good ≡ false → None ≡ open_row records now request
   open_none good is failed = sym (ap (λ b. cond b (one_of records request) None) (is ∙ failed))
@@ -175,6 +175,45 @@ module _ (records : Records) (now : ℕ) (request : RequestRow) where
 
   pub overdue_none : (due : ℕ) → due ≡ deadline request → nat_lt due now ≡ false → None ≡ overdue_row records now request
   overdue_none due is early = sym (ap (λ b. cond b (open_row records now request) None) (sym (ap (λ moment. nat_lt moment now) is) ∙ early))
+
+  abbrev history_with : Status → RequestLine → RequestHistory
+  history_with is line = record { request = line; status = is; lateness = lateness_of now request line.certificate is }
+
+  -- what became of any
+  pub history_is : (line : RequestLine) (certificate : CertRow) (revocation : Option RevocationRow) (history : RequestHistory)
+      → history.request ≡ line → history.status ≡ status_by now (Some certificate) revocation
+      → history.lateness ≡ lateness_of now request line.certificate history.status
+      → Some line ≡ request_line records request → Some certificate ≡ certificate_in records.certificates request.serial
+      → revocation ≡ revocation_in records.revocations request.serial → Some (History history) ≡ history_row records now request
+  history_is line certificate revocation history same is late told found revoked =
+      let whole : history ≡ history_with (status_by now (Some certificate) revocation) line =
+      λ i. record { request = same i; status = is i; lateness = (late ∙ ap (lateness_of now request line.certificate) is) i } in
+      ap (λ (it : RequestHistory). Some (History it)) whole
+      ∙ (λ i. Some (History (history_with (status_by now (found i) (revoked i)) line)))
+      ∙ ap (λ (it : Option RequestLine). option_map (λ (one : RequestHistory). History one) (option_map (history_with (status records request.serial now)) it)) told
+
+-- ---- revocations
+
+module _ (records : Records) (now : ℕ) (revocation : RevocationRow) where
+  abbrev revoked_with : RequestRow → CertificateLine → RevokedLine
+  revoked_with request line = record { certificate = line; revocation = revocation; request = request; due = deadline request }
+
+  abbrev line_of : Option CertRow → Option CertificateLine
+  line_of registered = option_and_then (certificate_line records now) registered
+
+  -- what is told of a revocation
+  pub revoked_is : (request : RequestRow) (registered : CertRow) (line : RevokedLine) → line.revocation ≡ revocation → line.request ≡ request
+      → line.due ≡ deadline request → Some request ≡ request_in records.requests revocation.request
+      → Some registered ≡ certificate_in records.certificates revocation.serial → Some line.certificate ≡ certificate_line records now registered
+      → Some (Revoked line) ≡ revoked_row records now revocation
+  revoked_is request registered line same led due found held told =
+      let whole : line ≡ revoked_with request line.certificate =
+      λ i. record { certificate = line.certificate; revocation = same i; request = led i; due = due i } in
+      let known : Some line.certificate ≡ line_of (certificate_in records.certificates revocation.serial) = told ∙ ap line_of held in
+      ap (λ (it : RevokedLine). Some (Revoked it)) whole
+      ∙ ap (λ (it : Option CertificateLine). option_map (λ (one : RevokedLine). Revoked one) (option_map (revoked_with request) it)) known
+      ∙ ap (λ (it : Option RequestRow). option_map (λ (one : RevokedLine). Revoked one)
+      (option_and_then (λ (one : RequestRow). option_map (revoked_with one) (line_of (certificate_in records.certificates revocation.serial))) it)) found
 
 -- ---- orders
 

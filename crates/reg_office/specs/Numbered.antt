@@ -2,19 +2,20 @@
 use Rattle.std.specs.Prelude.{ℕ, ◌-◌, ◌==◌, List, Option, Some, None, cond, length, option_and_then, option_map, slice_get}
 use Rattle.reg_core.specs.Records.{Records, order_in, request_in, subscriber_in}
 use Rattle.reg_core.specs.declared.rows.CertRow.{CertRow}
-use Rattle.reg_core_lists.specs.Lists.{certificate_row, ending_row, open_row, order_row, overdue_row, subscriber_row}
+use Rattle.reg_core_lists.specs.Lists.{certificate_row, ending_row, history_row, open_row, order_row, overdue_row, subscriber_row}
 use Rattle.reg_core_lists.specs.declared.cursor.Cursor.{Cursor}
 use Rattle.reg_core_lists.specs.declared.cursor.Cursor.TheVariants as cursor
 use Rattle.reg_core_lists.specs.declared.rows.Row.{Row}
 use Rattle.reg_store_tables.specs.declared.sizes.Table.{Table}
 use Rattle.reg_store_tables.specs.declared.sizes.Table.TheVariants.{Subscribers as OfSubscribers, Orders as OfOrders, Requests as OfRequests}
 use Rattle.reg_office.specs.declared.pages.Numbered.{Numbered}
-use Rattle.reg_office.specs.declared.pages.Numbered.TheVariants.{OpenRequests, Overdue, Subscribers, Orders}
+use Rattle.reg_office.specs.declared.pages.Numbered.TheVariants.{OpenRequests, Overdue, Requests, Subscribers, Orders}
 
 -- the table whose rows it has
 abbrev pub numbered_table : Numbered → Table
 numbered_table OpenRequests = OfRequests
 numbered_table Overdue = OfRequests
+numbered_table Requests = OfRequests
 numbered_table Subscribers = OfSubscribers
 numbered_table Orders = OfOrders
 
@@ -22,6 +23,7 @@ numbered_table Orders = OfOrders
 abbrev pub cursor_of : Numbered → ℕ → Cursor
 cursor_of OpenRequests after = cursor.OpenRequests after
 cursor_of Overdue after = cursor.Overdue after
+cursor_of Requests after = cursor.Requests after
 cursor_of Subscribers after = cursor.Subscribers after
 cursor_of Orders after = cursor.Orders after
 
@@ -29,6 +31,7 @@ cursor_of Orders after = cursor.Orders after
 abbrev pub row_at : Records → ℕ → Numbered → ℕ → Option Row
 row_at records now OpenRequests id = option_and_then (open_row records now) (request_in records.requests id)
 row_at records now Overdue id = option_and_then (overdue_row records now) (request_in records.requests id)
+row_at records now Requests id = option_and_then (history_row records now) (request_in records.requests id)
 row_at records now Subscribers id = option_and_then subscriber_row (subscriber_in records.subscribers id)
 row_at records now Orders id = option_and_then (order_row records) (order_in records.orders id)
 

@@ -1,11 +1,11 @@
 //! What lists tell of one record, from what is looked up for it.
 
-ghost use Rattle.std.specs.Prelude.{◌≡◌, Some, None, cond, nat_lt, option_map, IfOk};
+ghost use Rattle.std.specs.Prelude.{◌≡◌, ◌-◌, Some, None, cond, nat_lt, option_map, IfOk};
 ghost use Rattle.reg_core.specs.Due.{deadline};
 ghost use Rattle.reg_core.specs.Queries.{listing};
 ghost use Rattle.reg_core.specs.Records.{certificate_in, order_in, request_in, revocation_in, subscriber_in};
 ghost use Rattle.reg_core.specs.Status.{is_good, status_by};
-ghost use Rattle.reg_core_lists.specs.Lists.{certificate_line, certificate_row, ending_row, open_row, order_row, overdue_row, request_line, revoked_row, status_at, subscriber_of_order};
+ghost use Rattle.reg_core_lists.specs.Lists.{certificate_line, certificate_row, ending_row, history_row, lateness_of, open_row, open_until, order_row, overdue_row, request_line, revoked_row, status_at, subscriber_of_order};
 ghost use Rattle.reg_core_lists.specs.declared.rows.Row.TheVariants as kind;
 ghost use Rattle.reg_store_tables.specs.LookUps.{Learns, LooksUp};
 
@@ -13,7 +13,7 @@ use reg_core::{
     CertRow, Listing, Moment, OrderRow, RequestRow, RevocationRow, Serial, Status, SubscriberRow,
     status_of,
 };
-use reg_core_lists::{CertificateLine, OrderLine, RequestLine, Row};
+use reg_core_lists::{CertificateLine, OrderLine, RequestHistory, RequestLine, RevokedLine, Row};
 use reg_store::{DatabaseFault, Tables};
 use sqlite::Alter;
 
@@ -181,7 +181,7 @@ fn row_where_good(line: CertificateLine) -> Option<Row>
     }
 }
 
-/// The row of a revocation in the list of what is revoked: that of its certificate.
+/// The row of a revocation in the list of what is revoked: its certificate, and the request that led to it.
 pub(crate) fn revoked_row<C: Alter>(
     tables: &mut Tables<C>,
     now: Moment,
@@ -190,8 +190,16 @@ pub(crate) fn revoked_row<C: Alter>(
     ensures { Learns C.Store tables.old tables.new result (λ records row.
         row ≡ revoked_row records now revocation) }
 {
-    let certificate = certificate_at(tables, revocation.serial)?;
-    certificate_row(tables, now, certificate)
+    let request = request_at(tables, revocation.request)?;
+    let registered = certificate_at(tables, revocation.serial)?;
+    let certificate = certificate_line(tables, now, registered)?;
+    let due = due_of(&request)?;
+    Ok(Some(Row::Revoked(RevokedLine {
+        certificate,
+        revocation,
+        request,
+        due,
+    })))
 }
 
 // ---- requests
@@ -211,7 +219,8 @@ pub(crate) fn open_row<C: Alter>(
     let certificate = certificate_at(tables, request.serial)?;
     let revocation = tables.revocation(request.serial)?;
     if is_good(now, &certificate, revocation) {
-        request_row(tables, request, certificate)
+        let line = request_line(tables, &request, &certificate)?;
+        Ok(Some(Row::Request(line)))
     } else {
         Ok(None)
     }
@@ -223,23 +232,23 @@ fn is_good(now: Moment, certificate: &CertRow, revocation: Option<RevocationRow>
     matches!(status_of(now, Some(*certificate), revocation), Status::Good)
 }
 
-fn request_row<C: Alter>(
+fn request_line<C: Alter>(
     tables: &mut Tables<C>,
-    request: RequestRow,
-    certificate: CertRow,
-) -> Result<Option<Row>, DatabaseFault>
+    request: &RequestRow,
+    certificate: &CertRow,
+) -> Result<RequestLine, DatabaseFault>
     ensures { LooksUp C.Store tables.old tables.new (λ records.
-        Some certificate ≡ certificate_in records.certificates request.serial
-        → IfOk result (λ row. row ≡ option_map (λ line. kind.Request line) (request_line records request))) }
+        Some certificate.now ≡ certificate_in records.certificates request.now.serial
+        → IfOk result (λ line. Some line ≡ request_line records request.now)) }
 {
-    let due = due_of(&request)?;
+    let due = due_of(request)?;
     let subscriber = subscriber_of(tables, certificate.order)?;
-    Ok(Some(Row::Request(RequestLine {
-        request,
+    Ok(RequestLine {
+        request: *request,
         due,
-        certificate,
+        certificate: *certificate,
         subscriber,
-    })))
+    })
 }
 
 /// The deadline of a request. `Store` where it was received past the clock's end, as no request of a register was.
@@ -273,6 +282,54 @@ fn is_past(due: Moment, now: Moment) -> bool
     ensures { result ≡ nat_lt due now }
 {
     due < now
+}
+
+/// The row of a request in the list of all.
+pub(crate) fn history_row<C: Alter>(
+    tables: &mut Tables<C>,
+    now: Moment,
+    request: RequestRow,
+) -> Result<Option<Row>, DatabaseFault>
+    ensures { Learns C.Store tables.old tables.new result (λ records row.
+        row ≡ history_row records now request) }
+{
+    let certificate = certificate_at(tables, request.serial)?;
+    let revocation = tables.revocation(request.serial)?;
+    let line = request_line(tables, &request, &certificate)?;
+    let status = status_of(now, Some(certificate), revocation);
+    let lateness = lateness_of(now, &request, &line.certificate, &status)?;
+    Ok(Some(Row::History(RequestHistory {
+        request: line,
+        status,
+        lateness,
+    })))
+}
+
+/// For how many seconds a request was open behind its deadline, where it was not declined. `Store` as of [`due_of`].
+fn lateness_of(
+    now: Moment,
+    request: &RequestRow,
+    certificate: &CertRow,
+    status: &Status,
+) -> Result<Option<u64>, DatabaseFault>
+    ensures { IfOk result (λ lateness. lateness ≡ lateness_of now request.now certificate.now status.now) }
+{
+    if request.declined {
+        return Ok(None);
+    }
+    let due = due_of(request)?;
+    let until = open_until(now, certificate, status);
+    Ok(Some(until.secs().saturating_sub(due.secs())))
+}
+
+fn open_until(now: Moment, certificate: &CertRow, status: &Status) -> Moment
+    ensures { result ≡ open_until now certificate.now status.now }
+{
+    match status {
+        Status::Revoked { at, reason: _ } => *at,
+        Status::Expired => certificate.not_after,
+        Status::Good | Status::Unknown => now,
+    }
 }
 
 // ---- orders

@@ -11,8 +11,8 @@ ghost use Rattle.reg_store_tables.specs.LookUps.{Learns, LooksUp};
 ghost use Rattle.reg_office.specs.Numbered.{certificate_listed, certificates_after, cursor_of, last_of_full, row_at, numbered_table};
 
 use crate::lines::{
-    certificate_row, ending_row, open_row, order_at, order_row, overdue_row, request_at,
-    revoked_row, subscriber_at,
+    certificate_row, ending_row, history_row, open_row, order_at, order_row, overdue_row,
+    request_at, revoked_row, subscriber_at,
 };
 use reg_core::{CertRow, CrlRow, Fault, Moment, RevocationRow, Serial, clock};
 use reg_core_lists::{Cursor, Page, Row};
@@ -25,6 +25,7 @@ use std::alloc::Global;
 pub(crate) enum Numbered {
     OpenRequests,
     Overdue,
+    Requests,
     Subscribers,
     Orders,
 }
@@ -65,6 +66,9 @@ fn page_of<C: Alter>(
             page_by_ids(tables, alloc, now, Numbered::OpenRequests, after, most)
         }
         Cursor::Overdue(after) => page_by_ids(tables, alloc, now, Numbered::Overdue, after, most),
+        Cursor::Requests(after) => {
+            page_by_ids(tables, alloc, now, Numbered::Requests, after, most)
+        }
         Cursor::Subscribers(after) => {
             page_by_ids(tables, alloc, now, Numbered::Subscribers, after, most)
         }
@@ -315,6 +319,7 @@ fn table_of(list: Numbered) -> Table
     match list {
         Numbered::OpenRequests => Table::Requests,
         Numbered::Overdue => Table::Requests,
+        Numbered::Requests => Table::Requests,
         Numbered::Subscribers => Table::Subscribers,
         Numbered::Orders => Table::Orders,
     }
@@ -326,6 +331,7 @@ fn cursor_of(list: Numbered, after: u64) -> Cursor
     match list {
         Numbered::OpenRequests => Cursor::OpenRequests(after),
         Numbered::Overdue => Cursor::Overdue(after),
+        Numbered::Requests => Cursor::Requests(after),
         Numbered::Subscribers => Cursor::Subscribers(after),
         Numbered::Orders => Cursor::Orders(after),
     }
@@ -348,6 +354,10 @@ fn row_at<C: Alter>(
         Numbered::Overdue => {
             let late = request_at(tables, id)?;
             overdue_row(tables, now, late)
+        }
+        Numbered::Requests => {
+            let request = request_at(tables, id)?;
+            history_row(tables, now, request)
         }
         Numbered::Subscribers => Ok(Some(Row::Subscriber(subscriber_at(tables, id)?))),
         Numbered::Orders => {

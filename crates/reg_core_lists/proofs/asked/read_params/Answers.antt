@@ -21,7 +21,7 @@ loop-preserved c =
     record {
       read = c.loop.invariant.read
           ∙ next_piece c.loop.counter c.loop.rest.now c.loop.params c.place_of-end.result c.loop-test.true c.place_of-end.ensures.place c.in_ok-params.params told c.if-end-rest.false
-          ∙ ap (λ (text : List ℕ). params_from (3 - (c.loop.counter + 1)) text c.in_ok-params.params) (sym c.behind-rest.ensures);
+          ∙ ap (λ (text : List ℕ). params_from (7 - (c.loop.counter + 1)) text c.in_ok-params.params) (sym c.behind-rest.ensures);
       within = omega (arith, c.loop.invariant.within, length-drop (c.place_of-end.result + 1) c.loop.rest.now, ap (length {A = ℕ}) c.behind-rest.ensures);
     }
 

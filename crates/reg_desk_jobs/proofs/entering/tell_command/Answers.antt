@@ -11,11 +11,11 @@ use Rattle.reg_desk_jobs.proofs.entering.tell_command.Goals as goal
 pub returns-in_default-clause-came : goal.returns-in_default-clause-came
 returns-in_default-clause-came g c = fault_came Memory _ _ c.fault.ensures
 
-pub returns-then-eq-clause-moves : goal.returns-then-eq-clause-moves
-returns-then-eq-clause-moves g c =
+pub returns-clause-moves : goal.returns-clause-moves
+returns-clause-moves g c =
     let step : Signatory → Records → Records → Type 0 = λ who before after.
-    CommandAt g.M.Office.Office.signs c.args.now who before c.args.line.now c.of-reply.result.text.items after in
+    CommandAt g.M.Office.Office.signs c.args.now who before c.args.line.now c.tell_answered.result.text.items after in
     then_still g.M.Office.Office.is_clean g.M.Office.Office.stands step _ _ _
     (follows g.M.Office.Office.is_clean g.M.Office.Office.stands _ step
-    (λ who before after comes. inl (c.run_line-answered.result, comes, c.of-reply.ensures.text)) _ _ c.run_line-answered.ensures.leads)
-    c.note.ensures
+    (λ who before after comes. inl (c.run_line-answered.result, comes, c.tell_answered.ensures.text)) _ _ c.run_line-answered.ensures.leads)
+    c.tell_answered.ensures.stays

@@ -1,12 +1,18 @@
 use Rattle.std.proofs.Common.{refl}
 use Rattle.reg_core.specs.declared.refusal.Fault.TheVariants.{Memory, Read}
-use Rattle.reg_desk_jobs.proofs.CounterLines.{copied, fault_came}
+use Rattle.reg_desk_jobs.specs.CounterWords.{settles}
+use Rattle.reg_desk_jobs.proofs.CounterLines.{copied, fault_came, told_word}
 use Rattle.reg_desk_jobs.proofs.entering.tell_word.Goals as goal
 
 pub returns-in-Ok-Copy-clause-moves : goal.returns-in-Ok-Copy-clause-moves
 returns-in-Ok-Copy-clause-moves g c =
     copied g.M.Office.Office.is_clean g.M.Office.Office.stands g.M.Office.Office.signs c.args.now _ _ c.args.line.now _
     (rw c.in-Ok-Copy.field-0-is at c.in-Ok-Copy.ensures) refl c.tell_copy.ensures.told
+
+pub returns-in-Ok-Settle-clause-moves : goal.returns-in-Ok-Settle-clause-moves
+returns-in-Ok-Settle-clause-moves g c =
+    told_word g.M.Office.Office.is_clean g.M.Office.Office.stands g.M.Office.Office.signs c.args.now _ _ c.args.line.now _ (settles c.in-Ok-Settle.settling)
+    (rw c.in-Ok-Settle.field-0-is at c.in-Ok-Settle.ensures) c.tell_settling.ensures.moves
 
 pub returns-in-Ok-Line-None-clause-came : goal.returns-in-Ok-Line-None-clause-came
 returns-in-Ok-Line-None-clause-came g c = fault_came Read _ _ c.fault.ensures

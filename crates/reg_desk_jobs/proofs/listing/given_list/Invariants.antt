@@ -6,5 +6,5 @@ use Rattle.reg_desk_jobs.proofs.listing.given_list.Given as goal
 
 -- so many rows were given, and are the text so far
 abbrev pub invariant-loop : goal.invariant-loop
-invariant-loop g l = (done : List Row) × IsText l.form l.fn.from done l.text.items
-    × Leads g.M.Office.Office.is_clean g.M.Office.Office.stands (IsGoing l.now l.fn.from done l.next) l.initial.register l.register
+invariant-loop g l = (done : List Row) × IsText l.wanted.form l.wanted.filter l.wanted.from done l.text.items
+    × Leads g.M.Office.Office.is_clean g.M.Office.Office.stands (IsGoing l.now l.wanted.from done l.next) l.initial.register l.register

@@ -16,6 +16,9 @@ returns-in-OpenRequests g c = so c.page_by_ids.ensures (λ records sound it. rw 
 pub returns-in-Overdue : goal.returns-in-Overdue
 returns-in-Overdue g c = so c.page_by_ids-in-Overdue.ensures (λ records sound it. rw c.in-Overdue.is it)
 
+pub returns-in-Requests : goal.returns-in-Requests
+returns-in-Requests g c = so c.page_by_ids-in-Requests.ensures (λ records sound it. rw c.in-Requests.is it)
+
 pub returns-in-Subscribers : goal.returns-in-Subscribers
 returns-in-Subscribers g c = so c.page_by_ids-in-Subscribers.ensures (λ records sound it. rw c.in-Subscribers.is it)
 

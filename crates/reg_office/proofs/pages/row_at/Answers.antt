@@ -1,7 +1,7 @@
 use Rattle.std.proofs.Common.{ap}
 use Rattle.std.specs.Prelude.{option_and_then}
 use Rattle.reg_core.specs.Records.{order_in, request_in}
-use Rattle.reg_core_lists.specs.Lists.{open_row, order_row, overdue_row, subscriber_row}
+use Rattle.reg_core_lists.specs.Lists.{history_row, open_row, order_row, overdue_row, subscriber_row}
 use Rattle.reg_store_tables.proofs.PublicLaws.{and_so, not_found, so}
 use Rattle.reg_office.proofs.RowsTold.{row_found}
 use Rattle.reg_office.proofs.pages.row_at.Goals as goal
@@ -24,6 +24,16 @@ returns-in_ok-late-in-Overdue g c =
     so (and_so c.in_ok-late-in-Overdue.ensures c.overdue_row.ensures)
     (λ records sound it. rw c.in-Overdue.is
     (row_found (overdue_row records c.args.now) (request_in records.requests c.args.id) c.in_ok-late-in-Overdue.late c.overdue_row.result it.0 it.1))
+
+pub returns-in_err-request-in-Requests : goal.returns-in_err-request-in-Requests
+returns-in_err-request-in-Requests g c =
+    not_found _ c.from_residual-in_err-request-in-Requests.result c.from_residual-in_err-request-in-Requests.ensures.0 c.request_at-in-Requests.ensures.looked
+
+pub returns-in_ok-request-in-Requests : goal.returns-in_ok-request-in-Requests
+returns-in_ok-request-in-Requests g c =
+    so (and_so c.in_ok-request-in-Requests.ensures c.history_row.ensures)
+    (λ records sound it. rw c.in-Requests.is
+    (row_found (history_row records c.args.now) (request_in records.requests c.args.id) c.in_ok-request-in-Requests.request c.history_row.result it.0 it.1))
 
 pub returns-in_err-subscriber_at-in-Subscribers : goal.returns-in_err-subscriber_at-in-Subscribers
 returns-in_err-subscriber_at-in-Subscribers g c =

@@ -6,4 +6,4 @@ use Rattle.reg_http.proofs.exchange.Exchange.finished.Goals as goal
 pub returns-clause-tells : goal.returns-clause-tells
 returns-clause-tells c =
     let P : Response → Type 0 = λ it. TellsText c.args.now it c.of.result in
-    subst P c.ocsp_answer.ensures c.of.ensures.tells.2
+    subst P c.ocsp_answer.ensures c.of.ensures.tells.3

@@ -1,0 +1,185 @@
+ghost use Rattle.std.specs.Prelude.{◌≡◌, ◌≤◌, ◌==◌, IfOk, bytes_eq, drop, length, nat_le, nat_lt, not};
+ghost use Rattle.std.specs.List.{position, position_or_len};
+ghost use Rattle.reg_core_lists.specs.Filters.{begins_with, fits, keeps, name_of_row, serial_of_row, starts_in_any_case, time_of_row, wanted_rows, where_told};
+
+use crate::cursor::Cursor;
+use crate::rows::Row;
+use reg_core::{Label, Moment, Serial};
+use std::alloc::{AllocError, Global};
+
+/// Which of the rows of a list are wanted: all of them where nothing is told.
+#[derive(Clone, Copy)]
+pub struct Filter {
+    /// The name of a subscriber.
+    pub subscriber: Option<Label>,
+    /// The first hexadecimal digits of serial numbers, in either case.
+    pub serial: Option<Label>,
+    /// The first second of a time.
+    pub from: Option<Moment>,
+    /// The first second behind that time.
+    pub to: Option<Moment>,
+}
+
+impl Filter {
+    /// Whether each row of a list has what is told: a CRL has neither subscriber nor serial number, a subscriber has a name alone,
+    /// and an order has no time.
+    pub fn fits(&self, list: Cursor) -> bool
+        ensures { result ≡ fits self.now list }
+    {
+        let has_time = self.from.is_some() || self.to.is_some();
+        match list {
+            Cursor::Crls(_) => self.subscriber.is_none() && self.serial.is_none(),
+            Cursor::Subscribers(_) => self.serial.is_none() && !has_time,
+            Cursor::Orders(_) => !has_time,
+            _ => true,
+        }
+    }
+
+    /// The rows that are wanted, in their order.
+    pub fn kept(&self, alloc: Global, rows: &[Row]) -> Result<Vec<Row>, AllocError>
+        ensures { IfOk result (λ kept. kept.items ≡ wanted_rows self.now rows.now) }
+    {
+        let mut kept = Vec::new(alloc);
+        for row in rows {
+            if self.keeps(row) {
+                kept.push(*row)?;
+            }
+        }
+        Ok(kept)
+    }
+
+    fn keeps(&self, row: &Row) -> bool
+        ensures { result ≡ keeps self.now row.now }
+    {
+        let is_named = is_of(&self.subscriber, name_of_row(row));
+        let is_numbered = begins(&self.serial, serial_of_row(row));
+        let is_past_from = is_from(self.from, time_of_row(row));
+        let is_before_to = is_before(self.to, time_of_row(row));
+        is_named && is_numbered && is_past_from && is_before_to
+    }
+}
+
+// ---- what of each row a filter looks at
+
+fn name_of_row(row: &Row) -> Option<Label>
+    ensures { result ≡ name_of_row row.now }
+{
+    match row {
+        Row::Certificate(line) => Some(line.subscriber.name),
+        Row::Revoked(line) => Some(line.certificate.subscriber.name),
+        Row::Request(line) => Some(line.subscriber.name),
+        Row::History(history) => Some(history.request.subscriber.name),
+        Row::Subscriber(subscriber) => Some(subscriber.name),
+        Row::Order(line) => Some(line.subscriber.name),
+        Row::Crl(_) => None,
+    }
+}
+
+fn serial_of_row(row: &Row) -> Option<Serial>
+    ensures { result ≡ serial_of_row row.now }
+{
+    match row {
+        Row::Certificate(line) => Some(line.certificate.serial),
+        Row::Revoked(line) => Some(line.revocation.serial),
+        Row::Request(line) => Some(line.request.serial),
+        Row::History(history) => Some(history.request.request.serial),
+        Row::Order(line) => line.serial,
+        Row::Subscriber(_) | Row::Crl(_) => None,
+    }
+}
+
+/// The beginning of a certificate, the moment of a revocation, the receipt of a request, the thisUpdate of a CRL.
+fn time_of_row(row: &Row) -> Option<Moment>
+    ensures { result ≡ time_of_row row.now }
+{
+    match row {
+        Row::Certificate(line) => Some(line.certificate.not_before),
+        Row::Revoked(line) => Some(line.revocation.at),
+        Row::Request(line) => Some(line.request.received),
+        Row::History(history) => Some(history.request.request.received),
+        Row::Crl(crl) => Some(crl.this_update),
+        Row::Subscriber(_) | Row::Order(_) => None,
+    }
+}
+
+// ---- whether that is what is wanted
+
+fn is_of(wanted: &Option<Label>, name: Option<Label>) -> bool
+    ensures { result ≡ where_told bytes_eq wanted.now name }
+{
+    match wanted {
+        None => true,
+        Some(wanted) => match name {
+            Some(name) => *wanted == name,
+            None => false,
+        },
+    }
+}
+
+fn begins(wanted: &Option<Label>, serial: Option<Serial>) -> bool
+    ensures { result ≡ where_told begins_with wanted.now serial }
+{
+    match wanted {
+        None => true,
+        Some(wanted) => match serial {
+            Some(serial) => begins_with(wanted.as_bytes(), serial),
+            None => false,
+        },
+    }
+}
+
+fn begins_with(digits: &[u8], serial: Serial) -> bool
+    ensures { result ≡ begins_with digits.now serial }
+{
+    let text = serial.text();
+    starts_with(&text, digits) || starts_with(without_zeros(&text), digits)
+}
+
+fn without_zeros(text: &[u8]) -> &[u8]
+    ensures { result.now ≡ drop (position_or_len (λ byte. not (byte == 48)) text.now) text.now }
+{
+    let zeros = zeros_of(text);
+    &text[zeros..]
+}
+
+fn zeros_of(text: &[u8]) -> usize
+    ensures zeros { result ≡ position_or_len (λ byte. not (byte == 48)) text.now }
+    ensures within { result ≤ length text.now }
+{
+    match first_other(text) {
+        Some(place) => place,
+        None => text.len(),
+    }
+}
+
+fn first_other(text: &[u8]) -> Option<usize>
+    ensures { result ≡ position (λ byte. not (byte == 48)) text.now }
+{
+    text.iter().position(|byte| *byte != b'0')
+}
+
+fn starts_with(text: &[u8], digits: &[u8]) -> bool
+    ensures { result ≡ starts_in_any_case text.now digits.now }
+{
+    digits.len() <= text.len() && text[..digits.len()].eq_ignore_ascii_case(digits)
+}
+
+fn is_from(from: Option<Moment>, time: Option<Moment>) -> bool
+    ensures { result ≡ where_told nat_le from time }
+{
+    match (from, time) {
+        (None, _) => true,
+        (Some(_), None) => false,
+        (Some(from), Some(time)) => from <= time,
+    }
+}
+
+fn is_before(to: Option<Moment>, time: Option<Moment>) -> bool
+    ensures { result ≡ where_told (λ to time. nat_lt time to) to time }
+{
+    match (to, time) {
+        (None, _) => true,
+        (Some(_), None) => false,
+        (Some(to), Some(time)) => time < to,
+    }
+}

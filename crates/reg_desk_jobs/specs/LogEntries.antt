@@ -1,0 +1,131 @@
+-- What a line of the log tells: an exchange, and what is to be sent once more for it.
+use Rattle.std.specs.Prelude.{◌≡◌, ◌⊎◌, ℕ, ◌+◌, ◌==◌, Bool, false, ◌&&◌, ◌||◌, not, nat_lt, List, [], ◌∷◌, length, take, drop, get_or, codes, bytes_eq, if◌then◌else◌, IsFalse, IsTrue, Option, Some, None, option_map, unwrap_or}
+use Rattle.std.specs.List.{list_any, position}
+use Rattle.std.specs.Option.{option_map_or}
+use Rattle.reg_core.specs.Number.{number_of}
+use Rattle.reg_core.specs.Sequence.{◌>>=◌}
+use Rattle.reg_core.specs.Serial.{serial_of}
+use Rattle.reg_core_lists.specs.Asked.{label_of}
+use Rattle.reg_lines.specs.Fields.{fields_of}
+use Rattle.reg_lines.specs.Script.{line_of}
+use Rattle.reg_desk_jobs.specs.declared.log_entries.Entry.{Entry}
+use Rattle.reg_desk_jobs.specs.declared.log_entries.Entry.TheVariants.{Line, Request, Decision}
+use Rattle.reg_desk_jobs.specs.declared.log_entries.Logged.{Logged}
+use Rattle.reg_desk_jobs.specs.declared.log_entries.Logged.TheVariants.{Nothing, Unknown, Command}
+use Rattle.reg_desk_jobs.specs.declared.log_entries.Told.{Told}
+
+-- a quotation mark, of which the log puts none into a text
+abbrev pub is_mark : ℕ → Bool
+is_mark byte = byte == 34
+
+abbrev pub has_mark : List ℕ → Bool
+has_mark text = list_any is_mark text
+
+-- a text before its first quotation mark, and behind it
+unfoldable pub parted : List ℕ → Option (List ℕ × List ℕ)
+parted text = option_map (λ mark. (take mark text, drop (mark + 1) text)) (position is_mark text)
+
+-- an exchange, as the log tells it: the moment and the client, what was asked and answered, and what stands behind
+pub record LoggedExchange : Type 0 where
+  pub client : List ℕ
+  pub asked : List ℕ
+  pub answered : List ℕ
+  pub behind : List ℕ
+
+abbrev pub exchange_of : Told → LoggedExchange
+exchange_of told = record { client = told.client.now; asked = told.asked.now; answered = told.answered.now; behind = told.behind.now }
+
+-- the exchange that a line tells: what was asked and answered stands in quotation marks
+unfoldable pub exchange_in : List ℕ → Option LoggedExchange
+exchange_in line = do
+  client ← parted line
+  asked ← parted client.1
+  between ← parted asked.1
+  answered ← parted between.1
+  Some (record { client = client.0; asked = asked.0; answered = answered.0; behind = answered.1 })
+
+-- the first two words of a text, which spaces part
+abbrev pub first_word : List ℕ → List ℕ
+first_word text = get_or (fields_of text) 0 []
+
+abbrev pub second_word : List ℕ → List ℕ
+second_word text = get_or (fields_of text) 1 []
+
+-- the number and serial number of a request that was decided
+unfoldable pub decision_by : List ℕ → List ℕ → Option Entry
+decision_by number digits = do
+  id ← number_of number
+  serial ← serial_of digits
+  Some (Decision id serial)
+
+-- the same of one that was entered, with its ground
+unfoldable pub request_by : List ℕ → List ℕ → List ℕ → Option Entry
+request_by number digits word = do
+  id ← number_of number
+  serial ← serial_of digits
+  label ← label_of word
+  Some (Request id serial label)
+
+-- the request that fields name
+unfoldable pub request_named : List (List ℕ) → Option Entry
+request_named [] = None
+request_named (number ∷ []) = None
+request_named (number ∷ digits ∷ []) = decision_by number digits
+request_named (number ∷ digits ∷ word ∷ []) = request_by number digits word
+request_named (number ∷ digits ∷ word ∷ more ∷ rest) = None
+
+-- what is told by the request that is named behind the bytes of the answer and the microseconds
+unfoldable pub named_in : List (List ℕ) → Option Logged
+named_in [] = None
+named_in (front ∷ []) = None
+named_in (front ∷ bytes ∷ []) = None
+named_in (front ∷ bytes ∷ micros ∷ []) = None
+named_in (front ∷ bytes ∷ micros ∷ word ∷ rest) =
+    if bytes_eq word (codes "request") then Some (option_map_or Command (request_named rest) Unknown) else None
+
+-- the words of lines that change the register: those that the log names a request of, and the others
+abbrev pub is_of_request : List ℕ → Bool
+is_of_request word = bytes_eq word (codes "request") || bytes_eq word (codes "revoke") || bytes_eq word (codes "decline")
+
+abbrev pub enters : List ℕ → Bool
+enters word =
+    bytes_eq word (codes "subscriber") || bytes_eq word (codes "order") || bytes_eq word (codes "register") || bytes_eq word (codes "crl")
+    || bytes_eq word (codes "schedule")
+
+-- the log tells all bytes of a text as they are: it cuts none off (it tells 256 at most), and none is told by its number, behind a backslash
+abbrev pub is_whole : List ℕ → Bool
+is_whole text = nat_lt (length text) 256 && not (list_any (λ byte. byte == 92) text)
+
+-- a reply was accepted: it begins neither with E or F, as a refusal or a fault, nor with b, as that steps are no schedule
+abbrev pub accepted : List ℕ → Bool
+accepted [] = false
+accepted (first ∷ rest) = not (first == 69) && (not (first == 70) && not (first == 98))
+
+-- a line at the control socket was accepted
+abbrev pub was_accepted : LoggedExchange → Bool
+was_accepted told = bytes_eq (second_word told.client) (codes "counter") && accepted told.answered
+
+-- what is told by an exchange that names no request: it counts at the control socket alone
+unfoldable pub unnamed : LoggedExchange → Logged
+unnamed told =
+    if not (was_accepted told) then Nothing
+    else if is_of_request (first_word told.asked) then Unknown
+    else if not (enters (first_word told.asked)) then Nothing
+    else if is_whole told.asked then Command Line
+    else Unknown
+
+-- what an exchange tells; one with another quotation mark is of two lines, of which the first was not written whole
+unfoldable pub logged_of : LoggedExchange → Logged
+logged_of told = if has_mark told.behind then Unknown else unwrap_or (named_in (fields_of told.behind)) (unnamed told)
+
+-- what a line of the log tells: no accepted command; or one that it does not tell whole; or one, by an exchange
+abbrev pub TellsNothing : List ℕ → Type 0
+TellsNothing line = ((exchange_in (line_of line) ≡ None) × IsFalse (has_mark (line_of line)))
+    ⊎ ((told : LoggedExchange) × (exchange_in (line_of line) ≡ Some told) × (logged_of told ≡ Nothing))
+
+abbrev pub TellsPart : List ℕ → Type 0
+TellsPart line = ((exchange_in (line_of line) ≡ None) × IsTrue (has_mark (line_of line)))
+    ⊎ ((told : LoggedExchange) × (exchange_in (line_of line) ≡ Some told) × (logged_of told ≡ Unknown))
+
+abbrev pub Tells : List ℕ → LoggedExchange → Entry → Type 0
+Tells line told entry = (exchange_in (line_of line) ≡ Some told) × (logged_of told ≡ Command entry)

@@ -1,0 +1,42 @@
+-- What the log names of the request that a line enters or decides.
+use Rattle.std.specs.Prelude.{◌≡◌, ◌⊎◌, ℕ, List, Option, Some, None, Ok, IsSomeAnd}
+use Rattle.reg_core.specs.Records.{Records, request_in}
+use Rattle.reg_core.specs.declared.command.Command.{Command}
+use Rattle.reg_core.specs.declared.command.Command.TheVariants.{Decline, Request, Revoke}
+use Rattle.reg_core.specs.declared.command.Reply.{Reply}
+use Rattle.reg_core.specs.declared.command.Reply.TheVariants as replied
+use Rattle.reg_http.specs.declared.answered.NamedRequest.{NamedRequest}
+use Rattle.reg_lines.specs.Fields.{fields_of}
+use Rattle.reg_lines.specs.Meaning.{LineMeans, tells}
+use Rattle.reg_lines.specs.Script.{line_of}
+use Rattle.reg_lines.specs.declared.answered.Asked.TheVariants as asked
+use Rattle.reg_desk_jobs.specs.CounterWords.{settling_in}
+use Rattle.reg_desk_jobs.specs.declared.control_reply.Came.{Came}
+use Rattle.reg_desk_jobs.specs.declared.control_reply.Came.TheVariants.{CameTo}
+
+-- a line decides the request of a number: with a serial number, or by the number alone
+abbrev pub Decides : List ℕ → ℕ → Type 0
+Decides line id =
+    IsSomeAnd (settling_in (fields_of (line_of line))) (λ settling. settling.request ≡ id)
+    ⊎ (LineMeans (line_of line) (tells (Revoke id)) ⊎ LineMeans (line_of line) (tells (Decline id)))
+
+-- what is named of the request that a line decides: its number, and the serial number that the records have for it
+abbrev pub NamesDecided : Records → List ℕ → NamedRequest → Type 0
+NamesDecided records line named =
+    Decides line named.id
+    × IsSomeAnd (request_in records.requests named.id) (λ request. request.serial ≡ named.serial)
+    × (named.ground ≡ None)
+
+-- what is named of a command that was accepted: of a request that was entered, its number, serial number and ground; of one that was decided, what
+-- was known of it before; of no other
+abbrev pub NamesAccepted : Command → Reply → Option NamedRequest → Option NamedRequest → Type 0
+NamesAccepted (Request serial word) (replied.Request id due) before named =
+    IsSomeAnd named (λ it. (it.id ≡ id) × (it.serial ≡ serial) × (it.ground ≡ Some word))
+NamesAccepted (Revoke request) reply before named = named ≡ before
+NamesAccepted (Decline request) reply before named = named ≡ before
+NamesAccepted other reply before named = named ≡ None
+
+-- what is named of what a line came to
+abbrev pub NamesRequest : Came → Option NamedRequest → Option NamedRequest → Type 0
+NamesRequest (CameTo (asked.Command command) (Ok reply)) before named = NamesAccepted command reply before named
+NamesRequest other before named = named ≡ None

@@ -1,0 +1,128 @@
+-- A log that is sent to a control socket once more.
+use Rattle.std.specs.Prelude.{◌≡◌, ◌⊎◌, ℕ, ◌==◌, Bool, ◌&&◌, List, [], ◌∷◌, ◌++◌, codes, decimal, bytes_eq, if◌then◌else◌, IsFalse, IsTrue, Option, Result, Ok, Err}
+use Rattle.std.specs.Io.KnownBytes.{Appends}
+use Rattle.std.specs.List.{concat, fold}
+use Rattle.std.specs.Option.{option_map_or}
+use Rattle.reg_core.specs.Number.{number_of}
+use Rattle.reg_core.specs.Serial.{serial_text}
+use Rattle.reg_core.specs.declared.refusal.Fault.TheVariants as fault
+use Rattle.reg_desk_cli.specs.declared.failure.Failure.{Failure}
+use Rattle.reg_desk_cli.specs.declared.failure.Failure.TheVariants as failure
+use Rattle.reg_lines.specs.Script.{IsWholeLine, line_of}
+use Rattle.reg_desk_jobs.specs.Asking.{AreWhole, IsCutOff, IsInput, IsOfTalk, TalksLine}
+use Rattle.reg_desk_jobs.specs.LogEntries.{LoggedExchange, Tells, TellsNothing, TellsPart, first_word, second_word}
+use Rattle.reg_desk_jobs.specs.declared.log_entries.Entry.{Entry}
+use Rattle.reg_desk_jobs.specs.declared.log_entries.Entry.TheVariants.{Line, Request, Decision}
+use Rattle.reg_desk_jobs.specs.declared.replay_job.Renumbered.{Renumbered}
+
+-- ---- what is sent for it, and which reply is the same
+
+-- the number that a request has now: the one that a reply gave it last, or that of the log
+abbrev pub number_now : List Renumbered → ℕ → ℕ
+number_now numbers logged = fold (λ number one. if one.logged == logged then one.given else number) logged numbers
+
+-- what is sent: the line that was asked; a request by its serial number and ground; a decision by its word, the number that the request has now, and
+-- its serial number
+abbrev pub text_to_send : List Renumbered → LoggedExchange → Entry → List ℕ
+text_to_send numbers told Line = told.asked
+text_to_send numbers told (Request id serial label) = codes "request" ++ (32 ∷ serial_text serial) ++ (32 ∷ label)
+text_to_send numbers told (Decision id serial) = first_word told.asked ++ (32 ∷ decimal (number_now numbers id)) ++ (32 ∷ serial_text serial)
+
+abbrev pub line_to_send : List Renumbered → LoggedExchange → Entry → List ℕ
+line_to_send numbers told entry = text_to_send numbers told entry ++ 10 ∷ []
+
+-- whether a reply is that of the log: in its first two words; in the first one of a decision, which may be late now; of a request, which may have
+-- been entered over HTTP, it says that it was entered
+abbrev pub agrees : LoggedExchange → Entry → List ℕ → Bool
+agrees told Line reply = bytes_eq (first_word reply) (first_word told.answered) && bytes_eq (second_word reply) (second_word told.answered)
+agrees told (Request id serial label) reply = bytes_eq (first_word reply) (codes "request")
+agrees told (Decision id serial) reply = bytes_eq (first_word reply) (first_word told.answered)
+
+-- the number that a reply gives to a request
+abbrev pub renumbered : Entry → List ℕ → List Renumbered
+renumbered Line reply = []
+renumbered (Request id serial label) reply =
+    option_map_or (λ number. record { logged = id; given = number } ∷ []) (number_of (second_word reply)) []
+renumbered (Decision id serial) reply = []
+
+-- ---- a replay
+
+-- the line of the log is written at which a replay stops
+abbrev pub StopsWith : Option (List ℕ) → List ℕ → Option (List ℕ) → Result (Unit {0}) Failure → Type 0
+StopsWith out line out' (Ok done) = ⊥
+StopsWith out line out' (Err why) = IsOfTalk why ⊎ ((why ≡ failure.Refused) × Appends out out' line)
+
+-- how far a replay is: what was sent, what is left of the replies, what was written, and the numbers that requests were given
+pub record ReplayState : Type 0 where
+  pub sent : Option (List ℕ)
+  pub came : Option (List ℕ)
+  pub out : Option (List ℕ)
+  pub numbers : List Renumbered
+
+abbrev pub state_of : Option (List ℕ) → Option (List ℕ) → Option (List ℕ) → List Renumbered → ReplayState
+state_of sent came out numbers = record { sent = sent; came = came; out = out; numbers = numbers }
+
+-- the command of an entry is sent; its reply is the log's, and the number that it gives is kept
+abbrev pub ReplyAgrees : ReplayState → LoggedExchange → Entry → ReplayState → Type 0
+ReplyAgrees s told entry t = (reply : List ℕ)
+    × TalksLine s.sent t.sent s.came t.came s.out t.out (line_to_send s.numbers told entry) reply
+    × IsTrue (agrees told entry (line_of reply)) × (t.numbers ≡ s.numbers ++ renumbered entry (line_of reply))
+
+-- the command of an entry is sent; its reply is another one, and the line of the log is written behind it
+abbrev pub ReplyDiffers : ReplayState → LoggedExchange → Entry → List ℕ → ReplayState → Type 0
+ReplyDiffers s told entry line t = (reply : List ℕ) × (out : Option (List ℕ))
+    × TalksLine s.sent t.sent s.came t.came s.out out (line_to_send s.numbers told entry) reply
+    × IsFalse (agrees told entry (line_of reply)) × Appends out t.out line
+
+-- how an entry ends, which a line of the log tells
+abbrev pub EntryEnds : ReplayState → LoggedExchange → Entry → List ℕ → ReplayState → Result (Unit {0}) Failure → Type 0
+EntryEnds s told entry line t (Ok done) = ReplyAgrees s told entry t
+EntryEnds s told entry line t (Err why) = IsOfTalk why ⊎ ((why ≡ failure.Refused) × ReplyDiffers s told entry line t)
+
+-- a line of the log is replayed: it tells no accepted command, or one whose reply is the log's
+abbrev pub LineReplayed : ReplayState → List ℕ → ReplayState → Type 0
+LineReplayed s line t = (TellsNothing line × (t ≡ s)) ⊎ ((told : LoggedExchange) × (entry : Entry) × Tells line told entry × ReplyAgrees s told entry t)
+
+-- a replay stops at a line of the log, which is written: it does not tell a command whole, and nothing is sent; or the reply differs
+abbrev pub LineStops : ReplayState → List ℕ → ReplayState → Type 0
+LineStops s line t =
+    (TellsPart line × (t.sent ≡ s.sent) × (t.came ≡ s.came) × Appends s.out t.out line)
+    ⊎ ((told : LoggedExchange) × (entry : Entry) × Tells line told entry × ReplyDiffers s told entry line t)
+
+-- how a line of the log ends
+abbrev pub LineEnds : ReplayState → List ℕ → ReplayState → Result (Unit {0}) Failure → Type 0
+LineEnds s line t (Ok done) = LineReplayed s line t
+LineEnds s line t (Err why) = IsOfTalk why ⊎ ((why ≡ failure.Refused) × LineStops s line t)
+
+-- lines of a log are replayed, one after the other
+abbrev pub Replayed : ReplayState → List (List ℕ) → ReplayState → Type 0
+Replayed s [] t = t ≡ s
+Replayed s (line ∷ log) t = (m : ReplayState) × LineReplayed s line m × Replayed m log t
+
+-- why a replay stops before the end of the log, with these bytes of it left: at the next line, or as the last one has no end
+abbrev pub Stops : ReplayState → List ℕ → ReplayState → Failure → Type 0
+Stops s left t why =
+    ((why ≡ failure.Refused) × (line rest : List ℕ) × (left ≡ line ++ rest) × IsWholeLine line × LineStops s line t)
+    ⊎ ((why ≡ failure.NoLineEnd) × IsCutOff left × (t ≡ s))
+
+-- a log is replayed: each of its lines; or those before the one at which it stops; where it ends by a fault, how far it came is not said
+abbrev pub ReplaysLog : Option (List ℕ) → ReplayState → ReplayState → Result (Unit {0}) Failure → Type 0
+ReplaysLog input s t (Ok done) = (log : List (List ℕ)) × AreWhole log × IsInput input (concat log) × Replayed s log t
+ReplaysLog input s t (Err why) = IsOfTalk why
+    ⊎ ((log : List (List ℕ)) × (m : ReplayState) × (left : List ℕ) × AreWhole log × Replayed s log m × IsInput input (concat log ++ left) × Stops m left t why)
+
+-- the same, with no number given before
+abbrev pub Replays : Option (List ℕ) → Option (List ℕ) → Option (List ℕ) → Option (List ℕ) → Option (List ℕ) → Option (List ℕ) → Option (List ℕ)
+    → Result (Unit {0}) Failure → Type 0
+Replays input sent sent' came came' out out' result =
+    (numbers : List Renumbered) × ReplaysLog input (state_of sent came out []) (state_of sent' came' out' numbers) result
+
+-- over a connection, of which nothing more is known: it ended early with nothing written, or as it says
+abbrev pub ReplaysOver : Option (List ℕ) → Option (List ℕ) → Option (List ℕ) → Result (Unit {0}) Failure → Type 0
+ReplaysOver input out out' result =
+    ((why : Failure) × (result ≡ Err why) × IsOfTalk why × (out' ≡ out))
+    ⊎ ((sent sent' came came' : Option (List ℕ)) × Replays input sent sent' came came' out out' result)
+
+-- at the control socket at a path: no program listened there, or the log was replayed to the one that did
+abbrev pub ReplaysAt : Type 0 → Option (List ℕ) → Option (List ℕ) → Option (List ℕ) → Result (Unit {0}) Failure → Type 0
+ReplaysAt met input out out' result = ((result ≡ Err (failure.Fault fault.Read)) × (out' ≡ out)) ⊎ (met × ReplaysOver input out out' result)

@@ -1,0 +1,232 @@
+//! The job `replay`: the commands that a log has as accepted, sent to the control socket of an open desk once more.
+
+ghost use Rattle.std.specs.Prelude.{◌≡◌, ◌++◌, IfOk, OnOk};
+ghost use Rattle.reg_desk_jobs.specs.LogEntries.{exchange_of};
+ghost use Rattle.reg_desk_jobs.specs.Replays.{EntryEnds, LineEnds, ReplaysAt, ReplaysLog, ReplaysOver, StopsWith, agrees, line_to_send, text_to_send, number_now, renumbered, state_of};
+
+use crate::at_job::{Next, exchange, next_line};
+use crate::log_entries::{
+    Entry, Logged, Told, exchange_in, first_word, has_mark, logged_of, second_word,
+};
+use crate::log_lines::{put_number, put_word};
+use crate::machine::Machine;
+use crate::telling::say;
+use reg_core::{Fault, read_number};
+use reg_desk_cli::Failure;
+use reg_lines::without_end;
+use std::alloc::{AllocError, Global};
+use std::io::{BufRead, BufReader, Read, Write};
+use std::os::unix::net::UnixStream;
+
+/// The number that a request has in the log, and the one that the replay's reply gave it.
+#[derive(Clone, Copy)]
+struct Renumbered {
+    logged: u64,
+    given: u64,
+}
+
+/// Sends each command that a log has as accepted to the control socket at a path, in the log's order, and writes the replies. A request is
+/// revoked or declined by its serial number, under the number that it was given now. Errors: `Refused` at the first reply that differs, or
+/// at a command that the log does not tell whole, behind which that line of the log is written; `NoLineEnd` at a last line without its end;
+/// else as of [`at`](crate::at).
+pub fn replay<M: Machine, R: Read, W: Write>(
+    alloc: Global,
+    machine: &M,
+    counter: &str,
+    reader: &mut R,
+    writer: &mut W,
+) -> Result<(), Failure>
+    ensures { ReplaysAt (M.met counter.now) (R.remaining reader.old) (W.contents writer.old) (W.contents writer.new) result }
+{
+    match machine.meet(counter) {
+        Ok(link) => replay_over(alloc, &link, reader, writer),
+        Err(_) => Err(Failure::Fault(Fault::Read)),
+    }
+}
+
+fn replay_over<R: Read, W: Write>(
+    alloc: Global,
+    link: &UnixStream,
+    reader: &mut R,
+    writer: &mut W,
+) -> Result<(), Failure>
+    ensures { ReplaysOver (R.remaining reader.old) (W.contents writer.old) (W.contents writer.new) result }
+{
+    let Ok(mut came) = BufReader::new(alloc, link) else {
+        return Err(Failure::Fault(Fault::Memory));
+    };
+    let mut sent = link;
+    let mut numbers = Vec::new(alloc);
+    match BufReader::new(alloc, reader) {
+        Ok(mut log) => { replay_log(alloc, &mut log, &mut numbers, writer, &mut came, &mut sent) }
+        Err(_) => Err(Failure::Fault(Fault::Memory)),
+    }
+}
+
+fn replay_log<R: BufRead, W: Write, C: BufRead, S: Write>(
+    alloc: Global,
+    log: &mut R,
+    numbers: &mut Vec<Renumbered>,
+    writer: &mut W,
+    came: &mut C,
+    sent: &mut S,
+) -> Result<(), Failure>
+    ensures { ReplaysLog (R.remaining log.old)
+        (state_of (S.contents sent.old) (C.remaining came.old) (W.contents writer.old) numbers.old.items)
+        (state_of (S.contents sent.new) (C.remaining came.new) (W.contents writer.new) numbers.new.items) result }
+{
+    for _ in 0..u64::MAX {
+        match next_line(alloc, log)? {
+            Next::Line(line) => match replay_line(alloc, &line, numbers, writer, came, sent) {
+                Ok(()) => {}
+                Err(why) => return Err(why),
+            },
+            Next::Cut => return Err(Failure::NoLineEnd),
+            Next::End => return Ok(()),
+        }
+    }
+    Err(Failure::Fault(Fault::Read))
+}
+
+fn replay_line<W: Write, C: BufRead, S: Write>(
+    alloc: Global,
+    line: &[u8],
+    numbers: &mut Vec<Renumbered>,
+    writer: &mut W,
+    came: &mut C,
+    sent: &mut S,
+) -> Result<(), Failure>
+    ensures { LineEnds (state_of (S.contents sent.old) (C.remaining came.old) (W.contents writer.old) numbers.old.items) line.now
+        (state_of (S.contents sent.new) (C.remaining came.new) (W.contents writer.new) numbers.new.items) result }
+{
+    let text = without_end(line);
+    match exchange_in(text) {
+        Some(told) => match logged_of(&told) {
+            Logged::Nothing => Ok(()),
+            Logged::Unknown => stop(writer, line),
+            Logged::Command(entry) => {
+                replay_entry(alloc, line, &told, &entry, numbers, writer, came, sent)
+            }
+        },
+        None if has_mark(text) => stop(writer, line),
+        None => Ok(()),
+    }
+}
+
+/// Sends the command of an entry, which a line of the log tells.
+fn replay_entry<W: Write, C: BufRead, S: Write>(
+    alloc: Global,
+    line: &[u8],
+    told: &Told<'_>,
+    entry: &Entry,
+    numbers: &mut Vec<Renumbered>,
+    writer: &mut W,
+    came: &mut C,
+    sent: &mut S,
+) -> Result<(), Failure>
+    ensures { EntryEnds (state_of (S.contents sent.old) (C.remaining came.old) (W.contents writer.old) numbers.old.items)
+        (exchange_of told.now) entry.now line.now
+        (state_of (S.contents sent.new) (C.remaining came.new) (W.contents writer.new) numbers.new.items) result }
+{
+    let Ok(command) = line_to_send(alloc, numbers, told, entry) else {
+        return Err(Failure::Fault(Fault::Memory));
+    };
+    let reply = exchange(alloc, &command, writer, came, sent)?;
+    let text = without_end(&reply);
+    if !agrees(told, entry, text) {
+        return stop(writer, line);
+    }
+    match renumber(numbers, entry, text) {
+        Ok(()) => Ok(()),
+        Err(_) => Err(Failure::Fault(Fault::Memory)),
+    }
+}
+
+/// Writes the line of the log at which a replay stops.
+fn stop<W: Write>(writer: &mut W, line: &[u8]) -> Result<(), Failure>
+    ensures { StopsWith (W.contents writer.old) line.now (W.contents writer.new) result }
+{
+    say(writer, line)?;
+    Err(Failure::Refused)
+}
+
+/// The line that is sent for an entry.
+fn line_to_send(
+    alloc: Global,
+    numbers: &[Renumbered],
+    told: &Told<'_>,
+    entry: &Entry,
+) -> Result<Vec<u8>, AllocError>
+    ensures { IfOk result (λ line. line.items ≡ line_to_send numbers.now (exchange_of told.now) entry.now) }
+{
+    let mut line = Vec::new(alloc);
+    put_text(&mut line, numbers, told, entry)?;
+    line.push(b'\n')?;
+    Ok(line)
+}
+
+fn put_text(
+    line: &mut Vec<u8>,
+    numbers: &[Renumbered],
+    told: &Told<'_>,
+    entry: &Entry,
+) -> Result<(), AllocError>
+    ensures { OnOk result (line.new.items ≡ line.old.items ++ text_to_send numbers.now (exchange_of told.now) entry.now) }
+{
+    match *entry {
+        Entry::Line => line.extend_from_slice(told.asked),
+        Entry::Request { serial, ground, .. } => {
+            line.extend_from_slice(b"request")?;
+            put_word(line, &serial.text())?;
+            put_word(line, ground.as_bytes())
+        }
+        Entry::Decision { id, serial } => {
+            line.extend_from_slice(first_word(told.asked))?;
+            put_number(line, number_now(numbers, id))?;
+            put_word(line, &serial.text())
+        }
+    }
+}
+
+/// The number that a request has now: the one that it was given last, or that of the log.
+fn number_now(numbers: &[Renumbered], logged: u64) -> u64
+    ensures { result ≡ number_now numbers.now logged }
+{
+    let mut number = logged;
+    for one in numbers {
+        if one.logged == logged {
+            number = one.given;
+        }
+    }
+    number
+}
+
+/// Whether a reply is that of the log.
+fn agrees(told: &Told<'_>, entry: &Entry, reply: &[u8]) -> bool
+    ensures { result ≡ agrees (exchange_of told.now) entry.now reply.now }
+{
+    match entry {
+        Entry::Line => {
+            first_word(reply) == first_word(told.answered)
+                && second_word(reply) == second_word(told.answered)
+        }
+        Entry::Request { .. } => first_word(reply) == b"request".as_slice(),
+        Entry::Decision { .. } => first_word(reply) == first_word(told.answered),
+    }
+}
+
+/// Keeps the number that a reply gives to a request.
+fn renumber(numbers: &mut Vec<Renumbered>, entry: &Entry, reply: &[u8]) -> Result<(), AllocError>
+    ensures { OnOk result (numbers.new.items ≡ numbers.old.items ++ renumbered entry.now reply.now) }
+{
+    let Entry::Request { id, .. } = entry else {
+        return Ok(());
+    };
+    match read_number(second_word(reply)) {
+        Some(given) => {
+            numbers.push(Renumbered { logged: *id, given })?;
+            Ok(())
+        }
+        None => Ok(()),
+    }
+}

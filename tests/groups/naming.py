@@ -1,0 +1,296 @@
+"""Requests that are named with their serial numbers: decided at the counter, shown, logged, and told again from a log."""
+
+import json
+import re
+
+from lib.program import parted
+from lib.trial import each, test
+
+DAY = "2026-01-01T00:00:00Z"
+END = "2026-12-31T00:00:00Z"
+ENTERED = f"{DAY} subscriber acme\n{DAY} subscriber beta\n" + "".join(
+    f"{DAY} order {1 + number % 2} 398\n{DAY} register {number} 0{number} {DAY} {END}\n" for number in range(1, 5)
+)
+DUE = "2026-01-02T00:00:00Z"
+
+
+def serial(number):
+    return f"{number:040x}"
+
+
+def opened(t, *words):
+    t.register(lines=ENTERED)
+    t.clock(DAY)
+    return t.open("ca.db", *words)
+
+
+def told(t, *lines):
+    """The replies to these lines at one counter."""
+    return t.desk("at", "counter", given="".join(f"{it}\n" for it in lines)).out.decode().splitlines()
+
+
+DECIDED = {"revoke": "revoked", "decline": "declined"}
+
+
+@each({it: (it, reply) for it, reply in DECIDED.items()})
+def a_request_is_decided_by_its_number_and_its_serial_number(t, word, reply):
+    opened(t)
+    t.same(told(t, "request 01 superseded", f"{word} 1 01"), [f"request 1 due {DUE}", reply])
+    t.same(told(t, "request 02 superseded", f"{word} 2 {serial(2).upper()}"), [f"request 2 due {DUE}", reply])
+
+
+@each({it: (it, reply) for it, reply in DECIDED.items()})
+def one_that_is_for_another_serial_number_is_refused(t, word, reply):
+    desk = opened(t)
+    # Somebody else is first, so that the office's own request has another number than it wrote down.
+    t.same(parted(desk.ask("POST", "/requests", b'{"serial":"03","ground":"superseded"}'))[2], f'{{"due":"{DUE}","request":1}}'.encode())
+    t.same(
+        told(t, "request 01 superseded", f"{word} 1 01", "why", "status 03", f"{word} 2 01"),
+        [f"request 2 due {DUE}", "E17 no-request", f"why request 1 is for {serial(3)}", "good", reply],
+    )
+
+
+@test
+def a_request_that_is_not_open_is_refused_as_by_its_number_alone(t):
+    opened(t)
+    told(t, "request 01 superseded", "request 02 superseded", "request 02 superseded", "decline 1", "revoke 2")
+    for number, its_serial in ((1, "01"), (2, "02"), (3, "02"), (4, "04"), (0, "04")):
+        for word in DECIDED:
+            with_serial, alone = told(t, f"{word} {number} {its_serial}", f"{word} {number}")
+            t.same(with_serial, alone, f"{word} {number}")
+    t.same(told(t, "revoke 1 01", "why", "revoke 3 02"), ["E18 declined-before", "why E18 declined-before", f"E19 revoked-before {DAY}"])
+
+
+@test
+def one_that_is_not_open_and_for_another_serial_number_is_none_either(t):
+    opened(t)
+    told(t, "request 01 superseded", "request 02 superseded", "decline 1", "revoke 2")
+    t.same(told(t, "revoke 1 02", "why", "decline 2 01", "why"), ["E17 no-request", f"why request 1 is for {serial(1)}", "E17 no-request", f"why request 2 is for {serial(2)}"])
+
+
+@each({it: it for it in ("revoke 1 ", "revoke 1 x", "revoke x 01", "revoke 1 01 02", "decline 1 00", "revoke 1  01", "REVOKE 1 01", "show", "show ", "show x", "show request", "show request x", "show subscriber", "show subscriber ", "show order 1", "show request 1 2", "help me")})
+def what_is_no_such_word_is_a_line_that_can_not_be_read(t, line):
+    opened(t)
+    t.same(told(t, line), ["E22 syntax"])
+
+
+@each({it: it for it in ("revoke 1 01", "decline 1 01", "show 01", "show request 1", "show subscriber acme", "help")})
+def a_script_has_none_of_these_words(t, line):
+    t.register(lines=ENTERED + f"{DAY} request 01 superseded\n")
+    t.same(t.desk("script", "ca.db", given=f"{DAY} {line}\n").out, b"E22 syntax\n")
+
+
+def shown(t, word):
+    (line,) = told(t, f"show {word}")
+    return json.loads(line)
+
+
+@test
+def what_is_shown_is_a_row_of_its_list(t):
+    desk = opened(t)
+    told(t, "request 02 superseded", "request 03 superseded", "request 04 superseded", "revoke 1", "decline 3")
+    rows = [(f"request {number}", "requests", number - 1) for number in (1, 2, 3)]
+    for word, list_word, at in (*rows, ("02", "certificates", 1), ("04", "certificates", 3), ("subscriber beta", "subscribers", 1)):
+        t.same(shown(t, word), json.loads(parted(desk.ask("GET", f"/list/{list_word}"))[2])["rows"][at], word)
+    t.same((shown(t, "02")["status"], shown(t, "request 2")["serial"], shown(t, "subscriber acme")), ("revoked", serial(3), {"subscriber": 1, "name": "acme"}))
+    t.same([shown(t, f"request {number}")["state"] for number in (1, 2, 3)], ["revoked", "open", "declined"], "what became of each request")
+
+
+@test
+def what_is_not_there_is_refused(t):
+    opened(t)
+    told(t, "request 02 superseded", "request 03 superseded", "revoke 1", "decline 2")
+    t.same(
+        told(t, "show request 3", "show request 0", "show 05", "show subscriber gamma", "why"),
+        ["E17 no-request", "E17 no-request", "E14 unknown-serial", "E06 no-subscriber", "why E06 no-subscriber"],
+    )
+
+
+SERIALS = {"the first": 1, "behind a byte of zeros": 256, "behind eighteen": 2**152, "the last": 2**159 - 1, "beside another": 257}
+
+
+@each(SERIALS)
+def a_certificate_is_shown_wherever_it_stands(t, number):
+    lines = "".join(f"{DAY} order 1 398\n{DAY} register {order} {it:x} {DAY} {END}\n" for order, it in enumerate(sorted(SERIALS.values()), 1))
+    t.register(lines=f"{DAY} subscriber acme\n{lines}")
+    t.clock(DAY)
+    t.open()
+    t.same(shown(t, f"{number:x}")["serial"], serial(number))
+    t.same(told(t, f"show {2**100:x}"), ["E14 unknown-serial"])
+
+
+@test(seconds=3)
+def a_subscriber_behind_the_first_page_is_found(t):
+    t.register(lines="".join(f"{DAY} subscriber s{number}\n" for number in range(260)))
+    t.clock(DAY)
+    t.open()
+    t.same([shown(t, f"subscriber s{it}")["subscriber"] for it in (0, 249, 250, 259)], [1, 250, 251, 260])
+    t.same(told(t, "show subscriber s260"), ["E06 no-subscriber"])
+
+
+@test
+def nothing_is_shown_while_the_clock_is_back(t):
+    opened(t)
+    told(t, "crl")
+    t.clock("2025-12-31T00:00:00Z")
+    t.same(told(t, "show 01", "revoke 1 01"), [f"E01 clock-back {DAY}"] * 2)
+
+
+@test
+def help_lists_each_word_in_one_line(t):
+    opened(t)
+    (line,) = told(t, "help")
+    words = "subscriber order register request decline revoke crl status counts listing overdue next-crl ocsp show why schedule copy help".split()
+    t.same([it for it in words if not re.search(rf"[:|] {it}\b", line)], [], "words that it lacks")
+    t.same(t.desk("at", "counter", given="help\r\n").status, 0)
+
+
+# ---- the log
+
+
+def tails(t, desk):
+    """What each line of the log has behind the microseconds, with what was asked."""
+    return [re.fullmatch(r'\S+ (\S+) "([^"]*)" "[^"]*" \d+ \d+(.*)', it).group(2, 3) for it in desk.end().told]
+
+
+@test
+def the_log_names_each_request_that_is_entered_or_decided(t):
+    desk = opened(t, "--log")
+    desk.ask("POST", "/requests", b'{"serial":"03","ground":"key-compromise"}')
+    desk.ask("POST", "/requests", b'{"serial":"09","ground":"superseded"}')
+    told(t, "request 01 superseded", "revoke 1", "revoke 2 03", "decline 2 01", "revoke 2", "revoke 7", "crl", "show 01")
+    t.same(
+        tails(t, desk),
+        [
+            ("POST /requests HTTP/1.1", f" request 1 {serial(3)} key-compromise"),
+            ("POST /requests HTTP/1.1", ""),
+            ("request 01 superseded", f" request 2 {serial(1)} superseded"),
+            ("revoke 1", f" request 1 {serial(3)}"),
+            ("revoke 2 03", ""),
+            ("decline 2 01", f" request 2 {serial(1)}"),
+            ("revoke 2", ""),
+            ("revoke 7", ""),
+            ("crl", ""),
+            ("show 01", ""),
+        ],
+    )
+
+
+# ---- a log that is told again
+
+
+def a_day(t):
+    """A register of ENTERED, a copy of it, and the log of what came behind the copy."""
+    desk = opened(t, "--log-file", "ca.log")
+    told(t, "copy copy.db")
+    desk.ask("POST", "/requests", b'{"serial":"03","ground":"key-compromise"}')
+    told(t, "subscriber gamma", "order 3 100", f"register 5 05 {DAY} 2026-04-10T23:59:59Z", "counts", "status 05", "register 1 0f x y")
+    told(t, "request 01 superseded", "revoke 2", "decline 1 03", "request 05 superseded", "revoke 3 04", "revoke 3 05", "crl", "schedule 1970-01-01T00:00:00Z=300")
+    desk.end()
+    return (t.room / "ca.log").read_text()
+
+
+REPLAYED = ["request 1 due", "subscriber 3", "order 5", "registered", "request 2 due", "revoked", "declined", "request 3 due", "revoked", "crl 1", "schedule set"]
+
+
+@test
+def a_log_is_told_again_to_a_copy(t):
+    a_day(t)
+    t.clock("2026-01-01T10:00:00Z")
+    t.open("copy.db")
+    ran = t.desk("replay", "counter", "ca.log")
+    t.same((ran.status, ran.err), (0, b""), "status and standard error")
+    t.same([line.startswith(part) for line, part in zip(ran.out.decode().splitlines(), REPLAYED, strict=True)], [True] * len(REPLAYED), ran.out)
+    t.same(told(t, "status 01", "status 03", "status 05")[1:2], ["good"])
+    t.same([it.split()[0] for it in told(t, "status 01", "status 05")], ["revoked"] * 2)
+
+
+@test
+def a_request_that_came_between_shifts_no_revocation(t):
+    a_day(t)
+    desk = t.open("copy.db")
+    for number in (4, 4):
+        desk.ask("POST", "/requests", f'{{"serial":"0{number}","ground":"superseded"}}'.encode())
+    t.same(t.desk("replay", "counter", "ca.log").status, 0)
+    t.same([it.split()[0] for it in told(t, "status 01", "status 03", "status 04", "status 05")], ["revoked", "good", "good", "revoked"])
+
+
+@test
+def it_stops_at_the_first_reply_that_differs(t):
+    log = a_day(t)
+    t.open("copy.db")
+    told(t, "subscriber other")
+    ran = t.desk("replay", "counter", "ca.log")
+    line = next(it for it in log.splitlines() if '"subscriber gamma"' in it)
+    t.same((ran.status, ran.err), (3, b"refused\n"), "status and standard error")
+    t.same(ran.out.decode().splitlines()[1:], ["subscriber 4", line], "the reply that differs, and the log's line")
+    t.same(told(t, "counts"), ["good 4 revoked 0 expired 0"], "nothing behind it was told")
+
+
+@test
+def a_request_from_before_the_log_is_decided_where_it_is_for_the_same_serial_number(t):
+    t.register(lines=ENTERED + f"{DAY} request 02 superseded\n")
+    t.clock(DAY)
+    t.open("ca.db")
+    (t.room / "ca.log").write_text(f'{DAY} counter "revoke 1" "revoked" 8 99 request 1 {serial(3)}\n')
+    ran = t.desk("replay", "counter", "ca.log")
+    t.same((ran.status, ran.out.decode().splitlines()[0]), (3, "E17 no-request"))
+    (t.room / "ca.log").write_text(f'{DAY} counter "revoke 1" "revoked" 8 99 request 1 {serial(2)}\n')
+    t.same(t.done("replay", "counter", "ca.log"), "revoked\n")
+
+
+UNKNOWN = {
+    "a revocation whose request is not named": f'{DAY} counter "revoke 1" "revoked" 8 99\n',
+    "a request that is not named": f'{DAY} counter "request 01 superseded" "request 1 due {DUE}" 39 99\n',
+    "an escape": f'{DAY} counter "subscriber g\\xc3\\xa4mma" "subscriber 3" 13 99\n',
+    "a request whose name can't be read": f'{DAY} 127.0.0.1:1 "POST /requests HTTP/1.1" "HTTP/1.1 200 OK" 173 99 request 1 0x superseded\n',
+    "two lines, of which the first was not written whole": f'{DAY} 127.0.0.1:1 "GET /crl HTTP/1.1" "HT{DAY} counter "revoke 1" "revoked" 8 99 request 1 {serial(1)}\n',
+    "a line that was not written whole, and a lost connection": f'{DAY} counter "revoke 1" "rev{DAY} counter lost broken\n',
+    "a line that was cut": f'{DAY} counter "{("schedule" + " 1970-01-01T00:00:00Z=398" * 16)[:256]}" "schedule set" 13 99\n',
+}
+
+
+@each(UNKNOWN)
+def what_the_log_does_not_tell_whole_stops_it(t, line):
+    opened(t)
+    (t.room / "ca.log").write_text(line + f'{DAY} counter "subscriber gamma" "subscriber 3" 13 99\n')
+    ran = t.desk("replay", "counter", "ca.log")
+    t.same((ran.status, ran.out.decode(), ran.err), (3, line, b"refused\n"))
+
+
+LEFT_OUT = {
+    "a refusal": f'{DAY} counter "subscriber acme" "E05 name-taken 1" 17 99\n',
+    "a fault": f'{DAY} counter "crl" "F3 signer" 10 99 signer\n',
+    "no reply": f'{DAY} counter "subscriber gamma" "" 0 99\n',
+    "a query": f'{DAY} counter "counts" "good 9 revoked 9 expired 9" 27 99\n',
+    "a copy": f'{DAY} counter "copy x" "copied 1 bytes in 1 ms" 23 99\n',
+    "an exchange": f'{DAY} 127.0.0.1:1 "GET /counts HTTP/1.1" "HTTP/1.1 200 OK" 155 99\n',
+    "a peer's line that looks like a counter's": f'{DAY} 127.0.0.1:1 "subscriber gamma" "HTTP/1.1 400 Bad Request" 155 99\n',
+    "a connection that was lost": f"{DAY} counter lost broken\n",
+    "another text": "subscriber gamma\n\n",
+    "nothing": "",
+}
+
+
+@each(LEFT_OUT)
+def what_was_no_accepted_command_is_left_out(t, line):
+    opened(t)
+    (t.room / "ca.log").write_text(line)
+    t.same(t.done("replay", "counter", "ca.log"), "")
+    t.same(told(t, "subscriber gamma"), ["subscriber 3"])
+
+
+@test
+def a_last_line_without_its_end_is_not_told(t):
+    opened(t)
+    (t.room / "ca.log").write_text(f'{DAY} counter "subscriber gamma" "subscriber 3" 13 99\n{DAY} counter "subscriber delta" "subscriber 4" 13 99')
+    ran = t.desk("replay", "counter", "ca.log")
+    t.same((ran.status, ran.out, ran.err), (3, b"subscriber 3\n", b"no-line-end\n"))
+
+
+@each({"no socket": ("replay", "none", "ca.log"), "no log": ("replay", "counter", "none")})
+def nobody_or_nothing_is_read(t, *words):
+    opened(t)
+    (t.room / "ca.log").write_text("")
+    ran = t.desk(*words)
+    t.same((ran.status, ran.err), (1, b"F4 read\n"))
