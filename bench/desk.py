@@ -1,12 +1,12 @@
 #!/usr/bin/env python3
-"""Measures the built program from outside, over registers in files of any size: opening, and each kind of line, in microseconds a line (from the first of so many
-lines to the reply to the last, of a script that has the register open), with its memory; a CRL of so many entries; an audit; and how long registers of versions 1 and 2 take to be made newer.
-It prints tables as docs/PERFORMANCE.md has them.
+"""Measures the built program from outside, over registers in files of any size: opening; each kind of line, in microseconds a line (from the first of many lines to
+the reply to the last, in a script that has the register open), with its memory; a CRL of so many entries; an audit; and the migration of registers of versions 1 and 2.
+It prints tables like those of docs/PERFORMANCE.md.
 
-Usage: bench/desk.py [NUMBER OF CERTIFICATES ..]     (1000 10000 100000 where none is given; DESK names another program)
-       bench/desk.py --crl [NUMBER OF ENTRIES ..]    CRLs alone, of registers whose certificates are all revoked
+Usage: bench/desk.py [NUMBER OF CERTIFICATES ..]     (if left out: 1000 10000 100000; DESK names another program)
+       bench/desk.py --crl [NUMBER OF ENTRIES ..]    only CRLs, of registers whose certificates are all revoked
        bench/desk.py --lists [NUMBER OF CERTIFICATES ..]    lists: of a closed register, and the pages of an open one
-The files lie in the folder that DESK_BENCH_FOLDER names, or else in that of temporary files; /dev/shm has them in memory.
+The files are in the folder that DESK_BENCH_FOLDER names, or in the system's temporary folder; /dev/shm keeps them in memory.
 """
 import json
 import os
@@ -34,12 +34,12 @@ LINES, ROUNDS = 2_000, 3
 # A fifth of the certificates are revoked.
 REVOKED = 5
 LISTS = ("certificates", "revoked", "orders", "subscribers", "crls", "open-requests", "overdue")
-# So many pages of a list are timed at most.
+# At most this many pages of a list are timed.
 PAGES = 400
 
 
 def serial(place):
-    """A serial number of 20 octets, spread as a CA draws them."""
+    """A random serial number of 20 octets, as a CA draws it."""
     return f"40000000{place * 0x9E37_79B9_7F4A_7C15 % 2**64:016x}{0:016x}"
 
 
@@ -56,7 +56,7 @@ def script(path, lines):
 
 
 def make(path, size, revoked=REVOKED):
-    """A register with so many certificates, an order each, one in so many of them revoked, and a CRL."""
+    """A register with so many certificates, an order each, a fraction of them revoked, and a CRL."""
     subprocess.run([DESK, "init", path, "--name", NAME, "--key", KEY], check=True, stdout=subprocess.DEVNULL)
     script(path, ["subscriber acme"])
     for first in range(1, size + 1, 100_000):
@@ -69,7 +69,7 @@ def make(path, size, revoked=REVOKED):
 
 
 def kinds(size, requests):
-    """The lines of each kind, each of which does the same work; those that enter something, with what comes before them."""
+    """The lines of each kind, which all do the same work; before lines that enter something, those that they need."""
     good = [at for at in range(1, size + 1) if at % REVOKED != 1]
     spread = [good[it * 7_919 % len(good)] for it in range(LINES)]
     some = [good[it * len(good) // min(LINES, len(good))] for it in range(min(LINES, len(good)))]
@@ -97,7 +97,7 @@ def copied(path, folder):
 
 
 class Script:
-    """`desk script` over a register's file, which is open once this is made."""
+    """`desk script` over a register's file. The register is open once this exists."""
 
     def __init__(self, path):
         self.process = subprocess.Popen([DESK, "script", path], stdin=subprocess.PIPE, stdout=subprocess.PIPE)
@@ -122,7 +122,7 @@ class Script:
         self.process.stdin.flush()
 
     def peak(self):
-        """The most memory that it had so far, in MiB."""
+        """Its peak memory so far, in MiB."""
         with open(f"/proc/{self.process.pid}/status") as lines:
             return next(int(it.split()[1]) for it in lines if it.startswith("VmHWM")) / 1024
 
@@ -136,7 +136,7 @@ class Script:
 
 
 def measured(path, folder, before, lines):
-    """The least microseconds of a line, over copies of the register, and the most memory."""
+    """The least microseconds of a line, over copies of the register, and the peak memory."""
     took, peak = [], 0
     for _ in range(ROUNDS):
         with Script(copied(path, folder)) as desk:
@@ -166,7 +166,7 @@ def made_newer(folder, records, version):
 
 
 def crls(sizes):
-    """A CRL looked up, made, sealed and stored; its bytes; the most memory of the desk that did it."""
+    """The time to build, digest and store a CRL; its bytes; the peak memory of the desk."""
     print("| Entries | Bytes | `crl`, ms | Most memory, MiB |\n|---|---|---|---|")
     with tempfile.TemporaryDirectory(prefix="desk-bench-", dir=os.environ.get("DESK_BENCH_FOLDER")) as folder:
         for size in sizes:
@@ -208,7 +208,7 @@ def lists(sizes):
                 closed[word] = told.count(b"\n") - 1, time.perf_counter() - began - opening
             with socket.create_server(("127.0.0.1", 0)) as free:
                 port = free.getsockname()[1]
-            words = [DESK, "open", path, "--port", str(port), "--counter", f"{folder}/counter", "--unsigned"]
+            words = [DESK, "open", path, "--port", str(port), "--control", f"{folder}/counter", "--unsigned"]
             with subprocess.Popen(words, stdout=subprocess.PIPE) as desk:
                 desk.stdout.readline()
                 for word in LISTS:

@@ -1,10 +1,10 @@
 #!/bin/sh
-# OCSP answers a second over a register of so many certificates (100,000 unless a number is given), one connection each:
-# `desk open` beside `openssl ocsp -port` with a P-256 issuer, asked the same requests by the same client, in turns; by one client and by 32 at once,
-# for eight certificates and for 4,096, and beside 200 silent peers, with the latency of the median and of one in a hundred. Then commands a second at
-# the desk's counter, beside `desk script`.
-# The desk seals with a digest, which costs next to nothing and is no signature; with --signed as the first word it signs with the same
-# P-256 key as openssl, which examples/signer.py holds, in as many processes as SIGNERS says (2: with more of them, on four cores, one that waits takes the time of who asks). Then also with a signer that takes 5 ms, one
+# Measures OCSP answers a second over a register of 100,000 certificates (or the given number), with one connection for each request: `desk open` and
+# `openssl ocsp -port` with a P-256 issuer get the same requests from the same client, in turns; from one client and from 32 at once, for eight
+# certificates and for 4,096, and beside 200 idle connections; with the median latency and that which one in a hundred exceeds. Then commands a
+# second at the control socket, and with `desk script`.
+# The desk uses a placeholder digest, which costs next to nothing; with --signed as the first word it signs with the same
+# P-256 key as openssl, which SIGNER holds (examples/signer.py, or signer/desk-signer), in as many processes as SIGNERS says (2: with more of them, on four cores, one that waits takes the time of who asks). Then also with a signer that takes 5 ms, one
 # answer after the other and 32 at once, and how long others wait while one hangs.
 # Run it from the repository's root; needs openssl and python3, for --signed also python3's package cryptography.
 set -eu
@@ -16,9 +16,9 @@ commands=20000
 desk="$(pwd)/desk"
 words="$(pwd)/examples/issuer-words.sh"
 client="$(pwd)/bench/ocsp_client.py"
-signer="$(pwd)/examples/signer.py"
+signer=$(realpath "${SIGNER:-examples/signer.py}")
 work=$(mktemp -d /tmp/desk-ocsp.XXXXXX)
-# shellcheck disable=SC2086 # none of them is named where it does not run
+# shellcheck disable=SC2086 # an empty one adds no word
 trap 'kill $theirs $ours $holder 2>/dev/null || true; rm -rf "$work"' EXIT
 theirs='' ours='' holder=''
 cd "$work"
@@ -39,7 +39,7 @@ done
 
 openssl ocsp -index index.txt -port 8091 -rsigner ca.pem -rkey ca.key -CA ca.pem -ignore_err >/dev/null 2>&1 &
 theirs=$!
-set -- open ca.db --port 8092 --counter ca.counter
+set -- open ca.db --port 8092 --control ca.control
 if [ -n "$signed" ]; then
     "$signer" --processes "${SIGNERS:-2}" ca.key ca.sign >/dev/null &
     holder=$!
@@ -48,24 +48,24 @@ if [ -n "$signed" ]; then
     echo "P-256 signatures on both sides:"
 else
     set -- "$@" --unsigned
-    echo "the desk seals with a digest, which is no signature; openssl signs with P-256:"
+    echo "the desk uses a placeholder digest, which is no signature; openssl signs with P-256:"
 fi
 "$desk" "$@" >/dev/null &
 ours=$!
 sleep 3
 python3 "$client" ask "$requests" 8091 8092 ./*.der
-python3 "$client" commands "$commands" counter "$desk" at ca.counter
+python3 "$client" commands "$commands" counter "$desk" at ca.control
 kill "$ours"
 wait "$ours" 2>/dev/null || true
 ours=''
 
-# open_with NAME MILLISECONDS: `desk open` with a signer that takes so long, or hangs.
+# open_with NAME MILLISECONDS: runs `desk open` with a signer that takes so long, or hangs.
 open_with() {
     kill "$holder" 2>/dev/null || true
     python3 "$client" sign "$1.sign" "$2" &
     holder=$!
     until [ -S "$1.sign" ]; do sleep 0.1; done
-    "$desk" open ca.db --port 8092 --counter ca.counter --signer "$1.sign" --algorithm ecdsa-sha256 >/dev/null &
+    "$desk" open ca.db --port 8092 --control ca.control --signer "$1.sign" --algorithm ecdsa-sha256 >/dev/null &
     ours=$!
     sleep 3
 }
@@ -75,7 +75,7 @@ if [ -n "$signed" ]; then
     kill "$ours"
     wait "$ours" 2>/dev/null || true
     open_with hangs -1
-    python3 "$client" hung 8092 ca.counter ./*.der
+    python3 "$client" hung 8092 ca.control ./*.der
     kill "$ours"
     wait "$ours" 2>/dev/null || true
     ours=''

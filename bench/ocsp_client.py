@@ -1,5 +1,5 @@
 #!/usr/bin/env python3
-"""The inputs and the client of bench/ocsp.sh: orders, rows and index write them, ask, commands, slow and hung measure; sign is a signer."""
+"""The inputs and the client of bench/ocsp.sh: orders, rows and index write inputs; ask, commands, slow and hung measure; sign is a signer."""
 import collections
 import contextlib
 import multiprocessing
@@ -41,7 +41,7 @@ def whole(request):
 
 
 def ask_one(address, request):
-    """Asks over a connection of its own, which the answer will come on."""
+    """Sends a request on a new connection, and returns that."""
     peer = socket.SocketType(socket.AF_INET, socket.SOCK_STREAM)
     peer.connect(address)
     peer.sendall(request)
@@ -49,7 +49,7 @@ def ask_one(address, request):
 
 
 def is_answered(peer, room, view):
-    """Reads to the end, and tells whether a successful response came (RFC 6960 4.2.1)."""
+    """Reads to the end, and returns whether a successful response came (RFC 6960 4.2.1)."""
     length = 0
     while part := peer.recv_into(view[length:]):
         length += part
@@ -59,8 +59,8 @@ def is_answered(peer, room, view):
 
 
 def one_client(port, requests, count, at_once, ready, told):
-    """Asks so often, so many at once, once all clients are there: who asked first is heard first, and asks again. Tells when it
-    began, when it ended and how long each answer took."""
+    """Sends so many requests, so many at once, once all clients are ready. Reads the oldest request's answer first, and then sends the
+    next one. Reports when it began, when it ended, and how long each answer took."""
     address = ("127.0.0.1", port)
     room = bytearray(65536)
     view = memoryview(room)
@@ -81,12 +81,12 @@ def one_client(port, requests, count, at_once, ready, told):
 
 
 def clients(port, requests, count, at_once):
-    """Answers a second, and how long each took, of so many connections at once, spread over a few processes."""
+    """Answers a second and the time of each, for so many connections at once, spread over a few processes."""
     fork = multiprocessing.get_context("fork")
     processes = min(at_once, PROCESSES)
     ready = fork.Barrier(processes)
     pipes = [fork.Pipe(duplex=False) for _ in range(processes)]
-    # Each begins elsewhere, so that no two ask for the same certificate together where there are many.
+    # Each begins at another certificate, so that no two request the same one at a time if there are many.
     parts = [len(requests) * at // processes for at in range(processes)]
     running = [
         fork.Process(target=one_client, args=(port, requests[part:] + requests[:part], count // processes, at_once // processes, ready, there))
@@ -102,7 +102,7 @@ def clients(port, requests, count, at_once):
 
 
 class Measure:
-    """The best of some rounds, and the latencies of all."""
+    """The best of several rounds, and the latencies of all."""
 
     def __init__(self, port, requests, at_once, silent):
         self.port, self.requests, self.at_once, self.silent = port, requests, at_once, silent
@@ -123,7 +123,7 @@ class Measure:
 
 
 def others(request):
-    """The request for one certificate, for each of so many: it ends with the serial number (RFC 6960 4.1.1)."""
+    """A request for each of so many certificates, which ends with the serial number (RFC 6960 4.1.1)."""
     return [request[:-2] + (FIRST + at).to_bytes(2, "big") for at in range(OTHERS)]
 
 
@@ -131,7 +131,7 @@ def ask(count, theirs, ours, files):
     few = [open(name, "rb").read() for name in files]
     many = [whole(request) for request in others(few[0])]
     few = [whole(request) for request in few]
-    # Each silent peer would hold openssl for good.
+    # An idle connection would block openssl forever.
     kinds = [
         ("", few, 0, (theirs, ours)),
         (f", {OTHERS:,} certificates", many, 0, (theirs, ours)),
@@ -154,7 +154,7 @@ def ask(count, theirs, ours, files):
 
 
 def timed(lines, words):
-    """The seconds that a program takes for these lines, each of which it is to accept."""
+    """The seconds that a program takes for these lines, all of which it has to accept."""
     start = time.perf_counter()
     ran = subprocess.run(words, input="".join(lines).encode(), capture_output=True, check=True)
     took = time.perf_counter() - start
@@ -164,7 +164,7 @@ def timed(lines, words):
 
 
 def commands(count, kind, words):
-    """Many commands to one program, and one alone: a script has a moment before each, the counter none."""
+    """Many commands to one program, and one alone: a script has a moment before each, the control socket none."""
     moment = "" if kind == "counter" else time.strftime("%Y-%m-%dT%H:%M:%SZ ", time.gmtime())
     many = timed([f"{moment}subscriber {kind}{at}\n" for at in range(count)], words)
     alone = min(timed([f"{moment}subscriber {kind}-{at}\n"], words) for at in range(ROUNDS))
@@ -176,7 +176,7 @@ ANY_SIGNATURE = bytes.fromhex("3006020101020101")
 
 
 def sign_one(peer, millis):
-    """Takes a message, and gives what has the form of a signature so many milliseconds later; none at all where these are below 0."""
+    """Reads a message, and returns bytes in the form of a signature so many milliseconds later; never, if the number is negative."""
     with peer:
         while peer.recv(65536):
             pass
@@ -187,7 +187,7 @@ def sign_one(peer, millis):
 
 
 def sign(path, millis):
-    """A signer at a socket, for as many at once as come."""
+    """A signer at a socket, for any number of connections at once."""
     with socket.socket(socket.AF_UNIX) as server:
         server.bind(path)
         server.listen(128)
@@ -197,14 +197,14 @@ def sign(path, millis):
 
 
 def slow(count, port, files):
-    """Answers a second where a signature takes a while: one after the other, and so many at once."""
+    """Answers a second with a slow signer: one after the other, and so many at once."""
     few = [whole(open(name, "rb").read()) for name in files]
     rates = [max(clients(port, few, count, at_once)[0] for _ in range(ROUNDS)) for at_once in (1, AT_ONCE)]
     print(f"a signer that takes 5 ms: {rates[0]:,.0f} answers a second in turn, {rates[1]:,.0f} at {AT_ONCE} at once, {rates[1] / rates[0]:.1f} times")
 
 
 def hung(port, counter, files):
-    """How long who wants no signature waits while a signer hangs that OCSP answers want: the longest of some times."""
+    """The longest wait of requests that need no signature, while OCSP answers wait for a signer that hangs."""
     few = [whole(open(name, "rb").read()) for name in files]
     waiting, took = [], {"GET /counts": [], "a line at the counter": []}
     with socket.socket(socket.AF_UNIX) as teller:

@@ -1,6 +1,6 @@
 #!/usr/bin/env python3
-"""Times `desk script`: a subscriber, so many orders, and the registrations that fill them, over a register in memory; once
-with serial numbers that are spread, as a CA draws them, and once with serial numbers that rise."""
+"""Times `desk script` over a register in memory: a subscriber, so many orders, and the registrations that fill them; once
+with random serial numbers, as a CA draws them, and once with rising ones."""
 import os
 import resource
 import subprocess
@@ -10,7 +10,7 @@ import time
 
 TOP = os.path.dirname(os.path.dirname(os.path.abspath(__file__)))
 START = "2026-01-01T00:00:00Z"
-# The serial number of a place, in hexadecimal digits: 20 octets, the spread ones by a multiplicative hash.
+# The serial number of an index, in hexadecimal digits: 20 octets, the spread ones by a multiplicative hash.
 SERIALS = {"spread": lambda place: f"40000000{place * 0x9E37_79B9_7F4A_7C15 % 2**64:016x}{0:016x}", "rising": lambda place: f"40{place:038x}"}
 
 

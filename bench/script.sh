@@ -1,8 +1,8 @@
 #!/usr/bin/env bash
-# Times `desk script` over scripts of so many `register` lines, each with an order of its own before it, in a register in
-# memory: seconds, lines a second, and peak memory.
+# Times `desk script` over scripts of so many `register` lines, each with its own order before it, in a register in
+# memory. Prints seconds, lines a second, and peak memory.
 #
-# Usage: bench/script.sh [spread] [rising] [NUMBER OF REGISTERS ..]     (else both, 1000 10000 100000)
+# Usage: bench/script.sh [spread] [rising] [NUMBER OF REGISTERS ..]     (if left out: both, 1000 10000 100000)
 set -euo pipefail
 top=$(cd "$(dirname "$0")/.." && pwd)
 (cd "$top/crates/reg_desk" && rt run -- script < /dev/null)

@@ -1,22 +1,22 @@
 #!/usr/bin/env python3
-"""Writes a report for an auditor, of the time from FROM up to and without TO: a page of HTML, and its tables as CSV.
+"""Writes a report for an auditor about the time from FROM up to, but not including, TO: an HTML page, and its tables as CSV.
 
     examples/audit-report.py 2026-01-01 2026-04-01                       # of an open desk, at http://127.0.0.1:8080
     examples/audit-report.py --register ca.copy 2026-01-01 2026-04-01    # of a register that no program has open, or a copy
 
 It writes these files into the folder audit-FROM-TO, or the one that --folder names, and prints its findings:
 
-    report.html        findings, figures, and the tables below, of each the first 1,000 rows
+    report.html        findings, figures, and the first 1,000 rows of each table below
     certificates.csv   the certificates whose notBefore is in the time
-    revocations.csv    the revocations of the time, with the first CRL that lists each one and when that came, and the request that led to each, with how late it was decided
-    requests.csv       the requests that were received or decided in the time, and those that are open, received before TO: with their state, and how late each one was decided
+    revocations.csv    the revocations of the time, each with the first CRL that lists it and that CRL's moment, and with its request and how late that was decided
+    requests.csv       the requests that were received or decided in the time, and the open ones that were received before TO: with their state, and how late each one was decided
     crls.csv           the CRLs of the time, with their entries and bytes, when each was due, how late it was, and how long no CRL was valid before it
 
-All of it is what the lists and the CRLs of the desk say when the report is made (docs/RULES.md, "Lists" and "CRLs"). The register has no moment of a
-registration, and none of a decline: so certificates are taken by their notBefore, and declined requests by their receipt alone, with no word of whether that was in time.
+The script reads the lists and the CRLs of the desk when it makes the report (docs/RULES.md, "Lists" and "CRLs"). The register has no moment of a
+registration or of a decline. So the script selects certificates by their notBefore and declined requests by their receipt, and does not say whether a decline was in time.
 
 FROM and TO are days, as 2026-01-01, or moments, as 2026-01-01T12:00:00Z, in UTC. DESK names the program, if it is not the `desk` of PATH. The exit status is 0 if
-the report was written, 1 if the desk, or a file, could not be read or written, and 2 if the words can't be read.
+the report was written, 1 if the desk or a file could not be read or written, and 2 if the command line is wrong.
 """
 import argparse
 import csv
@@ -34,7 +34,7 @@ import urllib.request
 from collections import Counter
 
 DAY = 86400
-# A CRL is due so long after the one before it, or after a revocation that no CRL lists (docs/RULES.md, "CRLs").
+# A CRL is due this long after the one before it, or after a revocation that no CRL lists (docs/RULES.md, "CRLs").
 CRL_EVERY, CRL_AFTER_REVOCATION = 7 * DAY, DAY
 # The timer that issues CRLs runs every few minutes. A CRL that comes later than this is a finding, as it is an alert in alerts.yml.
 LATE = 2 * 3600
@@ -43,7 +43,7 @@ MOST_ROWS = 1_000
 
 
 class Unreadable(Exception):
-    """Tells in a line what could not be read."""
+    """Something could not be read; the text is a line about it."""
 
 
 def seconds_of(text):
@@ -60,14 +60,14 @@ def moment_of(seconds):
 
 
 class OpenDesk:
-    """A desk that is open, asked over HTTP."""
+    """An open desk, over HTTP."""
 
     def __init__(self, url):
         self.url = url.rstrip("/")
 
     def ask(self, path):
         try:
-            # No proxy stands between a desk and its own machine.
+            # The desk is on this machine, so no proxy is used.
             with urllib.request.build_opener(urllib.request.ProxyHandler({})).open(self.url + path, timeout=60) as answer:
                 return answer.read()
         except urllib.error.HTTPError as fault:
@@ -156,11 +156,11 @@ def read_crl(data):
 
 
 class Report:
-    """What a source says of a time, as tables: each a list of rows by the names of their columns, with moments as seconds."""
+    """The tables of a source for a time: each a list of rows by the names of their columns, with moments as seconds."""
 
     def __init__(self, source, begin, end):
         self.begin, self.end, self.began = begin, end, int(time.time())
-        # Moments compare as texts.
+        # Moments sort as texts.
         is_inside = lambda text: moment_of(begin) <= text < moment_of(end)
         self.issued = [seconds_of(row["thisUpdate"]) for row in source.rows("crls")]
         revoked = list(source.rows("revoked"))
@@ -214,12 +214,12 @@ class Report:
                     "due": due and moment_of(due), "lateSeconds": max(0, at - due) if due else 0, "gapSeconds": max(0, at - max(before["nextUpdate"], self.begin)) if before else 0,
                 })  # fmt: skip
             before = crl
-        # No CRL may have been valid at the end of the time, which is still to come if TO is.
+        # Perhaps no CRL was valid at the end of the time, which is in the future if TO is.
         self.gap_at_end = max(0, min(self.end, self.began) - max(before["nextUpdate"], self.begin)) if before else 0
         return rows, issuer
 
     def findings(self):
-        """What an auditor asks about first: a sentence each."""
+        """The findings, a sentence each."""
         for row in self.requests:
             if is_finding(row):
                 ended = {"open": "is open", "revoked": f"was decided at {row['decided']}", "expired": "was not decided before its certificate ended"}[row["state"]]
@@ -272,19 +272,19 @@ COLUMNS = {
     "revocations": ["serial", "subscriber", "name", "order", "revokedAt", "reason", "firstCrl", "listedAt", "listedAfterSeconds", "request", "ground", "received", "due", "lateSeconds"],
     "certificates": ["serial", "subscriber", "name", "order", "notBefore", "notAfter", "status"],
 }
-# Of the page, where it has fewer columns than the CSV.
+# The columns of a table of the page, if it has fewer than the CSV.
 SHOWN = {
     "requests": ["request", "serial", "ground", "state", "received", "due", "decided", "lateSeconds", "name"],
     "revocations": ["serial", "ground", "request", "due", "revokedAt", "lateSeconds", "firstCrl", "listedAfterSeconds", "name"],
 }
 HEADINGS = {"crls": "CRLs", "requests": "Requests", "revocations": "Revocations", "certificates": "Certificates whose notBefore is in the time"}
-# Of the page, where a column has another name than in its CSV.
+# The names of columns on the page, if they differ from those in the CSV.
 NAMES = {"crl": "CRL", "lateSeconds": "late by", "gapSeconds": "none valid before, for", "listedAfterSeconds": "listed after", "firstCrl": "first CRL",
          "listedAt": "listed at", "revokedAt": "revoked at", "serial": "serial number", "subscriber": "no.", "name": "subscriber"}
 
 
 def is_finding(row):
-    """Whether a row is one that an auditor asks about: a request or a revocation after its deadline, a CRL that is late or had none valid before it."""
+    """Whether a row is a finding: a request or a revocation after its deadline, or a CRL that is late or came after a time without a valid CRL."""
     return bool(row.get("gapSeconds") or (row.get("lateSeconds") or 0) > (LATE if "crl" in row else 0))
 
 

@@ -1,21 +1,22 @@
 #!/usr/bin/env bash
-# Copies a register into a folder of copies, for cron, and keeps the newest seven: each is a folder REGISTER-MOMENT with the register in one file. One that
-# is closed, or lies in a snapshot of the file system, is copied by `desk copy`; one that is open by its desk, at the counter that is told, which lays the copy
-# beside the register, from where it is moved (docs/OPERATIONS.md, "Backups"). Each copy is audited, and counts only where that says `sound`, which is printed;
-# only then one older than the newest seven goes. Where anything fails no copy goes, one line on standard error says why, and the exit status is 1.
+# Copies a register into a folder of copies, for cron, and keeps the newest seven: each is a folder REGISTER-MOMENT with the register in one file. It copies
+# a closed register, or one in a snapshot of the file system, with `desk copy`. An open desk copies its register itself, at the given control socket: it
+# writes the copy beside the register, and this script moves it from there (docs/OPERATIONS.md, "Backups"). The script audits each copy, prints the result,
+# and keeps the copy only if it is `sound`. Only then it deletes a copy that is older than the newest seven. If anything fails, it deletes no older copy,
+# prints one line with the reason on standard error, and exits with status 1.
 #
-# Usage: backup.sh REGISTER FOLDER [COUNTER]
-#     as: backup.sh /var/lib/durshavon/ca.db /var/backups/ca /run/durshavon/ca/counter
-# DESK names the program, where it is not the `desk` of PATH. Run it as root or as the register's owner.
+# Usage: backup.sh REGISTER FOLDER [CONTROL]
+#     as: backup.sh /var/lib/durshavon/ca.db /var/backups/ca /run/durshavon/ca/control
+# DESK names the program, if it is not the `desk` of PATH. Run it as root or as the register's owner.
 set -euo pipefail
 if [ $# -lt 2 ] || [ $# -gt 3 ]; then
-    echo "usage: $0 REGISTER FOLDER [COUNTER]" >&2
+    echo "usage: $0 REGISTER FOLDER [CONTROL]" >&2
     exit 2
 fi
 export LC_ALL=C
 register=$1
 folder=$2
-counter=${3:-}
+control=${3:-}
 desk=${DESK:-desk}
 name=$(basename "$register")
 beside=$(realpath -m "$register").copy
@@ -25,30 +26,30 @@ fail() {
     exit 1
 }
 
-# What was told in lines, in one.
+# Joins lines to one.
 joined() { sed -n 's/^ *//; H; $ { x; s/^\n//; s/\n/, /g; p }' <<<"$1"; }
 
-# The desk copies to where it may write: what it lays beside its register is this script's to move.
-copy_at_counter() {
-    [ -n "$counter" ] || fail "$register is open: name its counter, or close it"
+# The desk can write only beside its register, so this script moves the copy.
+copy_at_control() {
+    [ -n "$control" ] || fail "$register is open: name its control socket, or close it"
     rm -f "$beside" "$beside.part" 2>/dev/null || fail "$beside can't be removed"
-    told=$(printf 'copy %s\nwhy\n' "$beside" | "$desk" at "$counter" 2>&1) || fail "$register is not copied at $counter: $(joined "$told")"
+    told=$(printf 'copy %s\nwhy\n' "$beside" | "$desk" at "$control" 2>&1) || fail "$register is not copied at $control: $(joined "$told")"
     mv "$beside" "$new/$name" 2>/dev/null || fail "$beside can't be moved into $folder"
 }
 
 copy() {
     if told=$("$desk" copy --why "$register" "$new/$name" 2>&1); then
-        # A copy that root made is its register's owner's, as that is who goes back to it.
+        # A copy that root made gets the register's owner, who has to restore it.
         chown --reference="$register" "$new/$name" 2>/dev/null || :
         return
     fi
     case $told in
-    *"in use by another program") copy_at_counter ;;
+    *"in use by another program") copy_at_control ;;
     *) fail "$register can't be copied into $folder: $(joined "$told")" ;;
     esac
 }
 
-# The new one stays, whatever the clock says, and the six that are the newest of the others.
+# Keeps the new copy, whatever the clock says, and the six newest of the others.
 drop_old() {
     set --
     for old in "$folder/$name"-[0-9]*Z; do
@@ -64,7 +65,7 @@ drop_old() {
 if [ ! -d "$folder" ] || [ ! -r "$folder" ]; then fail "$folder is no folder that can be read"; fi
 exec 9<"$folder"
 flock -n 9 || fail "another run holds $folder"
-# What was left by a run that was killed goes.
+# Deletes what a killed run left.
 rm -rf "$folder"/.backup.* 2>/dev/null || :
 new=$(mktemp -d "$folder/.backup.XXXXXX" 2>/dev/null) || fail "nothing can be written in $folder"
 trap 'rm -rf "$new"' EXIT

@@ -1,12 +1,12 @@
 #!/usr/bin/env python3
-"""Has a signer sign a test message, and openssl verify the signature by the CA's certificate: so that a signer with another key is noticed before
-anything is signed for clients. The unit desk@.service runs it before the desk starts.
+"""Requests a signature for a test message, and verifies it with openssl and the CA's certificate, so that a signer with a wrong key is noticed before
+it signs for clients. The unit desk@.service runs this before the desk starts.
 
     examples/check-signer.py ca.pem --signer ca.sign --algorithm ecdsa-sha256
 
-It takes the options of `desk open`: --signer is verified by CA.pem, --responder-signer by the certificate of --responder; it passes over all others,
-and prints nothing where no signer is named. The test message is an OCSP answer of 1970 that says `unknown` of no issuer's certificate, so a signer
-that signs for one CA alone (examples/only_ours.py) signs it, and nobody can use it.
+It takes the options of `desk open`. It verifies the signature of --signer with CA.pem, and that of --responder-signer with the certificate of
+--responder. It ignores all other options, and prints nothing if there is no signer. The test message is an OCSP answer of 1970 that says `unknown` about
+a certificate of no issuer: a signer that is restricted to one CA (examples/only_ours.py) signs it, and nobody can use it.
 
 Exit status: 0 if each signature verifies; 1 if one does not, or a signer gives none within ten seconds, or a certificate can't be read; 2 if the
 command line can't be read. With --allow-absent a signer that gives no signature is reported, and is no failure.
@@ -17,24 +17,24 @@ import argparse
 import socket
 import sys
 
-# Nothing is written beside the module that is read.
+# Python writes no compiled module beside the imported one.
 sys.dont_write_bytecode = True
 from only_ours import OCTETS, SEQUENCE, is_verified, read_certificate  # noqa: E402
 
-# The desk waits for a signature for as many seconds, and takes one of as many octets at most.
+# The desk waits this many seconds for a signature, and accepts at most this many octets.
 PATIENCE, LONGEST_SIGNATURE = 10, 4096
 MOMENT = b"\x18\x0F19700101000000Z"
 
 
 def value(tag, *parts):
-    """A value of DER of less than 128 octets, or of less than 256."""
+    """A DER value of fewer than 256 octets."""
     contents = b"".join(parts)
     length = bytes([len(contents)]) if len(contents) < 128 else bytes([0x81, len(contents)])
     return bytes([tag]) + length + contents
 
 
 def test_message(key_hash):
-    """A ResponseData (RFC 6960 4.2.1) of the responder with this key, about a certificate of nobody."""
+    """A ResponseData (RFC 6960 4.2.1) of the responder with this key, about a certificate of no issuer."""
     algorithm = bytes.fromhex("300906052B0E03021A0500")
     asked = value(SEQUENCE, algorithm, value(OCTETS, bytes(20)), value(OCTETS, bytes(20)), b"\x02\x01\x01")
     answer = value(SEQUENCE, asked, b"\x82\x00", MOMENT, value(0xA0, MOMENT))
@@ -42,7 +42,7 @@ def test_message(key_hash):
 
 
 def signature_of(message, path):
-    """What the signer at a socket gives for a message; nothing if it ends with nothing."""
+    """The signature that the signer at a socket returns for a message; empty if it closes without one."""
     with socket.socket(socket.AF_UNIX) as peer:
         peer.settimeout(PATIENCE)
         peer.connect(path)
@@ -55,7 +55,7 @@ def signature_of(message, path):
 
 
 def check(path, signer, certificate):
-    """What is wrong with the signer at a socket, and whether it gave a signature at all."""
+    """What is wrong with the signer at a socket, and whether it returned a signature."""
     message = test_message(signer.key_hash)
     try:
         signature = signature_of(message, path)

@@ -1,28 +1,27 @@
 #!/usr/bin/env python3
-"""Reads the index.txt of `openssl ca`, and writes the script that makes a new register say the same.
+"""Reads the index.txt of `openssl ca`, and writes the script that enters its certificates and revocations into a new register.
 
     examples/from-openssl-index.py demoCA/index.txt --certs demoCA/newcerts > moved.txt
     desk init ca.db --name HEX --key HEX
     desk script ca.db --signer SOCKET --algorithm NAME < moved.txt
 
-With --crlnumber the script issues CRLs: without a signer a digest would seal them, which no client takes (docs/OPERATIONS.md).
+With --crlnumber the script issues CRLs. Give it a signer: otherwise they have a placeholder digest, which no client accepts (docs/OPERATIONS.md).
 
-The script is for a new register: it counts its ids from 1, and tells each event at the moment at which it was, in their order. So a
-revocation of last year stands in the register with last year's moment. What can't be carried over is told on standard error, a line each.
+The script is for a new register: it counts ids from 1, and has the events in order, each with its own moment. So the register shows a
+revocation of last year with last year's moment. Standard error has a line for each thing that the script can't enter.
 
-A line of an index has no notBefore. With --certs it is read from the certificates (DIR/SERIAL.pem, as `openssl ca` leaves them; a folder of
-10,000 takes a minute or so), with --days N it is N days before notAfter, which is what `openssl ca -days N` made. Where that lies after today, the
-certificate was made for more than N days: it is told, and left out, as its notBefore is not known.
+A line of an index has no notBefore. With --certs the script reads it from the certificates (DIR/SERIAL.pem, as `openssl ca` leaves them; a folder
+of 10,000 takes about a minute). With --days N it is N days before notAfter, as `openssl ca -days N` makes it. If that is in the future, the
+certificate was made for more than N days, and its notBefore is unknown: the script leaves it out, and standard error says so.
 
-Nothing is written as long as a revocation of the index would be lost, as that of a certificate of 731 days, unless --leave-out FILE lists its serial
-number: one in hexadecimal on each line, and a reason behind it if you like. Standard error says how many revocations were read, entered and left out.
+If a revocation of the index would be lost, such as that of a certificate of 731 days, nothing is written, unless --leave-out FILE lists its serial
+number: one in hexadecimal per line, with a comment after it if you like. Standard error says how many revocations were read, entered and left out.
 With --old-crl CRL, the latest CRL that openssl issued (PEM or DER), the script names each of its entries that the register's first CRL would lack;
 these have to be listed too.
 
-A certificate on hold is neither good nor revoked, and a register has no hold: --hold says what becomes of it. Without it nothing is written
-where the index has one.
+A register has no hold. --hold says whether a certificate on hold becomes good or revoked. Without --hold nothing is written if the index has one.
 
-Exit status: 0 where the script was written, 1 where nothing was written, 2 where the words can't be read.
+Exit status: 0 if the script was written, 1 if nothing was written, 2 if the command line is wrong.
 """
 import argparse
 import datetime
@@ -33,7 +32,7 @@ import subprocess
 import sys
 from collections import namedtuple
 
-# The words of openssl's index (apps/ca.c), and the ground that has their reason (docs/RULES.md). None: no ground has it.
+# The reasons of openssl's index (apps/ca.c), each with the ground that has this reason (docs/RULES.md). None: no ground has it.
 GROUNDS = {
     "": "asked",
     "unspecified": "asked",
@@ -55,12 +54,12 @@ MOST_ROWS = 1_000_000
 
 Line = namedtuple("Line", "number state not_after revoked reason serial subject")
 Cert = namedtuple("Cert", "line not_before registered")
-# An entry of a CRL, its moment as openssl prints it.
+# An entry of a CRL, with its moment as openssl prints it.
 Entry = namedtuple("Entry", "serial revoked")
 
 
 class Unreadable(Exception):
-    """A line that no `openssl ca` wrote, or a certificate that can't be read."""
+    """A line that `openssl ca` doesn't write, or a certificate that can't be read."""
 
 
 def seconds(text):
@@ -82,7 +81,7 @@ def moment(at):
 
 
 def read_line(number, text):
-    """One line of an index: state, notAfter, moment and reason of revocation, serial number, file, subject, parted by tabs."""
+    """One line of an index: state, notAfter, moment and reason of revocation, serial number, file, subject, separated by tabs."""
     fields = text.rstrip("\r\n").split("\t")
     if len(fields) != 6 or fields[0] not in ("V", "R", "E") or not re.fullmatch(r"[0-9A-Fa-f]+", fields[3]):
         raise Unreadable("no line of an index")
@@ -116,14 +115,14 @@ def started(folder, serial):
 
 
 def common_name(subject):
-    """The octets of the first common name of a subject, which openssl writes as \\xHH outside of ASCII; of the subject, where it has none."""
+    """The octets of the first common name of a subject, or of the subject if it has none. openssl writes non-ASCII octets as \\xHH."""
     found = re.search(r"/CN=((?:[^/\\]|\\.)*)", subject)
     text = (found[1] if found else subject).encode()
     return re.sub(rb"\\x([0-9A-F]{2})", lambda it: bytes.fromhex(it[1].decode()), text)
 
 
 def name_of(subject, taken):
-    """A subscriber's name for a subject: that of its common name by the rule of register-pem.sh, with a number where another subject has it."""
+    """A subscriber's name for a subject: that of its common name by the rule of register-pem.sh, with a number if another subject has that name."""
     common = common_name(subject)
     if re.fullmatch(rb"[A-Za-z0-9._-]{1,64}", common) and not re.search(rb"\.[0-9a-f]{16}$", common):
         base = common.decode()
@@ -143,7 +142,7 @@ def is_hold(line):
 
 
 class Mover:
-    """What is carried over, and what is told of it."""
+    """Decides what the script enters, and collects the messages about it."""
 
     def __init__(self, words):
         self.words = words
@@ -157,7 +156,7 @@ class Mover:
         self.tell(line, f"left out: {why}" + ("" if line.revoked is None else "; its revocation would be lost"))
 
     def cert_of(self, line, seen):
-        """The certificate of a line, or None, with why it can't be registered told."""
+        """The certificate of a line, or None and a message with the reason."""
         serial = int(line.serial, 16)
         if not 1 <= serial <= GREATEST_SERIAL:
             return self.leave_out(line, "serial numbers are 1 to 2^159 - 1")
@@ -174,17 +173,17 @@ class Mover:
         if not_before < 0 or line.not_after > LAST_MOMENT:
             return self.leave_out(line, "it begins before 1970, or ends after 9999-12-21")
         seen.add(serial)
-        # Registered when it began; before that, where it was revoked before that or has not begun yet.
+        # Registered at its notBefore, or earlier if it was revoked before or if notBefore is in the future.
         at = min(not_before, self.words.now) if line.revoked is None else min(not_before, self.words.now, max(line.revoked, 0))
         return Cert(line, not_before, at)
 
     def begins_unknown(self, not_before):
-        """What is told of a certificate that was made for more days than --days says."""
+        """The message about a certificate that was made for more days than --days says."""
         begins = f"{self.words.days} days before its end are {moment(not_before)}, which is still to come"
         return f"its notBefore is not known, {begins}: say --certs, or the days that it was made for"
 
     def revocation_of(self, cert):
-        """When a certificate is revoked and on which ground, or None."""
+        """The moment and the ground of a certificate's revocation, or None."""
         line = cert.line
         if line.state != "R":
             return None
@@ -208,7 +207,7 @@ class Mover:
         return at, ground
 
     def events(self, lines):
-        """What happened, in order: the moment, the lines' order, and what."""
+        """The events in order, each as moment, kind, line number, certificate and ground."""
         seen, events = set(), []
         for line in lines:
             cert = self.cert_of(line, seen)
@@ -247,7 +246,7 @@ class Revocations:
 
 
 def script(events, crls, now):
-    """The lines of the script. Ids are counted as the register counts them: no line of these is refused."""
+    """The lines of the script. Ids are counted as the register counts them, so it refuses none of these lines."""
     subscribers, names, orders, requests = {}, {}, 0, 0
     for _ in range(crls):
         yield f"{moment(events[0][0] if events else now)} crl"
@@ -306,7 +305,7 @@ def read_leave_out(path):
 
 
 def read_crl(path):
-    """The number of a CRL, or None where it has none, and its entries, as openssl prints them."""
+    """The number of a CRL, or None if it has none, and its entries, as openssl prints them."""
     for form in ("PEM", "DER"):
         got = subprocess.run(["openssl", "crl", "-inform", form, "-in", path, "-noout", "-text"], capture_output=True, text=True, check=False)
         if got.returncode == 0:
@@ -319,7 +318,7 @@ def read_crl(path):
 
 
 def earlier_crls(path):
-    """How many CRLs openssl has issued, by its file of the next number."""
+    """How many CRLs openssl has issued, from its file with the next number."""
     with open(path, encoding="ascii") as file:
         issued = int(file.read().strip(), 16) - 1
     if not 0 <= issued < MOST_ROWS:

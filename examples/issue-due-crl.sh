@@ -3,40 +3,36 @@
 # where none is due. A reply that is a refusal or a fault, as `F3 signer`, is printed on standard error, and the exit status is that of `desk at`: 3 then,
 # and 1 where nobody answers at the control socket.
 #
-# With --at-once a CRL is due at once if a certificate was revoked on one of these grounds and no CRL lists it yet; without it such a CRL may wait
-# for a day. The desk's list of revocations has reasons (RFC 5280 5.3.1) and no grounds, so a ground counts with all that have its reason
-# (docs/RULES.md): key-compromise alone has reason 1, but control-lost shares reason 4 with superseded and nonconforming. The list is read at the
-# desk's port, 8080 where --port is left out, and only if a revocation may wait for its CRL. It needs curl. Where the desk does not answer at the port,
-# the exit status is 1.
+# A CRL is also due at once if the latest one has a placeholder digest and a signer was added since: the desk's reply to `why` behind `next-crl` says so.
+#
+# With --at-once a CRL is due at once if a certificate was revoked on one of these grounds (docs/RULES.md) and no CRL lists it yet; without it such a CRL
+# may wait for a day. The script reads the list of revocations at the desk's port, 8080 where --port is left out, and only if a revocation may wait for its
+# CRL. It needs curl. Where the desk does not answer at the port, the exit status is 1.
 #
 # Usage: issue-due-crl.sh [--at-once GROUND,..] [--port PORT] SOCKET
 # DESK names the program, where it is not the `desk` of PATH.
 set -euo pipefail
 export LC_ALL=C
 desk=${DESK:-desk}
-port=8080 reasons=
+port=8080 grounds=
 
 usage() { echo "usage: $0 [--at-once GROUND,..] [--port PORT] SOCKET" >&2; exit 2; }
 
-reason_of() {
+add_ground() {
     case $1 in
-    asked) echo 0 ;;
-    key-compromise) echo 1 ;;
-    affiliation) echo 3 ;;
-    control-lost | superseded | nonconforming) echo 4 ;;
-    cessation | name-not-permitted) echo 5 ;;
-    unauthorized | misuse | inaccurate) echo 9 ;;
+    asked | key-compromise | control-lost | superseded | nonconforming | affiliation | cessation | name-not-permitted | unauthorized | misuse | inaccurate) ;;
     *) echo "$0: there is no ground $1" >&2; exit 2 ;;
     esac
+    grounds=${grounds:+$grounds|}$1
 }
 
 while [ $# -gt 1 ]; do
     case $1 in
     --at-once)
         for ground in ${2//,/ }; do
-            reasons="$reasons$(reason_of "$ground")"
+            add_ground "$ground"
         done
-        [ -n "$reasons" ] || usage
+        [ -n "$grounds" ] || usage
         ;;
     --port) port=$2 ;;
     *) usage ;;
@@ -48,17 +44,17 @@ socket=$1
 
 fail() { echo "$socket: $1" >&2; exit "${2:-1}"; }
 
-# The desk's reply to a line at its control socket, where it accepts the line.
+# The desk's replies to lines on one connection to its control socket, where it accepts them.
 reply_to() {
     local reply status=0
-    reply=$("$desk" at "$socket" <<<"$1") || status=$?
+    reply=$(printf '%s\n' "$@" | "$desk" at "$socket") || status=$?
     [ "$status" = 0 ] || fail "$1: ${reply:-no reply}" "$status"
     echo "$reply"
 }
 
 get() { curl -sSf --noproxy '*' --max-time 60 "http://127.0.0.1:$port$1" || fail "the desk does not answer $1 at port $port"; }
 
-# Whether a revocation with one of the reasons is on no CRL yet: its first CRL is not issued. Pages are in the order of serial numbers.
+# Whether a revocation on one of the grounds is on no CRL yet: its first CRL is not issued. Pages are in the order of serial numbers.
 waits_for_a_crl() {
     local metrics page after='' first
     # `set -e` does not hold here, since the function is a condition.
@@ -73,7 +69,7 @@ waits_for_a_crl() {
         exit !(due < regular || value["desk_clock_timestamp_seconds"] >= due - 86400) }' <<<"$metrics" || return 1
     while :; do
         page=$(get "/list/revoked?limit=250$after") || exit 1
-        for first in $(grep -oE "\"reason\":[$reasons],\"firstCrl\":[0-9]+" <<<"$page" | sed 's/.*://'); do
+        for first in $(sed -nE 's/.*"firstCrl":([0-9]+),"lastCrl":[^,]*,"request":[0-9]+,"ground":"('"$grounds"')".*/\1/p' <<<"${page//\}/$'\n'}"); do
             [ "$first" -le "$latest" ] || return 0
         done
         after=$(sed -n 's/.*"next":"\([0-9a-f]*\)".*/\&after=\1/p' <<<"$page")
@@ -81,13 +77,14 @@ waits_for_a_crl() {
     done
 }
 
-due=$(reply_to next-crl)
+replies=$(reply_to next-crl why)
+due=${replies%%$'\n'*} why=${replies#*$'\n'}
 case $due in
 "next-crl at-once") ;;
 "next-crl "[0-9]*Z)
     # Moments in this form compare as texts.
-    if [[ ${due#next-crl } > $(date -u +%Y-%m-%dT%H:%M:%SZ) ]]; then
-        [ -n "$reasons" ] && waits_for_a_crl || exit 0
+    if [[ $why != *" has a placeholder digest: "* && ${due#next-crl } > $(date -u +%Y-%m-%dT%H:%M:%SZ) ]]; then
+        [ -n "$grounds" ] && waits_for_a_crl || exit 0
     fi
     ;;
 *) fail "next-crl: ${due:-no reply}" ;;

@@ -1,27 +1,28 @@
 #!/usr/bin/env python3
-"""Lets through what `desk` has signed for one issuer, a CRL or an answer of OCSP, and nothing else: so that who reaches a signer's
-socket can't have a certificate signed, nor anything that is read as one.
+"""Passes on only CRLs and OCSP answers of one issuer, as `desk` writes them, so that nobody at a signer's socket can get a signature for
+a certificate, or for bytes that a client reads as one.
 
-It stands before any command that signs standard input, and gives it what it was given:
+It runs a command that signs standard input, and gives it the message:
 
     socat -t 10 UNIX-LISTEN:ca.sign,fork,mode=600 EXEC:'examples/only_ours.py ca.pem openssl dgst -sha256 -sign ca.key'
 
-(`examples/signer.py --only-ours ca.pem` looks at the same by itself.) What it refuses has no signature: the exit status is 1, standard
-error says why, and the desk says `F3 signer`, or answers internalError.
+(`examples/signer.py --only-ours ca.pem` makes the same checks by itself.) A refused message gets no signature: the exit status is 1,
+standard error has the reason, and the desk reports `F3 signer`, or answers internalError.
 
-It also has openssl verify the command's signature by the certificate, and prints none that does not verify, as that of another key.
+It also verifies the command's signature with openssl and the certificate, and prints it only if it verifies, so not if it is of another key.
 
-It is let through exactly in the form in which the desk writes it, in DER (X.690 10, 11) and to its last octet:
+It accepts exactly the form that the desk writes, in DER (X.690 10, 11) and to the last octet:
 
     TBSCertList (RFC 5280 5.1.2)    version 2, the key's algorithm, the issuer's name, the two moments, entries of a serial number, a
                                     moment and a reason, the issuer's key identifier (its certificate's own, or the SHA-1 of its key) and
                                     the CRL's number
-    ResponseData (RFC 6960 4.2.1)   the responder by the SHA-1 of the issuer's key, the moment, the answers, the request's nonce; what
-                                    is told good or revoked is a certificate of the issuer
+    ResponseData (RFC 6960 4.2.1)   the responder by the SHA-1 of the issuer's key, the moment, the answers, the request's nonce; an
+                                    answer good or revoked is about a certificate of the issuer
 
-It knows no register. Who reaches the socket can still have a CRL signed with no entry in it, and a revoked certificate told good.
+It doesn't know the register. Whoever connects to the socket can still get a signature for an empty CRL, or for `good` of a revoked
+certificate.
 
-Before a responder's key (RFC 6960 4.2.2.2) it lets through the answers of that responder about the CA's certificates, and no CRL:
+With --responder it accepts the answers of that responder (RFC 6960 4.2.2.2) about the CA's certificates, and no CRL:
 
     examples/only_ours.py --responder responder.pem ca.pem openssl dgst -sha256 -sign responder.key
 
@@ -40,7 +41,7 @@ INTEGER, BITS, OCTETS, IDENTIFIER, SEQUENCE = 0x02, 0x03, 0x04, 0x06, 0x30
 # The longest message: the desk signs CRLs of 2^27 bytes at most.
 LONGEST = 1 << 27
 
-# The AlgorithmIdentifier under which the desk has signatures of a key, by that of the key: RFC 5480 2.1.1 and RFC 5758 3.2 (P-256, P-384),
+# The AlgorithmIdentifier of the desk's signatures with a key, by that of the key: RFC 5480 2.1.1 and RFC 5758 3.2 (P-256, P-384),
 # RFC 4055 1.2 and 5 (RSA), RFC 8410 3 (Ed25519).
 ALGORITHMS = {
     bytes.fromhex("301306072A8648CE3D020106082A8648CE3D030107"): bytes.fromhex("300A06082A8648CE3D040302"),
@@ -57,7 +58,7 @@ HASHES = {
 }
 
 KEY_IDENTIFIER, SUBJECT_KEY_IDENTIFIER, CRL_NUMBER = bytes.fromhex("0603551D23"), bytes.fromhex("0603551D0E"), bytes.fromhex("0603551D14")
-# The desk has key identifiers of so many octets at most.
+# The longest key identifier that the desk has, in octets.
 LONGEST_IDENTIFIER = 64
 NONCE = bytes.fromhex("06092B0601050507300102")
 
@@ -72,7 +73,7 @@ class Refused(Exception):
 
 
 class Part:
-    """Octets that are read value by value: of DER a length has one form alone (X.690 10.1)."""
+    """Octets that are read value by value. In DER a length has only one form (X.690 10.1)."""
 
     def __init__(self, octets, at=0, end=None):
         self.octets, self.at, self.end = octets, at, len(octets) if end is None else end
@@ -108,27 +109,27 @@ class Part:
         return bytes(self.octets[begin : self.at])
 
     def same(self, wanted, what):
-        """Goes over octets that have to be these."""
+        """Skips octets that have to be these."""
         if self.octets[self.at : min(self.end, self.at + len(wanted))] != wanted:
             raise Refused(f"no {what} at octet {self.at}")
         self.at += len(wanted)
 
     def one_of(self, wanted, what):
-        """Goes over octets that have to be one of these."""
+        """Skips octets that have to be one of these."""
         found = next((it for it in wanted if self.octets[self.at : min(self.end, self.at + len(it))] == it), None)
         if found is None:
             raise Refused(f"no {what} at octet {self.at}")
         self.at += len(found)
 
     def fits(self, pattern, what):
-        """Goes over octets of this form."""
+        """Skips octets of this form."""
         found = pattern.match(self.octets, self.at, self.end)
         if not found:
             raise Refused(f"no {what} at octet {self.at}")
         self.at = found.end()
 
     def number(self):
-        """An INTEGER, in the fewest octets that it has room in (X.690 8.3.2)."""
+        """An INTEGER, in the fewest octets that can encode it (X.690 8.3.2)."""
         value = self.inside(INTEGER)
         octets = bytes(self.octets[value.at : value.end])
         number = int.from_bytes(octets, "big", signed=True)
@@ -141,7 +142,7 @@ class Part:
             raise Refused(f"octet {self.at} is one too many")
 
 
-# One of revokedCertificates, and what is said of one certificate
+# An entry of revokedCertificates, and the status of one certificate
 
 
 def either(patterns):
@@ -149,14 +150,14 @@ def either(patterns):
 
 
 def positive(count):
-    """An INTEGER above 0 of so many octets, with its tag and its length."""
+    """An INTEGER above 0 of this many octets, with its tag and its length."""
     small = rb"[\x01-\x7F].{%d}" % (count - 1)
     contents = small if count == 1 else rb"(?:%s|\0[\x80-\xFF].{%d})" % (small, count - 2)
     return re.escape(bytes([INTEGER, count])) + contents
 
 
 def entries():
-    """A serial number, its moment, and its reason where it has one, as one pattern for each length: a CRL has up to a million of these."""
+    """A serial number, its moment, and its reason if it has one, as one pattern for each length: a CRL has up to a million of these."""
     moments = {15: UTC, 17: GENERAL}
     reasons = {0: b"", 14: rb"\x30\x0C\x30\x0A\x06\x03\x55\x1D\x15\x04\x03" + REASON}
     for count, (moment, at), (reason, why) in itertools.product(range(1, 21), moments.items(), reasons.items()):
@@ -176,7 +177,7 @@ Issuer = namedtuple("Issuer", "name key_hash key_identifiers algorithm cert_ids 
 
 
 def der_of(path):
-    """A certificate's DER, of a file that has it or its PEM (RFC 7468 5)."""
+    """A certificate's DER, from a file in DER or PEM (RFC 7468 5)."""
     with open(path, "rb") as file:
         octets = file.read()
     found = re.search(rb"-----BEGIN CERTIFICATE-----(.*?)-----END CERTIFICATE-----", octets, re.DOTALL)
@@ -184,7 +185,7 @@ def der_of(path):
 
 
 def own_identifier(part):
-    """The subjectKeyIdentifier (RFC 5280 4.2.1.2) in what is left of a TBSCertificate behind its key; nothing where it has none."""
+    """The subjectKeyIdentifier (RFC 5280 4.2.1.2) in the rest of a TBSCertificate after its key; nothing if there is none."""
     while part.at < part.end and not part.next_is(0xA3):
         part.any()
     extensions = part.inside(0xA3).inside(SEQUENCE) if part.at < part.end else part
@@ -199,7 +200,7 @@ def own_identifier(part):
 
 
 def authority_key_identifier(identifier):
-    """The extension of a CRL that names the issuer's key so (RFC 5280 5.2.1, 4.2.1.1)."""
+    """The authorityKeyIdentifier extension of a CRL with this key identifier (RFC 5280 5.2.1, 4.2.1.1)."""
     value = bytes([0x80, len(identifier)]) + identifier
     for tag in (SEQUENCE, OCTETS):
         value = bytes([tag, len(value)]) + value
@@ -207,7 +208,7 @@ def authority_key_identifier(identifier):
 
 
 def issuer_of(path):
-    """Who issues, by the certificate of a CA: its subject and its public key (RFC 5280 4.1)."""
+    """The issuer, from the certificate of a CA: its subject and its public key (RFC 5280 4.1)."""
     part = Part(der_of(path)).inside(SEQUENCE).inside(SEQUENCE)
     if part.next_is(0xA0):
         part.inside(0xA0)
@@ -228,7 +229,7 @@ def issuer_of(path):
     return Issuer(name, key_hash, key_identifiers, algorithm, cert_ids, public)
 
 
-# What is to be signed
+# The messages
 
 
 def read_crl(part, issuer):
@@ -258,7 +259,7 @@ def read_crl(part, issuer):
 
 
 def read_cert_id(part):
-    """A CertID (RFC 6960 4.1.1), which is repeated as it was asked: the hash algorithm, two hashes and a serial number."""
+    """A CertID (RFC 6960 4.1.1), repeated from the request: the hash algorithm, two hashes and a serial number."""
     algorithm = part.inside(SEQUENCE)
     identifier = algorithm.inside(IDENTIFIER)
     if identifier.at == identifier.end:
@@ -288,7 +289,7 @@ def read_single(part, issuer):
 
 
 def read_nonce(part):
-    """responseExtensions, with the nonce alone (RFC 6960 4.4.1)."""
+    """responseExtensions, with only the nonce (RFC 6960 4.4.1)."""
     extensions = part.inside(SEQUENCE)
     part.ended()
     extension = extensions.inside(SEQUENCE)
@@ -312,11 +313,12 @@ def read_answer(part, issuer, responder):
 
 
 def check(message, issuer, responder=None):
-    """Refuses all but a CRL and an answer of OCSP of this issuer; before a responder's key all but its answers."""
+    """Refuses all but a CRL and an OCSP answer of this issuer; with a responder, all but its answers."""
     outer = Part(message)
     part = outer.inside(SEQUENCE)
     outer.ended()
-    # A TBSCertList begins with its version, a TBSCertificate of version 1 with its serial number, which its validity tells from the moments here.
+    # A TBSCertList begins with its version. A TBSCertificate of version 1 begins with its serial number; read_crl refuses it, because it has
+    # a validity in place of thisUpdate and nextUpdate.
     if part.next_is(INTEGER):
         if responder:
             raise Refused("a responder signs no CRL")
@@ -326,7 +328,7 @@ def check(message, issuer, responder=None):
 
 
 def read_certificate(path, whose="CA"):
-    """What a certificate says of whose it is, or the end."""
+    """The subject and key of a certificate; exits if it can't be read."""
     try:
         return issuer_of(path)
     except (OSError, ValueError, Refused) as why:
@@ -337,7 +339,7 @@ def read_certificate(path, whose="CA"):
 
 
 def is_verified(signature, message, issuer):
-    """Whether openssl verifies a signature of a message by the key of an issuer or a responder."""
+    """Whether openssl verifies a signature of a message with the key of an issuer or a responder."""
     with tempfile.TemporaryDirectory() as folder:
         paths = [f"{folder}/{name}" for name in ("key", "message", "signature")]
         pem = b"-----BEGIN PUBLIC KEY-----\n" + base64.encodebytes(issuer.public) + b"-----END PUBLIC KEY-----\n"

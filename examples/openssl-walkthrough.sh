@@ -1,8 +1,8 @@
 #!/bin/sh
-# A small CA made with openssl, its register kept by the desk: registers and revokes a certificate, issues a CRL that
-# openssl verifies, serves OCSP, and asks it with openssl, which verifies the answer, and curl. The CA's key signs behind a
-# socket. Run it from the repository's root; it works in a new folder under /tmp and prints what each step shows.
-# Exit status 1 where openssl does not verify a signature.
+# Makes a small CA with openssl, and its register with the desk: registers and revokes a certificate, issues a CRL that
+# openssl verifies, serves OCSP, and sends requests with openssl, which verifies the answer, and with curl. A signer behind
+# a socket has the CA's key. Run it from the repository's root; it works in a new folder under /tmp and prints each step.
+# The exit status is 1 if openssl does not verify a signature.
 set -eu
 desk="$(pwd)/desk"
 tool="$(pwd)/examples/issuer-words.sh"
@@ -27,7 +27,7 @@ openssl req -newkey ec -pkeyopt ec_paramgen_curve:P-256 -nodes -keyout acme.key 
 openssl x509 -req -in acme.csr -CA ca.pem -CAkey ca.key -set_serial 5 -days 90 -out acme.pem 2>/dev/null
 openssl x509 -in acme.pem -noout -serial -dates
 
-step "A signer has its key, behind a socket: any tool that signs standard input, behind a check that it is a CRL or an OCSP answer of this CA"
+step "A signer has its key, behind a socket: any tool that signs standard input, after a check that the message is a CRL or an OCSP answer of this CA"
 if command -v socat >/dev/null; then
     socat -t 10 UNIX-LISTEN:ca.sign,fork,mode=600 EXEC:"$only_ours ca.pem openssl dgst -sha256 -sign ca.key" &
 else

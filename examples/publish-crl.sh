@@ -1,8 +1,8 @@
 #!/bin/sh
-# Publishes the latest CRL of an open desk in a folder of a web server, for cron or a timer: ca.crl, which is its DER, and ca.crl.pem. Each takes the
-# place of the one before it by a rename, so a reader gets the old one or the new one, whole; and only once openssl has verified it by the CA's
-# certificate, it has not ended, and its number is not below that of the one that lies there. Prints a line where another CRL was published, and
-# nothing where it is the same. Where anything fails, the old one stays, one line on standard error says why, and the exit status is 1.
+# Publishes the latest CRL of an open desk in a folder of a web server, for cron or a timer: ca.crl in DER, and ca.crl.pem. Each replaces the old file
+# by a rename, so a reader gets the whole old one or the whole new one. The script replaces them only if openssl verifies the CRL with the CA's
+# certificate, the CRL has not expired, and its number is not below that of the old one. It prints a line if it published another CRL, and nothing if
+# the CRL is the same. If anything fails, the old files stay, one line on standard error has the reason, and the exit status is 1.
 # Needs curl and openssl (3.0 or newer).
 #
 # Usage: publish-crl.sh URL FOLDER CA.pem      as: publish-crl.sh http://127.0.0.1:8080/crl /var/www/crl ca.pem
@@ -17,8 +17,8 @@ fail() {
     exit 1
 }
 
-# Whether a CRL is signed by the authority's key; what openssl says of it is in `told`. No other certificate of the machine counts. Its exit status is
-# 0 also where it verifies nothing, so its words are looked at.
+# Whether a CRL is signed by the authority's key; openssl's output is in `told`. The machine's other certificates don't count. openssl exits with 0
+# even if nothing verifies, so the output decides.
 is_verified() {
     told=$(openssl crl -in "$1" -noout -verify -CAfile "$authority" -no-CApath -no-CAstore 2>&1) || :
     case $told in *"verify OK"*) return 0 ;; *) return 1 ;; esac
@@ -44,7 +44,7 @@ check() {
     [ "$(date -d "$ends" +%s 2>/dev/null || echo 0)" -gt "$(date +%s)" ] || fail "CRL $(number "$new/ca.crl") of $url has ended, $ends: issue one"
 }
 
-# A number never goes back, and belongs to one CRL (RFC 5280 5.2.3). What lies there in either form counts, where it is the authority's.
+# A number never goes back, and belongs to one CRL (RFC 5280 5.2.3). Both old files count, if the authority signed them.
 check_number() {
     for name in ca.crl ca.crl.pem; do
         if holds_it "$folder/$name" || ! is_verified "$folder/$name"; then continue; fi
@@ -55,7 +55,7 @@ check_number() {
 
 if [ ! -d "$folder" ] || [ ! -r "$folder" ]; then fail "$folder is no folder that can be read"; fi
 [ -r "$authority" ] || fail "$authority can't be read"
-# One at a time, so that no slow run puts an old CRL over a newer one. What was left by a run that was killed goes.
+# Only one run at a time, so that no slow run replaces a newer CRL. Deletes what a killed run left.
 exec 9<"$folder"
 flock -w 120 9 || fail "another run holds $folder"
 rm -rf "$folder"/.publish-crl.* 2>/dev/null || :
@@ -68,7 +68,7 @@ check
 check_number
 is_same ca.crl && is_same ca.crl.pem && exit 0
 chmod 0644 "$new/ca.crl" "$new/ca.crl.pem"
-# What is renamed is on the disk before.
+# The files are on the disk before they are renamed.
 sync "$new/ca.crl" "$new/ca.crl.pem"
 for name in ca.crl ca.crl.pem; do
     mv -fT "$new/$name" "$folder/$name" 2>/dev/null || fail "$folder/$name can't be replaced"

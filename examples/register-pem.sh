@@ -1,39 +1,39 @@
 #!/bin/sh
-# Registers certificates that were issued, as openssl reads them (of a file with several, the first): each gets an order of as many days as it is valid,
-# and is registered under it. With -c at the counter of an open desk, and a line is printed for each; with -o as lines for `desk script FILE --clock
-# --strict`, which ends where a line is refused. A certificate that has ended, or whose serial number stands registered, gets no order.
+# Registers issued certificates, as openssl reads them (of a file with several, the first): enters an order of as many days as the certificate is valid,
+# and registers the certificate under it. With -c it does so at the control socket of an open desk, and prints a line for each. With -o it prints lines for
+# `desk script FILE --clock --strict`, which stops at a refused line. A certificate that has expired, or whose serial number is registered, gets no order.
 #
 # Usage: register-pem.sh -c SOCKET [-s NAME] [-a CA.pem] CERTIFICATE ..
 #        register-pem.sh -o ORDER -n SUBSCRIBER [-a CA.pem] CERTIFICATE .. | desk script ca.db --clock --strict --signer SOCKET --algorithm NAME
-#   -s  the subscriber's name, which is entered where no subscriber has it; left out, it follows from the first common name of each certificate:
-#       a common name of 1 to 64 of the bytes that a name may have, letters, digits, `.`, `-` and `_`, is the subscriber's name. Of any other one, in UTF-8,
-#       the name has these bytes, with `-` in place of others, 47 at most, then `.` and the first 16 hexadecimal digits of the common name's SHA-256. So has a
-#       common name that ends as such a name does. So two common names never come to one subscriber.
+#   -s  the subscriber's name, which is entered if no subscriber has it. Without -s it comes from the first common name of each certificate: a common name
+#       of 1 to 64 letters, digits, `.`, `-` and `_` is the subscriber's name. Any other one, in UTF-8, keeps at most 47 of these bytes, with `-` in place
+#       of others, and gets `.` and the first 16 hexadecimal digits of the common name's SHA-256. The same is done to a common name that ends like that.
+#       So two common names never get one subscriber.
 #   -o  the number that the register's next order gets;  -n  the subscriber's number
 #   -a  certificates that this CA did not sign are refused here (a serial number that was registered can't be taken back)
-# DESK names the program, where it is not the `desk` of PATH. Exit status: 0 where all were registered, or all lines were printed; 3 where one was
-# refused, which is told on standard error with the reply, and the others went on; 1 where nobody answers at the counter; 2 where the words are wrong.
+# DESK names the program, if it is not the `desk` of PATH. Exit status: 0 if all were registered, or all lines were printed; 3 if one was refused: standard
+# error has its reply, and the others were tried; 1 if no desk answers at the control socket; 2 if the command line is wrong.
 set -eu
 export LC_ALL=C
 desk=${DESK:-desk}
-counter='' name='' order='' subscriber='' authority='' worst=0
+control='' name='' order='' subscriber='' authority='' worst=0
 usage() { sed -n 's/^# \(Usage: \| \{7\}\)register-pem/\1register-pem/p' "$0" >&2; exit 2; }
 while getopts c:s:o:n:a: option; do
     case $option in
-    c) counter=$OPTARG ;; s) name=$OPTARG ;; o) order=$OPTARG ;; n) subscriber=$OPTARG ;; a) authority=$OPTARG ;; *) usage ;;
+    c) control=$OPTARG ;; s) name=$OPTARG ;; o) order=$OPTARG ;; n) subscriber=$OPTARG ;; a) authority=$OPTARG ;; *) usage ;;
     esac
 done
 shift $((OPTIND - 1))
-case $#:${counter:+c}${name:+s}${order:+o}${subscriber:+n} in 0:*) usage ;; *:c | *:cs | *:on) ;; *) usage ;; esac
+case $#:${control:+c}${name:+s}${order:+o}${subscriber:+n} in 0:*) usage ;; *:c | *:cs | *:on) ;; *) usage ;; esac
 case $order$subscriber in *[!0-9]*) usage ;; esac
 
 refuse() { echo "$certificate: $1" >&2; worst=3; }
 
-# Asks a line at the counter: its reply is in `reply`.
+# Sends a line to the control socket, and puts the reply into `reply`.
 say() {
     status=0
-    reply=$(printf '%s\n' "$1" | "$desk" at "$counter" 2>/dev/null) || status=$?
-    case $status in 0 | 3) ;; *) echo "$certificate: $1: ${reply:-no reply at $counter}" >&2; exit 1 ;; esac
+    reply=$(printf '%s\n' "$1" | "$desk" at "$control" 2>/dev/null) || status=$?
+    case $status in 0 | 3) ;; *) echo "$certificate: $1: ${reply:-no reply at $control}" >&2; exit 1 ;; esac
 }
 
 field() { echo "$text" | sed -n "s/^$1=//p"; }
@@ -41,7 +41,7 @@ moment() { date -u -d "$1" +%Y-%m-%dT%H:%M:%SZ; }
 
 is_signed() { openssl verify -CAfile "$authority" -no-CApath -no-CAstore -partial_chain -no_check_time "$certificate" >/dev/null 2>&1; }
 
-# The subscriber's name that follows from the common name; nothing where the certificate has none.
+# The subscriber's name that comes from the common name; nothing if the certificate has none.
 subscriber_name() {
     common=$(openssl x509 -in "$certificate" -noout -subject -nameopt multiline,utf8,-esc_msb | sed -n 's/^ *commonName *= //p' | head -n 1)
     if [ -z "$common" ]; then return; fi
@@ -53,7 +53,7 @@ subscriber_name() {
     fi
 }
 
-# The number of a subscriber of that name, who is entered where nobody has it.
+# The id of the subscriber of that name, who is entered if there is none.
 find_subscriber() {
     [ -n "$1" ] || { refuse "it has no common name: give -s NAME"; return 1; }
     say "subscriber $1"
@@ -63,7 +63,7 @@ find_subscriber() {
     esac
 }
 
-at_counter() {
+at_control() {
     say "status $serial"
     [ "$reply" = unknown ] || { refuse "serial number $serial is not registered anew, status: $reply"; return 0; }
     find_subscriber "${name:-$(subscriber_name)}" || return 0
@@ -81,8 +81,8 @@ for certificate in "$@"; do
     openssl x509 -in "$certificate" -noout -checkend 0 >/dev/null || { refuse "it ended, $until"; continue; }
     # Both ends counted (docs/RULES.md).
     days=$((($(date -d "$until" +%s) - $(date -d "$from" +%s)) / 86400 + 1))
-    if [ -n "$counter" ]; then
-        at_counter
+    if [ -n "$control" ]; then
+        at_control
     else
         printf 'order %s %s\nregister %s %s %s %s\n' "$subscriber" "$days" "$order" "$serial" "$from" "$until"
         order=$((order + 1))

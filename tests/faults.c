@@ -12,6 +12,7 @@
    FAULTS_LOSE_FILES=1     so are files that were made since their folder was last synced.
    FAULTS_ONLY=WHAT ..     limits all this, but the clock and allocations, to descriptors and paths: `stdin`, `stdout`, `stderr`, `socket`,
                            `file`, or how the path ends (`ca.db-wal`), parted by commas.
+   FAULTS_SLOW_CHMOD=N     a change of a path's mode is done N milliseconds after it is called.
    FAULTS_SAME=1           what the system draws at random is the same at each run, and so are the bytes of files.
    FAULTS_QUICK=1          a sync is told as done without waiting for the disk.
    FAULTS_COUNT=PATH       keeps in PATH how many calls of each kind there were, in the order of `names`, the steps that FAULTS_STOP counts,
@@ -54,7 +55,7 @@ void *__libc_memalign(size_t, size_t);
 static int ready, begun;
 static uint64_t counted_here[COUNTS], *counts = counted_here, *passed;
 static struct { uint64_t from; int after, error; } fails[KINDS];
-static uint64_t stop_at, most, lose;
+static uint64_t stop_at, most, lose, slow_chmod;
 static int torn, lose_files, same, quick;
 static const char *only;
 
@@ -63,7 +64,7 @@ static const char *only;
 static int error_called(const char *name, int usual) {
     static const struct { const char *name; int error; } all[] = {
         {"0", 0}, {"EIO", EIO}, {"ENOSPC", ENOSPC}, {"ENOMEM", ENOMEM}, {"EINTR", EINTR}, {"EAGAIN", EAGAIN}, {"EPIPE", EPIPE}, {"EDQUOT", EDQUOT},
-        {"EMFILE", EMFILE}, {"EACCES", EACCES}, {"ECONNRESET", ECONNRESET}, {"ECONNABORTED", ECONNABORTED}, {"EINVAL", EINVAL}, {"EROFS", EROFS},
+        {"EMFILE", EMFILE}, {"ENFILE", ENFILE}, {"EACCES", EACCES}, {"ECONNRESET", ECONNRESET}, {"ECONNABORTED", ECONNABORTED}, {"EINVAL", EINVAL}, {"EROFS", EROFS},
     };
     for (size_t i = 0; name && i < sizeof all / sizeof *all; i++) {
         size_t length = strlen(all[i].name);
@@ -119,6 +120,7 @@ __attribute__((constructor)) static void at_first(void) {
     const char *path = getenv("FAULTS_COUNT");
     read_fails(getenv("FAULTS_FAIL"));
     stop_at = number("FAULTS_STOP"), most = number("FAULTS_SHORT"), lose = number("FAULTS_LOSE");
+    slow_chmod = number("FAULTS_SLOW_CHMOD");
     torn = number("FAULTS_TORN") != 0, lose_files = number("FAULTS_LOSE_FILES") != 0, same = number("FAULTS_SAME") != 0;
     quick = number("FAULTS_QUICK") != 0;
     only = getenv("FAULTS_ONLY");
@@ -472,6 +474,12 @@ static int stays(enum kind kind, const char *path) {
     if (stops_now())
         stop();
     return 0;
+}
+
+int chmod(const char *path, mode_t mode) {
+    if (slow_chmod)
+        usleep(slow_chmod * 1000);
+    return syscall(SYS_fchmodat, AT_FDCWD, path, mode);
 }
 
 int unlink(const char *path) { return stays(UNLINK, path) ? -1 : syscall(SYS_unlinkat, AT_FDCWD, path, 0); }

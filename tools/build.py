@@ -1,15 +1,14 @@
 #!/usr/bin/env python3
-"""Proves and builds a program of this repository with all the libraries below it, as many side by side as there are processors
-and memory allows, those with the longest chain of others behind them first. Tells on standard error which crate of how many is
-done, and how long it took; a crate that fails ends it with that crate's messages. What is built already and has not changed is
-taken as it is.
+"""Proves and builds a program of this repository and all libraries below it, in parallel as far as processors and memory allow. A crate
+that begins the longest chain of waiting crates goes first. Prints on standard error which crate is done, and how long it took. If a crate
+fails, the build stops with that crate's messages. A crate that is built and has not changed is not built again.
 
-Those that take longest go first, by the seconds that each crate took when it was last measured (tools/build-times.txt), and by these it
-also tells how long is left: the longest chain that is not done, at the pace of what was done.
+The length of a chain comes from the seconds that each crate took when it was last measured (tools/build-times.txt). From these the tool also
+estimates how long is left: the longest chain that is not done, at the speed of this build.
 
-Usage: tools/build.py [--times] [--lean] [CRATE]        (CRATE is reg_desk if left out; --times prints each crate's seconds of
-the processor, and of the clock, at the end, and writes tools/build-times.txt where all was built anew; --lean removes the proofs of
-each library's functions once the library is built, so that a build needs less of the disk, and a later one proves a changed crate whole)
+Usage: tools/build.py [--times] [--lean] [CRATE]        (CRATE is reg_desk if left out. --times prints the processor time and the
+elapsed time of each crate at the end, and writes tools/build-times.txt if all crates were built. --lean removes the proofs of each library's
+functions once the library is built: a build needs less disk, and a later one proves a changed crate from nothing)
 """
 import fcntl
 import os
@@ -24,18 +23,18 @@ from concurrent.futures import FIRST_COMPLETED, ThreadPoolExecutor, wait
 
 TOP = os.path.dirname(os.path.dirname(os.path.abspath(__file__)))
 RT = shutil.which("rt") or "/opt/rattle/bin/rt"
-# What one check takes on average, by what was seen; a second job of a check takes about half as much again.
+# The bytes that one check takes on average, as measured; a second job of a check takes about half as much again.
 MEMORY_OF_A_CHECK = 2_000_000_000
 MOST_JOBS = 4
 TIMES = f"{TOP}/tools/build-times.txt"
-# A crate that was not measured: seconds of the clock for each of its lines.
+# Of a crate that was not measured: elapsed seconds per line.
 SECONDS_OF_A_LINE = 0.05
-# How often it is told how far the build is, in seconds.
+# The seconds between two reports of progress.
 TELL_EVERY = 60
 
 
 class Crate:
-    """A line of crates.txt: a crate, and the crates of this repository that it stands on."""
+    """A line of crates.txt: a crate, and the crates of this repository that it uses."""
 
     def __init__(self, line, name, uses, seconds):
         self.line, self.name, self.uses = line, name, uses
@@ -55,7 +54,7 @@ def sources(folder):
 
 
 def read_times():
-    """Returns the seconds of the clock that each crate took when it was last measured."""
+    """Returns the elapsed seconds that each crate took when it was last measured."""
     try:
         with open(TIMES, encoding="utf-8") as file:
             return {name: float(seconds) for name, seconds in (row.split() for row in file if row.strip() and not row.startswith("#"))}
@@ -70,7 +69,7 @@ def write_times(took):
 
 
 def read_crates():
-    """Returns the crates by name, each after those that it stands on."""
+    """Returns the crates by name, each after those that it uses."""
     times = read_times()
     with open(f"{TOP}/crates.txt", encoding="utf-8") as file:
         rows = [row.partition("#")[0].strip() for row in file]
@@ -80,7 +79,7 @@ def read_crates():
 
 
 def below(crates, name):
-    """Returns the names of the crates that this one stands on, each after those that it stands on itself."""
+    """Returns the names of the crates that this one uses, each after those that it uses itself."""
     found = []
     for it in crates[name].uses:
         found += [other for other in [*below(crates, it), it] if other not in found]
@@ -88,7 +87,7 @@ def below(crates, name):
 
 
 def folder_of_rooms():
-    """Returns where rooms are made: in the system's temporary folder or, if that is on another disk, where a library can't be linked but is copied, in out/."""
+    """Returns the folder for temporary copies: the system's, or out/ if that is on another disk, so that a library can be hard-linked and not copied."""
     other = tempfile.gettempdir()
     if os.stat(other).st_dev == os.stat(TOP).st_dev:
         return other
@@ -104,14 +103,14 @@ def link_or_copy(source, target):
 
 
 def lend(crate, room, parts):
-    """Puts these parts of a crate's folder into a room, as links where the room lies on the same disk."""
+    """Puts these parts of a crate's folder into a temporary copy, as hard links if both are on the same disk."""
     for part in parts:
         if os.path.isdir(f"{crate.folder}/{part}"):
             shutil.copytree(f"{crate.folder}/{part}", f"{room}/crates/{crate.name}/{part}", copy_function=link_or_copy)
 
 
 class Built:
-    """How a crate's build ended: rt's status, what it said, and the seconds and the processor's seconds that it took."""
+    """How a crate's build ended: rt's status and output, the elapsed seconds and the processor seconds."""
 
     def __init__(self, words, folder):
         started = time.monotonic()
@@ -124,13 +123,13 @@ class Built:
 
 
 def rt_command(jobs, is_first, *words):
-    """Returns the words of a run of rt. What the longest chain does not wait for gives way to it."""
+    """Returns the command line of a run of rt. Crates outside of the longest chain run with lower priority."""
     return [*([] if is_first else ["nice", "-n", "10"]), RT, words[0], "--jobs", str(jobs), *words[1:]]
 
 
 def build_library(crates, crate, is_lean, jobs, is_first):
-    """Builds a library in a room of its own, since rt lets only one run at a time into a crate and into those below it, and
-    moves what was built into the crate's folder."""
+    """Builds a library in a temporary copy, because rt locks a crate and those below it, and moves the result into the crate's
+    folder."""
     with tempfile.TemporaryDirectory(prefix="desk-build-", dir=folder_of_rooms()) as room:
         for name in below(crates, crate.name):
             lend(crates[name], room, ["src", "specs", "proofs", "out/rlib"])
@@ -147,8 +146,8 @@ def build_library(crates, crate, is_lean, jobs, is_first):
 
 
 def build_program(crate, is_first):
-    """Builds a program where it stands, once all below it is built. A run with --help touches no file of the caller's. It has one
-    job: each loads all that the program reaches, which takes longer than its proofs."""
+    """Builds a program in place, once all below it is built. A run with --help opens no file of the caller. It has one job,
+    because each job loads all that the program reaches, which takes longer than the proofs."""
     return Built(rt_command(1, is_first, "run", "--", "--help"), crate.folder)
 
 
@@ -162,7 +161,7 @@ def in_words(seconds):
 
 
 def chains(crates, names):
-    """Returns for each crate how many seconds the longest chain takes that begins with it and waits for it."""
+    """Returns for each crate the seconds of the longest chain that begins with it."""
     behind = dict.fromkeys(names, 0)
     for name in reversed(names):
         behind[name] += crates[name].seconds
@@ -172,20 +171,20 @@ def chains(crates, names):
 
 
 class Progress:
-    """How far a build is: told each minute while it goes on."""
+    """Reports each minute how far a build is."""
 
     def __init__(self, crates, names, behind):
         self.crates, self.names, self.behind = crates, names, behind
         self.began, self.done, self.started, self.ended = time.monotonic(), {}, {}, threading.Event()
 
     def pace(self):
-        """How many seconds one of the file's is here, by what was built; where that is little, one."""
+        """The seconds on this machine for one of the file's, from what was built; 1 if that is little."""
         told = [(built.seconds, self.crates[it].seconds) for it, built in self.done.items() if built.seconds > 5]
         expected = sum(it for _, it in told)
         return sum(it for it, _ in told) / expected if expected > 60 else 1.0
 
     def left(self):
-        """The seconds that the longest chain takes which is not done."""
+        """The seconds of the longest chain that is not done."""
         now, pace = time.monotonic(), self.pace()
         running = dict(self.started)
         waiting = [it for it in self.names if it not in self.done and it not in running]
@@ -211,7 +210,7 @@ def free_memory():
 
 
 def room_for(jobs, running):
-    """Returns whether a check with so many jobs fits beside the running ones, which may not have taken all their memory yet."""
+    """Returns whether there is memory for a check with so many jobs; running ones may not have taken all of theirs yet."""
     if not running:
         return True
     wanted = MEMORY_OF_A_CHECK * (1 + 0.5 * (jobs - 1))
@@ -220,7 +219,7 @@ def room_for(jobs, running):
 
 
 def build(crates, names, is_lean=False):
-    """Builds these crates side by side, and returns how each one's build ended, or None where one failed."""
+    """Builds these crates in parallel, and returns how each build ended, or None if one failed."""
     lanes, behind = len(os.sched_getaffinity(0)), chains(crates, names)
     left, running, progress = sorted(names, key=lambda it: -behind[it]), {}, Progress(crates, names, behind)
     took = progress.done
@@ -231,7 +230,7 @@ def build(crates, names, is_lean=False):
             ready = [it for it in left if all(other in took for other in crates[it].uses)]
             for at, name in enumerate(ready):
                 idle = lanes - sum(jobs for _, jobs in running.values())
-                # all else waits for the longest chain: its crate has two jobs at least, and the others give way to it
+                # the build takes as long as the longest chain: its crate has two jobs at least, and the others a lower priority
                 is_first = at == 0 and behind[name] >= max([behind[it] for it, _ in running.values()], default=0)
                 share = idle // (len(ready) - at)
                 jobs = max(1, min(MOST_JOBS, max(2, share) if is_first else share))

@@ -19,7 +19,7 @@ CALL = re.compile(r"(?<![\w.])((?:\w+(?:::<[^>()]*>)?::)*)(\w+)(?:::<[^()]*?>)?(
 
 
 class Function:
-    """A function of a source file: its place, its impl's head if it is a method, its body, and whether it is public."""
+    """A function of a source file: its file and line, its impl's head if it is a method, its body, and whether it is public."""
 
     def __init__(self, path, line, name, owner, head, body):
         self.path, self.line, self.name, self.owner, self.head, self.body = path, line, name, owner, head, body
@@ -106,7 +106,7 @@ def called_by(caller):
 def reached():
     """Returns the functions that calls from `main` reach, each with the one that calls it on a shortest path."""
     mains = [it for it in by_name()["main"] if it.crate == "reg_desk"]
-    # What operators, `?`, loops and drops call has no name in a body.
+    # Operators, `?`, loops and drops call functions that a body doesn't name.
     hidden = [it for name in ("from", "next", "eq", "partial_cmp", "drop", "fmt", "into_iter", "clone") for it in by_name().get(name, [])]
     callers, waiting = dict.fromkeys([*mains, *hidden]), deque([*mains, *hidden])
     while waiting:

@@ -1,6 +1,6 @@
 #!/usr/bin/env python3
 """Prints the package's file `copyright`: this repository's licence, what docs/LICENCES.md says of the crates that are linked into the program, and the text of
-each licence as it lies in the kit's folder, each text once with the crates that it is of (of the Apache License its place on Debian). Ends with an error where
+each licence in the kit's folder, each text once with the crates that have it (for the Apache License its path on Debian). Ends with an error if
 docs/LICENCES.md does not name a crate that is linked in.
 
 Usage, from the repository's root: tools/copyright.py KIT
@@ -17,7 +17,7 @@ def text_of(path):
 
 
 def linked(kit):
-    """The kit's crates that the program stands on: by crates.txt, and by what the kit says of each."""
+    """The kit's crates that the program uses: by crates.txt, and by what the kit says of each."""
     ours = dict(line.split(":", 1) for line in text_of("crates.txt").splitlines() if re.match(r"\w+:", line))
     found, left = [], ["reg_desk", "std"]
     while left:
@@ -41,12 +41,12 @@ def main():
     for name in names:
         for path in sorted(glob.glob(f"{kit}/rattle/{name}/LICENSE*")):
             text = text_of(path).strip()
-            # Copies that differ in white space alone are one text.
+            # Copies that differ only in white space are one text.
             texts.setdefault(" ".join(text.split()), (text, []))[1].append(f"{name}/{os.path.basename(path)}")
     print("Durshavon, a certificate register, is under the Apache License 2.0: on Debian /usr/share/common-licenses/Apache-2.0.\n")
     print(page.strip())
     for text, places in texts.values():
-        # Debian has the text of this one on each machine, and wants no copies.
+        # Each Debian machine has the text of this one, and Debian wants no copies.
         if text.startswith("Apache License"):
             text = "Apache License 2.0: /usr/share/common-licenses/Apache-2.0"
         print(f"\n{'=' * 100}\n{', '.join(places)}\n{'=' * 100}\n\n{text}")

@@ -1,12 +1,12 @@
 #!/usr/bin/env python3
-"""Tries edits: wrong bodies that the prover must refuse. They are the files of crates/CRATE/must-fail/ and crates/CRATE/edits/.
+"""Tries edits: wrong function bodies that the prover must refuse. They are the files of crates/CRATE/must-fail/ and crates/CRATE/edits/.
 
 Usage: tools/edits.py CRATE ..        tries all edits of these crates with `rt must-fail`
        tools/edits.py --check         proves nothing: checks that each edit applies, the form of its name, and how many edits there are
        tools/edits.py --some COMMIT   tries a sample of edits/ with `rt ci`, as the gate does; the hash of COMMIT selects it
 
 The exit status is 1 if an edit is not refused, does not apply or was not tried. rt runs in a temporary copy of the crates as they stand
-in the working tree. `rt must-fail` starts from what `rt check` kept on this machine, so check the crate first.
+in the working tree. `rt must-fail` reuses the proofs that `rt check` kept on this machine, so check the crate first.
 
 Run --some after an `rt ci` that passed on the same files: rt takes all proofs from that run. The sample takes at most ten times as long
 as `rt selftest`. It has up to four edits of a crate that builds within 250 seconds (tools/build-times.txt): rt proves that crate once more,
@@ -22,7 +22,7 @@ from pathlib import Path
 
 TOP = Path(__file__).resolve().parent.parent
 RT = shutil.which("rt") or "/opt/rattle/bin/rt"
-# rt tries the edits of the first folder alone.
+# rt tries only the edits of the first folder.
 GATE, OTHERS = "must-fail", "edits"
 MOST, MOST_AT_GATE, MOST_CRATES_AT_GATE = 120, 16, 3
 MOST_IN_SAMPLE, SECONDS_OF_SMALL_CRATE = 4, 250
@@ -74,7 +74,7 @@ def sample_of(commit):
 
 
 def copy_crates(room, edits):
-    """Copies what git tracks or would add of the crates, with these edits alone, all of them in must-fail/."""
+    """Copies what git tracks or would add of the crates, with only these edits, all of them in must-fail/."""
     listing = ["git", "ls-files", "--cached", "--others", "--exclude-standard", "crates", "crates.txt", "HANDLES"]
     names = subprocess.check_output(listing, cwd=TOP, text=True).split("\n")
     targets = {TOP / it: room / it for it in names if (TOP / it).is_file() and it.split("/")[2:3] not in ([GATE], [OTHERS])}

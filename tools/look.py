@@ -1,12 +1,12 @@
 #!/usr/bin/env python3
 """Prints the path of an unproved program for first looks. Builds it if none is kept in out/, or if its sources or the toolchain have changed.
 
-`rt try` lowers the program to LLVM bitcode and then runs it with checks, a hundred times slower. This tool takes the bitcode, compiles it without
-the checks and links it. Nothing is proved. So ./desk runs this program only for words that touch no file and no port, and
+`rt try` compiles the program to LLVM bitcode and then runs it with checks, a hundred times slower. This tool takes the bitcode, compiles it without
+the checks and links it. Nothing is proved. So ./desk runs this program only for command lines that open no file and no port, and
 tests/run tests it if no proved program is built.
 
 The exit status is 0, or 126 if the program does not compile, or 127 if there is no toolchain. It is 3 if no program can be kept here, as with a
-toolchain that lacks what this tool needs; one line on standard error says why. `rt try` is left then.
+toolchain that lacks what this tool needs; one line on standard error has the reason. You can still use `rt try`.
 
 Usage: tools/look.py
 """
@@ -37,11 +37,11 @@ COMPILE = """
 
 
 class Lacks(Exception):
-    """Tells in a few words what this toolchain does not give."""
+    """This toolchain lacks something; the text says what."""
 
 
 class Refused(Exception):
-    """Has what `rt try` says of a program that does not compile."""
+    """The program does not compile; the text is the output of `rt try`."""
 
 
 def tell(text):
@@ -49,7 +49,7 @@ def tell(text):
 
 
 def stamp():
-    """Names all that an unproved program is made of: the toolchain, this tool and the sources. Definitions and proofs don't reach it."""
+    """Identifies what an unproved program is made of: the toolchain, this tool and the sources, but no definitions or proofs."""
     digest = hashlib.sha256()
     for path in [TOP / "tools/look.py", TOP / "crates.txt", *sorted(TOP.glob("crates/*/src/**/*.rt"))]:
         digest.update(f"{path.relative_to(TOP)} {hashlib.sha256(path.read_bytes()).hexdigest()}\n".encode())
@@ -62,7 +62,7 @@ def is_kept(made_of):
 
 
 def lower(folder):
-    """Returns the bitcode that `rt try` makes of the program. A hard link keeps it, since `rt try` removes its folder when it ends."""
+    """Returns the bitcode that `rt try` makes of the program. A hard link keeps it, because `rt try` removes its folder at its end."""
     bitcode, said = folder / "whole.bc", folder / "said"
     with open(said, "wb") as out:
         how = {"cwd": TOP / "crates/reg_desk", "env": {**os.environ, "TMPDIR": str(folder)}}
@@ -73,7 +73,7 @@ def lower(folder):
                 with contextlib.suppress(FileNotFoundError):
                     if not bitcode.exists():
                         os.link(module, bitcode)
-                    # The bitcode is whole once its compiler has begun a file beside it.
+                    # The bitcode is complete once the compiler has created a file beside it.
                     if len(os.listdir(module.parent)) > 1:
                         return bitcode
             time.sleep(0.2)
@@ -100,14 +100,14 @@ def run(*words):
 
 
 def build(made_of):
-    """Builds the program, tries that it starts, and keeps it."""
+    """Builds the program, checks that it starts, and keeps it."""
     with tempfile.TemporaryDirectory(prefix="look-", dir=OUT) as room:
         folder = Path(room)
         bitcode, code, program = lower(folder), folder / "whole.o", folder / "desk"
         run(KIT / "toolchain/bin/clang", f"--sysroot={KIT}/toolchain", *COMPILE, bitcode, "-o", code)
         run(KIT / "bin/rattle-link", *TARGET, "--toolchain", KIT / "toolchain", "-o", program, code, *LIBRARIES)
         if not run(program, "--version").startswith("desk "):
-            raise Lacks("the program that it gives does not tell its version")
+            raise Lacks("the program that it makes does not print its version")
         STAMP.unlink(missing_ok=True)
         os.replace(program, KEPT)
         (folder / "stamp").write_text(made_of, encoding="utf-8")
@@ -115,7 +115,7 @@ def build(made_of):
 
 
 def keep():
-    """Builds the program unless the one that is kept is made of the same. Of two runs at once the second waits for the first one's program."""
+    """Builds the program unless the kept one is up to date. Of two runs at once the second waits for the program of the first."""
     OUT.mkdir(exist_ok=True)
     held, began = os.open(OUT, os.O_RDONLY), time.monotonic()
     fcntl.flock(held, fcntl.LOCK_EX)
@@ -133,7 +133,7 @@ def main():
     if not os.path.exists(RT):
         tell("the command rt of the Rattle toolchain is not found, and nothing was built")
         raise SystemExit(127)
-    # So that `rt try` is stopped, and the room removed, when this tool is told to stop.
+    # On SIGTERM `rt try` is stopped and the temporary folder removed.
     signal.signal(signal.SIGTERM, lambda number, _: sys.exit(128 + number))
     try:
         keep()

@@ -1,6 +1,6 @@
 #!/usr/bin/env python3
 """Writes the manual pages of the program: desk(1) from what `desk --help` and `desk COMMAND --help` print and from docs/OPERATIONS.md's part on exit
-statuses, desk-script(5) from docs/RULES.md. Nothing is told here that is not told there.
+statuses, desk-script(5) from docs/RULES.md. It adds no text of its own.
 
 Usage, from the repository's root: tools/man.py DESK FOLDER
 """
@@ -20,7 +20,7 @@ def escaped(text):
 
 
 def inline(text):
-    """Text of Markdown with `code`, **bold** and *emphasis*. Long code may be broken behind a comma and before a slash."""
+    """Markdown text with `code`, **bold** and *emphasis*. Long code may be broken after a comma and before a slash."""
     out = []
     for part in re.split(r"(`[^`]+`|\*\*[^*]+\*\*|\*[^*]+\*)", text):
         if part.startswith("`") and len(part) > 1:
@@ -30,13 +30,13 @@ def inline(text):
         elif part.startswith("*") and len(part) > 2:
             out.append("\\fI" + escaped(part[1:-1]) + "\\fR")
         else:
-            out.append(escaped(re.sub(r"docs/(\w+)\.md", r"/usr/share/doc/durshavon/\1.md", part)))
+            out.append(escaped(re.sub(r"docs/\w+\.md", r"/usr/share/doc/durshavon/\g<0>", part)))
     text = "".join(out)
     return "\\&" + text if text[:1] in (".", "'") else text
 
 
 def head(name, section, title):
-    # On a terminal it is one long page, so that no row of a table meets a page's end.
+    # On a terminal there is one long page, so that no page break splits a table's row.
     return [f'.TH {name} {section} {DATE} durshavon "{title}"', ".if n .pl 20000v", ".nh", ".ad l"]
 
 
@@ -51,7 +51,7 @@ def plain(cell):
 
 
 def table(rows):
-    """A table: columns of short cells as wide as these are, the widest one takes what is left."""
+    """A table: columns of short cells are as wide as these, and the widest column takes the rest."""
     rows = [cells(row) for row in rows]
     header, body = rows[0], rows[2:]
     widest = [max(len(plain(row[at])) for row in [header, *body]) for at in range(len(header))]
@@ -110,11 +110,11 @@ def section(path, title):
     found = re.search(rf"^(##+) {re.escape(title)}\n", text, re.M)
     if not found:
         sys.exit(f"{path} has no section '{title}'")
-    # It goes on up to the next heading of its own level, or of one above.
+    # A section ends at the next heading of its own level or of one above.
     return re.split(rf"^#{{2,{len(found[1])}}} ", text[found.end() :], maxsplit=1, flags=re.M)[0].splitlines()
 
 
-# What the program tells of itself
+# The program's help
 
 def told(desk, *words):
     got = subprocess.run([desk, *words, "--help"], capture_output=True, text=True, check=True)
@@ -122,7 +122,7 @@ def told(desk, *words):
 
 
 def parts(lines):
-    """What help tells: the first paragraph, and the lines under each heading; what follows the options is called `after`."""
+    """The parts of a help text: the first paragraph, and the lines under each heading; the part after the options is called `after`."""
     said, name = {"about": []}, "about"
     for line in lines:
         if line.startswith("Usage: "):
@@ -141,7 +141,7 @@ def parts(lines):
 
 
 def listed(lines):
-    """Words with what they mean, from lines of two columns; a line that is indented further goes on."""
+    """Words with their meaning, from lines of two columns; a line that is indented further continues the one before."""
     found = []
     for line in lines:
         row = re.match(r"\s{1,8}(\S.*?)(?:\s{2,}(.*))?$", line)
@@ -160,7 +160,7 @@ def words(lines):
 
 
 def after(lines):
-    """What stands behind the options: text, and indented lines of shell."""
+    """The part after the options: text, and indented lines of shell."""
     out = []
     for line in lines:
         if not line.strip():

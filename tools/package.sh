@@ -1,6 +1,7 @@
 #!/usr/bin/env bash
 # Makes a Debian package of the program, in the folder that is given (out/package): the program with its launcher, the manual pages desk(1) and
-# desk-script(5), units of systemd that serve a register, sign for it, issue and publish its CRLs, completion for bash, the board, the office view, documents and examples.
+# desk-script(5), units of systemd that serve a register, sign for it, issue and publish its CRLs, completion for bash, the board, the office view, documents and examples;
+# and the native signer, if libcrypto can be linked here (Debian: libssl-dev).
 # The program is built first, where it is not built yet or is older than its sources. Prints the package's path.
 #
 # Usage, from the repository's root: tools/package.sh [FOLDER]
@@ -18,13 +19,10 @@ commit=$(git rev-parse --short=7 HEAD)
 [ -z "$(git status --porcelain)" ] || commit=$commit.changed
 SOURCE_DATE_EPOCH=$(git show -s --format=%ct HEAD)
 export SOURCE_DATE_EPOCH
-# Versions sort by the moment of their commits, so that an upgrade never takes an older commit of the same day for a newer one.
+# Versions sort by the moment of their commits, so an upgrade never installs an older commit of the same day.
 version=$(tools/version.sh | sed -n 's/^desk \([^ ]*\) .*/\1/p')+$(date -u -d "@$SOURCE_DATE_EPOCH" +%Y%m%d%H%M%S).$commit
 maintainer=$(git show -s --format='%an <%ae>' HEAD)
 architecture=$(dpkg --print-architecture)
-# The newest version of glibc that a function of the program is of.
-glibc=$(grep -aoE 'GLIBC_[0-9]+\.[0-9]+' "$program" | sed 's/GLIBC_//' | sort -uV | tail -n 1)
-
 mkdir -p "$out"
 root=$(mktemp -d)
 trap 'rm -rf "$root"' EXIT
@@ -34,6 +32,19 @@ zipped() { gzip -9n >"$root/$1"; }
 
 put 0755 "$program" usr/lib/durshavon/desk
 put 0644 tools/large-pages.sh usr/lib/durshavon/large-pages.sh
+native=$root/usr/lib/durshavon/desk-signer libcrypto=
+if echo '#include <openssl/evp.h>' | cc -E -x c - >/dev/null 2>&1; then
+    make -s -C signer CFLAGS=-O2 OUT="$native"
+    chmod 0755 "$native"
+    put 0644 packaging/native-signer.conf usr/lib/durshavon/native-signer.conf
+    put 0644 packaging/native-responder.conf usr/lib/durshavon/native-responder.conf
+    libcrypto=", $(dpkg-query -S '*/libcrypto.so.3' | sed 's/:.*//' | head -n 1)"
+else
+    echo "tools/package.sh: the package is without desk-signer: apt install libssl-dev" >&2
+    native=$program
+fi
+# The newest version of glibc that a function of the programs is of.
+glibc=$(grep -aohE 'GLIBC_[0-9]+\.[0-9]+' "$program" "$native" | sed 's/GLIBC_//' | sort -uV | tail -n 1)
 put 0755 packaging/desk usr/bin/desk
 tools/version.sh >"$root/usr/lib/durshavon/version"
 chmod 0644 "$root/usr/lib/durshavon/version"
@@ -42,12 +53,12 @@ put 0644 examples/board/index.html usr/share/durshavon/board/index.html
 put 0644 examples/office/index.html usr/share/durshavon/office/index.html
 
 mkdir -p "$root/etc/durshavon"
-# What serves a register; what issues and publishes its CRLs; what signs, and what signs for a responder, each behind a socket of its own, as a user of its own.
+# The units: the desk, the timer and services for its CRLs, the signer and the responder's signer, each with its own socket and user.
 for name in desk@.service desk-crl@.timer desk-crl@.service desk-publish@.service \
     desk-signer@.socket desk-signer@.service desk-responder@.socket desk-responder@.service; do
     put 0644 "packaging/$name" "lib/systemd/system/$name"
 done
-for name in issue-due-crl.sh publish-crl.sh register-pem.sh backup.sh from-openssl-index.py signer.py only_ours.py check-signer.py pkcs11-signer.sh issuer-words.sh audit-report.py; do
+for name in issue-due-crl.sh publish-crl.sh register-pem.sh backup.sh after-a-backup.py from-openssl-index.py signer.py only_ours.py check-signer.py pkcs11-signer.sh issuer-words.sh audit-report.py; do
     put 0755 "examples/$name" "usr/lib/durshavon/$name"
 done
 put 0755 packaging/wait-for-desk.sh usr/lib/durshavon/wait-for-desk.sh
@@ -60,8 +71,9 @@ zipped usr/share/man/man5/desk-script.5.gz <"$manual/desk-script.5"
 rm -r "$manual"
 
 documents=usr/share/doc/durshavon
-for name in README.md CHANGELOG.md SECURITY.md docs/OPERATIONS.md docs/RULES.md docs/MODEL.md docs/PERFORMANCE.md docs/PROOFS.md; do
-    put 0644 "$name" "$documents/$(basename "$name")"
+# The pages, at the paths by which they link to each other.
+for name in README.md CHANGELOG.md SECURITY.md docs/*.md docs/*.png docs/*.svg crates/reg_core/README.md signer/README.md; do
+    put 0644 "$name" "$documents/$name"
 done
 put 0644 packaging/README.Debian "$documents/README.Debian"
 tools/copyright.py "$kit" >"$root/$documents/copyright"
@@ -87,8 +99,8 @@ Section: admin
 Priority: optional
 Maintainer: $maintainer
 Installed-Size: $(du -sk --exclude=DEBIAN "$root" | cut -f1)
-Depends: libc6 (>= $glibc), passwd, openssl, curl, python3
-Suggests: nginx-light | nginx, opensc, python3-cryptography, socat
+Depends: libc6 (>= $glibc)$libcrypto, passwd, openssl, curl, python3
+Suggests: nginx-light | nginx, opensc, libengine-pkcs11-openssl, python3-cryptography, socat
 Description: certificate register with CRLs and OCSP
  The register and status desk of one certification authority: it records the
  certificates that were issued, takes requests for their revocation with the

@@ -1,9 +1,9 @@
 #!/usr/bin/env python3
-"""Reports what the pages name that is not there: files and functions of docs/PROOFS.md and docs/ARCHITECTURE.md, definitions of docs/PROOFS.md, crates and
-what they stand on in docs/ARCHITECTURE.md, files and definitions of the chain in docs/MODEL.md, and links to headings. Also reports a name that two crates
-give to definitions, because the pages refer to a definition by its name; a promise of docs/PROOFS.md whose functions no call from `main` reaches; and a
-proof that cites another crate's proofs beside its PublicLaws; and a docs/architecture.svg that is out of date. Prints a line for each, and exits with 1
-if there is one."""
+"""Checks the names in the pages against the repository: files and functions of docs/PROOFS.md and docs/ARCHITECTURE.md, definitions of docs/PROOFS.md, crates
+and their uses in docs/ARCHITECTURE.md, files and definitions of the chain in docs/MODEL.md, and links to headings. Also reports two crates that give one name
+to definitions, because the pages refer to a definition by its name; a promise of docs/PROOFS.md whose functions no call from `main` reaches; a proof that
+cites proofs of another crate outside of its PublicLaws; and a docs/architecture.svg that is out of date. Prints a line for each error, and exits with 1 if
+there is one."""
 import re
 import sys
 from pathlib import Path
@@ -24,14 +24,14 @@ def miss(page, what):
     missing.append(f"{page}: {what}")
 
 
-def standing():
-    """What each crate stands on, of this repository, as crates.txt has it."""
+def uses():
+    """What each crate uses, of this repository, as crates.txt has it."""
     rows = (line.split(":") for line in text("crates.txt").splitlines() if line and not line.startswith("#"))
     return {name: {it for it in rest.split() if it.startswith("reg_")} for name, rest in rows}
 
 
 def anchor(heading):
-    """The anchor of a heading, as hosts of repositories make it."""
+    """The anchor of a heading, as GitHub and others make it."""
     return re.sub(r"[^\w\- ]", "", heading.strip().lower()).replace(" ", "-")
 
 
@@ -55,7 +55,7 @@ def has_function(path, name):
 
 
 def look_at_ways():
-    """`crate `file.rt` (`function`, ..)`, where a crate that was named stays until the next."""
+    """`crate `file.rt` (`function`, ..)`: a crate applies to all files up to the next crate."""
     page = "docs/ARCHITECTURE.md"
     for part in re.split(r"\n\n", text(page)):
         if part.startswith("    ") or ".rt`" not in part:
@@ -74,7 +74,7 @@ def look_at_ways():
 
 
 def look_at_laws():
-    """Of the table "Where is it?" the definitions behind the crate that has them."""
+    """The definitions in the table "Where is it?", each after the crate that has it."""
     page = "docs/ARCHITECTURE.md"
     table = text(page).split("## Where is it?")[1].split("\n## ")[0]
     for law in re.findall(r"^\|.* \| ([^|]*) \|$", table, re.MULTILINE):
@@ -89,55 +89,42 @@ def look_at_laws():
 
 
 def look_at_promises():
+    """`| promise | crate `function` (`clause`), ..: `File.definition`, `definition` |`, without the crate if the heading names it."""
     page = "docs/PROOFS.md"
-    crates = []
+    of_heading = []
     for line in text(page).splitlines():
         if line.startswith("#"):
-            crates = re.findall(r"\breg_\w+", line)
+            of_heading = re.findall(r"\breg_\w+", line)
         cells = [it.strip() for it in line.strip().strip("|").split(" | ")]
-        if not crates or len(cells) != 3 or not line.startswith("|") or cells[0] in ("Promise", "Crate"):
+        if not of_heading or not line.startswith("|") or len(cells) < 2 or cells[0] in ("", "Promise", "Job"):
             continue
-        own = re.findall(r"\breg_\w+(?=[^|]*`src)", cells[2]) or crates[:]
-        files = []
-        crate = None
-        for it in re.finditer(r"\b(reg_\w+)\b|`((?:src/)?[a-z_]+\.rt|src/)`", cells[2]):
-            if it[1]:
-                crate = it[1]
-                continue
-            name = it[2].removeprefix("src/")
-            found = [TOP / "crates" / at / "src" / name for at in ([crate] if crate else crates) if (TOP / "crates" / at / "src" / name).exists()]
-            if not found:
-                miss(page, f"no {it[2]} in {crate or crates}: {cells[0][:60]}")
-            files += found
-        at = own[-1] if own else crates[0]
-        for it in re.finditer(r"\b([A-Z][A-Za-z]+)\.([A-Za-z_]+)\b", cells[1]):
-            before = cells[1][: it.start()]
-            named = re.findall(r"\b(reg_\w+|sqlite\w*|std)\b", before)
-            places = [named[-1]] if named else []
-            places = [p for p in places if p.startswith("reg_")] + crates + (["reg_desk_jobs"] if "reg_desk_program" in crates else [])
-            if named and not named[-1].startswith("reg_") and "'s" in before[before.rindex(named[-1]):][:12]:
-                continue
-            specs = [TOP / "crates" / p / "specs" / f"{it[1]}.antt" for p in places]
-            if not any(sp.exists() and re.search(rf"\b{it[2]}\b", sp.read_text(encoding="utf-8")) for sp in specs):
-                miss(page, f"no {it[1]}.{it[2]} in the specs of {places}: {cells[0][:60]}")
-        for it in re.findall(r"`((?:[A-Za-z_]+::)*[a-z_0-9]+)`", re.split(r": (?:\w+'?s? )?`", cells[1])[0]):
-            name = it.split("::")[-1]
-            sources = [f for c in set(crates + own) for f in (TOP / "crates" / c / "src").rglob("*.rt")]
-            if not any(re.search(rf"\b(?:fn|ensures|ghost|mod) {name}\b", f.read_text(encoding="utf-8")) for f in sources):
-                miss(page, f"no {it} in {sorted(set(crates + own))}: {cells[0][:60]}")
-        look_at_reach(page, cells, {*crates, *own})
+        promise, contract = cells[-2], cells[-1]
+        functions, _, definitions = re.match(r"((?:[^:]|::)*)(: )?(.*)", contract).groups() if len(cells) == 2 else ("", "", contract)
+        look_at_functions(page, promise, functions, {*of_heading, *re.findall(r"\breg_\w+", functions)})
+        if ".rt`" in contract:
+            miss(page, f"a promise names a file, in place of a function and a definition: {promise[:60]}")
+        file = ""
+        for it in re.finditer(r"`(?:([A-Z]\w*)\.)?(\w+)`", definitions.split("sqlite's")[0]):
+            file = it[1] or file
+            specs = TOP.glob(f"crates/*/specs/{file}.antt")
+            if file and not any(re.search(rf"\b{it[2]}\b", path.read_text(encoding="utf-8")) for path in specs):
+                miss(page, f"no definition {file}.{it[2]}: {promise[:60]}")
 
 
-def look_at_reach(page, cells, crates):
-    """A promise names a function that calls from `main` reach, or a law, which has no code."""
-    named = [it for it in re.findall(r"`((?:[A-Za-z_]+::)*[a-z_0-9]+)`", cells[1])]
-    known = [it for name in named for it in calls.by_name().get(name.split("::")[-1], []) if it.crate in crates]
+def look_at_functions(page, promise, functions, crates):
+    """The functions and clauses of a promise exist, and calls from `main` reach one of the functions, or it is a law, which has no code."""
+    names = [it.split("::")[-1] for it in re.findall(r"`((?:[A-Za-z_]+::)*[a-z_0-9]+)`", functions)]
+    sources = [path for crate in crates for path in (TOP / "crates" / crate / "src").rglob("*.rt")]
+    for name in names:
+        if not any(re.search(rf"\b(?:fn|ensures|ghost|mod) {name}\b", path.read_text(encoding="utf-8")) for path in sources):
+            miss(page, f"no {name} in {sorted(crates)}: {promise[:60]}")
+    known = [it for name in names for it in calls.by_name().get(name, []) if it.crate in crates]
     if known and not any(it in calls.reached() or it.module in ("laws", "examples") for it in known):
-        miss(page, f"no call from main reaches {' or '.join(named)}: {cells[0][:60]}")
+        miss(page, f"no call from main reaches {' or '.join(names)}: {promise[:60]}")
 
 
 def look_at_proofs():
-    """Proofs cite lemmas of another crate by its PublicLaws alone."""
+    """Proofs cite lemmas of another crate only through its PublicLaws."""
     cited = re.compile(r"^use Rattle\.(reg_\w+)\.proofs\.([\w.]+)", re.MULTILINE)
     for path in sorted((TOP / "crates").glob("*/[ps]*/**/*.antt")):
         crate = path.relative_to(TOP / "crates").parts[0]
@@ -148,16 +135,16 @@ def look_at_proofs():
 
 def look_at_crates():
     page = "docs/ARCHITECTURE.md"
-    stands = standing()
+    stands = uses()
     for crate in stands:
         if f"{crate}" not in text(page):
-            miss(page, f"{crate} is not told of")
+            miss(page, f"{crate} is missing")
     for crate, on in re.findall(r"^\| `(reg_\w+)` \| ([^|]*) \|", text(page), re.MULTILINE):
         told = set(re.findall(r"reg_\w+", on))
         below = lambda it: stands[it].union(*(below(at) for at in stands[it])) if stands[it] else set()  # noqa: E731
         wanted = {it for it in stands.get(crate, set()) if not any(it in below(other) for other in stands[crate] if other != it)}
-        if crate in stands and told != wanted and "stands on" in text(page):
-            miss(page, f"{crate} stands on {' '.join(sorted(wanted))}, and not on {' '.join(sorted(told))}")
+        if crate in stands and told != wanted:
+            miss(page, f"{crate} uses {' '.join(sorted(wanted))}, and not {' '.join(sorted(told))}")
     if not architecture.is_drawn():
         miss(architecture.PICTURE, "is not what tools/architecture.py draws")
 

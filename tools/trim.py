@@ -1,14 +1,14 @@
 #!/usr/bin/env python3
 """Removes what a build leaves in crates/*/out, except the program and as many of its libraries as fit into 2 GB. `./desk build` runs it, unless --keep is given.
 
-    What is in out/                  Who needs it
-    reg_desk, reg_desk.stamp         ./desk WORD, tests/run --proved, tools/package.sh: the program alone
+    What is in out/                  What needs it
+    reg_desk, reg_desk.stamp         ./desk WORD, tests/run --proved, tools/package.sh: only the program
     rlib/, a proved library          a later build: it takes the library as it is if its sources, and those of all crates below it, have not changed
     incremental/, proofs             a later build, rt check and tools/edits.py of a crate that changed: they prove only the functions that changed
-    all else, as object files        nobody, once the program is linked
+    all else, such as object files   nothing, once the program is linked
 
-The lowest libraries are kept, in the order in which a build makes them: a library is of no use without those that it was built over. A later build proves each
-crate from nothing whose library was removed, and each crate that changed or stands on one that did. It does not build the program again while nothing has changed.
+It keeps the lowest libraries, in the order in which a build makes them, because a library is of no use without those below it. A later build proves from nothing
+each crate whose library was removed, that changed, or that uses a changed one. It does not build the program again if nothing has changed.
 
 Usage: tools/trim.py [BYTES]        (2,000,000,000 if left out; prints on standard error what it removed)
 """
@@ -25,7 +25,7 @@ MOST_BYTES = 2_000_000_000
 
 
 def size(path):
-    """Returns how much of the disk a file or a folder takes."""
+    """Returns the bytes that a file or a folder takes on the disk."""
     return sum(os.lstat(it).st_blocks * 512 for it in [path, *(os.path.join(at, name) for at, folders, names in os.walk(path) for name in [*folders, *names])])
 
 
@@ -52,8 +52,8 @@ def kept(crates, most):
 
 
 def trim(crates, most):
-    """Removes all but what stays, and returns how many bytes that freed and how many are left."""
-    # Also those of crates that an older checkout had.
+    """Removes all other paths, and returns how many bytes that freed and how many are left."""
+    # This includes crates of an older checkout.
     outs = [it for it in glob.glob(f"{glob.escape(build.TOP)}/crates/*/out") if os.path.isdir(it)]
     before, stay = sum(map(size, outs)), {*kept(crates, most)}
     for out in outs:
@@ -67,11 +67,11 @@ def trim(crates, most):
 def main():
     if len(sys.argv) > 2 or not all(it.isdigit() for it in sys.argv[1:]):
         raise SystemExit(__doc__)
-    # No build runs meanwhile.
+    # The lock keeps builds out.
     with open(f"{build.TOP}/crates.txt", encoding="utf-8") as held:
         fcntl.flock(held, fcntl.LOCK_EX)
         freed, left = trim(build.read_crates(), int((sys.argv[1:] or [MOST_BYTES])[0]))
-    build.tell(f"{freed / 1e9:.1f} GB of what the build left removed, {left / 1e9:.1f} GB kept")
+    build.tell(f"{freed / 1e9:.1f} GB that the build left removed, {left / 1e9:.1f} GB kept")
 
 
 if __name__ == "__main__":

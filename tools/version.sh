@@ -1,6 +1,6 @@
 #!/bin/sh
-# Prints what `desk --version` says: the version and the commit of the sources, whether these are proved and built here, and by what. Run from
-# the repository's root; tools/package.sh keeps what it prints beside the program.
+# Prints the output of `desk --version`: the version and the commit of the sources, whether they are proved and built here, and by which
+# toolchain. Run it from the repository's root; tools/package.sh packs the output beside the program.
 set -eu
 # shellcheck source=tools/current.sh
 . tools/current.sh

@@ -146,10 +146,10 @@ CLIENTS = {
 
 
 def told_by_the_document():
-    """Of each client, the algorithms whose signatures it takes."""
+    """Of each client, the algorithms whose signatures it reads: all but those that the table names."""
     rows = [[it.strip() for it in line.strip("|").split("|")] for line in section("Clients by algorithm").splitlines() if line.startswith("|")]
     names = {"P-256": "ecdsa-sha256", "P-384": "ecdsa-sha384", "RSA": "rsa-sha256", "Ed25519": "ed25519"}
-    return {row[0]: {names[name] for name, cell in zip(rows[0][1:], row[1:]) if cell == "yes"} for row in rows[2:]}
+    return {client: set(names.values()) - {names[it] for it in unread.split()} for client, unread in rows[2:]}
 
 
 @each({f"{client}, {algorithm}": (client, algorithm) for client in CLIENTS for algorithm in ALGORITHMS}, seconds=6)

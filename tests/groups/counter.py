@@ -151,7 +151,7 @@ def status_of_05(port):
 @test
 def a_log_that_can_t_be_written_disturbs_neither_counter_nor_peer(t):
     t.register(lines=ENTERED)
-    desk, port = without_room_for_a_log(t, "open", "ca.db", "--counter", "counter", "--unsigned")
+    desk, port = without_room_for_a_log(t, "open", "ca.db", "--control", "counter", "--unsigned")
     for _ in range(3):
         t.same(t.done("at", "counter", given="status 05\n"), "good\n", "a line")
         t.same(status_of_05(port), b'{"status":"good"}', "a request")

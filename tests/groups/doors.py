@@ -6,9 +6,10 @@ import re
 import socket
 import stat
 import time
+from pathlib import Path
 
-from lib.program import Counter, free_port, moment_of, parted, seconds_of
-from lib.trial import test
+from lib.program import Counter, free_port, moment_of, parted, read_all, seconds_of
+from lib.trial import Skipped, test
 
 DAY = "2026-01-01T00:00:00Z"
 ENTERED = f"{DAY} subscriber acme\n{DAY} order 1 398\n{DAY} register 1 05 {DAY} 2026-12-31T00:00:00Z\n"
@@ -34,6 +35,29 @@ def the_port_is_that_of_the_loopback_address_alone(t):
 
 
 @test
+def the_ipv6_loopback_address_in_place_of_127_0_0_1(t):
+    if "00000000000000000000000000000001" not in Path("/proc/net/if_inet6").read_text():
+        raise Skipped("this system has no IPv6 loopback address")
+    t.register()
+    t.register("served.db")
+    for opened in (t.open("ca.db", "--listen", "[::1]", "--log-file", "log"), t.open("served.db", "--requests", 2, "--listen=[::1]", command="serve")):
+        t.same(listening_at(opened.port), ["00000000000000000000000001000000"], "addresses that are listened at (::1)")
+        with socket.create_connection(("::1", opened.port), 10) as client:
+            client.sendall(b"GET /counts HTTP/1.1\r\nHost: localhost\r\n\r\n")
+            t.same(parted(read_all(client))[0], 200)
+        with socket.socket() as other:
+            t.true(other.connect_ex(("127.0.0.1", opened.port)) != 0, "somebody answers at 127.0.0.1")
+    t.same((t.room / "log").read_text().split()[1].rpartition(":")[0], "[::1]", "the client in the log")
+
+
+@test
+def the_control_socket_by_its_older_name(t):
+    t.register(lines=ENTERED)
+    t.open("ca.db", "--counter", "older")
+    t.same(t.done("at", "older", given="status 05\n"), "good\n")
+
+
+@test
 def the_counter_is_its_owners_alone(t):
     t.register()
     t.open()
@@ -47,7 +71,7 @@ def a_counter_at_which_somebody_answers_is_not_taken_over(t):
     t.register(lines=ENTERED)
     t.register("other.db")
     t.open()
-    ran = t.desk("open", "other.db", "--port", free_port(), "--counter", "counter", "--unsigned", timeout=15)
+    ran = t.desk("open", "other.db", "--port", free_port(), "--control", "counter", "--unsigned", timeout=15)
     t.same((ran.status, ran.out, ran.err), (1, b"", b"F4 read\n"), "the second desk at the same counter")
     t.same(t.done("at", "counter", given="status 05\n"), "good\n", "the first one")
 
@@ -61,7 +85,7 @@ def a_socket_that_was_left_behind_is_taken_over_and_a_file_is_not(t):
     t.same(t.done("at", "counter", given="status 05\n"), "good\n")
     opened.end()
     (t.room / "file").write_text("no socket")
-    ran = t.desk("open", "ca.db", "--port", free_port(), "--counter", "file", "--unsigned")
+    ran = t.desk("open", "ca.db", "--port", free_port(), "--control", "file", "--unsigned")
     t.same((ran.status, ran.out, ran.err), (1, b"", b"F4 read\n"), "a counter that is a file")
     t.same((t.room / "file").read_text(), "no socket", "the file")
 

@@ -51,7 +51,7 @@ def an_input_of_no_bytes_writes_nothing(t):
 # Left out: help, whose write that fails is told as `Error: Os { .. }` with status 1 where `F5 write` is due.
 OUTPUTS = {
     "a schedule": ["schedule", "ca.db", "1970-01-01T00:00:00Z=200"],
-    "an open desk": ["open", "ca.db", "--counter", "counter", "--port", "0", "--unsigned"],
+    "an open desk": ["open", "ca.db", "--control", "counter", "--port", "0", "--unsigned"],
     "a desk that serves": ["serve", "ca.db", "--requests", "1", "--port", "0"],
 }
 

@@ -61,7 +61,7 @@ def what_was_answered_stands(t, command, how):
             last = ended_while_fed(t, ["script", "ca.db"], lines, None, how, after)
         else:
             (t.room / "counter").unlink(missing_ok=True)
-            with program.Opened(["open", "ca.db", "--counter", "counter", "--unsigned"], cwd=t.room) as desk:
+            with program.Opened(["open", "ca.db", "--control", "counter", "--unsigned"], cwd=t.room) as desk:
                 lines = [f"subscriber n{number}-{at}\n" for at in range(LINES)]
                 last = ended_while_fed(t, ["at", "counter"], lines, desk.process, how, after)
         again = t.done("script", "ca.db", given=f"{program.moment_of(time.time())} subscriber after-{number}\n")

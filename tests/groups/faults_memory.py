@@ -147,7 +147,7 @@ def an_open_desk_goes_on_after_a_refusal(t, part):
         faults.copy(base, t.room / "ca.db")
         (t.room / "counter").unlink(missing_ok=True)
         env = faults.environment(count=t.room / "count", same=1, fail=f"alloc:{at}")
-        with program.Opened(["open", "ca.db", "--counter", "counter", "--unsigned"], cwd=t.room, clock=clock, faults=env) as desk:
+        with program.Opened(["open", "ca.db", "--control", "counter", "--unsigned"], cwd=t.room, clock=clock, faults=env) as desk:
             if desk.listens:
                 asked_of(t, desk, at)
             else:

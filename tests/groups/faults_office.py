@@ -132,7 +132,7 @@ def a_change_by_http_that_is_not_stored_is_told(t):
             at += 1
             faults.copy(base, t.room / "ca.db")
             env = faults.environment(count=t.room / "count", same=1, only=FILES, fail=f"{kind}:{at}")
-            with program.Opened(["open", "ca.db", "--counter", "counter", "--unsigned"], cwd=t.room, clock=t.room / "clock", faults=env) as desk:
+            with program.Opened(["open", "ca.db", "--control", "counter", "--unsigned"], cwd=t.room, clock=t.room / "clock", faults=env) as desk:
                 if desk.listens:
                     status, _, body = parted(desk.send(REQUEST))
                     met = faults.counted(t.room / "count")["met"]
@@ -166,7 +166,7 @@ def a_call_that_is_broken_off_is_done_again(t, fail):
 @each({"a socket": "socket:1", "the port": "bind:1", "listening": "listen:1"}, seconds=1)
 def where_it_can_not_listen_nothing_is_written(t, fail):
     base = t.register("base.db", text(REGISTERED))
-    for words in (["open", "ca.db", "--counter", "counter", "--unsigned"], ["serve", "ca.db", "--requests", "1"]):
+    for words in (["open", "ca.db", "--control", "counter", "--unsigned"], ["serve", "ca.db", "--requests", "1"]):
         faults.copy(base, t.room / "ca.db")
         ran, count = faults.run(t, [*words, "--port", str(program.free_port())], fail=fail)
         t.same((ran.status, ran.out, ran.err, count["met"]), (1, b"", b"F4 read\n", 1), f"{words[0]}, {fail}")
@@ -183,7 +183,7 @@ def a_clock_that_can_not_be_read_ends_an_open_desk(t):
         faults.copy(base, t.room / "ca.db")
         (t.room / "counter").unlink(missing_ok=True)
         env = faults.environment(count=t.room / "count", same=1, fail=f"clock:{at}+")
-        with program.Opened(["open", "ca.db", "--counter", "counter", "--unsigned"], cwd=t.room, clock=t.room / "clock", faults=env) as desk:
+        with program.Opened(["open", "ca.db", "--control", "counter", "--unsigned"], cwd=t.room, clock=t.room / "clock", faults=env) as desk:
             got = []
             if desk.listens:
                 with program.Counter(t.room / "counter") as counter, contextlib.suppress(OSError):

@@ -130,7 +130,7 @@ def an_open_desk_is_stopped(t, told):
         (t.room / "counter").unlink(missing_ok=True)
         clock.write_text(str(program.seconds_of(DAY)))
         env = faults.environment(count=t.room / "count", same=1, only=FILES, stop=at, **told)
-        with program.Opened(["open", "ca.db", "--counter", "counter", "--unsigned"], cwd=t.room, clock=clock, faults=env) as desk:
+        with program.Opened(["open", "ca.db", "--control", "counter", "--unsigned"], cwd=t.room, clock=clock, faults=env) as desk:
             place = answered(t, desk, clock) if desk.listens else 0
             desk.end()
         met = faults.counted(t.room / "count")["met"]

@@ -69,7 +69,7 @@ def a_live_counter_is_not_taken_over(t):
     opened = t.open()
     t.same(t.counter().ask("subscriber acme"), "subscriber 1")
     for path in ("counter", "plain"):
-        ran = t.desk("open", "other.db", "--port", program.free_port(), "--counter", path, "--unsigned", timeout=30)
+        ran = t.desk("open", "other.db", "--port", program.free_port(), "--control", path, "--unsigned", timeout=30)
         t.same((ran.status, ran.out, ran.err), (1, b"", b"F4 read\n"), f"a second desk at {path}")
     t.same((t.room / "plain").read_text(), "left as it is")
     # It is the first register that answers, at the socket's path too.

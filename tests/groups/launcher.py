@@ -127,7 +127,7 @@ OTHERS = (
     (), ("script", "ca.db"), ("script", "ca"), ("script", "--clock", "ca.db"), ("script", "--", "ca.db"), ("script", "--", "--help"), ("script", ""),
     ("script", "ca.db", "--help"), ("script", "/ca.db", "-V"), ("ca.db", "--help"), ("script", "--signer=ca.sign"), ("script", "-"), ("--why", "audit", "ca.db"),
     ("init", "ca.db", "--name", "--help"), ("import", "ca.db", "--now", "-h"), ("crl", "ca.db"), ("serve", "ca.db", "--port", "8080", "--requests", "1"),
-    ("open", "ca.db", "--port=8080", "--counter=ca.counter", "--unsigned"), ("at", "ca.counter"), ("schedule", "ca.db", "1970-01-01T00:00:00Z=398"),
+    ("open", "ca.db", "--port=8080", "--control=ca.control", "--unsigned"), ("at", "ca.control"), ("schedule", "ca.db", "1970-01-01T00:00:00Z=398"),
     ("key-id", "ca.db", "00"), ("list", "ca.db", "revoked"), ("copy", "ca.db", "ca.copy"), ("audit", "ca.db"), ("look", "ca.db"),
 )  # fmt: skip
 

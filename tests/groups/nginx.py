@@ -23,7 +23,7 @@ def opened(t, *names, seconds=KEPT):
     certificates(t)
     it.register()
     t.done("script", "ca.db", given=first_day(authority.now()))
-    desk = t.open("ca.db", "--counter", "counter")
+    desk = t.open("ca.db", "--control", "counter")
     return it, desk, [Front(t, desk.port, name, seconds) for name in names]
 
 
@@ -181,7 +181,7 @@ def an_old_answer_is_never_given_while_the_desk_is_away(t):
     t.same(front.ask("/ocsp", "--data-binary", "@-", given=it.asks("06"))[0], 502, "by POST")
     time.sleep(KEPT + 1)
     t.same(front.ask(path)[0], 502, "what was kept, once it is older than it may be")
-    t.open("ca.db", "--counter", "counter", "--port", desk.port)
+    t.open("ca.db", "--control", "counter", "--port", desk.port)
     t.same((front.ask(path)[0], it.asked_by_openssl("06", front.url("/ocsp"))), (200, "good"), "and once it is back")
 
 

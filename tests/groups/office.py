@@ -211,7 +211,7 @@ def later(t, year, desk, browser, overdue):
     t.has(browser.text_of("fault"), "What is shown was read at", "since when")
     t.same((rows(browser, "requestrows"), browser.text_of("open")), (before, str(len(year.open) - 1)), "what was shown stays")
     t.same((browser.text_of("health"), rows(browser, "healthrows")), ("could not be read", []), "but for the health")
-    t.open("ca.db", "--port", desk.port, "--counter", "second")
+    t.open("ca.db", "--port", desk.port, "--control", "second")
     again(browser)
     t.same(texts(browser, "fault", "health"), ["", "all is well"], "the desk is back")
 
@@ -235,7 +235,7 @@ def a_desk_that_is_away_or_refuses_or_fails(t):
     t.same(browser.text_of("fault"), "The desk does not answer (502).", "a desk that is away from the first moment on")
     t.same(texts(browser, "good", "open", "requestsnote", "crlsnote"), ["–", "–", "could not be read", "could not be read"], "what is shown")
     t.clock(authority.now() - 2 * DAY)
-    behind = t.open("ca.db", "--port", desk.port, "--counter", "second")
+    behind = t.open("ca.db", "--port", desk.port, "--control", "second")
     again(browser)
     t.has(browser.text_of("fault"), "The desk's clock is before its last command, and it refuses all until then (E01 clock-back", "a clock that is behind")
     t.has("\n".join(rows(browser, "healthrows")), "Clock|is before the last command", "health")
@@ -254,7 +254,7 @@ def a_store_that_fails(t):
         faults.copy(base, t.room / "ca.db")
         # The first write behind those of the opening, which are counted first.
         how = {"fail": f"write:{faults.counted(t.room / 'count')['write'] + 1}"} if fails else {"count": t.room / "count"}
-        desk = t.open("ca.db", "--port", desk.port, "--counter", "second", faults=faults.environment(only=files, **how))
+        desk = t.open("ca.db", "--port", desk.port, "--control", "second", faults=faults.environment(only=files, **how))
         if not fails:
             desk.end()
     t.same(t.counter("second").ask("subscriber acme"), "F2 store")
@@ -284,7 +284,7 @@ def thousands_of_rows(t):
     told = t.done("script", folder / "large.db", given="\n".join(lines) + "\n", timeout=120).splitlines()
     t.same([it for it in told if it[:1] in "EF"], [], "refusals")
     desk.end()
-    t.open(folder / "large.db", "--port", desk.port, "--counter", "second")
+    t.open(folder / "large.db", "--port", desk.port, "--control", "second")
     load(browser, front)
     left = [(when + (5 if at % 2 else 1) * DAY, number) for number, (when, at) in enumerate(asked, 1) if not number % 2]
     overdue = sum(due < now for due, _ in left)

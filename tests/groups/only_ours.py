@@ -46,7 +46,7 @@ def to_be_signed(t, it):
     lines += ["crl"]
     told = t.done("script", file, *it.signing(signer.path), given="".join(f"{begins} {line}\n" for line in lines)).splitlines()
     t.same((told[0], told[-1]), ("crl 1 entries 0", "crl 2 entries 3"))
-    desk = t.open(file.name, *it.signing(signer.path), "--counter", f"{it.name}.counter")
+    desk = t.open(file.name, *it.signing(signer.path), "--control", f"{it.name}.counter")
     for words, how in ((["05"], {}), (["05", "06", "80", "07"], {"nonce": True}), (["-sha256", "5"], {}), (["-sha384", "5", "-sha1", "6"], {"nonce": True})):
         serials = [word if word.startswith("-") else f"0x{word}" for word in words]
         asked = [more for word in serials for more in ((word,) if word.startswith("-") else ("-serial", word))]
@@ -99,7 +99,7 @@ def what_is_none_of_the_issuer_s_is_refused(t):
         for message in to_be_signed(t, foreign):
             refused(t, path, message, f"a CRL or an answer of {what}")
         t.same(t.done("script", f"{foreign.name}.db", *it.signing(path.name), "--clock", given="crl\n"), "F3 signer\n", f"a CRL of {what}")
-        desk = t.open(f"{foreign.name}.db", *it.signing(path.name), "--counter", f"{foreign.name}.counter")
+        desk = t.open(f"{foreign.name}.db", *it.signing(path.name), "--control", f"{foreign.name}.counter")
         t.same(body_of(t, desk.ask("POST", "/ocsp", foreign.asks("05"))), INTERNAL, f"an answer of {what}")
     # What openssl signs: certificates, of which one begins as a CRL does; a request for one; CRLs of other forms; and an answer by another responder.
     t.tool("openssl", "req", "-new", "-key", other.key, "-subj", "/CN=T", "-out", "x.csr")
@@ -138,23 +138,19 @@ def whole(value):
     return [it[2] for it in values_of(value)]
 
 
-@test(seconds=8)
-def crls_of_other_forms(t):
-    """What a CRL of this issuer may have by RFC 5280 5 and the desk never writes, and what is no DER."""
-    it = Authority(t)
-    _, crl = to_be_signed(t, it)[:2]
+def other_crls(crl):
+    """What a CRL of this issuer may have by RFC 5280 5 and the desk never writes, and what is no DER: made of one with entries, by what it is."""
     parts = whole(inside(crl)[1])
     version, algorithm, name, this, following, entries, _ = parts
     extensions = whole(inside(crl, 6, 0)[1])
     identifier, number = extensions
-    t.same(let_through(t, it, crl_of(parts, extensions)), crl, "put together again it is the same")
     delta = tlv(SEQUENCE, bytes.fromhex("0603551D1B"), bytes.fromhex("0101FF"), tlv(OCTETS, b"\x02\x01\x01"))
     distribution = tlv(SEQUENCE, bytes.fromhex("0603551D1C"), bytes.fromhex("0101FF"), tlv(OCTETS, tlv(SEQUENCE, b"\x84\x01\xFF")))
     row = lambda *parts: tlv(SEQUENCE, tlv(SEQUENCE, *parts))
     at = tlv(UTC, b"260101000000Z")
     serial = b"\x02\x01\x05"
     put = lambda place, value: crl_of([*parts[:place], value, *parts[place + 1 :]], extensions)
-    others = {
+    return {
         "a delta CRL": crl_of(parts, [*extensions, delta]),
         "an indirect CRL": crl_of(parts, [*extensions, distribution]),
         "with no number": crl_of(parts, [identifier]),
@@ -193,31 +189,35 @@ def crls_of_other_forms(t):
         "an octet too few": crl[:-1],
         "half": crl[: len(crl) // 2],
     }
-    for what, message in others.items():
-        is_refused(t, it, message, what)
 
 
 @test(seconds=8)
-def answers_of_other_forms(t):
-    """What an answer may have by RFC 6960 4.2.1 and the desk never writes, and statuses of another issuer's certificates."""
+def crls_of_other_forms(t):
     it = Authority(t)
-    answer = to_be_signed(t, it)[3]
+    _, crl = to_be_signed(t, it)[:2]
+    parts, extensions = whole(inside(crl)[1]), whole(inside(crl, 6, 0)[1])
+    t.same(let_through(t, it, crl_of(parts, extensions)), crl, "put together again it is the same")
+    for what, message in other_crls(crl).items():
+        is_refused(t, it, message, what)
+
+
+def forms_of_answer(answer, name):
+    """Of an answer with a revoked certificate and a nonce: other answers of the desk, and what an answer may have by RFC 6960 4.2.1 and the desk never
+    writes, and statuses of another issuer's certificates. `name` is the issuer's."""
     responder, produced, answers, nonce = whole(inside(answer)[1])
     singles = whole(inside(answers)[1])
     asked, status, this, following = whole(inside(singles[0])[1])
-    t.same(len(singles), 4, "answers")
     put = lambda *singles: tlv(SEQUENCE, responder, produced, tlv(SEQUENCE, *singles))
     one = lambda *parts: put(tlv(SEQUENCE, *parts))
-    for what, message in {"with its nonce": answer, "without": put(*singles), "one of them": put(singles[2])}.items():
-        t.same(let_through(t, it, message), message, what)
     hashed, name_hash, key_hash, serial = whole(inside(asked)[1])
     foreign = [tlv(SEQUENCE, hashed, bytes([*name_hash[:-1], name_hash[-1] ^ 1]), key_hash, serial),
                tlv(SEQUENCE, hashed, name_hash, bytes([*key_hash[:-1], key_hash[-1] ^ 1]), serial)]
     good, unknown = b"\x80\0", b"\x82\0"
-    for cert_id in foreign:
-        t.same(len(let_through(t, it, one(cert_id, unknown, this, following))) > 0, True, "another issuer's is unknown")
-    name = inside(t.tool("openssl", "x509", "-in", it.pem, "-outform", "DER"), 0, 5)[2]
-    others = {
+    ours = {
+        "with its nonce": answer, "without": put(*singles), "one of them": put(singles[-1]),
+        "another issuer's is unknown": one(foreign[0], unknown, this, following), "another key's is unknown": one(foreign[1], unknown, this, following),
+    }
+    return ours, {
         "another's is good": one(foreign[0], good, this, following),
         "another key's is good": one(foreign[1], good, this, following),
         "another's is revoked": one(foreign[0], status, this, following),
@@ -242,6 +242,17 @@ def answers_of_other_forms(t):
         "an octet too few": answer[:-1],
         "another answer behind it": answer * 2,
     }
+
+
+@test(seconds=8)
+def answers_of_other_forms(t):
+    it = Authority(t)
+    answer = to_be_signed(t, it)[3]
+    t.same(len(whole(inside(answer, 2)[1])), 4, "answers")
+    name = inside(t.tool("openssl", "x509", "-in", it.pem, "-outform", "DER"), 0, 5)[2]
+    ours, others = forms_of_answer(answer, name)
+    for what, message in ours.items():
+        t.same(let_through(t, it, message), message, what)
     for what, message in others.items():
         is_refused(t, it, message, what)
 

@@ -167,32 +167,32 @@ def it_ends_after_as_many_connections_as_it_was_told(t):
 def an_open_desk_tells_a_revocation_in_the_next_answer(t):
     it = Authority(t)
     register_of_a_day(t, it, authority.now())
-    desk = t.open("ca.db", "--counter", "ca.counter")
+    desk = t.open("ca.db", "--control", "ca.control")
     curl = Curl(t, desk.port)
-    t.same((t.room / "ca.counter").stat().st_mode & 0o777, 0o600, "the counter is its owner's alone")
-    t.same(t.done("at", "ca.counter", given="request 06 superseded\n").split()[:3], ["request", "2", "due"])
+    t.same((t.room / "ca.control").stat().st_mode & 0o777, 0o600, "the counter is its owner's alone")
+    t.same(t.done("at", "ca.control", given="request 06 superseded\n").split()[:3], ["request", "2", "due"])
     t.same(it.asked_by_openssl("06", curl.url + "/ocsp"), "good", "before")
-    ran = t.desk("at", "ca.counter", given="revoke 2\ncounts")
+    ran = t.desk("at", "ca.control", given="revoke 2\ncounts")
     t.same((ran.status, ran.out, ran.err), (3, b"revoked\n", b"no-line-end\n"), "a last line with no LF is not told")
     t.same(it.asked_by_openssl("06", curl.url + "/ocsp"), "revoked", "OCSP right behind it")
     t.has(curl("/status/06")[1], b'"status":"revoked"')
-    t.same(t.done("at", "ca.counter", given="crl\n"), "crl 2 entries 2\n")
+    t.same(t.done("at", "ca.control", given="crl\n"), "crl 2 entries 2\n")
     t.same(sorted(authority.listed(t, curl("/crl")[1])), [5, 6], "the latest CRL")
-    ran = t.desk("at", "ca.counter", given="revoke 2\ncounts\n")
+    ran = t.desk("at", "ca.control", given="revoke 2\ncounts\n")
     got = (ran.status, ran.err, [one[:4] for one in ran.lines])
     t.same(got, (3, b"refused\n", ["E19 ", "good"]), "a refusal is told, and what is behind it goes on")
     refusal = lambda ran: (ran.status, ran.out, ran.err)
     port = program.free_port()
-    t.same(refusal(t.desk("open", "ca.db", "--port", port, "--counter", "other", "--unsigned")), (1, b"", b"F2 store\n"), "a file that is open is not opened again")
+    t.same(refusal(t.desk("open", "ca.db", "--port", port, "--control", "other", "--unsigned")), (1, b"", b"F2 store\n"), "a file that is open is not opened again")
     t.done("init", "other.db", *it.words())
-    t.same(refusal(t.desk("open", "other.db", "--port", port, "--counter", "ca.counter", "--unsigned")), (1, b"", b"F4 read\n"), "a live counter is not taken over")
+    t.same(refusal(t.desk("open", "other.db", "--port", port, "--control", "ca.control", "--unsigned")), (1, b"", b"F4 read\n"), "a live counter is not taken over")
     desk.end()
-    t.same(refusal(t.desk("at", "ca.counter")), (1, b"", b"F4 read\n"), "nobody listens any more")
+    t.same(refusal(t.desk("at", "ca.control")), (1, b"", b"F4 read\n"), "nobody listens any more")
     (t.room / "ca.txt").write_text("precious\n")
-    t.same(refusal(t.desk("open", "ca.db", "--port", port, "--counter", "ca.txt", "--unsigned")), (1, b"", b"F4 read\n"), "another file is no counter")
+    t.same(refusal(t.desk("open", "ca.db", "--port", port, "--control", "ca.txt", "--unsigned")), (1, b"", b"F4 read\n"), "another file is no counter")
     t.same((t.room / "ca.txt").read_text(), "precious\n", "and stays")
-    t.open("ca.db", "--counter", "ca.counter")
-    t.same(t.done("at", "ca.counter", given="counts\n"), "good 0 revoked 2 expired 0\n", "a stale counter is taken over")
+    t.open("ca.db", "--control", "ca.control")
+    t.same(t.done("at", "ca.control", given="counts\n"), "good 0 revoked 2 expired 0\n", "a stale counter is taken over")
 
 
 # The examples
@@ -241,7 +241,7 @@ def issue_due_crl_issues_one_where_it_is_due(t):
     it = Authority(t)
     it.register()
     signer = it.signer()
-    desk = t.open("ca.db", "--counter", "counter", *it.signing())
+    desk = t.open("ca.db", "--control", "counter", *it.signing())
     counter = t.counter()
     t.same(play(t, "bash", script, "counter").stdout, b"crl 1 entries 0\n", "with no CRL it is due at once")
     t.same(play(t, "bash", script, "counter").stdout, b"", "and no second one within the week")
@@ -252,6 +252,24 @@ def issue_due_crl_issues_one_where_it_is_due(t):
     t.has(ran.stderr, b"usage: ")
     ran = play(t, "bash", script, "nobody", status=1)
     t.same((ran.stdout, b"no reply" in ran.stderr), (b"", True), "nobody is there")
+
+
+@test(seconds=4)
+def issue_due_crl_behind_a_placeholder_digest(t):
+    """A signer was added: the latest CRL has no signature, and the next one is issued at once, signed."""
+    script = EXAMPLES / "issue-due-crl.sh"
+    it = Authority(t)
+    it.register()
+    now = moment_of(authority.now())
+    t.done("script", "ca.db", given=f"{now} crl\n")
+    it.signer()
+    unsigned = t.open("ca.db")
+    t.same(play(t, "bash", script, "counter").stdout, b"", "no signer yet")
+    unsigned.end()
+    desk = t.open("ca.db", "--counter", "counter", *it.signing())
+    t.same(play(t, "bash", script, "counter").stdout, b"crl 2 entries 0\n")
+    t.same(play(t, "bash", script, "counter").stdout, b"", "and no other")
+    it.verifies(body_of(t, desk.ask("GET", "/crl"), CRL_TYPE))
 
 
 @test(seconds=4)
@@ -269,18 +287,18 @@ def issue_due_crl_by_the_clock(t):
         if revoked:
             lines += f"{moment_of(begun - revoked)} request 05 superseded\n{moment_of(begun - revoked)} revoke 1\n"
         t.register(file, lines)
-        desk = t.open(file, "--counter", f"{file}.counter")
+        desk = t.open(file, "--control", f"{file}.counter")
         ran = play(t, "bash", script, f"{file}.counter")
         t.same(ran.stdout.decode(), f"crl 2 entries {1 if revoked else 0}\n" if due else "", name)
         desk.end()
     t.register("signed.db", key=program.P256_KEY)
-    t.open("signed.db", "--counter", "signed.counter", "--signer", "nobody", "--algorithm", "ecdsa-sha256")
+    t.open("signed.db", "--control", "signed.counter", "--signer", "nobody", "--algorithm", "ecdsa-sha256")
     ran = play(t, "bash", script, "signed.counter", status=3)
     t.same((ran.stdout, b"F3 signer" in ran.stderr), (b"", True), "a signer that fails")
 
 
-# Of each ground whether its CRL is issued at once: by its reason (docs/RULES.md), as the list of revocations has no grounds.
-AT_ONCE = {"key-compromise": True, "control-lost": True, "superseded": True, "nonconforming": True, "asked": False, "unauthorized": False, "affiliation": False,
+# Of each ground whether its CRL is issued at once; control-lost, superseded and nonconforming have the same reason (docs/RULES.md).
+AT_ONCE = {"key-compromise": True, "control-lost": True, "superseded": False, "nonconforming": False, "asked": False, "unauthorized": False, "affiliation": False,
            "cessation": False, "misuse": False, "name-not-permitted": False, "inaccurate": False}
 
 
@@ -294,7 +312,7 @@ def issue_due_crl_at_once(t, ground):
         given = [f"{begins} {one}" for one in ("subscriber acme", "order 1 398", f"register 1 05 {begins} {ends}", "crl")]
         given += [f"{moment_of(begun - 3600)} request 05 {ground}", f"{moment_of(begun - 3600)} revoke 1"]
         t.register(f"{ago}.db", "".join(f"{line}\n" for line in given))
-        desk = t.open(f"{ago}.db", "--counter", f"{ago}.counter")
+        desk = t.open(f"{ago}.db", "--control", f"{ago}.counter")
         issues = ("bash", EXAMPLES / "issue-due-crl.sh", *at_once, desk.port, f"{ago}.counter")
         t.same(play(t, "bash", EXAMPLES / "issue-due-crl.sh", f"{ago}.counter").stdout, b"", "without --at-once")
         t.same(play(t, *issues).stdout.decode(), "crl 2 entries 1\n" if AT_ONCE[ground] else "", f"{ago} seconds behind the CRL before")

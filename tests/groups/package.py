@@ -17,7 +17,7 @@ import threading
 import time
 from pathlib import Path
 
-from lib import authority, program
+from lib import authority, native, program
 from lib.authority import EXAMPLES, Authority, moment_of
 from lib.documents import block, version
 from lib.program import TOP
@@ -26,7 +26,7 @@ from lib.trial import Failed, Skipped, need, test
 REGISTER, KEY = "/var/lib/durshavon/ca.db", "/var/lib/durshavon-signer/ca.key"
 SOCKET, PUBLISHED = "/run/durshavon-signer/ca.sign", "/var/lib/durshavon-crl/ca"
 COPIES = "/var/backups/ca"
-COUNTER = "/run/durshavon/ca/counter"
+COUNTER = "/run/durshavon/ca/control"
 # For how many seconds what is typed may run.
 LONGEST = int(60 * program.PATIENCE)
 # What `systemctl enable` is told of a register.
@@ -78,11 +78,12 @@ class Root:
 def built(t):
     """The package's path. It is made beside the program that is tested, in a folder that has what tools/package.sh wants of this repository."""
     folder = authority.stood_in(t)
-    for it in (".git", "LICENSE", "crates.txt", "CHANGELOG.md", "SECURITY.md"):
+    for it in (".git", "LICENSE", "crates.txt", "CHANGELOG.md", "SECURITY.md", "signer"):
         (folder / it).symlink_to(TOP / it)
-    # tools/version.sh reads the version there.
     (folder / "crates").mkdir()
-    (folder / "crates/reg_desk_cli").symlink_to(TOP / "crates/reg_desk_cli")
+    # tools/version.sh reads the version in one, and a page links to the other.
+    for it in ("reg_desk_cli", "reg_core"):
+        (folder / "crates" / it).symlink_to(TOP / "crates" / it)
     # git follows no link to this one.
     (folder / ".gitignore").write_bytes((TOP / ".gitignore").read_bytes())
     made = folder / "crates/reg_desk/out"
@@ -123,6 +124,9 @@ def the_package(t):
     if shutil.which("lintian"):
         told = t.tried("lintian", "--allow-root", "--fail-on", "none", deb, timeout=LONGEST).stdout.decode()
         t.same([line for line in told.splitlines() if line.startswith("E:")], [], "errors of lintian")
+    linked(t, deb)
+    has_native = b"./usr/lib/durshavon/desk-signer\n" in t.tool("dpkg-deb", "-c", deb)
+    t.same(has_native, native.has_libcrypto(), "whether the native signer is in it")
     root = Root(t)
     it = Authority(t)
     installed(t, root, deb)
@@ -132,6 +136,17 @@ def the_package(t):
     documented(t, root)
     booted(t, root, it)
     removed(t, root)
+
+
+def linked(t, deb):
+    """Each link of a page, and each page that a unit names, leads to a file of the package."""
+    files = t.room / "files"
+    t.tool("dpkg-deb", "-x", deb, files)
+    pages = sorted((files / "usr/share/doc/durshavon").rglob("*.md"))
+    links = [page.parent / path for page in pages for path in re.findall(r"\]\(([^)#:\s]+)(?:#[^)]*)?\)", page.read_text(encoding="utf-8"))]
+    links += [files / path for unit in (files / "lib/systemd/system").iterdir() for path in re.findall(r"file:///(\S+)", unit.read_text())]
+    t.true(len(links) > 20, f"few links: {links}")
+    t.same([str(it.relative_to(files)) for it in links if not it.exists()], [], "links that lead nowhere")
 
 
 def installed(t, root, deb):
@@ -355,7 +370,7 @@ def documented(t, root):
     t.same(sorted(completed("desk", "s")), [it for it in commands if it.startswith("s")], "desk s..")
     t.has(" ".join(completed("desk", "init", "ca.db", "--")), "--name --key --key-id --days --crl-life --ocsp-life --cap")
     t.has(" ".join(completed("desk", "--why", "script", "ca.db", "--")), "--signer --algorithm")
-    opens = "--signer --algorithm --unsigned --responder --responder-signer --responder-algorithm --embed --log --log-file --why"
+    opens = "--signer --algorithm --unsigned --responder --responder-signer --responder-algorithm --embed --published --log --log-file --why"
     t.has(" ".join(completed("desk", "open", "ca.db", "--")), opens)
     t.has(" ".join(completed("desk", "import", "ca.db", "--now", "")), time.strftime("%Y-%m-%dT", time.gmtime()))
     t.same(sorted(completed("desk", "list", "ca.db", "o")), ["open-requests", "orders", "overdue"], "desk list ca.db o..")
@@ -382,7 +397,8 @@ def booted(t, root, it):
     (root.path / "etc/systemd/system/steps.service").write_text(unit)
     root.run("systemctl", "enable", "steps.service")
     words = ["systemd-nspawn", "--quiet", "--register=no", "--keep-unit", "--settings=no", "--timezone=off", "--resolv-conf=off"]
-    words += ["-D", str(root.path), "--boot"]
+    # Without this systemd-nspawn refuses mlockall(2), by which the native signer locks its memory.
+    words += ["--system-call-filter=@memlock", "-D", str(root.path), "--boot"]
     t.note(" ".join(words))
     with open(t.room / "boot.log", "wb") as log:
         machine = subprocess.Popen(words, stdin=subprocess.DEVNULL, stdout=log, stderr=subprocess.STDOUT)
@@ -427,6 +443,7 @@ def behind(t, root, machine, it, port):
     told = t.tool(*at, "bash", "-ec", "\n".join(["cd /root", *responder_steps(port)])).decode()
     t.has(told, "Response verify OK", "a responder's key, told to what is installed")
     t.same(it.asked_by_openssl("05", f"http://127.0.0.1:{port}/ocsp", verify=True), "unknown", "by the responder")
+    by_the_native_signer(t, root, it, at, port)
     while_the_key_is_away(t, root, it, at, port)
     taken_away(t, root, at, port)
 
@@ -497,8 +514,8 @@ def gone_back(t, root, at):
     lines = [line.replace("ca.db-20260101T021500Z", copy) for line in block("Go back to a backup", "systemctl stop")]
     t.same([copy in line for line in lines].count(True), 1, f"lines that name the copy, of {lines}")
     # Its group is another: SQLite then changes that of the log, which it makes anew.
-    lines.insert(-1, f"chgrp root {REGISTER}")
-    t.tool(*at, "bash", "-ec", "\n".join(lines))
+    lines += [f"chgrp root {REGISTER}", "/usr/lib/durshavon/after-a-backup.py --help", "systemctl start desk@ca desk-crl@ca.timer"]
+    t.has(t.tool(*at, "bash", "-ec", "\n".join(lines)), b"--published CRL", "the script that is installed")
     t.same(asks("subscriber anew"), b"subscriber 1\n", "the copy as it was")
     root.run("rm", "-r", "/var/lib/durshavon/before")
 
@@ -533,7 +550,8 @@ def a_key_that_its_signer_can_t_read(t, it, at, port):
     t.tool(*at, "chown", "root", KEY)
     t.has(t.tried("openssl", "ocsp", "-issuer", it.pem, "-serial", "5", "-url", url).stdout, b"internalerror", "an answer meanwhile")
     time.sleep(10)
-    t.same(state(t, at, "desk-signer@ca.service"), "activating", "the signer")
+    # It is active for the moment in which it reads the key.
+    t.true(state(t, at, "desk-signer@ca.service") in ("activating", "active"), "systemd gave the signer up")
     t.tool(*at, "chown", "durshavon-signer", KEY)
     is_signed = lambda: b"Response verify OK" in t.tried("openssl", "ocsp", "-issuer", it.pem, "-serial", "5", "-url", url, "-CAfile", it.pem, timeout=LONGEST).stderr
     authority.until(is_signed, "an answer that is signed", 60 * program.PATIENCE)
@@ -586,6 +604,27 @@ def taken_away(t, root, at, port):
 def links(root):
     """The names of what is enabled."""
     return sorted(it.name for it in (root.path / "etc/systemd/system").rglob("desk*"))
+
+
+def by_the_native_signer(t, root, it, at, port):
+    """By the document's lines: it signs for the CA and for the responder, under all that the units forbid, and its memory is locked."""
+    if not (root.path / "usr/lib/durshavon/desk-signer").exists():
+        return
+    t.tool(*at, "bash", "-ec", "\n".join(block("With the package's units", "install -D", "signer/README")))
+    t.same(it.asked_by_openssl("05", f"http://127.0.0.1:{port}/ocsp", verify=True), "unknown", "by the responder")
+    t.same(t.tool(*at, "/usr/lib/durshavon/check-signer.py", "/etc/durshavon/ca.pem", *it.signing(SOCKET)), b"", "by the CA's key")
+    asks = 'import socket, sys; s = socket.socket(socket.AF_UNIX); s.connect(sys.argv[1]); s.sendall(b"x"); s.shutdown(1); print(s.recv(9))'
+    for unit, path in (("desk-signer@ca", SOCKET), ("desk-responder@ca", RESPONDER[1])):
+        t.same(t.tool(*at, "python3", "-c", asks, path), b"b''\n", f"{unit}: nothing else is signed")
+        process = t.tool(*at, "systemctl", "show", "--property=MainPID", "--value", unit).decode().strip()
+        status = dict(line.split(":", 1) for line in t.tool(*at, "cat", f"/proc/{process}/status").decode().splitlines())
+        t.same(status["Name"].strip(), "desk-signer", f"{unit}: its program")
+        t.true(int(status["VmLck"].split()[0]) > 0, f"{unit}: its memory is locked")
+        t.has(t.tool(*at, "journalctl", "-u", unit).decode(), "refused to sign 1 bytes: ", f"{unit}: the journal has the reason")
+        t.tool(*at, "systemctl", "stop", f"{unit}.service")
+        t.same(state(t, at, f"{unit}.service"), "inactive", f"{unit}: it ends by SIGTERM")
+    t.same(it.asked_by_openssl("05", f"http://127.0.0.1:{port}/ocsp", verify=True), "unknown", "the socket starts the responder's signer")
+    t.tool(*at, "bash", "-ec", "rm -r /etc/systemd/system/desk-*@.service.d; systemctl daemon-reload; systemctl restart desk-signer@ca desk-responder@ca")
 
 
 def while_the_key_is_away(t, root, it, at, port):

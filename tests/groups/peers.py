@@ -119,6 +119,49 @@ def more_peers_than_there_are_places(t):
     t.same(parted(read_all(held[-1]))[0], 200, "the newest")
 
 
+def busy(process):
+    """The hundredths of a second of processor time that it takes in a second."""
+    used = lambda: sum(map(int, open(f"/proc/{process.pid}/stat").read().rpartition(")")[2].split()[11:13]))
+    before = used()
+    time.sleep(1)
+    return used() - before
+
+
+@test(seconds=8)
+def control_connections_have_all_of_16_descriptors(t):
+    """The desk goes on, with nothing to do meanwhile; who comes over HTTP is answered once one of them is closed, and so is a line once an HTTP connection is."""
+    desk = opened(t)
+    files = lambda: len(os.listdir(f"/proc/{desk.process.pid}/fd"))
+    t.tool("prlimit", "--pid", desk.process.pid, "--nofile=16:16")
+    lines = []
+    while files() < 16:
+        before = files()
+        lines.append(t.enter_context(Counter(t.room / "counter")))
+        until(lambda: files() == before + 1, f"control connection {len(lines)}")
+    t.true(len(lines) <= 8, f"{len(lines)} control connections: there is no room for them all")
+    waiting = peer(t, desk, COUNTS)
+    time.sleep(1)
+    t.same(desk.process.poll(), None, "the desk has ended")
+    t.true(busy(desk.process) < 20, "the desk is busy")
+    t.same(lines[0].ask("counts"), "good 1 revoked 0 expired 0", "a line meanwhile")
+    last = lines.pop()
+    last.file.close()
+    last.peer.close()
+    waiting.settimeout(10)
+    t.same(parted(read_all(waiting))[0], 200, "the HTTP request, once a descriptor is free")
+    until(lambda: files() == 15, "the end of the HTTP connection")
+    held = peer(t, desk, COUNTS[:9])
+    until(lambda: files() == 16, "an HTTP connection that has not sent all")
+    line = t.enter_context(Counter(t.room / "counter", timeout=10))
+    line.peer.sendall(b"counts\n")
+    time.sleep(0.5)
+    t.true(busy(desk.process) < 20, "the desk is busy")
+    held.sendall(COUNTS[9:])
+    t.same(parted(read_all(held))[0], 200)
+    held.close()
+    t.same(line.file.readline(), b"good 1 revoked 0 expired 0\n", "the line, once a descriptor is free")
+
+
 @test(seconds=4)
 def the_last_descriptor_lets_nobody_go(t):
     """The system says that no descriptor is left also where nobody comes. The oldest is let go only once somebody does."""

@@ -76,7 +76,7 @@ def the_small_ca_ends_in_verify_ok(t):
 
 @test
 def the_first_look_has_these_lines_and_replies(t):
-    _, shown = blocks("Look")
+    _, shown = blocks("Try it")
     day, replies = ((program.TOP / f"examples/first-day{it}.txt").read_text().splitlines() for it in ("", ".replies"))
     pairs = iter(zip(day, replies, strict=True))
     for row in shown:

@@ -197,6 +197,38 @@ def a_responder_alone(t, has_crl, is_signed):
     t.has(t.done("audit", "ca.db"), "sound, 2 certificates, 2 revoked, ")
 
 
+@test(seconds=3)
+def when_the_responder_s_certificate_ends(t):
+    it = Authority(t)
+    it.register()
+    series = "desk_responder_certificate_not_after_timestamp_seconds"
+    for days, name in ((30, "soon"), (365 * 40, "in-forty-years")):
+        responder = Responder(it, name=name)
+        t.tool("openssl", "x509", "-req", "-in", f"{name}.csr", "-CA", it.pem, "-CAkey", it.key, "-days", days, "-extfile", f"{name}.conf", "-out", responder.pem)
+        der_of(t, name)
+        ends = t.tool("openssl", "x509", "-in", responder.pem, "-noout", "-enddate", "-dateopt", "iso_8601").decode().strip().removeprefix("notAfter=")
+        desk = t.open("ca.db", *responder.words())
+        t.has(desk.ask("GET", "/metrics").decode(), f"\n{series} {program.seconds_of(ends.replace(' ', 'T'))}\n")
+        desk.end()
+    t.same(series in t.open("ca.db").ask("GET", "/metrics").decode(), False, "no responder")
+
+
+@test(seconds=3)
+def a_crl_that_nobody_signs_is_no_failing_signer(t):
+    it = Authority(t)
+    responder = Responder(it)
+    it.signer()
+    responder.signer()
+    it.register()
+    t.done("script", "ca.db", *it.signing(), given=first_day(authority.now()))
+    desk = t.open("ca.db", *responder.words())
+    t.same(t.counter().ask("crl"), "F3 signer")
+    t.has(desk.ask("GET", "/health").decode(), '"crl_signer":null,"ocsp_signer":null,"status":"ok"')
+    told = desk.ask("GET", "/metrics").decode()
+    for series in ("desk_signature_failures_total", "desk_signer_failing_since_timestamp_seconds"):
+        t.has(told, f'{series}{{of="crl"}} 0\n')
+
+
 @each({"none is due": 0, "one is due": 8}, seconds=3)
 def the_timer_s_script_where_a_responder_alone_signs(t, days):
     """`examples/issue-due-crl.sh` says nothing while no CRL is due, and fails by the line of the fault where one is."""
@@ -357,7 +389,7 @@ def bytes_that_are_no_certificate(t, broken):
     responder = Responder(it)
     (t.room / "responder.der").write_bytes(broken(responder.der))
     # The register is not there: what is told of it would be `F2 store`.
-    for command, more, sealed in (("open", ("--counter", "counter"), ("--unsigned",)), ("serve", ("--requests", "9"), ())):
+    for command, more, sealed in (("open", ("--control", "counter"), ("--unsigned",)), ("serve", ("--requests", "9"), ())):
         bad_responder(t, [command, "none.db", "--port", "1", *more, *responder.words()])
         bad_responder(t, [command, "none.db", "--port", "1", *more, *sealed, "--embed", "responder.der"])
 
@@ -412,10 +444,10 @@ def a_certificate_without_a_key_of_its_algorithm(t, change):
     path, usual = t.room / "responder.der", rebuilt(it, responder.der, lambda certified: certified)
     t.same(inside(usual, 0)[2], inside(responder.der, 0)[2], "put together again it is the same")
     path.write_bytes(rebuilt(it, responder.der, change))
-    bad_responder(t, ["open", "none.db", "--port", "1", "--counter", "counter", *responder.words()])
+    bad_responder(t, ["open", "none.db", "--port", "1", "--control", "counter", *responder.words()])
     # As it was it is taken, and FILE is looked at.
     path.write_bytes(usual)
-    ran = t.desk("open", "none.db", "--port", "1", "--counter", "counter", *responder.words())
+    ran = t.desk("open", "none.db", "--port", "1", "--control", "counter", *responder.words())
     t.same((ran.status, ran.err), (1, b"F2 store\n"))
 
 
@@ -445,7 +477,7 @@ def what_is_in_der_and_no_certificate(t, *words):
     made = t.tool("openssl", *words)
     t.true(made[:1] == b"\x30" and made != responder.der, f"{words[0]} gives a SEQUENCE, and not the certificate")
     (t.room / "responder.der").write_bytes(made)
-    bad_responder(t, ["open", "none.db", "--port", "1", "--counter", "counter", *responder.words()])
+    bad_responder(t, ["open", "none.db", "--port", "1", "--control", "counter", *responder.words()])
 
 
 def padded(it, der, size):
@@ -476,7 +508,7 @@ def a_certificate_of_so_many_octets(t, size):
             t.tool("openssl", "x509", "-inform", "DER", "-in", name, "-out", it.pem)
         words = [*it.signing(), *(responder.words() if option == "--responder" else (option, name))]
         if size > 65_536:
-            bad_responder(t, ["open", "ca.db", "--port", program.free_port(), "--counter", "counter", *words])
+            bad_responder(t, ["open", "ca.db", "--port", program.free_port(), "--control", "counter", *words])
             continue
         desk = t.open("ca.db", *words)
         response = answer(t, it, desk, "05")
@@ -492,7 +524,7 @@ def before_a_bad_certificate_nothing_is_opened(t, version):
     registers.make(t.room / "ca.db", registers.Records(20, 3), version)
     before = faults.contents(t.room / "ca.db")
     (t.room / "responder.der").write_bytes(responder.der[:-1])
-    for command, more in (("open", ("--counter", "counter")), ("serve", ("--requests", "9"))):
+    for command, more in (("open", ("--control", "counter")), ("serve", ("--requests", "9"))):
         opens = [command, "ca.db", "--port", program.free_port(), *more]
         bad_responder(t, [*opens, *responder.words()])
         bad_responder(t, [*opens, *(("--unsigned",) if command == "open" else ()), "--embed", "responder.der"])
@@ -506,11 +538,11 @@ def a_certificate_that_can_t_be_read(t):
     responder = Responder(it)
     responder.signer()
     a_day(t, it)
-    opens = ["open", "ca.db", "--port", program.free_port(), "--counter", "counter", *responder.words()]
+    opens = ["open", "ca.db", "--port", program.free_port(), "--control", "counter", *responder.words()]
     for fail in ("read:1", "open:1"):
         ran, count = faults.run(t, opens, only="responder.der", fail=fail)
         t.same((ran.status, ran.out, ran.err, count["met"]), (1, b"", b"bad-responder\n", 1), fail)
-    bad_responder(t, ["open", "ca.db", "--port", program.free_port(), "--counter", "counter", "--unsigned", "--embed", "."])
+    bad_responder(t, ["open", "ca.db", "--port", program.free_port(), "--control", "counter", "--unsigned", "--embed", "."])
     desk = t.open("ca.db", *responder.words(), faults=faults.environment(only="responder.der", short=1))
     t.same(certificates_in(answer(t, it, desk, "05")), (CERTIFICATES, [responder.der]), "read octet by octet")
 
@@ -538,7 +570,7 @@ def a_certificate_that_can_t_be_used(t):
     responder = Responder(it)
     der_of(t, "ca")
     der_of(t, "other")
-    opens = lambda file, *words: ["open", file, "--port", "1", "--counter", "counter", *words]
+    opens = lambda file, *words: ["open", file, "--port", "1", "--control", "counter", *words]
     embeds = lambda file, *words: opens(file, "--unsigned", "--embed", *words)
     bad_responder(t, opens("none.db", *("--responder", "responder.pem", *responder.words()[2:])))
     bad_responder(t, embeds("none.db", "ca.pem"))

@@ -64,7 +64,7 @@ def open_desk(t, *lines):
     it = Authority(t)
     it.register()
     it.signer()
-    desk = t.open("ca.db", "--counter", "counter", *it.signing())
+    desk = t.open("ca.db", "--control", "counter", *it.signing())
     (t.room / "www").mkdir()
     told_at_counter(t, *lines)
     return it, desk
@@ -223,12 +223,12 @@ def a_register_that_was_set_back(t):
         if (t.room / name).exists():
             shutil.copy(t.room / name, t.room / f"before-{name}")
     t.clock(moment_of(authority.now() + 60))
-    desk = t.open("ca.db", "--counter", "counter", *it.signing())
+    desk = t.open("ca.db", "--control", "counter", *it.signing())
     told_at_counter(t, "crl")
     publish(t, desk)
     desk.end()
     t.clock(moment_of(authority.now() + 3600))
-    desk = t.open("before-ca.db", "--counter", "counter", *it.signing())
+    desk = t.open("before-ca.db", "--control", "counter", *it.signing())
     t.same(told_at_counter(t, "crl"), ["crl 2 entries 0"])
     before = contents(t.room / "www")
     fails(t, publish(t, desk), "is no newer than number 2 in www: was the register set back?")
@@ -302,7 +302,7 @@ def ended(t, it):
 def unsigned_desk(t, *lines):
     it = Authority(t)
     it.register()
-    desk = t.open("ca.db", "--counter", "counter")
+    desk = t.open("ca.db", "--control", "counter")
     if lines:
         told_at_counter(t, *lines)
     return it, desk
@@ -403,7 +403,7 @@ def an_order_that_stays_without_its_certificate_is_told(t):
     it.register()
     t.done("schedule", "ca.db", "1970-01-01T00:00:00Z=398", "2026-03-15T00:00:00Z=47")
     begins, ends = map(moment_of, issued(t, it, "a", "05"))
-    desk = t.open("ca.db", "--counter", "counter")
+    desk = t.open("ca.db", "--control", "counter")
     wanted = f"a.pem: register 1 05 {begins} {ends}: E12 too-long (order 1 stays without a certificate)"
     t.same(register_pem(t, "-c", "counter", "a.pem"), (3, "", [wanted]))
     desk.end()
@@ -431,7 +431,7 @@ def nobody_at_the_counter(t):
     issued(t, it, "a", "05")
     fails(t, register_pem(t, "-c", "counter", "a.pem", "a.pem"), "a.pem: status 05: no reply at counter")
     t.register("other.db")
-    desk = t.open("other.db", "--counter", "counter")
+    desk = t.open("other.db", "--control", "counter")
     desk.end()
     fails(t, register_pem(t, "-c", "counter", "a.pem"), "a.pem: status 05: no reply at counter")
 
@@ -519,7 +519,7 @@ def a_copy_of_a_register_whose_desk_was_ended(t):
     """What was answered last is in its -wal alone."""
     register_and_copies(t)
     t.clock("2026-01-02T00:00:00Z")
-    desk = t.open("ca.db", "--counter", "counter")
+    desk = t.open("ca.db", "--control", "counter")
     told_at_counter(t, "request 05 superseded", "revoke 1")
     desk.end()
     t.has(back_up(t)[1], ": sound, 1 certificates, 1 revoked, 1 CRLs\n")
@@ -541,13 +541,13 @@ def a_copy_of_an_open_register_comes_from_a_snapshot(t):
     t.tool("btrfs", "subvolume", "create", "srv/ca")
     t.register("srv/ca/ca.db", REGISTERED)
     t.clock("2026-01-02T00:00:00Z")
-    desk = t.open("srv/ca/ca.db", "--counter", "counter")
+    desk = t.open("srv/ca/ca.db", "--control", "counter")
     told_at_counter(t, "request 05 superseded", "revoke 1")
     t.tool("btrfs", "subvolume", "snapshot", "-r", "srv/ca", "srv/ca-now")
     told_at_counter(t, "crl")
     status, out, told = back_up(t, "srv/ca-now/ca.db")
     t.same((status, out.partition(": ")[2], told), (0, "sound, 1 certificates, 1 revoked, 1 CRLs\n", []), "as it was at the snapshot")
-    fails(t, back_up(t, "srv/ca/ca.db"), "srv/ca/ca.db is open: name its counter, or close it")
+    fails(t, back_up(t, "srv/ca/ca.db"), "srv/ca/ca.db is open: name its control socket, or close it")
     t.same(told_at_counter(t, "crl"), ["crl 3 entries 1"], "the desk goes on")
     desk.end()
 
@@ -556,7 +556,7 @@ def a_copy_of_an_open_register_comes_from_a_snapshot(t):
 def a_copy_of_an_open_register_by_its_counter(t):
     copies = register_and_copies(t)
     t.clock("2026-01-02T00:00:00Z")
-    t.open("ca.db", "--counter", "counter")
+    t.open("ca.db", "--control", "counter")
     told_at_counter(t, "request 05 superseded", "revoke 1")
     # What a run left that was killed.
     (t.room / "ca.db.copy.part").write_text("a front")
@@ -587,7 +587,7 @@ def the_new_one_stays_whatever_the_clock_says(t):
 
 
 def an_open_one(t):
-    t.open("ca.db", "--counter", "counter")
+    t.open("ca.db", "--control", "counter")
     return back_up(t)
 
 
@@ -604,18 +604,18 @@ def a_cut_one(t):
 
 def in_the_way(t):
     """Where the desk is to lay its copy lies a folder."""
-    t.open("ca.db", "--counter", "counter")
+    t.open("ca.db", "--control", "counter")
     (t.room / "ca.db.copy").mkdir()
     return back_up(t, "ca.db", "copies", "counter")
 
 
 def nobody_there(t):
-    t.open("ca.db", "--counter", "counter")
+    t.open("ca.db", "--control", "counter")
     return back_up(t, "ca.db", "copies", "elsewhere")
 
 
 def no_room_beside_it(t):
-    t.open("ca.db", "--counter", "counter", faults={"FAULTS_FAIL": "write:1+", "FAULTS_ONLY": "ca.db.copy.part"})
+    t.open("ca.db", "--control", "counter", faults={"FAULTS_FAIL": "write:1+", "FAULTS_ONLY": "ca.db.copy.part"})
     return back_up(t, "ca.db", "copies", "counter")
 
 
@@ -646,7 +646,7 @@ def an_older_one(t):
 
 
 NO_COPIES = {
-    "a register that is open": (an_open_one, "ca.db is open: name its counter, or close it"),
+    "a register that is open": (an_open_one, "ca.db is open: name its control socket, or close it"),
     "something where it lays the copy": (in_the_way, "ca.db.copy can't be removed"),
     "nobody at the counter": (nobody_there, "ca.db is not copied at elsewhere: "),
     "no room beside the register": (no_room_beside_it, "ca.db is not copied at counter: F2 store, why disk full"),

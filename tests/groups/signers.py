@@ -2,6 +2,7 @@
 that fail."""
 
 import json
+import os
 import re
 import select
 import signal
@@ -10,10 +11,12 @@ import threading
 import time
 from concurrent.futures import ThreadPoolExecutor
 
+from groups import native_signer
 from lib import authority, faults, program
 from lib.authority import IDENTIFIERS, INTERNAL, KEYS, Authority, Peer, body_of, first_day, first_day_replies, moment_of
 from lib.program import ANY_SIGNATURE, P256_KEY
-from lib.trial import each, need, test
+from lib.native import NAME, connected, ended, signature, started
+from lib.trial import Skipped, each, need, test
 
 MOMENT = "2026-01-01T00:00:00Z"
 ALGORITHMS = {it: it for it in KEYS}
@@ -401,7 +404,7 @@ def each_command_wants_a_key_of_its_algorithm(t, algorithm):
     for other in KEYS:
         if other != algorithm:
             for words in (["script", "ca.db"], ["serve", "ca.db", "--port", program.free_port(), "--requests", 1],
-                          ["open", "ca.db", "--port", program.free_port(), "--counter", "counter"]):
+                          ["open", "ca.db", "--port", program.free_port(), "--control", "counter"]):
                 refused(t, [*words, "--signer", "ca.sign", "--algorithm", other])
     t.true(not (t.room / "counter").exists(), "no counter was made")
 
@@ -539,7 +542,7 @@ def a_signer_has_ten_seconds_in_all(t):
             return told.result(), time.monotonic() - begun
 
     def by_open(name):
-        desk = t.open(f"{name}.db", *signing(name), "--counter", f"{name}.counter")
+        desk = t.open(f"{name}.db", *signing(name), "--control", f"{name}.counter")
         with program.Counter(t.room / f"{name}.counter") as counter:
             begun = time.monotonic()
             told = [counter.ask("crl"), counter.ask("counts")]
@@ -672,3 +675,48 @@ def a_crl_asks_a_signer_that_is_left_alone(t):
     at_once(t, lambda: counter.ask("crl"), "crl 1 entries 0", "a CRL then")
     at_once(t, lambda: is_signed(counter), True, "a line behind that")
     t.same(signer.asked, 4, "how often the signer was asked")
+
+
+# The native signer
+
+
+@each(ALGORITHMS, seconds=30)
+def valgrind_finds_no_fault_in_the_native_signer(t, algorithm):
+    need("valgrind")
+    it = Authority(t, algorithm)
+    issuer = native_signer.filter_module().issuer_of(it.pem)
+    t.tool("openssl", "pkcs8", "-topk8", "-in", it.key, "-passout", "pass:a word", "-out", "locked.key")
+    (t.room / "word").write_text("a word\n")
+    before = ["valgrind", "-q", "--error-exitcode=99", "--leak-check=full", "--errors-for-leak-kinds=definite,indirect,possible"]
+    process = started(t, "--passphrase-file", "word", "--only-ours", it.pem, "locked.key", before=before)
+    path = t.room / "ca.sign"
+    for what, message in native_signer.named_messages(issuer).items():
+        t.same(signature(path, message) != b"", native_signer.is_accepted(native_signer.filter_module(), message, issuer), what)
+    native_signer.verifies(t, it, native_signer.ours(issuer)[0], signature(path, native_signer.ours(issuer)[0]))
+    for octets in (b"", bytes(9), bytes(100_000), bytes(3_000_000)):
+        with connected(path) as client:
+            client.sendall(octets)
+    t.same(signature(path, bytes(3_000_000)), b"", "a long message")
+    status, told = ended(process, 60)
+    t.same((status, [line for line in told if not line.startswith(NAME)]), (0, []), "valgrind's status, and its lines on standard error")
+
+
+@test(seconds=60)
+def a_fuzzer_finds_no_fault_in_what_the_native_signer_accepts(t):
+    """DESK_FUZZ seconds, 60 by default. What it has found is compared with examples/only_ours.py."""
+    need("clang", "nice")
+    try:
+        fuzzer = native_signer.checker("fuzzer", "clang", "-O1", "-DFUZZED", "-fsanitize=fuzzer,address,undefined", "-fno-sanitize-recover=all")
+    except AssertionError as why:
+        raise Skipped("clang has no fuzzer here: apt install libclang-rt-dev") from why
+    it = Authority(t)
+    corpus = t.room / "corpus"
+    corpus.mkdir()
+    for at, message in enumerate(native_signer.named_messages(native_signer.filter_module().issuer_of(it.pem)).values()):
+        (corpus / f"seed{at:03}").write_bytes(message)
+    seconds = os.environ.get("DESK_FUZZ", "60")
+    ran = t.tried("nice", "-n", "10", fuzzer, f"-max_total_time={seconds}", "-max_len=1000", "-print_final_stats=1", corpus,
+                  timeout=60 + 3 * int(seconds), env={"CA": str(it.pem), "PATH": os.environ["PATH"]})
+    t.same(ran.returncode, 0, f"the fuzzer's status: {ran.stderr[-3000:].decode()}")
+    messages = [path.read_bytes() for path in corpus.iterdir()]
+    t.true(native_signer.compared(t, messages, it) >= 4, "of what it has found, some is accepted")

@@ -24,6 +24,8 @@ LINES = ["subscriber acme", "order 1 90", "register 1 05 2026-01-01T00:00:00Z 20
 OCSP = bytes.fromhex("30423040303E303C303A300906052B0E03021A05000414" + "00" * 20 + "0414" + "00" * 20 + "020105")
 ENDS = ("0.0001", "0.0003", "0.001", "0.003", "0.01", "0.03", "0.1", "0.3", "1", "3", "10", "+Inf")
 
+ROUTES = ("/ocsp", "/ocsp/{request}", "/crl", "/crl/{number}", "/status/{serial}", "/counts", "/requests", "/list/{word}", "/health", "/metrics", "other")
+
 
 def opened(t, *words, clock=DAY, key=program.KEY):
     t.register(key=key)
@@ -81,6 +83,10 @@ def a_register_that_was_just_made(t):
     t.same({value for series, value in found.items() if series.startswith(("desk_certificates", "desk_requests_o", "desk_sign", "desk_lines", "desk_store"))}, {0})
     t.same(found["desk_register_readable"], 1)
     t.same(of(found, "desk_http_responses_total"), {}, "no answer yet: this one is counted behind itself")
+    version = t.done("--version").split()[-1]
+    t.same(of(found, "desk_build_info"), {f'{{version="{version}"}}': 1})
+    t.same(of(found, "desk_ocsp_internal_errors_total"), {'{cause="signer"}': 0, '{cause="store"}': 0})
+    t.same(of(found, "desk_http_response_seconds"), {f'_{part}{{route="{it}"}}': 0 for it in ROUTES for part in ("sum", "count")})
     t.same(of(found, "desk_connections"), {'{at="port"}': 1, '{at="counter"}': 0, "_accepted_total": 1, **{f'_lost_total{{why="{it}"}}': 0 for it in ("broken", "late", "crowded", "memory")}})
     t.same(of(found, "desk_exchange_seconds"), {**{f'_bucket{{le="{it}"}}': 0 for it in ENDS}, "_sum": 0, "_count": 0})
 
@@ -162,6 +168,15 @@ def lines_connections_and_seconds(t):
     t.same(ranges, sorted(ranges), "each range has those below it")
     t.same((ranges[-1], seconds["_count"]), (5, 5), "four lines and an answer")
     t.true(0 < seconds["_sum"] < 5, f"their sum: {seconds['_sum']}")
+    by_route = of(found, "desk_http_response_seconds")
+    t.same({it: value for it, value in by_route.items() if it.startswith("_count") and value}, {'_count{route="/counts"}': 1})
+    t.true(0 < by_route['_sum{route="/counts"}'] < seconds["_sum"], f"the answer's: {by_route}")
+    for path in ("/counts", "/nowhere"):
+        desk.ask("GET", path)
+    by_route = of(metrics(t, desk), "desk_http_response_seconds")
+    t.same({it: value for it, value in by_route.items() if it.startswith("_count") and value},
+           {'_count{route="/counts"}': 2, '_count{route="/metrics"}': 1, '_count{route="other"}': 1})
+    t.same([it for it, value in by_route.items() if it.startswith("_sum") and not value], [f'_sum{{route="{it}"}}' for it in ROUTES if it not in ("/counts", "/metrics", "other")])
 
 
 @test(seconds=2)
@@ -191,6 +206,7 @@ def signatures_and_who_fails(t):
     desk.ask("POST", "/ocsp", OCSP)
     t.same(signs(), [both(0, 0), both(0, 1), both(0, 0), both(0, FIRST), both(0, FIRST)], "an answer that nobody signed")
     t.same(health(t, desk), (503, {"crl": "at-once", "ocsp_signer": DAY}))
+    t.same(of(metrics(t, desk), "desk_ocsp_internal_errors_total"), {'{cause="signer"}': 1, '{cause="store"}': 0})
     t.clock(program.moment_of(FIRST + 1))
     t.done("at", "counter", given="crl\n")
     t.same(signs(), [both(1, 0), both(0, 1), both(FIRST + 1, 0), both(0, FIRST), both(0, FIRST)], "and a CRL")
@@ -198,11 +214,39 @@ def signatures_and_who_fails(t):
     desk.ask("POST", "/ocsp", b"abc")
     t.same(signs(), [both(1, 1), both(0, 1), both(FIRST + 1, FIRST + 1), both(0, FIRST), both(0, 0)], "an answer; one that refuses is not signed")
     t.same(health(t, desk), (200, {}))
+    t.same(of(metrics(t, desk), "desk_ocsp_internal_errors_total"), {'{cause="signer"}': 1, '{cause="store"}': 0}, "neither is internalError")
     for later in (2, 3):
         t.clock(program.moment_of(FIRST + later))
         t.same(t.desk("at", "counter", given="crl\n").lines, ["F3 signer"])
     t.same(signs(), [both(1, 1), both(2, 1), both(FIRST + 1, FIRST + 1), both(FIRST + 3, FIRST), both(FIRST + 2, 0)], "two CRLs that nobody signed")
     t.same(health(t, desk), (503, {"crl_signer": program.moment_of(FIRST + 2)}))
+
+
+@test
+def a_crl_without_a_signature_behind_which_a_key_signs(t):
+    """The next CRL is due at once where the latest has a placeholder digest and the desk has a signer; and not where it has none."""
+    t.register(lines=f"{DAY} subscriber acme\n{DAY} crl\n", key=program.P256_KEY)
+    signer = t.signer()
+    why = "why CRL 1 has a placeholder digest: the next one is due at once"
+    for words, due, found, told in (((), program.moment_of(FIRST + 7 * 86_400), (200, {}), "why nothing"), (SIGNING, None, (503, {"crl": "at-once"}), why)):
+        t.clock(program.moment_of(FIRST + 60))
+        desk = t.open("ca.db", *words)
+        for _ in range(2):
+            t.same(health(t, desk), found)
+            t.same(metrics(t, desk)["desk_crl_due_timestamp_seconds"], program.seconds_of(due) if due else 0)
+        with t.counter() as counter:
+            t.same([counter.ask(line) for line in ("next-crl", "why")], [f"next-crl {program.moment_of(FIRST + 7 * 86_400)}", told])
+            if words:
+                t.same([counter.ask(line) for line in ("revoke 9", "why", "next-crl", "why")], ["E17 no-request", "why E17 no-request", f"next-crl {program.moment_of(FIRST + 7 * 86_400)}", why])
+                t.same(counter.ask("crl"), "crl 2 entries 0")
+                t.same([counter.ask(line) for line in ("revoke 9", "next-crl", "why")], ["E17 no-request", f"next-crl {program.moment_of(FIRST + 60 + 7 * 86_400)}", "why E17 no-request"])
+        if words:
+            t.same(health(t, desk), (200, {}))
+            t.same(metrics(t, desk)["desk_crl_due_timestamp_seconds"], FIRST + 60 + 7 * 86_400)
+        desk.end()
+    t.same(len(signer.asked), 1, "signatures")
+    desk = t.open("ca.db", *SIGNING)
+    t.same(health(t, desk), (200, {}), "opened again: the latest CRL is signed")
 
 
 @test
@@ -261,6 +305,16 @@ def a_disk_that_fails(t):
 
 
 @test
+def a_copy_that_fails_is_no_failure_of_the_store(t):
+    desk = opened(t)
+    with t.counter() as counter:
+        counter.ask("crl")
+        t.same(counter.ask("copy nowhere/ca.db"), "F2 store")
+        t.same(health(t, desk), (200, {}))
+        t.same((metrics(t, desk)['desk_lines_total{reply="fault"}'], metrics(t, desk)["desk_store_failing_since_timestamp_seconds"]), (1, 0))
+
+
+@test
 def it_changes_nothing(t):
     desk = opened(t)
     t.done("at", "counter", given="subscriber acme\n")
@@ -281,7 +335,7 @@ def promtool_takes_the_metrics_and_the_alerts(t):
     t.done("at", "counter", given="".join(f"{it}\n" for it in [*LINES, "crl"]))
     desk.ask("GET", "/crl")
     t.same(t.tool("promtool", "check", "metrics", given=asked(t, desk, "/metrics")[2]), b"", "what promtool finds wrong with /metrics")
-    t.has(t.tool("promtool", "check", "rules", ALERTS).decode(), "SUCCESS: 7 rules found")
+    t.has(t.tool("promtool", "check", "rules", ALERTS).decode(), "SUCCESS: 8 rules found")
 
 
 RULES = """
@@ -301,6 +355,8 @@ CASES = {
     "a register that can't be read": (["desk_register_readable{job='desk'} 0x60", "desk_clock_behind_seconds{job='desk'} 0x60"], ["DeskRegisterUnreadable"]),
     "a register that refuses for its clock": (["desk_register_readable{job='desk'} 0x60", "desk_clock_behind_seconds{job='desk'} 9x60"], ["DeskClock"]),
     "no CRL yet": (["desk_clock_timestamp_seconds 1790000000+60x60", "desk_crl_due_timestamp_seconds 0x60"], ["DeskCrlLate", "DeskClock"]),
+    "a responder's certificate that ends": (["desk_responder_certificate_not_after_timestamp_seconds 604800x60", "desk_clock_timestamp_seconds 0+60x60"], ["DeskResponderEnds"]),
+    "a responder's certificate that does not end yet": (["desk_responder_certificate_not_after_timestamp_seconds 610000x60", "desk_clock_timestamp_seconds 0+60x60"], []),
     "a request that is overdue": (["desk_requests_overdue 2x60"], ["DeskRequestOverdue"]),
     "a clock that is behind": (["desk_clock_behind_seconds 3x60"], ["DeskClock"]),
     "a clock of its own": (["desk_clock_timestamp_seconds 90+60x60"], ["DeskClock"]),
@@ -324,7 +380,7 @@ def each_alert_fires_and_no_other(t, series, fires):
 
 
 # The clock, when the next CRL is due, and what the alert says an hour later.
-LATE = {"none yet": (1_790_000_000, 0, "no CRL was issued yet"), "late": (1_790_000_000, 1_789_990_000, "the next CRL is due since 3h 46m 40s")}
+LATE = {"none yet": (1_790_000_000, 0, "no signed CRL was issued yet"), "late": (1_790_000_000, 1_789_990_000, "the next CRL is due since 3h 46m 40s")}
 
 
 @each(LATE)

@@ -7,15 +7,15 @@ from lib.program import KEY, NAME
 from lib.trial import each, test
 
 ISSUER = ("--name", NAME, "--key", KEY)
-SERVE, OPEN = ("serve", "none.db"), ("open", "none.db", "--counter", "S")
+SERVE, OPEN = ("serve", "none.db"), ("open", "none.db", "--control", "S")
 UNSIGNED = (*OPEN, "--unsigned")
 SCHEDULE, FIRST_STEP = ("schedule", "none.db"), "1970-01-01T00:00:00Z=398"
 # A socket and an algorithm.
-BOTH = "--signer and --algorithm are given both or neither, and an algorithm is ecdsa-sha256, ecdsa-sha384, rsa-sha256 or ed25519"
+BOTH = "give both --signer and --algorithm, or neither; an algorithm is ecdsa-sha256, ecdsa-sha384, rsa-sha256 or ed25519"
 ONE_OF_BOTH = (
-    "open wants --signer SOCKET with --algorithm NAME, or --unsigned, by which a digest alone seals: one of both; beside --responder the first, or neither"
+    "open needs --signer SOCKET with --algorithm NAME, or --unsigned for a placeholder digest instead of signatures, and not both; with --responder the first, or neither"
 )
-TOGETHER = "--responder, --responder-signer and --responder-algorithm are given together, without --embed; an algorithm is"
+TOGETHER = "give --responder, --responder-signer and --responder-algorithm together, and without --embed; an algorithm is"
 RESPONDER = ("--responder=r.der", "--responder-signer=r.sign", "--responder-algorithm=ed25519")
 RESPONDER_HELP = ("--responder <CERT>", "--responder-signer <SOCKET>", "--responder-algorithm <NAME>", "--embed <CERT>")
 NUMBER, RANGE = "a number is 1 to 18 digits", "within the range"
@@ -42,6 +42,7 @@ UNKNOWN = {
     "--why twice": ("crl", "none.db", "--why", "--why"),
     "--log before a command": ("--log", *SERVE, "--port", "80", "--requests", "1"),
     "--log twice": (*SERVE, "--port", "80", "--requests", "1", "--log", "--log"),
+    "--published twice": (*SERVE, "--port", "80", "--requests", "1", "--published", "a", "--published", "b"),
     "--log-file twice": (*SERVE, "--port", "80", "--requests", "1", "--log-file", "a", "--log-file", "b"),
     "init alone": ("init",),
     "init without a key": ("init", "none.db", "--name", NAME),
@@ -50,15 +51,17 @@ UNKNOWN = {
     "init of two files": ("init", "none.db", "G", *ISSUER),
     "script of two files": ("script", "none.db", "G"),
     "import without a moment": ("import", "none.db"),
+    "import with a moment and the clock": ("import", "none.db", "--now", "2026-01-01T00:00:00Z", "--clock"),
     "import without a file": ("import", "--now", "2026-01-01T00:00:00Z"),
     "crl without a file": ("crl",),
     "crl with a number below 0": ("crl", "none.db", "--number", "-1"),
     "crl with another option": ("crl", "none.db", "--nubmer", "1"),
     "serve without requests": (*SERVE, "--port", "80"),
     "serve without a port": (*SERVE, "--requests", "1"),
-    "open without a counter": ("open", "none.db", "--port", "80", "--unsigned"),
+    "open without a control socket": ("open", "none.db", "--port", "80", "--unsigned"),
+    "open with a control socket of either name": (*UNSIGNED, "--port", "80", "--counter", "S"),
     "open without a port": UNSIGNED,
-    "open without a file": ("open", "--port", "80", "--counter", "S", "--unsigned"),
+    "open without a file": ("open", "--port", "80", "--control", "S", "--unsigned"),
     "open with requests": (*UNSIGNED, "--port", "80", "--requests", "1"),
     "unsigned with a value": (*OPEN, "--port", "80", "--unsigned=true"),
     "unsigned twice": (*UNSIGNED, "--port", "80", "--unsigned"),
@@ -175,6 +178,24 @@ def open_is_told_of_a_signer_or_that_there_is_none(t, *words):
     t.same(told.splitlines()[0], f"error: {ONE_OF_BOTH}", "the one line that says both ways")
 
 
+@each({it or "nothing": (it,) for it in ("0.0.0.0", "::", "[::]", "::1", "127.0.0.2", "localhost", "192.0.2.1", "[::1]:80", "")})
+def what_is_no_loopback_address_is_refused_by_name(t, address):
+    for words in ((*SERVE, "--requests=1"), UNSIGNED):
+        told = refused(t, *words, "--port=80", f"--listen={address}").splitlines()[0]
+        t.has(told, f"error: invalid value '{address}' for '--listen': the desk listens only on the loopback interface, at 127.0.0.1 or [::1]")
+
+
+@each({"neither": (), "both": ("--now=2026-01-01T00:00:00Z", "--clock")})
+def an_import_has_one_moment(t, *words):
+    t.same(refused(t, "import", "none.db", *words).splitlines()[0], "error: import needs --now MOMENT or --clock, and not both")
+
+
+@test
+def the_older_name_of_control_is_hidden(t):
+    told = t.done("open", "--help")
+    t.true("--counter" not in told, f"help names --counter: {told!r}")
+
+
 @each({
     "its certificate alone": (RESPONDER[:1], "'r.der' for '--responder'"),
     "without what holds its key": (RESPONDER[::2], "'ed25519' for '--responder-algorithm'"),
@@ -188,7 +209,7 @@ def a_responder_is_told_whole(t, words, named):
         t.has(refused(t, *command, *words), f"{named}: {TOGETHER}")
 
 
-LISTED = "a list is revoked, certificates, ending, open-requests, overdue, requests, subscribers, orders or crls; ending wants --before, and no other takes it; crls takes neither --subscriber nor --serial, orders no --from or --to, subscribers --subscriber alone"
+LISTED = "a list is revoked, certificates, ending, open-requests, overdue, requests, subscribers, orders or crls; ending needs --before, and no other takes it; crls takes neither --subscriber nor --serial, orders no --from or --to, subscribers --subscriber alone"
 
 
 @each({
@@ -218,8 +239,8 @@ def what_a_filter_tells_has_a_form(t, option, value, wanted):
 
 
 @each({" ".join(it): it for it in (
-    ("import", "--signer=ca.sign"), ("script", "--embed=ca.der"), ("script", "--responder=r.der"), ("crl", "--embed=ca.der"), ("crl", "--algorithm=ed25519"), ("schedule", "--signer=ca.sign"),
-    ("key-id", "--signer=ca.sign"), ("script", "--key-id=00"), ("import", "--clock"), ("at", "--strict"),
+    ("import", "--signer=ca.sign"), ("script", "--embed=ca.der"), ("script", "--responder=r.der"), ("script", "--published=ca.crl"), ("crl", "--published=ca.crl"), ("crl", "--embed=ca.der"), ("crl", "--algorithm=ed25519"), ("schedule", "--signer=ca.sign"),
+    ("key-id", "--signer=ca.sign"), ("script", "--key-id=00"), ("crl", "--clock"), ("at", "--strict"), ("crl", "--listen=[::1]"), ("at", "--listen=[::1]"),
     ("crl", "--log"), ("script", "--log"), ("at", "--log"), ("audit", "--log"), ("script", "--log-file=l"), ("at", "--log-file=l"), ("audit", "--json"), ("crl", "--before=2026-01-01T00:00:00Z"), ("script", "--unsigned"), ("serve", "--unsigned"), ("schedule", "--unsigned"),
 )})
 def an_option_of_another_command_is_unexpected(t, command, option):
@@ -228,13 +249,13 @@ def an_option_of_another_command_is_unexpected(t, command, option):
 
 @each({it: it for it in ("--clock", "--strict")})
 def a_script_over_memory_is_not_clocked_and_not_strict(t, option):
-    t.has(refused(t, "script", option), "--clock and --strict want a FILE")
+    t.has(refused(t, "script", option), "--clock and --strict need a FILE")
 
 
 @each({"script": (("script",),), "crl": (("crl",),), "import": (("import", "--now", "2026-01-01T00:00:00Z"),), "copy": (("copy", "none.db"),), "audit": (("audit",),)})
 def a_file_whose_name_is_no_text_is_refused(t, words):
     # The byte FF, which is in no UTF-8.
-    t.has(refused(t, *words, "ca\udcff.db"), "no UTF-8")
+    t.has(refused(t, *words, "ca\udcff.db"), "not UTF-8")
 
 
 @test
@@ -257,16 +278,16 @@ HELPED = {
     "init --help": ("<FILE>", "--name <HEX>", "--key <HEX>", "--key-id <HEX>", "--days <N>", "--crl-life <N>", "--ocsp-life <N>", "--cap <N>", "--why"),
     "init -h": ("<FILE>", "--name <HEX>"),
     "script --help": ("[FILE]", "--signer <SOCKET>", "--algorithm <NAME>", "--clock", "--strict", "--why", "desk script ca.db"),
-    "import --help": ("<FILE>", "--now <MOMENT>", "--strict", "--why"),
+    "import --help": ("<FILE>", "--now <MOMENT>", "--clock", "--strict", "--why"),
     "crl --help": ("<FILE>", "--number <N>", "--why"),
-    "serve --help": ("<FILE>", "--port <N>", "--requests <N>", "--signer <SOCKET>", "--algorithm <NAME>", *RESPONDER_HELP, "--log", "--log-file <PATH>", "--why"),
-    "open --help": ("<FILE>", "--port <N>", "--counter <SOCKET>", "--signer <SOCKET>", "--algorithm <NAME>", "--unsigned", *RESPONDER_HELP, "--log", "--log-file <PATH>", "--why"),
-    "at --help": ("<SOCKET>", "--why", "desk at ca.counter"),
-    "replay --help": ("<SOCKET>", "<LOG>", "--why", "desk replay ca.counter ca.log"),
+    "serve --help": ("<FILE>", "--port <N>", "--listen <ADDRESS>", "--requests <N>", "--signer <SOCKET>", "--algorithm <NAME>", *RESPONDER_HELP, "--published <CRL>", "--log", "--log-file <PATH>", "--why"),
+    "open --help": ("<FILE>", "--port <N>", "--listen <ADDRESS>", "--control <SOCKET>", "--signer <SOCKET>", "--algorithm <NAME>", "--unsigned", *RESPONDER_HELP, "--published <CRL>", "--log", "--log-file <PATH>", "--why"),
+    "at --help": ("<SOCKET>", "--import <FILE>", "--revoke <FILE>", "--why", "desk at ca.control"),
+    "replay --help": ("<SOCKET>", "<LOG>", "--why", "desk replay ca.control ca.log"),
     "schedule F --help": ("<FILE>", "<MOMENT=DAYS>...", "--why"),
     "key-id --help": ("<FILE>", "<HEX>", "--why"),
     "list --help": ("<FILE>", "<LIST>", "--before <MOMENT>", "--now <MOMENT>", "--json", "--why", "desk list ca.db revoked"),
-    "copy --help": ("<FILE>", "<PATH>", "--why", "desk copy ca.db", "desk at ca.counter"),
+    "copy --help": ("<FILE>", "<PATH>", "--why", "desk copy ca.db", "desk at ca.control"),
     "audit --help": ("<FILE>", "--why", "desk audit ca.db"),
     "--why audit --help": ("<FILE>", "--why", "desk audit ca.db"),
 }
@@ -285,8 +306,11 @@ TAKEN = {
     "the highest": (*SERVE, "--port", "65535", "--requests", "1000000"),
     "ones between": (*SERVE, "--port", "8080", "--requests", "3"),
     "options before the file": ("serve", "--requests=3", "--port=8080", "none.db"),
-    "open with its options before": ("open", "--unsigned", "--counter=ca.counter", "none.db", "--port", "8080"),
+    "open with its options before": ("open", "--unsigned", "--control=ca.control", "none.db", "--port", "8080"),
     "open at the highest port": (*UNSIGNED, "--port", "65535"),
+    "open by the older name of --control": ("open", "none.db", "--port=80", "--counter=S", "--unsigned"),
+    "open at the IPv6 loopback address": (*UNSIGNED, "--port=80", "--listen=[::1]"),
+    "serve at the usual address": (*SERVE, "--port=80", "--requests=1", "--listen", "127.0.0.1"),
     "a number of no digit but zeros": ("crl", "none.db", "--number", "000000000000000000"),
     "the highest number of a CRL": ("crl", "none.db", "--number", "999999999999999999"),
     "a script over a file": ("script", "реестр/центр 1.db"),
@@ -295,6 +319,7 @@ TAKEN = {
     "a file behind --": ("script", "--clock", "--", "none.db"),
     "strict before --": ("script", "--strict", "--", "none.db"),
     "a strict import": ("import", "none.db", "--now", "2026-01-01T00:00:00Z", "--strict"),
+    "an import at the clock's moment": ("import", "none.db", "--clock"),
     "a strict import, strict first": ("import", "--strict", "none.db", "--now=2026-01-01T00:00:00Z"),
     **{f"the list {it}": ("list", "none.db", it) for it in ("revoked", "certificates", "open-requests", "overdue", "requests", "subscribers", "orders", "crls")},
     "a list with all that a filter tells": ("list", "none.db", "requests", "--serial=0A", "--from=2026-01-01T00:00:00Z", "--to", "2026-02-01T00:00:00Z", "--subscriber", "acme"),
@@ -303,7 +328,7 @@ TAKEN = {
     **{
         f"{command} and {name}": (command, "none.db", *more, "--signer", "ca.sign", "--algorithm", name)
         for name in ("ecdsa-sha256", "ecdsa-sha384", "rsa-sha256", "ed25519")
-        for command, more in (("script", ()), ("serve", ("--port=80", "--requests=1")), ("open", ("--port=80", "--counter=S")))
+        for command, more in (("script", ()), ("serve", ("--port=80", "--requests=1")), ("open", ("--port=80", "--control=S")))
     },
 }
 
@@ -345,6 +370,16 @@ def an_import_has_its_moment(t):
     row = "order,serial,notBefore,notAfter\n1,05,2026-01-01T00:00:00Z,2026-12-31T00:00:00Z\n"
     t.same(t.done("import", "ca.db", "--now", "2026-01-01T00:00:07Z", given=row), "registered\n")
     t.same(t.sql("ca.db", "SELECT last_at FROM office"), [(1_767_225_607,)])
+
+
+@test
+def an_import_has_the_clock_s_moment(t):
+    t.register(lines="2026-01-01T00:00:00Z subscriber acme\n2026-01-01T00:00:00Z order 1 398\n")
+    row = "order,serial,notBefore,notAfter\n1,05,2026-01-01T00:00:00Z,2026-12-31T00:00:00Z\n"
+    t.clock("2026-01-01T00:00:09Z")
+    t.same(t.done("import", "ca.db", "--clock", "--strict", given=row), "registered\n")
+    t.same(t.sql("ca.db", "SELECT last_at FROM office"), [(1_767_225_609,)])
+    t.same(t.done("import", "ca.db", "--clock", given=row), "same\n", "the same row once more")
 
 
 @test

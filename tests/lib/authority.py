@@ -36,7 +36,7 @@ IDENTIFIERS = {
 }
 # The names of the reasons of RFC 5280 5.3.1, as openssl prints them in a CRL.
 REASONS = {"Unspecified": 0, "Key Compromise": 1, "CA Compromise": 2, "Affiliation Changed": 3, "Superseded": 4, "Cessation Of Operation": 5,
-           "Certificate Hold": 6}
+           "Certificate Hold": 6, "Privilege Withdrawn": 9}
 MALFORMED, INTERNAL, TRY_LATER = (bytes.fromhex(f"30030A010{it}") for it in (1, 2, 3))
 
 

@@ -1,4 +1,4 @@
-"""The blocks of lines that docs/OPERATIONS.md and docs/RULES.md have, to be typed as they stand."""
+"""The blocks of lines that docs/OPERATIONS.md and other pages have, to be typed as they stand."""
 
 import re
 
@@ -7,7 +7,8 @@ from .trial import Failed
 
 
 def document(name="OPERATIONS"):
-    return (TOP / f"docs/{name}.md").read_text(encoding="utf-8")
+    """A page of docs/, or one that is named with its folder."""
+    return (TOP / (f"{name}.md" if "/" in name else f"docs/{name}.md")).read_text(encoding="utf-8")
 
 
 def version():
@@ -19,7 +20,7 @@ def section(heading, name="OPERATIONS"):
     """The text of a section."""
     found = re.search(rf"^##+ {re.escape(heading)}\n(.*?)(?=^##+ |\Z)", document(name), re.MULTILINE | re.DOTALL)
     if not found:
-        raise Failed(f"docs/{name}.md has no section {heading!r}")
+        raise Failed(f"{name}.md has no section {heading!r}")
     return found[1]
 
 

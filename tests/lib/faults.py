@@ -202,7 +202,7 @@ class Office:
         self.socket.unlink(missing_ok=True)
         self.clock.write_text(str(program.seconds_of(DAY_1)))
         env = environment(count=self.count, same=1, **told)
-        self.desk = program.Opened(["open", path, "--counter", "counter", "--unsigned", *words], cwd=t.room, clock=self.clock, faults=env)
+        self.desk = program.Opened(["open", path, "--control", "counter", "--unsigned", *words], cwd=t.room, clock=self.clock, faults=env)
 
     def ask(self, line):
         moment, line = line.split(" ", 1)

@@ -29,7 +29,7 @@ P256_KEY = (
 # The form of an ECDSA signature, r = s = 1 (RFC 5480 appendix A): no client verifies it.
 ANY_SIGNATURE = bytes.fromhex("3006020101020101")
 # What is said of the first CRL of a register that a digest seals.
-SEALED = b"warning: CRL 1 is sealed by a digest, which is no signature; to sign: --signer SOCKET --algorithm NAME\n"
+SEALED = b"warning: CRL 1 has a placeholder digest instead of a signature; to sign: --signer SOCKET --algorithm NAME\n"
 # How many times as long as usual all is waited for, on a slow machine or over a slow build.
 PATIENCE = float(os.environ.get("DESK_PATIENCE", "1"))
 

@@ -15,7 +15,7 @@ PACKAGES = {
     "debootstrap": "debootstrap", "dpkg-deb": "dpkg", "systemd-nspawn": "systemd-container", "sqlite3": "sqlite3",
     "java": "default-jre-headless", "javac": "default-jdk-headless", "ocsptool": "gnutls-bin", "certtool": "gnutls-bin", "certutil": "libnss3-tools", "vfychain": "libnss3-tools", "go": "golang-go",
     "mkfs.btrfs": "btrfs-progs", "setpriv": "util-linux", "softhsm2-util": "softhsm2", "pkcs11-tool": "opensc", "prometheus": "prometheus", "promtool": "prometheus",
-    "jq": "jq", "logrotate": "logrotate",
+    "jq": "jq", "logrotate": "logrotate", "clang": "clang", "valgrind": "valgrind", "make": "make",
 }
 
 
@@ -114,8 +114,8 @@ class Trial(contextlib.ExitStack):
     def open(self, file="ca.db", *words, command="open", **how):
         """Opens a register until the test ends. `desk open` wants a counter, which is `counter` where none is named, and a digest alone seals where no signer and no responder is."""
         how.setdefault("clock", self._clock)
-        if command == "open" and "--counter" not in words:
-            words = (*words, "--counter", "counter")
+        if command == "open" and not {"--control", "--counter"} & set(words):
+            words = (*words, "--control", "counter")
         if command == "open" and not {"--signer", "--responder", "--unsigned"} & set(words):
             words = (*words, "--unsigned")
         self.note(program.shown([command, file, *words]))

@@ -74,7 +74,7 @@ class Player:
         told = []
         self.clock.write_text(str(steps[0][1]))
         (self.room / "counter").unlink(missing_ok=True)
-        with program.Opened(["open", "ca.db", "--counter", "counter", "--unsigned"], cwd=self.room, clock=self.clock) as desk:
+        with program.Opened(["open", "ca.db", "--control", "counter", "--unsigned"], cwd=self.room, clock=self.clock) as desk:
             if not desk.listens:
                 return [ending(desk.wait())] + [None] * (len(steps) - 1)
             with program.Counter(self.room / "counter") as counter:

@@ -9,16 +9,16 @@ use Rattle.reg_store_tables.specs.Schema.{register_schema}
 use Rattle.reg_store_tables.specs.Stays.{Stays}
 use Rattle.reg_store_tables.specs.declared.fault.StoreFault.{StoreFault}
 use Rattle.reg_store_tables.specs.declared.fault.StoreFault.TheVariants as fault
-use Rattle.reg_audit_rows.specs.declared.verdict.Audited.{Audited}
-use Rattle.reg_audit_rows.specs.declared.verdict.Verdict.{Verdict}
-use Rattle.reg_audit_rows.specs.declared.verdict.Verdict.TheVariants as verdict
+use Rattle.reg_audit_rows.specs.declared.audit_result.Audited.{Audited}
+use Rattle.reg_audit_rows.specs.declared.audit_result.AuditResult.{AuditResult}
+use Rattle.reg_audit_rows.specs.declared.audit_result.AuditResult.TheVariants as audit_result
 use Rattle.reg_audit.specs.declared.fault.AuditFault.{AuditFault}
 use Rattle.reg_audit.specs.declared.fault.AuditFault.TheVariants as audit_fault
 use Rattle.reg_store_opening.specs.Examined.{SaysFound}
 use Rattle.reg_store_opening.specs.Said.{HasVersion, SaysNoRegister}
 use Rattle.reg_store_opening.specs.declared.opening.OlderOffice.{OlderOffice}
 use Rattle.reg_audit.specs.Judged.{IsJudged}
-use Rattle.reg_audit.specs.Verdicts.{TellsOf, verdict_of}
+use Rattle.reg_audit.specs.AuditResults.{TellsOf, audit_result_of}
 
 -- a fault of who looks at the version
 abbrev fails_by : StoreFault → Result (Option OlderOffice) StoreFault
@@ -31,7 +31,7 @@ stays_same s = record { was_open = λ clean up. up; now = λ clean up. inl refl;
 module _ {S : Type 0} (g : Ghosts S) (old new : Held S) (same : Stays (state g old) (state g new)) (idle : new.in_transaction ≡ false) where
   -- the look at the version fails
   pub failed_first :
-      (result : Result Verdict StoreFault) (why : StoreFault) → IsErrAnd result (λ told. told ≡ why)
+      (result : Result AuditResult StoreFault) (why : StoreFault) → IsErrAnd result (λ told. told ≡ why)
       → (HasCleanDisk (state g new) → fails_by why ≡ Err fault.NewVersion → (n : ℕ) × (3 < n) × HasVersion (state g old).now n)
       → (HasCleanDisk (state g new) → fails_by why ≡ Err fault.NotARegister → SaysNoRegister (state g old).now)
       → why ≢ fault.NotEmpty → IsJudged g old new result
@@ -51,7 +51,7 @@ module _ {S : Type 0} (g : Ghosts S) (old new : Held S) (same : Stays (state g o
   }
 
   -- the version is an older one
-  pub ended_older : (HasCleanDisk (state g new) → TellsOf verdict.Older (state g old).now) → IsJudged g old new (Ok verdict.Older)
+  pub ended_older : (HasCleanDisk (state g new) → TellsOf audit_result.Older (state g old).now) → IsJudged g old new (Ok audit_result.Older)
   ended_older tells = record {
     sound = λ records columns shows clean sound. absurd sound;
     shown = λ up presumed clean sound. absurd sound;
@@ -67,7 +67,7 @@ module _ {S : Type 0} (g : Ghosts S) (old new : Held S) (same : Stays (state g o
   }
 
   -- the schema is another
-  pub ended_other : (HasCleanDisk (state g new) → TellsOf verdict.OtherSchema (state g old).now) → IsJudged g old new (Ok verdict.OtherSchema)
+  pub ended_other : (HasCleanDisk (state g new) → TellsOf audit_result.OtherSchema (state g old).now) → IsJudged g old new (Ok audit_result.OtherSchema)
   ended_other tells = record {
     sound = λ records columns shows clean sound. absurd sound;
     shown = λ up presumed clean sound. absurd sound;
@@ -83,29 +83,29 @@ module _ {S : Type 0} (g : Ghosts S) (old new : Held S) (same : Stays (state g o
   }
 
 -- an older version that was found is told
-pub says_older : (db : Database) (found : Option OlderOffice) → is_some found ≡ true → SaysFound db found → TellsOf verdict.Older db
+pub says_older : (db : Database) (found : Option OlderOffice) → is_some found ≡ true → SaysFound db found → TellsOf audit_result.Older db
 says_older db None some says = absurd (let bad : ⊥ = cc in bad)
 says_older db (Some older) some says = (older, says)
 
 -- rows that were looked at are those of the program's version, in a register's tables
-told_of : (db : Database) (audited : Result Audited AuditFault) → SaysFound db None × (db.schema ≡ register_schema) → IfOk (verdict_of audited) (λ answer. TellsOf answer db)
+told_of : (db : Database) (audited : Result Audited AuditFault) → SaysFound db None × (db.schema ≡ register_schema) → IfOk (audit_result_of audited) (λ answer. TellsOf answer db)
 told_of db (Ok found) says = says
 told_of db (Err (audit_fault.Broken broken)) says = says
 told_of db (Err audit_fault.Memory) says = tt
 told_of db (Err audit_fault.Store) says = tt
 
-pub tells_said : (db : Database) (audited : Result Audited AuditFault) (result : Result Verdict StoreFault) → result ≡ verdict_of audited
+pub tells_said : (db : Database) (audited : Result Audited AuditFault) (result : Result AuditResult StoreFault) → result ≡ audit_result_of audited
     → SaysFound db None × (db.schema ≡ register_schema) → IfOk result (λ answer. TellsOf answer db)
-tells_said db audited result is says = subst (λ (r : Result Verdict StoreFault). IfOk r (λ answer. TellsOf answer db)) (sym is) (told_of db audited says)
+tells_said db audited result is says = subst (λ (r : Result AuditResult StoreFault). IfOk r (λ answer. TellsOf answer db)) (sym is) (told_of db audited says)
 
 -- who looks at rows has no fault of the version
-pub never_newer : {P : Type 0} (audited : Result Audited AuditFault) → verdict_of audited ≡ Err fault.NewVersion → P
+pub never_newer : {P : Type 0} (audited : Result Audited AuditFault) → audit_result_of audited ≡ Err fault.NewVersion → P
 never_newer (Ok found) e = absurd (let bad : ⊥ = cc in bad)
 never_newer (Err (audit_fault.Broken broken)) e = absurd (let bad : ⊥ = cc in bad)
 never_newer (Err audit_fault.Memory) e = absurd (let bad : ⊥ = cc in bad)
 never_newer (Err audit_fault.Store) e = absurd (let bad : ⊥ = cc in bad)
 
-pub never_none : {P : Type 0} (audited : Result Audited AuditFault) → verdict_of audited ≡ Err fault.NotARegister → P
+pub never_none : {P : Type 0} (audited : Result Audited AuditFault) → audit_result_of audited ≡ Err fault.NotARegister → P
 never_none (Ok found) e = absurd (let bad : ⊥ = cc in bad)
 never_none (Err (audit_fault.Broken broken)) e = absurd (let bad : ⊥ = cc in bad)
 never_none (Err audit_fault.Memory) e = absurd (let bad : ⊥ = cc in bad)

@@ -1,11 +1,11 @@
 -- How an audit ends that finds nothing well.
-use Rattle.std.specs.Prelude.{◌≢◌}
+use Rattle.std.specs.Prelude.{◌≢◌, Result, IfErr}
 use Rattle.reg_core.specs.Records.{Records}
 use Rattle.reg_core.specs.Sound.{Sound, SoundRows}
-use Rattle.reg_audit_rows.specs.declared.finding.BrokenRow.{BrokenRow as Row}
+use Rattle.reg_audit_rows.specs.declared.broken_row.BrokenRow.{BrokenRow as Row}
 use Rattle.reg_audit_rows.specs.declared.fault.CheckFault.{CheckFault}
 use Rattle.reg_audit_rows.specs.declared.fault.CheckFault.TheVariants as found
-use Rattle.reg_audit_rows.specs.declared.finding.Defect.TheVariants.{OtherBytes}
+use Rattle.reg_audit_rows.specs.declared.broken_row.Defect.TheVariants.{OtherBytes}
 use Rattle.reg_store_tables.specs.Columns.{Columns}
 use Rattle.reg_store_tables.specs.Kept.{Kept}
 use Rattle.reg_store_tables.specs.declared.fault.DatabaseFault.{DatabaseFault}
@@ -30,6 +30,10 @@ abbrev pub EndsAtBrokenRow : AuditFault → Type 0
 EndsAtBrokenRow Memory = ⊥
 EndsAtBrokenRow Store = ⊥
 EndsAtBrokenRow (Broken broken) = Unit {0}
+
+-- an audit that ends at a broken row refutes this
+abbrev pub NoBrokenRowIf : {T : Type 0} → Type 0 → Result T AuditFault → Type 0
+NoBrokenRowIf Holds result = IfErr result (λ fault. EndsAtBrokenRow fault → ¬ Holds)
 
 -- the row breaks a rule of the records, or of what is kept beside them: it is not told for its bytes
 abbrev pub IsBrokenRow : AuditFault → Type 0

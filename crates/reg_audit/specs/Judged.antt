@@ -15,23 +15,23 @@ use Rattle.reg_store_opening.specs.Said.{HasVersion, SaysNoRegister}
 use Rattle.reg_audit.specs.Complete.{ShowsSound}
 use Rattle.reg_audit.specs.Stored.{IsSomeCrl}
 use Rattle.reg_audit.specs.ReadableValues.{HasAllowedDays}
-use Rattle.reg_audit_rows.specs.declared.verdict.Verdict.{Verdict}
+use Rattle.reg_audit_rows.specs.declared.audit_result.AuditResult.{AuditResult}
 use Rattle.reg_audit.specs.Presumed.{IsPresumed}
-use Rattle.reg_audit.specs.Verdicts.{CountedBy, DeniedBy, IsSound, TellsOf}
+use Rattle.reg_audit.specs.AuditResults.{CountedBy, DeniedBy, IsSound, TellsOf}
 
 -- What is sound is so whatever records the tables show, and is shown where what is presumed holds; it is counted; what is broken shows no
 -- such records; what else is told is what the tables are. A fault is the version's, memory's or the database's. Nothing is changed.
-pub record IsJudged {S : Type 0} (g : Ghosts S) (old new : Held S) (result : Result Verdict StoreFault) : Type 0 where
+pub record IsJudged {S : Type 0} (g : Ghosts S) (old new : Held S) (result : Result AuditResult StoreFault) : Type 0 where
   pub sound : (records : Records) (columns : Columns) → ShowsBoth g old records columns → HasCleanDisk (state g new)
-      → IfOk result (λ verdict. IsSound verdict → Sound IsSomeCrl records × Kept columns records × HasAllowedDays columns)
+      → IfOk result (λ audit_result. IsSound audit_result → Sound IsSomeCrl records × Kept columns records × HasAllowedDays columns)
   pub shown : (HasCleanDisk (state g old) → IsTrue (state g old).is_open) → IsPresumed g old → HasCleanDisk (state g new)
-      → IfOk result (λ verdict. IsSound verdict → ShowsSound (state g old).now)
-  pub counted : (records : Records) (columns : Columns) → ShowsBoth g old records columns → HasCleanDisk (state g new) → IfOk result (λ verdict. CountedBy verdict records)
-  pub broken : (records : Records) (columns : Columns) → ShowsBoth g old records columns → HasCleanDisk (state g new) → IfOk result (λ verdict. DeniedBy verdict records columns)
-  pub tells : HasCleanDisk (state g new) → IfOk result (λ verdict. TellsOf verdict (state g old).now)
+      → IfOk result (λ audit_result. IsSound audit_result → ShowsSound (state g old).now)
+  pub counted : (records : Records) (columns : Columns) → ShowsBoth g old records columns → HasCleanDisk (state g new) → IfOk result (λ audit_result. CountedBy audit_result records)
+  pub broken : (records : Records) (columns : Columns) → ShowsBoth g old records columns → HasCleanDisk (state g new) → IfOk result (λ audit_result. DeniedBy audit_result records columns)
+  pub tells : HasCleanDisk (state g new) → IfOk result (λ audit_result. TellsOf audit_result (state g old).now)
   pub newer : HasCleanDisk (state g new) → result ≡ Err NewVersion → (n : ℕ) × (3 < n) × HasVersion (state g old).now n
   pub none : HasCleanDisk (state g new) → result ≡ Err NotARegister → SaysNoRegister (state g old).now
-  pub register : IfOk result (λ verdict. IsSound verdict → IsRegister (state g new))
+  pub register : IfOk result (λ audit_result. IsSound audit_result → IsRegister (state g new))
   pub same : Stays (state g old) (state g new)
   pub idle : new.in_transaction ≡ false
   pub faults : IfErr result (λ fault. fault ≢ NotEmpty)

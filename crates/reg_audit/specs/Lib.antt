@@ -2,10 +2,11 @@ pub mod ReadableValues
 pub mod Stored
 pub mod Faults
 pub mod ReadTexts
+pub mod ShownTables
 pub mod ShownRows
 pub mod Cells
 pub mod Complete
 pub mod Numbers
-pub mod Verdicts
+pub mod AuditResults
 pub mod Presumed
 pub mod Judged

@@ -1,7 +1,7 @@
 -- The numbers that an audit tells.
 use Rattle.std.specs.Prelude.{◌≡◌, length}
 use Rattle.reg_core.specs.Records.{Records}
-use Rattle.reg_audit_rows.specs.declared.verdict.Audited.{Audited}
+use Rattle.reg_audit_rows.specs.declared.audit_result.Audited.{Audited}
 
 -- the certificates, the revocations and the CRLs of the records were counted
 pub record AreNumbersOf (records : Records) (found : Audited) : Type 0 where

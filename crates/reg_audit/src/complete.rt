@@ -5,8 +5,6 @@ ghost use Rattle.std.specs.List.{AllByRecursion, AllZip};
 ghost use Rattle.sqlite.specs.Effect.{Database};
 ghost use Rattle.sqlite_value.specs.Order.{Row as Cells, column};
 ghost use Rattle.reg_core.specs.Policy.{IsPolicy};
-ghost use Rattle.reg_core.specs.Records.{Records};
-ghost use Rattle.reg_store_tables.specs.Columns.{Columns};
 ghost use Rattle.reg_store_tables.specs.ReadStatements.{shown_step};
 ghost use Rattle.reg_store_tables.specs.Rows.{number};
 ghost use Rattle.reg_audit.specs.Cells.{CountedFrom, HasCells, IsOfSomeRecord};
@@ -14,6 +12,7 @@ ghost use Rattle.reg_audit.specs.Complete.{AreTables, AreCounts, AreOffice, IsTe
 ghost use Rattle.reg_audit.specs.ReadTexts.{AreRead, AreReadFrom, IsReadFrom, read_besides, whole};
 ghost use Rattle.reg_audit.specs.Faults.{EndsAtBrokenRow};
 ghost use Rattle.reg_audit.specs.declared.sql.What.TheVariants.{Counts as OfCounts, CountsRowid, Terms as OfTerms, Steps};
+ghost use Rattle.reg_audit.specs.ShownTables.{OnEachRead};
 
 use crate::fault::{AuditFault, broken_at};
 use crate::read_rows::rows_at;
@@ -112,7 +111,8 @@ fn check_table<T: ShownRow>(
 
 /// The one row of kept is that of counts.
 fn check_counts(rows: &[Row], rowids: &[Row]) -> Result<(), AuditFault>
-    ensures hold { (db : Database) → AreTables db → IsReadFrom db OfCounts rows.now → IsReadFrom db CountsRowid rowids.now → OnOk result (AreCounts (db.trees 14)) }
+    ensures hold { (db : Database) → AreTables db → IsReadFrom db OfCounts rows.now
+        → IsReadFrom db CountsRowid rowids.now → OnOk result (AreCounts (db.trees 14)) }
     ensures broken { IfErr result (λ fault. ¬ EndsAtBrokenRow fault) }
 {
     let [rowid] = rowids else {
@@ -180,7 +180,8 @@ fn check_policy(steps: &[(Moment, u64)], terms: Terms) -> Result<(), AuditFault>
 }
 
 fn check_office(alloc: Global, office: &[Row], steps: &[Row]) -> Result<(), AuditFault>
-    ensures hold { (db : Database) → AreTables db → IsReadFrom db OfTerms office.now → IsReadFrom db Steps steps.now → OnOk result (AreOffice db.trees) }
+    ensures hold { (db : Database) → AreTables db → IsReadFrom db OfTerms office.now
+        → IsReadFrom db Steps steps.now → OnOk result (AreOffice db.trees) }
     ensures broken { IfErr result (λ fault. ¬ EndsAtBrokenRow fault) }
 {
     let steps = steps_in(alloc, steps)?;
@@ -191,15 +192,16 @@ fn check_office(alloc: Global, office: &[Row], steps: &[Row]) -> Result<(), Audi
 }
 
 /// Whether the rows of all tables are those of records, and those of columns beside them: what was read of the tables, in the
-/// order of [`crate::auditing::WHOLE`], and then in that of [`BESIDE`].
+/// order of [`crate::whole_audit::WHOLE`], and then in that of [`BESIDE`].
 pub(crate) fn check_complete(
     alloc: Global,
     all: &[Vec<Row>],
     more: &[Vec<Row>],
 ) -> Result<(), AuditFault>
-    ensures shown { (db : Database) → AreTables db → AreReadFrom db whole all.now (λ rows. rows.items) → AreReadFrom db read_besides more.now (λ rows. rows.items) → OnOk result (ShowSome db) }
-    ensures broken { (records : Records) → (columns : Columns) → AreRead records columns whole all.now (λ rows. rows.items) → AreRead records columns read_besides more.now (λ rows. rows.items)
-        → IfErr result (λ fault. ¬ EndsAtBrokenRow fault) }
+    ensures shown { (db : Database) → AreTables db → AreReadFrom db whole all.now (λ rows. rows.items)
+        → AreReadFrom db read_besides more.now (λ rows. rows.items) → OnOk result (ShowSome db) }
+    ensures broken { OnEachRead whole all.now (λ rows. rows.items)
+        (λ records columns. AreRead records columns read_besides more.now (λ rows. rows.items) → IfErr result (λ fault. ¬ EndsAtBrokenRow fault)) }
 {
     check_office(alloc, rows_at(more, 5), rows_at(more, 6))?;
     check_keyed::<SubscriberRow>(RegisterTable::Subscriber, rows_at(all, 1))?;

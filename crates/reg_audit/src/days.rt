@@ -1,12 +1,11 @@
-ghost use Rattle.std.specs.Prelude.{◌≡◌, ◌↔◌, ℕ, IfErr, IsTrue, OnOk};
+ghost use Rattle.std.specs.Prelude.{◌≡◌, ℕ, IsTrue, OnOk};
 ghost use Rattle.sqlite_value.specs.Order.{column};
-ghost use Rattle.reg_core.specs.Records.{Records};
 ghost use Rattle.reg_core.specs.Schedule.{IsDays};
-ghost use Rattle.reg_store_tables.specs.Columns.{Columns};
 ghost use Rattle.reg_store_tables.specs.Rows.{number};
-ghost use Rattle.reg_audit.specs.ReadTexts.{AreRead, read_besides};
-ghost use Rattle.reg_audit.specs.Faults.{EndsAtBrokenRow};
+ghost use Rattle.reg_audit.specs.ReadTexts.{read_besides};
+ghost use Rattle.reg_audit.specs.Faults.{NoBrokenRowIf};
 ghost use Rattle.reg_audit.specs.ReadableValues.{HasAllowedDays};
+ghost use Rattle.reg_audit.specs.ShownTables.{OnEachRead};
 
 use crate::fault::{AuditFault, broken_at};
 use crate::read_rows::rows_at;
@@ -28,9 +27,10 @@ fn are_allowed(row: &Row) -> bool
 /// The days that the office was made with are some that a schedule can allow. The rows are those that were read besides, in the
 /// order of [`crate::complete::BESIDE`].
 pub(crate) fn check_days(more: &[Vec<Row>]) -> Result<(), AuditFault>
-    ensures allowed { (records : Records) → (columns : Columns) → AreRead records columns read_besides more.now (λ rows. rows.items) → OnOk result (HasAllowedDays columns) }
-    ensures broken { (records : Records) → (columns : Columns) → AreRead records columns read_besides more.now (λ rows. rows.items)
-        → IfErr result (λ fault. EndsAtBrokenRow fault → ¬ HasAllowedDays columns) }
+    ensures allowed { OnEachRead read_besides more.now (λ rows. rows.items)
+        (λ records columns. OnOk result (HasAllowedDays columns)) }
+    ensures broken { OnEachRead read_besides more.now (λ rows. rows.items)
+        (λ records columns. NoBrokenRowIf (HasAllowedDays columns) result) }
 {
     let [office] = rows_at(more, 5) else {
         return Err(AuditFault::Store);

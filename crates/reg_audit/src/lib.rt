@@ -1,21 +1,21 @@
 //! A register's tables, read whole and audited.
 #![tactic(auto)]
 
-mod auditing;
+mod audit_result;
 mod complete;
 mod days;
 mod fault;
+mod observer;
 mod read_rows;
 mod sql;
 mod sql_values;
 mod stored;
 mod tables;
 mod typed;
-mod verdict;
-mod watch;
+mod whole_audit;
 mod whole_tables;
 
-pub use auditing::audit;
+pub use audit_result::judge;
 pub use fault::AuditFault;
-pub use verdict::judge;
-pub use watch::{Unwatched, Watch};
+pub use observer::{NoProgress, ProgressObserver};
+pub use whole_audit::audit;

@@ -1,6 +1,6 @@
 //! Whether what was read of the tables is a register.
 
-ghost use Rattle.std.specs.Prelude.{◌≡◌, ◌<◌, List, get_or, length, IfOk, IfErr};
+ghost use Rattle.std.specs.Prelude.{◌<◌, List, get_or, length, IfOk};
 ghost use Rattle.sqlite.specs.Effect.{Database};
 ghost use Rattle.reg_core.specs.Records.{Records};
 ghost use Rattle.reg_core.specs.Sound.{SoundRows};
@@ -8,8 +8,9 @@ ghost use Rattle.reg_store_tables.specs.Columns.{Columns};
 ghost use Rattle.reg_store_tables.specs.Kept.{Kept};
 ghost use Rattle.reg_audit.specs.Numbers.{AreNumbersOf};
 ghost use Rattle.reg_audit.specs.ReadTexts.{IsReadOf, IsReadFrom, AreRead, AreReadFrom, whole};
-ghost use Rattle.reg_audit.specs.Faults.{EndsAtBrokenRow};
+ghost use Rattle.reg_audit.specs.Faults.{NoBrokenRowIf};
 ghost use Rattle.reg_audit.specs.ReadableValues.{HasValues};
+ghost use Rattle.reg_audit.specs.ShownTables.{OnEachRead};
 
 use crate::fault::AuditFault;
 use crate::sql::What;
@@ -22,10 +23,12 @@ use sqlite::Row;
 use std::alloc::Global;
 
 pub(crate) fn rows_at(all: &[Vec<Row>], place: usize) -> &[Row]
-    ensures read { (records : Records) → (columns : Columns) → (whats : List What) → (other : What) → AreRead records columns whats all.now (λ rows. rows.items)
-        → place < length whats → IsReadOf records columns (get_or whats place other) result.now }
-    ensures from { (db : Database) → (whats : List What) → (other : What) → AreReadFrom db whats all.now (λ rows. rows.items)
-        → place < length whats → IsReadFrom db (get_or whats place other) result.now }
+    ensures read { (records : Records) → (columns : Columns) → (whats : List What) → (other : What)
+        → AreRead records columns whats all.now (λ rows. rows.items) → place < length whats
+        → IsReadOf records columns (get_or whats place other) result.now }
+    ensures from { (db : Database) → (whats : List What) → (other : What)
+        → AreReadFrom db whats all.now (λ rows. rows.items) → place < length whats
+        → IsReadFrom db (get_or whats place other) result.now }
 {
     match all.get(place) {
         Some(rows) => rows.as_slice(),
@@ -33,12 +36,14 @@ pub(crate) fn rows_at(all: &[Vec<Row>], place: usize) -> &[Row]
     }
 }
 
-/// Whether the rows are those of a register, in the order of [`crate::auditing::WHOLE`].
+/// Whether the rows are those of a register, in the order of [`crate::whole_audit::WHOLE`].
 pub(crate) fn check_read(alloc: Global, all: &[Vec<Row>]) -> Result<Audited, AuditFault>
-    ensures sound { (records : Records) → (columns : Columns) → AreRead records columns whole all.now (λ rows. rows.items) → IfOk result (λ _. SoundRows records × Kept columns records) }
-    ensures counted { (records : Records) → (columns : Columns) → AreRead records columns whole all.now (λ rows. rows.items) → IfOk result (AreNumbersOf records) }
-    ensures broken { (records : Records) → (columns : Columns) → AreRead records columns whole all.now (λ rows. rows.items)
-        → IfErr result (λ fault. EndsAtBrokenRow fault → ¬ (HasValues records × SoundRows records × Kept columns records)) }
+    ensures sound { OnEachRead whole all.now (λ rows. rows.items)
+        (λ records columns. IfOk result (λ _. SoundRows records × Kept columns records)) }
+    ensures counted { OnEachRead whole all.now (λ rows. rows.items)
+        (λ records columns. IfOk result (AreNumbersOf records)) }
+    ensures broken { OnEachRead whole all.now (λ rows. rows.items)
+        (λ records columns. NoBrokenRowIf (HasValues records × SoundRows records × Kept columns records) result) }
 {
     let office = office(rows_at(all, 0))?;
     let subscribers = subscribers(alloc, rows_at(all, 1))?;

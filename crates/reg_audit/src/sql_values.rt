@@ -9,7 +9,8 @@ use sqlite::Row;
 use sqlite::types::ValueRef;
 
 pub(crate) fn letter_at(row: &Row, at: usize) -> Option<Letter>
-    ensures read { (letter : Letter) → column row.now at ≡ Text (letter_text (letter_in letter)) → result ≡ Some letter }
+    ensures read { (letter : Letter) → column row.now at ≡ Text (letter_text (letter_in letter))
+        → result ≡ Some letter }
     ensures told { IfSome result (λ letter. column row.now at ≡ Text (letter_text (letter_in letter))) }
 {
     match row.get_ref(at) {

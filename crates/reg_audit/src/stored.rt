@@ -7,7 +7,7 @@ ghost use Rattle.sqlite.specs.State.{HasCleanDisk};
 ghost use Rattle.reg_core.specs.Calendar.{clock_end};
 ghost use Rattle.reg_core.specs.Crls.{CertList, cert_list};
 ghost use Rattle.reg_core.specs.Records.{Records};
-ghost use Rattle.reg_core.specs.Sound.{CrlsSigned, KeysDiffer, SoundRows};
+ghost use Rattle.reg_core.specs.Sound.{CrlsSigned, SoundRows};
 ghost use Rattle.reg_crl.specs.Signing.{IsAlgorithm};
 ghost use Rattle.reg_der.specs.Der.{IsTlv};
 ghost use Rattle.reg_der.specs.ValueReading.{Gives};
@@ -17,14 +17,15 @@ ghost use Rattle.reg_store_tables.specs.Shows.{Shows, ShowsBoth};
 ghost use Rattle.reg_store_tables.specs.Stays.{Looked};
 ghost use Rattle.reg_audit_rows.specs.Crls.{Lists};
 ghost use Rattle.reg_audit.specs.ReadTexts.{AreRead, whole};
-ghost use Rattle.reg_audit.specs.Faults.{EndsAtBrokenRow, IsBrokenRow};
+ghost use Rattle.reg_audit.specs.Faults.{IsBrokenRow, NoBrokenRowIf};
 ghost use Rattle.reg_audit.specs.Stored.{CanList, IsSomeCrl, IsStored, behind_signed};
 ghost use Rattle.reg_audit.specs.ReadableValues.{HasValues};
+ghost use Rattle.reg_audit.specs.ShownTables.{OnEachRead};
 
 use crate::fault::AuditFault;
+use crate::observer::ProgressObserver;
 use crate::read_rows::rows_at;
 use crate::tables::{crls, listings};
-use crate::watch::Watch;
 use reg_audit_rows::{BrokenRow, CheckFault, Defect, Listed, RegisterTable, check_crl};
 use reg_core::{CrlRow, Moment};
 use reg_der::{Issuer, Tlv, take};
@@ -61,8 +62,10 @@ fn value_behind_signed(crl: &[u8]) -> Option<Tlv<'_>>
 }
 
 fn as_algorithm(value: Tlv<'_>) -> Option<&[u8]>
-    ensures found { IsTlv value.entry.raw.now value.entry.tag value.entry.contents.now → IfSome result (λ found. IsAlgorithm found.now) }
-    ensures one { value.entry.tag ≡ 48 → length value.entry.raw.now ≤ 1024 → IsSomeAnd result (λ found. found.now ≡ value.entry.raw.now) }
+    ensures found { IsTlv value.entry.raw.now value.entry.tag value.entry.contents.now
+        → IfSome result (λ found. IsAlgorithm found.now) }
+    ensures one { value.entry.tag ≡ 48 → length value.entry.raw.now ≤ 1024
+        → IsSomeAnd result (λ found. found.now ≡ value.entry.raw.now) }
 {
     if value.tag == SEQUENCE && value.raw.len() <= MOST_ALGORITHM {
         Some(value.raw)
@@ -74,7 +77,8 @@ fn as_algorithm(value: Tlv<'_>) -> Option<&[u8]>
 /// The AlgorithmIdentifier before the signature of a CRL (RFC 5280 5.1.1.2), where one stands there.
 fn algorithm_in(crl: &[u8]) -> Option<&[u8]>
     ensures found { IfSome result (λ found. IsAlgorithm found.now) }
-    ensures one { (list : CertList) → (is : IsSomeCrl list crl.now) → IsSomeAnd result (λ found. found.now ≡ is.algorithm) }
+    ensures one { (list : CertList) → (is : IsSomeCrl list crl.now)
+        → IsSomeAnd result (λ found. found.now ≡ is.algorithm) }
 {
     match value_behind_signed(crl) {
         Some(value) => as_algorithm(value),
@@ -92,9 +96,11 @@ fn check_bytes(
     bytes: &[u8],
 ) -> Result<(), AuditFault>
     requires { crl_life ≤ 863999 }
-    ensures bytes { (records : Records) → Lists issuer.now crl_life listed.now records → OnOk result (IsSomeCrl (cert_list records crl.now.number crl.now.this_update) bytes.now) }
-    ensures others { (records : Records) → Lists issuer.now crl_life listed.now records → CanList listed.now → crl.now.this_update < clock_end
-        → IfErr result (λ fault. EndsAtBrokenRow fault → ¬ IsSomeCrl (cert_list records crl.now.number crl.now.this_update) bytes.now) }
+    ensures bytes { (records : Records) → Lists issuer.now crl_life listed.now records
+        → OnOk result (IsSomeCrl (cert_list records crl.now.number crl.now.this_update) bytes.now) }
+    ensures others { (records : Records) → Lists issuer.now crl_life listed.now records → CanList listed.now
+        → crl.now.this_update < clock_end
+        → NoBrokenRowIf (IsSomeCrl (cert_list records crl.now.number crl.now.this_update) bytes.now) result }
     ensures rows { IfErr result (λ fault. ¬ IsBrokenRow fault) }
 {
     if bytes.len() > MOST_CRL {
@@ -126,9 +132,13 @@ fn check_stored<S: Alter>(
     crl: &CrlRow,
 ) -> Result<(), AuditFault>
     requires { crl_life ≤ 863999 }
-    ensures bytes { (records : Records) → Shows S.Store conn.old records → Lists issuer.now crl_life listed.now records → HasCleanDisk (state S.Store conn.new) → OnOk result (IsStored records crl.now) }
-    ensures others { (records : Records) → Shows S.Store conn.old records → Lists issuer.now crl_life listed.now records → CanList listed.now → crl.now.this_update < clock_end
-        → HasCleanDisk (state S.Store conn.new) → IfErr result (λ fault. EndsAtBrokenRow fault → ¬ IsStored records crl.now) }
+    ensures bytes { (records : Records) → Shows S.Store conn.old records
+        → Lists issuer.now crl_life listed.now records → HasCleanDisk (state S.Store conn.new)
+        → OnOk result (IsStored records crl.now) }
+    ensures others { (records : Records) → Shows S.Store conn.old records
+        → Lists issuer.now crl_life listed.now records → CanList listed.now
+        → crl.now.this_update < clock_end → HasCleanDisk (state S.Store conn.new)
+        → NoBrokenRowIf (IsStored records crl.now) result }
     ensures rows { IfErr result (λ fault. ¬ IsBrokenRow fault) }
     ensures looked { Looked S.Store conn.old conn.new }
 {
@@ -139,32 +149,39 @@ fn check_stored<S: Alter>(
 }
 
 /// The same of each CRL. The bytes of one are held at a time.
-fn check_each<S: Alter, W: Watch>(
+fn check_each<S: Alter, W: ProgressObserver>(
     alloc: Global,
     conn: &mut Connection<S>,
     issuer: &Issuer,
     crl_life: u64,
     listed: &[Listed],
     crls: &[CrlRow],
-    watch: &mut W,
+    observer: &mut W,
 ) -> Result<(), AuditFault>
     requires { crl_life ≤ 863999 }
-    ensures bytes { (records : Records) → Shows S.Store conn.old records → Lists issuer.now crl_life listed.now records → HasCleanDisk (state S.Store conn.new) → OnOk result (AllByRecursion (IsStored records) crls.now) }
-    ensures others { (records : Records) → Shows S.Store conn.old records → Lists issuer.now crl_life listed.now records → CanList listed.now → AllByRecursion (λ crl. crl.this_update < clock_end) crls.now
-        → HasCleanDisk (state S.Store conn.new) → IfErr result (λ fault. EndsAtBrokenRow fault → ¬ AllByRecursion (IsStored records) crls.now) }
+    ensures bytes { (records : Records) → Shows S.Store conn.old records
+        → Lists issuer.now crl_life listed.now records → HasCleanDisk (state S.Store conn.new)
+        → OnOk result (AllByRecursion (IsStored records) crls.now) }
+    ensures others { (records : Records) → Shows S.Store conn.old records
+        → Lists issuer.now crl_life listed.now records → CanList listed.now
+        → AllByRecursion (λ crl. crl.this_update < clock_end) crls.now
+        → HasCleanDisk (state S.Store conn.new)
+        → NoBrokenRowIf (AllByRecursion (IsStored records) crls.now) result }
     ensures rows { IfErr result (λ fault. ¬ IsBrokenRow fault) }
     ensures looked { Looked S.Store conn.old conn.new }
 {
     for crl in crls {
         check_stored(alloc, conn, issuer, crl_life, listed, crl)?;
-        watch.crl_compared();
+        observer.crl_compared();
     }
     Ok(())
 }
 
 /// What a CRL has beside what it lists: the issuer, and the seconds from its thisUpdate to its nextUpdate.
 fn terms<S: Alter>(conn: &mut Connection<S>) -> Result<(Issuer, u64), DatabaseFault>
-    ensures found { (records : Records) → Shows S.Store conn.old records → HasCleanDisk (state S.Store conn.new) → IfOk result (λ it. (it.0 ≡ records.issuer) × (it.1 ≡ records.policy.crl_life)) }
+    ensures found { (records : Records) → Shows S.Store conn.old records
+        → HasCleanDisk (state S.Store conn.new)
+        → IfOk result (λ it. (it.0 ≡ records.issuer) × (it.1 ≡ records.policy.crl_life)) }
     ensures short { IfOk result (λ it. it.1 ≤ 863999) }
     ensures looked { Looked S.Store conn.old conn.new }
 {
@@ -174,22 +191,26 @@ fn terms<S: Alter>(conn: &mut Connection<S>) -> Result<(Issuer, u64), DatabaseFa
 }
 
 /// The stored bytes of each CRL are those of what the records list in it, under some algorithm and whatever signature. The
-/// rows are those that were read of the tables, in the order of [`crate::auditing::WHOLE`]. It is told how many were compared.
-pub(crate) fn check_crls<S: Alter, W: Watch>(
+/// rows are those that were read of the tables, in the order of [`crate::whole_audit::WHOLE`]. It is told how many were compared.
+pub(crate) fn check_crls<S: Alter, W: ProgressObserver>(
     alloc: Global,
     conn: &mut Connection<S>,
     all: &[Vec<Row>],
-    watch: &mut W,
+    observer: &mut W,
 ) -> Result<(), AuditFault>
-    ensures bytes { (records : Records) → (columns : Columns) → ShowsBoth S.Store conn.old records columns → AreRead records columns whole all.now (λ rows. rows.items) → Kept columns records → HasCleanDisk (state S.Store conn.new)
-        → OnOk result (CrlsSigned IsSomeCrl records) }
-    ensures others { (records : Records) → (columns : Columns) → ShowsBoth S.Store conn.old records columns → AreRead records columns whole all.now (λ rows. rows.items) → HasValues records → SoundRows records → Kept columns records
-        → HasCleanDisk (state S.Store conn.new) → IfErr result (λ fault. EndsAtBrokenRow fault → ¬ CrlsSigned IsSomeCrl records) }
-    ensures rows { (records : Records) → (columns : Columns) → AreRead records columns whole all.now (λ rows. rows.items) → HasValues records → SoundRows records → Kept columns records → IfErr result (λ fault. ¬ IsBrokenRow fault) }
+    ensures bytes { (records : Records) → (columns : Columns) → ShowsBoth S.Store conn.old records columns
+        → AreRead records columns whole all.now (λ rows. rows.items) → Kept columns records
+        → HasCleanDisk (state S.Store conn.new) → OnOk result (CrlsSigned IsSomeCrl records) }
+    ensures others { (records : Records) → (columns : Columns) → ShowsBoth S.Store conn.old records columns
+        → AreRead records columns whole all.now (λ rows. rows.items) → HasValues records → SoundRows records
+        → Kept columns records → HasCleanDisk (state S.Store conn.new)
+        → NoBrokenRowIf (CrlsSigned IsSomeCrl records) result }
+    ensures rows { OnEachRead whole all.now (λ rows. rows.items)
+        (λ records columns. HasValues records → SoundRows records → Kept columns records → IfErr result (λ fault. ¬ IsBrokenRow fault)) }
     ensures looked { Looked S.Store conn.old conn.new }
 {
     let crls = crls(alloc, rows_at(all, 6))?;
     let listed = listings(alloc, rows_at(all, 9))?;
     let (issuer, crl_life) = terms(conn)?;
-    check_each(alloc, conn, &issuer, crl_life, &listed, &crls, watch)
+    check_each(alloc, conn, &issuer, crl_life, &listed, &crls, observer)
 }

@@ -1,14 +1,10 @@
 //! The rows of each table, as what the records and what is kept beside them have.
 
-ghost use Rattle.std.specs.Prelude.{◌≡◌, map, IfOk, IfErr};
+ghost use Rattle.std.specs.Prelude.{◌≡◌, map, IfOk};
 ghost use Rattle.reg_core.specs.Crls.{row_of};
-ghost use Rattle.reg_core.specs.Records.{Records};
-ghost use Rattle.reg_store_tables.specs.Columns.{Columns};
 ghost use Rattle.reg_audit_rows.specs.KeptAsRead.{standing_in, listed_in};
-ghost use Rattle.reg_audit.specs.ReadTexts.{IsReadOf};
-ghost use Rattle.reg_audit.specs.Faults.{EndsAtBrokenRow};
-ghost use Rattle.reg_audit.specs.ReadableValues.{AreReadable};
 ghost use Rattle.reg_audit.specs.declared.sql.What.TheVariants.{Office as OfOffice, Subscribers, Orders, Certificates, Requests, Revocations, Crls, Standings, Counts as OfCounts, Listings};
+ghost use Rattle.reg_audit.specs.ShownTables.{OnRead, AreReadIfReadable};
 
 use crate::fault::AuditFault;
 use crate::typed::{ListedRows, OfficeRow, StandingRows, only, typed};
@@ -18,72 +14,81 @@ use sqlite::Row;
 use std::alloc::Global;
 
 pub(crate) fn office(rows: &[Row]) -> Result<OfficeRow, AuditFault>
-    ensures read { (records : Records) → (columns : Columns) → IsReadOf records columns OfOffice rows.now
-        → IfOk result (λ found. (found.cap ≡ records.policy.cap) × (found.last ≡ records.last)) }
-    ensures has { (records : Records) → (columns : Columns) → IsReadOf records columns OfOffice rows.now → AreReadable records columns → IfErr result (λ fault. ¬ EndsAtBrokenRow fault) }
+    ensures read { OnRead OfOffice rows.now
+        (λ records columns. IfOk result (λ found. (found.cap ≡ records.policy.cap) × (found.last ≡ records.last))) }
+    ensures has { AreReadIfReadable OfOffice rows.now result }
 {
     only::<OfficeRow>(RegisterTable::Office, rows)
 }
 
 pub(crate) fn subscribers(alloc: Global, rows: &[Row]) -> Result<Vec<SubscriberRow>, AuditFault>
-    ensures read { (records : Records) → (columns : Columns) → IsReadOf records columns Subscribers rows.now → IfOk result (λ found. found.items ≡ records.subscribers) }
-    ensures has { (records : Records) → (columns : Columns) → IsReadOf records columns Subscribers rows.now → AreReadable records columns → IfErr result (λ fault. ¬ EndsAtBrokenRow fault) }
+    ensures read { OnRead Subscribers rows.now
+        (λ records columns. IfOk result (λ found. found.items ≡ records.subscribers)) }
+    ensures has { AreReadIfReadable Subscribers rows.now result }
 {
     typed::<SubscriberRow>(alloc, RegisterTable::Subscriber, rows)
 }
 
 pub(crate) fn orders(alloc: Global, rows: &[Row]) -> Result<Vec<OrderRow>, AuditFault>
-    ensures read { (records : Records) → (columns : Columns) → IsReadOf records columns Orders rows.now → IfOk result (λ found. found.items ≡ records.orders) }
-    ensures has { (records : Records) → (columns : Columns) → IsReadOf records columns Orders rows.now → AreReadable records columns → IfErr result (λ fault. ¬ EndsAtBrokenRow fault) }
+    ensures read { OnRead Orders rows.now
+        (λ records columns. IfOk result (λ found. found.items ≡ records.orders)) }
+    ensures has { AreReadIfReadable Orders rows.now result }
 {
     typed::<OrderRow>(alloc, RegisterTable::Orders, rows)
 }
 
 pub(crate) fn certificates(alloc: Global, rows: &[Row]) -> Result<Vec<CertRow>, AuditFault>
-    ensures read { (records : Records) → (columns : Columns) → IsReadOf records columns Certificates rows.now → IfOk result (λ found. found.items ≡ records.certificates) }
-    ensures has { (records : Records) → (columns : Columns) → IsReadOf records columns Certificates rows.now → AreReadable records columns → IfErr result (λ fault. ¬ EndsAtBrokenRow fault) }
+    ensures read { OnRead Certificates rows.now
+        (λ records columns. IfOk result (λ found. found.items ≡ records.certificates)) }
+    ensures has { AreReadIfReadable Certificates rows.now result }
 {
     typed::<CertRow>(alloc, RegisterTable::Cert, rows)
 }
 
 pub(crate) fn requests(alloc: Global, rows: &[Row]) -> Result<Vec<RequestRow>, AuditFault>
-    ensures read { (records : Records) → (columns : Columns) → IsReadOf records columns Requests rows.now → IfOk result (λ found. found.items ≡ records.requests) }
-    ensures has { (records : Records) → (columns : Columns) → IsReadOf records columns Requests rows.now → AreReadable records columns → IfErr result (λ fault. ¬ EndsAtBrokenRow fault) }
+    ensures read { OnRead Requests rows.now
+        (λ records columns. IfOk result (λ found. found.items ≡ records.requests)) }
+    ensures has { AreReadIfReadable Requests rows.now result }
 {
     typed::<RequestRow>(alloc, RegisterTable::Request, rows)
 }
 
 pub(crate) fn revocations(alloc: Global, rows: &[Row]) -> Result<Vec<RevocationRow>, AuditFault>
-    ensures read { (records : Records) → (columns : Columns) → IsReadOf records columns Revocations rows.now → IfOk result (λ found. found.items ≡ records.revocations) }
-    ensures has { (records : Records) → (columns : Columns) → IsReadOf records columns Revocations rows.now → AreReadable records columns → IfErr result (λ fault. ¬ EndsAtBrokenRow fault) }
+    ensures read { OnRead Revocations rows.now
+        (λ records columns. IfOk result (λ found. found.items ≡ records.revocations)) }
+    ensures has { AreReadIfReadable Revocations rows.now result }
 {
     typed::<RevocationRow>(alloc, RegisterTable::Revocation, rows)
 }
 
 pub(crate) fn crls(alloc: Global, rows: &[Row]) -> Result<Vec<CrlRow>, AuditFault>
-    ensures read { (records : Records) → (columns : Columns) → IsReadOf records columns Crls rows.now → IfOk result (λ found. found.items ≡ map row_of records.crls) }
-    ensures has { (records : Records) → (columns : Columns) → IsReadOf records columns Crls rows.now → AreReadable records columns → IfErr result (λ fault. ¬ EndsAtBrokenRow fault) }
+    ensures read { OnRead Crls rows.now
+        (λ records columns. IfOk result (λ found. found.items ≡ map row_of records.crls)) }
+    ensures has { AreReadIfReadable Crls rows.now result }
 {
     typed::<CrlRow>(alloc, RegisterTable::Crl, rows)
 }
 
 pub(crate) fn letters(alloc: Global, rows: &[Row]) -> Result<Vec<Standing>, AuditFault>
-    ensures read { (records : Records) → (columns : Columns) → IsReadOf records columns Standings rows.now → IfOk result (λ found. map standing_in found.items ≡ columns.letters) }
-    ensures has { (records : Records) → (columns : Columns) → IsReadOf records columns Standings rows.now → AreReadable records columns → IfErr result (λ fault. ¬ EndsAtBrokenRow fault) }
+    ensures read { OnRead Standings rows.now
+        (λ records columns. IfOk result (λ found. map standing_in found.items ≡ columns.letters)) }
+    ensures has { AreReadIfReadable Standings rows.now result }
 {
     typed::<StandingRows>(alloc, RegisterTable::Standing, rows)
 }
 
 pub(crate) fn counts(rows: &[Row]) -> Result<Counts, AuditFault>
-    ensures read { (records : Records) → (columns : Columns) → IsReadOf records columns OfCounts rows.now → IfOk result (λ found. found ≡ columns.counts) }
-    ensures has { (records : Records) → (columns : Columns) → IsReadOf records columns OfCounts rows.now → AreReadable records columns → IfErr result (λ fault. ¬ EndsAtBrokenRow fault) }
+    ensures read { OnRead OfCounts rows.now
+        (λ records columns. IfOk result (λ found. found ≡ columns.counts)) }
+    ensures has { AreReadIfReadable OfCounts rows.now result }
 {
     only::<Counts>(RegisterTable::Kept, rows)
 }
 
 pub(crate) fn listings(alloc: Global, rows: &[Row]) -> Result<Vec<Listed>, AuditFault>
-    ensures read { (records : Records) → (columns : Columns) → IsReadOf records columns Listings rows.now → IfOk result (λ found. map listed_in found.items ≡ columns.listed) }
-    ensures has { (records : Records) → (columns : Columns) → IsReadOf records columns Listings rows.now → AreReadable records columns → IfErr result (λ fault. ¬ EndsAtBrokenRow fault) }
+    ensures read { OnRead Listings rows.now
+        (λ records columns. IfOk result (λ found. map listed_in found.items ≡ columns.listed)) }
+    ensures has { AreReadIfReadable Listings rows.now result }
 {
     typed::<ListedRows>(alloc, RegisterTable::Listed, rows)
 }

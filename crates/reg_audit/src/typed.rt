@@ -101,8 +101,11 @@ pub(crate) fn typed<T: ShownRow>(
     table: RegisterTable,
     rows: &[Row],
 ) -> Result<Vec<T::Record>, AuditFault>
-    ensures read { (shown : List T.Record) → AllByRecursion T.is_keyed shown → rows.now ≡ map T.shown shown → IfOk result (λ read. read.items ≡ shown) }
-    ensures has { (shown : List T.Record) → AllByRecursion T.is_keyed shown → AllByRecursion T.has_values shown → rows.now ≡ map T.shown shown → IfErr result (λ fault. ¬ EndsAtBrokenRow fault) }
+    ensures read { (shown : List T.Record) → AllByRecursion T.is_keyed shown → rows.now ≡ map T.shown shown
+        → IfOk result (λ read. read.items ≡ shown) }
+    ensures has { (shown : List T.Record) → AllByRecursion T.is_keyed shown
+        → AllByRecursion T.has_values shown → rows.now ≡ map T.shown shown
+        → IfErr result (λ fault. ¬ EndsAtBrokenRow fault) }
 {
     match rows_in::<T>(alloc, rows) {
         Ok(found) => Ok(found),
@@ -113,8 +116,10 @@ pub(crate) fn typed<T: ShownRow>(
 
 /// What the one row of a table shows.
 pub(crate) fn only<T: ShownRow>(table: RegisterTable, rows: &[Row]) -> Result<T::Record, AuditFault>
-    ensures read { (it : T.Record) → T.is_keyed it → rows.now ≡ T.shown it ∷ [] → IfOk result (λ read. read ≡ it) }
-    ensures has { (it : T.Record) → T.is_keyed it → T.has_values it → rows.now ≡ T.shown it ∷ [] → IfErr result (λ fault. ¬ EndsAtBrokenRow fault) }
+    ensures read { (it : T.Record) → T.is_keyed it → rows.now ≡ T.shown it ∷ []
+        → IfOk result (λ read. read ≡ it) }
+    ensures has { (it : T.Record) → T.is_keyed it → T.has_values it → rows.now ≡ T.shown it ∷ []
+        → IfErr result (λ fault. ¬ EndsAtBrokenRow fault) }
 {
     match rows {
         [row] => T::in_row(row).ok_or(broken_at(table, 0, Defect::NoValue)),

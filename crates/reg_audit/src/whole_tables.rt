@@ -3,22 +3,22 @@ ghost use Rattle.sqlite.specs.Effect.{Database};
 ghost use Rattle.sqlite.specs.Held.{state};
 ghost use Rattle.sqlite.specs.State.{HasCleanDisk};
 ghost use Rattle.sqlite_trees.specs.View.{doubt};
-ghost use Rattle.reg_core.specs.Records.{Records};
-ghost use Rattle.reg_store_tables.specs.Columns.{Columns};
 ghost use Rattle.reg_store_tables.specs.ReadStatements.{Answers, IsReading};
 ghost use Rattle.reg_store_tables.specs.Schema.{register_schema};
-ghost use Rattle.reg_store_tables.specs.Shows.{Holds, ShowsBoth};
+ghost use Rattle.reg_store_tables.specs.Shows.{Holds};
 ghost use Rattle.reg_store_tables.specs.Stays.{IsRegister, Looked};
 ghost use Rattle.reg_audit.specs.ReadTexts.{IsReadOf, IsReadFrom, AreRead, AreReadFrom};
+ghost use Rattle.reg_audit.specs.ShownTables.{OnShown};
 
+use crate::observer::ProgressObserver;
 use crate::sql::{What, text};
-use crate::watch::Watch;
 use reg_store_tables::DatabaseFault;
 use sqlite::{Alter, Connection, Row};
 use std::alloc::Global;
 
 fn read<S: Alter>(conn: &mut Connection<S>, sql: &str) -> Result<Vec<Row>, DatabaseFault>
-    ensures rows { IsReading sql.now → IsRegister (state S.Store conn.old) → HasCleanDisk (state S.Store conn.new)
+    ensures rows { IsReading sql.now → IsRegister (state S.Store conn.old)
+        → HasCleanDisk (state S.Store conn.new)
         → IfOk result (λ rows. Answers (state S.Store conn.old) sql.now [] rows.items) }
     ensures looked { IsReading sql.now → Looked S.Store conn.old conn.new }
     ensures clean { doubt (state S.Store conn.old).is_clean ≤ doubt (state S.Store conn.new).is_clean }
@@ -27,30 +27,33 @@ fn read<S: Alter>(conn: &mut Connection<S>, sql: &str) -> Result<Vec<Row>, Datab
 }
 
 fn read_whole<S: Alter>(conn: &mut Connection<S>, what: What) -> Result<Vec<Row>, DatabaseFault>
-    ensures found { (records : Records) → (columns : Columns) → ShowsBoth S.Store conn.old records columns → HasCleanDisk (state S.Store conn.new) → IfOk result (λ rows. IsReadOf records columns what rows.items) }
-    ensures from { (db : Database) → Holds S.Store conn.old (λ now. now ≡ db) → db.schema ≡ register_schema → HasCleanDisk (state S.Store conn.new) → IfOk result (λ rows. IsReadFrom db what rows.items) }
+    ensures found { OnShown S.Store conn.old conn.new
+        (λ records columns. IfOk result (λ rows. IsReadOf records columns what rows.items)) }
+    ensures from { (db : Database) → Holds S.Store conn.old (λ now. now ≡ db) → db.schema ≡ register_schema
+        → HasCleanDisk (state S.Store conn.new) → IfOk result (λ rows. IsReadFrom db what rows.items) }
     ensures looked { Looked S.Store conn.old conn.new }
 {
     read(conn, text(what))
 }
 
 /// All rows of each of these tables. It is told how many were read.
-pub(crate) fn read_each<S: Alter, W: Watch>(
+pub(crate) fn read_each<S: Alter, W: ProgressObserver>(
     alloc: Global,
     conn: &mut Connection<S>,
     whats: &[What],
-    watch: &mut W,
+    observer: &mut W,
 ) -> Result<Vec<Vec<Row>>, DatabaseFault>
-    ensures found { (records : Records) → (columns : Columns) → ShowsBoth S.Store conn.old records columns → HasCleanDisk (state S.Store conn.new)
-        → IfOk result (λ all. AreRead records columns whats.now all.items (λ rows. rows.items)) }
-    ensures from { (db : Database) → Holds S.Store conn.old (λ now. now ≡ db) → db.schema ≡ register_schema → HasCleanDisk (state S.Store conn.new)
+    ensures found { OnShown S.Store conn.old conn.new
+        (λ records columns. IfOk result (λ all. AreRead records columns whats.now all.items (λ rows. rows.items))) }
+    ensures from { (db : Database) → Holds S.Store conn.old (λ now. now ≡ db) → db.schema ≡ register_schema
+        → HasCleanDisk (state S.Store conn.new)
         → IfOk result (λ all. AreReadFrom db whats.now all.items (λ rows. rows.items)) }
     ensures looked { Looked S.Store conn.old conn.new }
 {
     let mut all = Vec::new(alloc);
     for what in whats {
         let rows = read_whole(conn, *what)?;
-        watch.rows_read(rows.len());
+        observer.rows_read(rows.len());
         all.push(rows)?;
     }
     Ok(all)

@@ -6,6 +6,7 @@ use Rattle.reg_core.specs.Issuer.{Issuer}
 use Rattle.reg_core.specs.Records.{Records}
 use Rattle.reg_core.specs.Sound.{NumberedFrom}
 use Rattle.reg_core.specs.Sequence.{◌>>=◌}
+use Rattle.reg_core.specs.declared.rows.CrlRow.{CrlRow}
 use Rattle.reg_core.specs.declared.rows.Entry.{Entry}
 use Rattle.reg_crl.specs.Crl.{tbs_of, certificate_list}
 use Rattle.reg_der.specs.ValueReading.{value_at}
@@ -16,6 +17,11 @@ use Rattle.reg_audit_rows.specs.declared.kept.Listed.{Listed}
 -- the bytes are the CRL of what is listed, under this algorithm, whatever its signature is: one of at most 65,536 bytes
 abbrev pub IsCrlOf : List ℕ → CertList → List ℕ → Type 0
 IsCrlOf algorithm crl bytes = (signature : List ℕ) × (length signature ≤ 65536) × (bytes ≡ certificate_list (tbs_of algorithm crl) algorithm signature)
+
+-- a CRL of the issuer, with the number and thisUpdate of a row, and these entries
+abbrev pub list_given : Issuer → CrlRow → ℕ → List Entry → CertList
+list_given issuer crl next_update entries =
+    record { issuer = issuer; number = crl.number; this_update = crl.this_update; next_update = next_update; entries = entries }
 
 -- what stands behind the first octet
 abbrev pub behind_first : List ℕ → Option (List ℕ)

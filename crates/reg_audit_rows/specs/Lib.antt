@@ -2,4 +2,4 @@ pub mod Faults
 pub mod Read
 pub mod KeptAsRead
 pub mod Crls
-pub mod FindingLines
+pub mod AuditLines

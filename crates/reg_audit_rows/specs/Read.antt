@@ -1,15 +1,16 @@
 -- Rows that were read of a register's tables.
-use Rattle.std.specs.Prelude.{◌≡◌, ◌⊎◌, ◌==◌, find, ℕ, ◌+◌, ◌*◌, ◌<◌, ◌≤◌, List, [], map, length, Option, IfSome, IsSomeAnd, IsTrue}
+use Rattle.std.specs.Prelude.{◌≡◌, ◌⊎◌, ◌==◌, find, ℕ, ◌+◌, ◌*◌, ◌<◌, ◌≤◌, List, [], map, length, Option, IfSome, IsSome, IsSomeAnd, IsTrue}
 use Rattle.std.specs.BTreeMap.{get}
 use Rattle.std.specs.List.{AllByRecursion, list_any}
 use Rattle.std.specs.Ordering.{nat_cmp}
 use Rattle.reg_core.specs.Checks.{validity_seconds}
 use Rattle.reg_core.specs.Crls.{row_of}
 use Rattle.reg_core.specs.Policy.{IsPolicy}
-use Rattle.reg_core.specs.Records.{Records, request_in, revocation_in}
+use Rattle.reg_core.specs.Records.{Records, order_in, request_in, revocation_in, subscriber_in}
 use Rattle.reg_core.specs.Sound.{LeadsTo, NumberedFrom, KeysDiffer, NeverFalls}
 use Rattle.reg_core.specs.declared.rows.CertRow.{CertRow}
 use Rattle.reg_core.specs.declared.rows.OrderRow.{OrderRow}
+use Rattle.reg_core.specs.declared.rows.SubscriberRow.{SubscriberRow}
 use Rattle.reg_core.specs.declared.rows.RequestRow.{RequestRow}
 use Rattle.reg_core.specs.declared.rows.RevocationRow.{RevocationRow}
 use Rattle.reg_core.specs.declared.rows.CrlRow.{CrlRow}
@@ -32,17 +33,34 @@ pub record AreOf (rows : Rows) (records : Records) : Type 0 where
 abbrev pub IsLastSet : Rows → Type 0
 IsLastSet rows = rows.subscribers.now ≡ [] → (rows.last ≡ 0) ⊎ IsTrue (list_any (λ crl. crl.this_update == rows.last) rows.crls.now)
 
+-- what is looked up by a key is the first row with it
+abbrev pub Indexes : {Row : Type 0} → (Row → ℕ) → List Row → (ℕ → Option Row) → Type 0
+Indexes key rows row_with = (k : ℕ) → row_with k ≡ find (λ row. key row == k) rows
+
+-- the subscriber of each order is there
+abbrev pub HaveSubscribers : List SubscriberRow → List OrderRow → Type 0
+HaveSubscribers subscribers orders = AllByRecursion (λ row. IsSome (subscriber_in subscribers row.subscriber)) orders
+
 -- a validity is no longer than the order that was looked up
 abbrev pub IsAsOrdered : CertRow → Option OrderRow → Type 0
 IsAsOrdered certificate order = IsSomeAnd order (λ found. validity_seconds certificate ≤ 86400 * found.days)
+
+abbrev pub AreAsOrdered : List OrderRow → List CertRow → Type 0
+AreAsOrdered orders certificates = AllByRecursion (λ row. IsAsOrdered row (order_in orders row.order)) certificates
 
 -- a request was not received after the end of the certificate that was looked up
 abbrev pub IsInTime : RequestRow → Option CertRow → Type 0
 IsInTime request certificate = IsSomeAnd certificate (λ found. request.received ≤ found.not_after)
 
+abbrev pub AreInTime : (ℕ → Option CertRow) → List RequestRow → Type 0
+AreInTime certificate_with requests = AllByRecursion (λ row. IsInTime row (certificate_with row.serial)) requests
+
 -- nor after the revocation, where one was found
 abbrev pub IsBefore : RequestRow → Option RevocationRow → Type 0
 IsBefore request revocation = IfSome revocation (λ found. request.received ≤ found.at)
+
+abbrev pub AreBeforeRevocation : (ℕ → Option RevocationRow) → List RequestRow → Type 0
+AreBeforeRevocation revocation_with requests = AllByRecursion (λ row. IsBefore row (revocation_with row.serial)) requests
 
 -- no CRL below a number has its thisUpdate after a moment, and none from the number on before it
 pub record AreAround (first at : ℕ) (crls : List CrlRow) : Type 0 where
@@ -57,6 +75,11 @@ pub record FitsIn (last : ℕ) (certificate : Option CertRow) (request : Option 
   pub first_from_one : 1 ≤ revocation.first
   pub first_by_next : revocation.first ≤ length crls + 1
   pub around : AreAround revocation.first revocation.at crls
+
+-- each revocation holds together with its certificate, its request and the CRLs
+abbrev pub FitTogether : ℕ → (ℕ → Option CertRow) → List RequestRow → List CrlRow → List RevocationRow → Type 0
+FitTogether last certificate_with requests crls revocations =
+    AllByRecursion (λ row. FitsIn last (certificate_with row.serial) (request_in requests row.request) crls row) revocations
 
 -- CRL numbers are 1, 2, 3 and so on (RFC 5280 5.2.3), thisUpdates do not fall, and none is after the last accepted moment
 pub record AreCrls (cap last : ℕ) (crls : List CrlRow) : Type 0 where
@@ -77,5 +100,5 @@ pub record AreRevocations (found : ℕ → Option CertRow) (rows : Rows) : Type 
 
 -- the rows are found by their serial numbers
 pub record IsIndexOf (rows : Rows) (found : Found) : Type 0 where
-  pub certificates : (key : ℕ) → get nat_cmp found.certificates key ≡ find (λ (row : CertRow). row.serial == key) rows.certificates.now
-  pub revocations : (key : ℕ) → get nat_cmp found.revocations key ≡ find (λ (row : RevocationRow). row.serial == key) rows.revocations.now
+  pub certificates : Indexes (λ row. row.serial) rows.certificates.now (get nat_cmp found.certificates)
+  pub revocations : Indexes (λ row. row.serial) rows.revocations.now (get nat_cmp found.revocations)

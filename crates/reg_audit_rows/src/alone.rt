@@ -1,10 +1,10 @@
 //! What a row says by itself.
 
-ghost use Rattle.std.specs.Prelude.{◌≤◌, OnOk, IfErr};
+ghost use Rattle.std.specs.Prelude.{◌≤◌, OnOk};
 ghost use Rattle.std.specs.List.{AllByRecursion};
 ghost use Rattle.reg_core.specs.Label.{IsName};
 ghost use Rattle.reg_core.specs.Schedule.{IsDays};
-ghost use Rattle.reg_audit_rows.specs.Faults.{IsBroken};
+ghost use Rattle.reg_audit_rows.specs.Faults.{NotBrokenIf};
 
 use crate::fault::{CheckFault, broken_at};
 use crate::{Defect, RegisterTable};
@@ -12,7 +12,7 @@ use reg_core::{CertRow, OrderRow, Schedule, SubscriberRow};
 
 pub(crate) fn names_are_good(subscribers: &[SubscriberRow]) -> Result<(), CheckFault>
     ensures ok { OnOk result (AllByRecursion (λ row. IsName row.name) subscribers.now) }
-    ensures broken { IfErr result (λ fault. IsBroken fault → ¬ AllByRecursion (λ row. IsName row.name) subscribers.now) }
+    ensures broken { NotBrokenIf (AllByRecursion (λ row. IsName row.name) subscribers.now) result }
 {
     for (place, subscriber) in subscribers.iter().enumerate() {
         if !subscriber.name.is_name() {
@@ -24,7 +24,7 @@ pub(crate) fn names_are_good(subscribers: &[SubscriberRow]) -> Result<(), CheckF
 
 pub(crate) fn days_are_allowed(orders: &[OrderRow]) -> Result<(), CheckFault>
     ensures ok { OnOk result (AllByRecursion (λ row. IsDays row.days) orders.now) }
-    ensures broken { IfErr result (λ fault. IsBroken fault → ¬ AllByRecursion (λ row. IsDays row.days) orders.now) }
+    ensures broken { NotBrokenIf (AllByRecursion (λ row. IsDays row.days) orders.now) result }
 {
     for (place, order) in orders.iter().enumerate() {
         if !Schedule::can_allow(order.days) {
@@ -37,7 +37,7 @@ pub(crate) fn days_are_allowed(orders: &[OrderRow]) -> Result<(), CheckFault>
 /// Each validity runs forward (RFC 5280 4.1.2.5).
 pub(crate) fn run_forward(certificates: &[CertRow]) -> Result<(), CheckFault>
     ensures ok { OnOk result (AllByRecursion (λ row. row.not_before ≤ row.not_after) certificates.now) }
-    ensures broken { IfErr result (λ fault. IsBroken fault → ¬ AllByRecursion (λ row. row.not_before ≤ row.not_after) certificates.now) }
+    ensures broken { NotBrokenIf (AllByRecursion (λ row. row.not_before ≤ row.not_after) certificates.now) result }
 {
     for (place, certificate) in certificates.iter().enumerate() {
         if certificate.not_before > certificate.not_after {

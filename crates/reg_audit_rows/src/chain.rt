@@ -1,9 +1,9 @@
 //! Numbers that rise by one, and moments that do not fall.
 
-ghost use Rattle.std.specs.Prelude.{◌≡◌, ◌≤◌, OnOk, IfErr};
+ghost use Rattle.std.specs.Prelude.{◌≡◌, ◌≤◌, OnOk};
 ghost use Rattle.std.specs.List.{AllByRecursion};
 ghost use Rattle.reg_core.specs.Sound.{NumberedFrom, NeverFalls};
-ghost use Rattle.reg_audit_rows.specs.Faults.{IsBroken};
+ghost use Rattle.reg_audit_rows.specs.Faults.{NotBrokenIf};
 
 use crate::fault::{CheckFault, broken_at};
 use crate::{Defect, RegisterTable};
@@ -54,7 +54,7 @@ impl Numbered for CrlRow {
 /// The rows have the numbers from one on.
 pub(crate) fn in_order<T: Numbered>(table: RegisterTable, rows: &[T]) -> Result<(), CheckFault>
     ensures ok { OnOk result (NumberedFrom T.number 1 rows.now) }
-    ensures broken { IfErr result (λ fault. IsBroken fault → ¬ NumberedFrom T.number 1 rows.now) }
+    ensures broken { NotBrokenIf (NumberedFrom T.number 1 rows.now) result }
 {
     for (place, row) in rows.iter().enumerate() {
         if row.number() != place as u64 + 1 {
@@ -105,7 +105,7 @@ pub(crate) fn moments_never_fall<T: Dated>(
     why: Defect,
 ) -> Result<(), CheckFault>
     ensures ok { OnOk result (NeverFalls T.moment rows.now) }
-    ensures broken { IfErr result (λ fault. IsBroken fault → ¬ NeverFalls T.moment rows.now) }
+    ensures broken { NotBrokenIf (NeverFalls T.moment rows.now) result }
 {
     let mut latest = Moment::EPOCH;
     for (place, row) in rows.iter().enumerate() {
@@ -121,7 +121,7 @@ pub(crate) fn moments_never_fall<T: Dated>(
 /// The numbers of the first CRLs do not fall from one revocation to a later one.
 pub(crate) fn firsts_never_fall(revocations: &[RevocationRow]) -> Result<(), CheckFault>
     ensures ok { OnOk result (NeverFalls (λ row. row.first) revocations.now) }
-    ensures broken { IfErr result (λ fault. IsBroken fault → ¬ NeverFalls (λ row. row.first) revocations.now) }
+    ensures broken { NotBrokenIf (NeverFalls (λ row. row.first) revocations.now) result }
 {
     let mut latest = 0;
     for (place, revocation) in revocations.iter().enumerate() {
@@ -140,7 +140,7 @@ pub(crate) fn are_by_last<T: Dated>(
     last: Moment,
 ) -> Result<(), CheckFault>
     ensures ok { OnOk result (AllByRecursion (λ row. T.moment row ≤ last) rows.now) }
-    ensures broken { IfErr result (λ fault. IsBroken fault → ¬ AllByRecursion (λ row. T.moment row ≤ last) rows.now) }
+    ensures broken { NotBrokenIf (AllByRecursion (λ row. T.moment row ≤ last) rows.now) result }
 {
     for (place, row) in rows.iter().enumerate() {
         if row.moment() > last {

@@ -6,8 +6,8 @@ ghost use Rattle.reg_core.specs.Records.{Records};
 ghost use Rattle.reg_core.specs.Sound.{KeysDiffer};
 ghost use Rattle.reg_crl.specs.Signing.{IsAlgorithm};
 ghost use Rattle.reg_der.specs.ValueReading.{Gives};
-ghost use Rattle.reg_audit_rows.specs.Crls.{IsCrlOf, Lists, signature_at, lists_row, listed_entry};
-ghost use Rattle.reg_audit_rows.specs.Faults.{IsBroken};
+ghost use Rattle.reg_audit_rows.specs.Crls.{IsCrlOf, Lists, list_given, listed_entry, lists_row, signature_at};
+ghost use Rattle.reg_audit_rows.specs.Faults.{IsBroken, NotBrokenIf};
 
 use crate::fault::{CheckFault, broken_at};
 use crate::kept::Listed;
@@ -79,7 +79,8 @@ fn entries_of(alloc: Global, listed: &[Listed], number: u64) -> Result<Vec<Entry
     ensures same { IfOk result (λ entries. IsPermutation (map listed_entry (filter (lists_row number) listed.now)) entries.items) }
     ensures ascend { IfOk result (λ entries. EntriesAscend entries.items) }
     ensures few { IfOk result (λ entries. length entries.items ≤ 1000000) }
-    ensures broken { KeysDiffer (λ row. row.serial) listed.now → length listed.now ≤ 1000000 → IfErr result (λ fault. ¬ IsBroken fault) }
+    ensures broken { KeysDiffer (λ row. row.serial) listed.now → length listed.now ≤ 1000000
+        → IfErr result (λ fault. ¬ IsBroken fault) }
 {
     let mut entries = listed_by(alloc, listed, number)?;
     entries.sort_unstable_by_key(|entry| entry.serial);
@@ -105,9 +106,9 @@ fn check_bytes(
     requires ascending { EntriesAscend entries.now }
     requires few { length entries.now ≤ 1000000 }
     requires algorithm { length algorithm.now ≤ 1024 }
-    ensures ok { OnOk result (IsCrlOf algorithm.now (record { issuer = issuer.now; number = crl.now.number; this_update = crl.now.this_update; next_update = next_update; entries = entries.now }) bytes.now) }
+    ensures ok { OnOk result (IsCrlOf algorithm.now (list_given issuer.now crl.now next_update entries.now) bytes.now) }
     ensures broken { IsAlgorithm algorithm.now
-        → IfErr result (λ fault. IsBroken fault → ¬ IsCrlOf algorithm.now (record { issuer = issuer.now; number = crl.now.number; this_update = crl.now.this_update; next_update = next_update; entries = entries.now }) bytes.now) }
+        → NotBrokenIf (IsCrlOf algorithm.now (list_given issuer.now crl.now next_update entries.now) bytes.now) result }
 {
     let tbs = crl_tbs(
         alloc,
@@ -143,9 +144,11 @@ pub fn check_crl(
 ) -> Result<(), CheckFault>
     requires algorithm { length algorithm.now ≤ 1024 }
     requires next { IsMoment (crl.now.this_update + crl_life) }
-    ensures ok { (records : Records) → Lists issuer.now crl_life listed.now records → OnOk result (IsCrlOf algorithm.now (cert_list records crl.now.number crl.now.this_update) bytes.now) }
-    ensures broken { (records : Records) → Lists issuer.now crl_life listed.now records → IsAlgorithm algorithm.now → KeysDiffer (λ row. row.serial) listed.now → length listed.now ≤ 1000000
-        → IfErr result (λ fault. IsBroken fault → ¬ IsCrlOf algorithm.now (cert_list records crl.now.number crl.now.this_update) bytes.now) }
+    ensures ok { (records : Records) → Lists issuer.now crl_life listed.now records
+        → OnOk result (IsCrlOf algorithm.now (cert_list records crl.now.number crl.now.this_update) bytes.now) }
+    ensures broken { (records : Records) → Lists issuer.now crl_life listed.now records
+        → IsAlgorithm algorithm.now → KeysDiffer (λ row. row.serial) listed.now → length listed.now ≤ 1000000
+        → NotBrokenIf (IsCrlOf algorithm.now (cert_list records crl.now.number crl.now.this_update) bytes.now) result }
 {
     let entries = entries_of(alloc, listed, crl.number)?;
     let next_update = crl.this_update.plus(crl_life);

@@ -1,5 +1,5 @@
-ghost use Rattle.std.specs.Prelude.{◌≡◌, ◌≤◌, length, OnOk, IfErr};
-ghost use Rattle.reg_audit_rows.specs.Faults.{IsBroken};
+ghost use Rattle.std.specs.Prelude.{◌≡◌, ◌≤◌, length, OnOk};
+ghost use Rattle.reg_audit_rows.specs.Faults.{IsBroken, NotBrokenIf};
 
 use crate::{BrokenRow, Defect, RegisterTable};
 use reg_core::Memory;
@@ -52,7 +52,7 @@ pub(crate) fn broken_at(table: RegisterTable, place: usize, why: Defect) -> Chec
 
 pub(crate) fn within_cap(table: RegisterTable, rows: usize, cap: u64) -> Result<(), CheckFault>
     ensures ok { OnOk result (rows ≤ cap) }
-    ensures broken { IfErr result (λ fault. IsBroken fault → ¬ (rows ≤ cap)) }
+    ensures broken { NotBrokenIf (rows ≤ cap) result }
 {
     if rows as u64 <= cap {
         Ok(())

@@ -1,10 +1,11 @@
 //! Rows by their keys, where no two have the same.
 
-ghost use Rattle.std.specs.Prelude.{◌≡◌, ℕ, find, ◌==◌, OnOk, IfOk, IfErr};
+ghost use Rattle.std.specs.Prelude.{OnOk, IfOk};
 ghost use Rattle.std.specs.BTreeMap.{get};
 ghost use Rattle.std.specs.Ordering.{nat_cmp};
 ghost use Rattle.reg_core.specs.Sound.{KeysDiffer};
-ghost use Rattle.reg_audit_rows.specs.Faults.{IsBroken};
+ghost use Rattle.reg_audit_rows.specs.Faults.{NotBrokenIf};
+ghost use Rattle.reg_audit_rows.specs.Read.{Indexes};
 
 use crate::fault::{CheckFault, broken_at};
 use crate::{Defect, RegisterTable};
@@ -17,8 +18,8 @@ pub(crate) fn certificates_by_serial(
     certificates: &[CertRow],
 ) -> Result<BTreeMap<Serial, CertRow>, CheckFault>
     ensures differ { OnOk result (KeysDiffer (λ row. row.serial) certificates.now) }
-    ensures found { IfOk result (λ found. (key : ℕ) → get nat_cmp found key ≡ find (λ row. row.serial == key) certificates.now) }
-    ensures broken { IfErr result (λ fault. IsBroken fault → ¬ KeysDiffer (λ row. row.serial) certificates.now) }
+    ensures found { IfOk result (λ found. Indexes (λ row. row.serial) certificates.now (get nat_cmp found)) }
+    ensures broken { NotBrokenIf (KeysDiffer (λ row. row.serial) certificates.now) result }
 {
     let mut found = BTreeMap::new(alloc);
     for (place, row) in certificates.iter().enumerate() {
@@ -34,8 +35,8 @@ pub(crate) fn certificates_by_order(
     certificates: &[CertRow],
 ) -> Result<BTreeMap<u64, CertRow>, CheckFault>
     ensures differ { OnOk result (KeysDiffer (λ row. row.order) certificates.now) }
-    ensures found { IfOk result (λ found. (key : ℕ) → get nat_cmp found key ≡ find (λ row. row.order == key) certificates.now) }
-    ensures broken { IfErr result (λ fault. IsBroken fault → ¬ KeysDiffer (λ row. row.order) certificates.now) }
+    ensures found { IfOk result (λ found. Indexes (λ row. row.order) certificates.now (get nat_cmp found)) }
+    ensures broken { NotBrokenIf (KeysDiffer (λ row. row.order) certificates.now) result }
 {
     let mut found = BTreeMap::new(alloc);
     for (place, row) in certificates.iter().enumerate() {
@@ -51,8 +52,8 @@ pub(crate) fn revocations_by_serial(
     revocations: &[RevocationRow],
 ) -> Result<BTreeMap<Serial, RevocationRow>, CheckFault>
     ensures differ { OnOk result (KeysDiffer (λ row. row.serial) revocations.now) }
-    ensures found { IfOk result (λ found. (key : ℕ) → get nat_cmp found key ≡ find (λ row. row.serial == key) revocations.now) }
-    ensures broken { IfErr result (λ fault. IsBroken fault → ¬ KeysDiffer (λ row. row.serial) revocations.now) }
+    ensures found { IfOk result (λ found. Indexes (λ row. row.serial) revocations.now (get nat_cmp found)) }
+    ensures broken { NotBrokenIf (KeysDiffer (λ row. row.serial) revocations.now) result }
 {
     let mut found = BTreeMap::new(alloc);
     for (place, row) in revocations.iter().enumerate() {
@@ -68,8 +69,8 @@ pub(crate) fn revocations_by_request(
     revocations: &[RevocationRow],
 ) -> Result<BTreeMap<u64, RevocationRow>, CheckFault>
     ensures differ { OnOk result (KeysDiffer (λ row. row.request) revocations.now) }
-    ensures found { IfOk result (λ found. (key : ℕ) → get nat_cmp found key ≡ find (λ row. row.request == key) revocations.now) }
-    ensures broken { IfErr result (λ fault. IsBroken fault → ¬ KeysDiffer (λ row. row.request) revocations.now) }
+    ensures found { IfOk result (λ found. Indexes (λ row. row.request) revocations.now (get nat_cmp found)) }
+    ensures broken { NotBrokenIf (KeysDiffer (λ row. row.request) revocations.now) result }
 {
     let mut found = BTreeMap::new(alloc);
     for (place, row) in revocations.iter().enumerate() {
@@ -82,7 +83,7 @@ pub(crate) fn revocations_by_request(
 
 pub(crate) fn names_differ(alloc: Global, subscribers: &[SubscriberRow]) -> Result<(), CheckFault>
     ensures ok { OnOk result (KeysDiffer (λ row. row.name) subscribers.now) }
-    ensures broken { IfErr result (λ fault. IsBroken fault → ¬ KeysDiffer (λ row. row.name) subscribers.now) }
+    ensures broken { NotBrokenIf (KeysDiffer (λ row. row.name) subscribers.now) result }
 {
     let mut names = BTreeSet::new(alloc);
     for (place, subscriber) in subscribers.iter().enumerate() {

@@ -7,7 +7,7 @@ ghost use Rattle.std.specs.Ordering.{nat_cmp};
 ghost use Rattle.reg_core.specs.Sound.{KeysDiffer, NumberedFrom, NeverFalls};
 ghost use Rattle.reg_store_migration.specs.Refilled.{last_in};
 ghost use Rattle.reg_audit_rows.specs.KeptAsRead.{letter_by, standing_by, found_end, listed_with, found_counts, same_letter};
-ghost use Rattle.reg_audit_rows.specs.Faults.{IsBroken};
+ghost use Rattle.reg_audit_rows.specs.Faults.{IsBroken, NotBrokenIf};
 
 use crate::fault::{CheckFault, broken_at};
 use crate::{Defect, RegisterTable};
@@ -134,7 +134,8 @@ fn is_past(crl: &CrlRow, first: u64, not_after: Moment) -> bool
 
 /// The number of the first CRL from a number on whose thisUpdate is past a moment, found by halves.
 fn last_listing(crls: &[CrlRow], first: u64, not_after: Moment) -> Option<u64>
-    ensures { NumberedFrom (λ crl. crl.number) 1 crls.now → NeverFalls (λ crl. crl.this_update) crls.now → result ≡ last_in crls.now first not_after }
+    ensures { NumberedFrom (λ crl. crl.number) 1 crls.now → NeverFalls (λ crl. crl.this_update) crls.now
+        → result ≡ last_in crls.now first not_after }
 {
     let at = crls.partition_point(|crl| !is_past(crl, first, not_after));
     match crls.get(at) {
@@ -191,7 +192,7 @@ fn count_of(rows: &[Standing], letter: Letter) -> u64
 
 pub(crate) fn check_counts(rows: &[Standing], counts: Counts) -> Result<(), CheckFault>
     ensures ok { OnOk result (counts ≡ found_counts rows.now) }
-    ensures broken { IfErr result (λ fault. IsBroken fault → ¬ (counts ≡ found_counts rows.now)) }
+    ensures broken { NotBrokenIf (counts ≡ found_counts rows.now) result }
 {
     let good = count_of(rows, Letter::Good);
     let revoked = count_of(rows, Letter::Revoked);
@@ -240,7 +241,8 @@ pub(crate) fn same_rows<T: OfSerial>(
     wanted: Vec<T>,
 ) -> Result<(), CheckFault>
     ensures ok { OnOk result (IsPermutation wanted.items rows.now) }
-    ensures broken { KeysDiffer T.serial wanted.items → IfErr result (λ fault. IsBroken fault → ¬ IsPermutation wanted.items rows.now) }
+    ensures broken { KeysDiffer T.serial wanted.items
+        → NotBrokenIf (IsPermutation wanted.items rows.now) result }
 {
     let mut wanted = wanted;
     wanted.sort_unstable_by_key(|row| row.serial());

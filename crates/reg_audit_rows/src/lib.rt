@@ -2,23 +2,23 @@
 #![tactic(auto)]
 
 mod alone;
+mod audit_result;
+mod broken_row;
 mod chain;
-mod checking;
 mod crls;
 mod fault;
-mod finding;
 mod index;
 mod kept;
 mod lines;
 mod relations;
 mod rows;
-mod verdict;
+mod whole_check;
 
-pub use checking::check;
+pub use audit_result::{AuditResult, Audited};
+pub use broken_row::{BrokenRow, Defect, RegisterTable};
 pub use crls::check_crl;
 pub use fault::CheckFault;
-pub use finding::{BrokenRow, Defect, RegisterTable};
 pub use kept::{KeptRows, Letter, Listed, Standing};
 pub use lines::{OTHER_SCHEMA, broken_line, sound_line};
 pub use rows::Rows;
-pub use verdict::{Audited, Verdict};
+pub use whole_check::check;

@@ -2,10 +2,10 @@
 
 ghost use Rattle.std.specs.Prelude.{◌≡◌, ◌++◌, IfOk};
 ghost use Rattle.std.specs.Fmt.{decimal};
-ghost use Rattle.reg_audit_rows.specs.FindingLines.{broken_text, sound_text, table_name, why_text};
+ghost use Rattle.reg_audit_rows.specs.AuditLines.{broken_text, sound_text, table_name, why_text};
 
-use crate::finding::{BrokenRow, Defect, RegisterTable};
-use crate::verdict::Audited;
+use crate::audit_result::Audited;
+use crate::broken_row::{BrokenRow, Defect, RegisterTable};
 use reg_core::Decimal;
 use std::alloc::{AllocError, Global};
 
@@ -13,7 +13,7 @@ use std::alloc::{AllocError, Global};
 pub const OTHER_SCHEMA: &str =
     "broken: schema: other tables, columns or indexes than a register has\n";
 
-#[tactic(auto, unfolding(crate::specs::FindingLines::table_name))]
+#[tactic(auto, unfolding(crate::specs::AuditLines::table_name))]
 fn name_of(table: RegisterTable) -> &'static str
     ensures { result.now ≡ table_name table }
 {
@@ -31,7 +31,7 @@ fn name_of(table: RegisterTable) -> &'static str
     }
 }
 
-#[tactic(auto, unfolding(crate::specs::FindingLines::why_text))]
+#[tactic(auto, unfolding(crate::specs::AuditLines::why_text))]
 fn text_of(why: Defect) -> &'static str
     ensures { result.now ≡ why_text why }
 {

@@ -1,13 +1,11 @@
 //! What rows say of other rows.
 
-ghost use Rattle.std.specs.Prelude.{◌≡◌, ◌+◌, ◌<◌, ◌≤◌, ◌==◌, ◌↔◌, ℕ, find, length, is_some, IsSome, IsSomeAnd, IsTrue, MatchOption, OnOk, IfErr};
+ghost use Rattle.std.specs.Prelude.{◌≡◌, ◌+◌, ◌<◌, ◌≤◌, ◌==◌, ◌↔◌, find, IsTrue, MatchOption, OnOk};
 ghost use Rattle.std.specs.BTreeMap.{get};
-ghost use Rattle.std.specs.List.{AllByRecursion};
 ghost use Rattle.std.specs.Ordering.{nat_cmp};
-ghost use Rattle.reg_core.specs.Records.{subscriber_in, order_in, request_in};
 ghost use Rattle.reg_core.specs.Sound.{LeadsTo, NumberedFrom};
-ghost use Rattle.reg_audit_rows.specs.Read.{AreAround, FitsIn, IsAsOrdered, IsBefore, IsInTime};
-ghost use Rattle.reg_audit_rows.specs.Faults.{IsBroken};
+ghost use Rattle.reg_audit_rows.specs.Read.{AreAround, AreAsOrdered, AreBeforeRevocation, AreInTime, FitTogether, FitsIn, HaveSubscribers, IsAsOrdered, IsBefore, IsInTime};
+ghost use Rattle.reg_audit_rows.specs.Faults.{NotBrokenIf};
 
 use crate::chain::Numbered;
 use crate::fault::{CheckFault, broken_at};
@@ -30,8 +28,10 @@ pub(crate) fn subscribers_exist(
     orders: &[OrderRow],
     subscribers: &[SubscriberRow],
 ) -> Result<(), CheckFault>
-    ensures ok { NumberedFrom (λ row. row.id) 1 subscribers.now → OnOk result (AllByRecursion (λ row. IsSome (subscriber_in subscribers.now row.subscriber)) orders.now) }
-    ensures broken { NumberedFrom (λ row. row.id) 1 subscribers.now → IfErr result (λ fault. IsBroken fault → ¬ AllByRecursion (λ row. IsSome (subscriber_in subscribers.now row.subscriber)) orders.now) }
+    ensures ok { NumberedFrom (λ row. row.id) 1 subscribers.now
+        → OnOk result (HaveSubscribers subscribers.now orders.now) }
+    ensures broken { NumberedFrom (λ row. row.id) 1 subscribers.now
+        → NotBrokenIf (HaveSubscribers subscribers.now orders.now) result }
 {
     for (place, order) in orders.iter().enumerate() {
         if !is_one_of(order.subscriber, subscribers.len()) {
@@ -71,8 +71,10 @@ pub(crate) fn are_as_ordered(
     certificates: &[CertRow],
     orders: &[OrderRow],
 ) -> Result<(), CheckFault>
-    ensures ok { NumberedFrom (λ row. row.id) 1 orders.now → OnOk result (AllByRecursion (λ row. IsAsOrdered row (order_in orders.now row.order)) certificates.now) }
-    ensures broken { NumberedFrom (λ row. row.id) 1 orders.now → IfErr result (λ fault. IsBroken fault → ¬ AllByRecursion (λ row. IsAsOrdered row (order_in orders.now row.order)) certificates.now) }
+    ensures ok { NumberedFrom (λ row. row.id) 1 orders.now
+        → OnOk result (AreAsOrdered orders.now certificates.now) }
+    ensures broken { NumberedFrom (λ row. row.id) 1 orders.now
+        → NotBrokenIf (AreAsOrdered orders.now certificates.now) result }
 {
     for (place, certificate) in certificates.iter().enumerate() {
         let order = row_with(orders, certificate.order);
@@ -100,8 +102,8 @@ pub(crate) fn are_in_time(
     requests: &[RequestRow],
     certificates: &BTreeMap<Serial, CertRow>,
 ) -> Result<(), CheckFault>
-    ensures ok { OnOk result (AllByRecursion (λ row. IsInTime row (get nat_cmp certificates.now row.serial)) requests.now) }
-    ensures broken { IfErr result (λ fault. IsBroken fault → ¬ AllByRecursion (λ row. IsInTime row (get nat_cmp certificates.now row.serial)) requests.now) }
+    ensures ok { OnOk result (AreInTime (get nat_cmp certificates.now) requests.now) }
+    ensures broken { NotBrokenIf (AreInTime (get nat_cmp certificates.now) requests.now) result }
 {
     for (place, request) in requests.iter().enumerate() {
         let certificate = certificates.get(&request.serial).copied();
@@ -125,8 +127,8 @@ pub(crate) fn none_after(
     requests: &[RequestRow],
     revocations: &BTreeMap<Serial, RevocationRow>,
 ) -> Result<(), CheckFault>
-    ensures ok { OnOk result (AllByRecursion (λ row. IsBefore row (get nat_cmp revocations.now row.serial)) requests.now) }
-    ensures broken { IfErr result (λ fault. IsBroken fault → ¬ AllByRecursion (λ row. IsBefore row (get nat_cmp revocations.now row.serial)) requests.now) }
+    ensures ok { OnOk result (AreBeforeRevocation (get nat_cmp revocations.now) requests.now) }
+    ensures broken { NotBrokenIf (AreBeforeRevocation (get nat_cmp revocations.now) requests.now) result }
 {
     for (place, request) in requests.iter().enumerate() {
         let revocation = revocations.get(&request.serial).copied();
@@ -219,9 +221,9 @@ pub(crate) fn revocations_fit(
     last: Moment,
 ) -> Result<(), CheckFault>
     ensures ok { NumberedFrom (λ row. row.id) 1 requests.now
-        → OnOk result (AllByRecursion (λ row. FitsIn last (get nat_cmp certificates.now row.serial) (request_in requests.now row.request) crls.now row) revocations.now) }
+        → OnOk result (FitTogether last (get nat_cmp certificates.now) requests.now crls.now revocations.now) }
     ensures broken { NumberedFrom (λ row. row.id) 1 requests.now
-        → IfErr result (λ fault. IsBroken fault → ¬ AllByRecursion (λ row. FitsIn last (get nat_cmp certificates.now row.serial) (request_in requests.now row.request) crls.now row) revocations.now) }
+        → NotBrokenIf (FitTogether last (get nat_cmp certificates.now) requests.now crls.now revocations.now) result }
 {
     for (place, revocation) in revocations.iter().enumerate() {
         let certificate = certificates.get(&revocation.serial).copied();

@@ -1,14 +1,14 @@
 //! Rows of a register's tables, and whether they are those of sound records.
 
-ghost use Rattle.std.specs.Prelude.{◌≡◌, ◌<◌, ◌≤◌, ◌==◌, ℕ, List, find, length, OnOk, IfOk, IfErr};
+ghost use Rattle.std.specs.Prelude.{◌≡◌, ◌<◌, ◌==◌, List, OnOk, IfOk};
 ghost use Rattle.std.specs.BTreeMap.{get};
 ghost use Rattle.std.specs.List.{list_any};
 ghost use Rattle.std.specs.Ordering.{nat_cmp};
 ghost use Rattle.reg_core.specs.Calendar.{clock_end};
 ghost use Rattle.reg_core.specs.Records.{Records};
 ghost use Rattle.reg_core.specs.Sound.{SoundRows, SoundSubscribers, SoundOrders, SoundCertificates, SoundRequests, NumberedFrom};
-ghost use Rattle.reg_audit_rows.specs.Read.{AreOf, AreCrls, AreRevocations, IsLastSet, IsIndexOf};
-ghost use Rattle.reg_audit_rows.specs.Faults.{IsBroken};
+ghost use Rattle.reg_audit_rows.specs.Read.{AreCrls, AreOf, AreRevocations, Indexes, IsIndexOf, IsLastSet};
+ghost use Rattle.reg_audit_rows.specs.Faults.{NotBrokenIf};
 
 use crate::alone::{days_are_allowed, names_are_good, run_forward};
 use crate::chain::{are_by_last, firsts_never_fall, in_order, moments_never_fall};
@@ -43,7 +43,7 @@ pub struct Rows<'a> {
 /// Ids are 1, 2, 3 and so on, names are good and differ, and no more than the cap.
 fn check_subscribers(alloc: Global, rows: &[SubscriberRow], cap: u64) -> Result<(), CheckFault>
     ensures ok { OnOk result (SoundSubscribers cap rows.now) }
-    ensures broken { IfErr result (λ fault. IsBroken fault → ¬ SoundSubscribers cap rows.now) }
+    ensures broken { NotBrokenIf (SoundSubscribers cap rows.now) result }
 {
     within_cap(RegisterTable::Subscriber, rows.len(), cap)?;
     in_order(RegisterTable::Subscriber, rows)?;
@@ -57,8 +57,10 @@ fn check_orders(
     rows: &[OrderRow],
     cap: u64,
 ) -> Result<(), CheckFault>
-    ensures ok { NumberedFrom (λ row. row.id) 1 subscribers.now → OnOk result (SoundOrders cap subscribers.now rows.now) }
-    ensures broken { NumberedFrom (λ row. row.id) 1 subscribers.now → IfErr result (λ fault. IsBroken fault → ¬ SoundOrders cap subscribers.now rows.now) }
+    ensures ok { NumberedFrom (λ row. row.id) 1 subscribers.now
+        → OnOk result (SoundOrders cap subscribers.now rows.now) }
+    ensures broken { NumberedFrom (λ row. row.id) 1 subscribers.now
+        → NotBrokenIf (SoundOrders cap subscribers.now rows.now) result }
 {
     within_cap(RegisterTable::Orders, rows.len(), cap)?;
     in_order(RegisterTable::Orders, rows)?;
@@ -73,9 +75,11 @@ fn check_certificates(
     rows: &[CertRow],
     cap: u64,
 ) -> Result<BTreeMap<Serial, CertRow>, CheckFault>
-    ensures ok { NumberedFrom (λ row. row.id) 1 orders.now → OnOk result (SoundCertificates cap orders.now rows.now) }
-    ensures found { IfOk result (λ found. (key : ℕ) → get nat_cmp found key ≡ find (λ row. row.serial == key) rows.now) }
-    ensures broken { NumberedFrom (λ row. row.id) 1 orders.now → IfErr result (λ fault. IsBroken fault → ¬ SoundCertificates cap orders.now rows.now) }
+    ensures ok { NumberedFrom (λ row. row.id) 1 orders.now
+        → OnOk result (SoundCertificates cap orders.now rows.now) }
+    ensures found { IfOk result (λ found. Indexes (λ row. row.serial) rows.now (get nat_cmp found)) }
+    ensures broken { NumberedFrom (λ row. row.id) 1 orders.now
+        → NotBrokenIf (SoundCertificates cap orders.now rows.now) result }
 {
     within_cap(RegisterTable::Cert, rows.len(), cap)?;
     run_forward(rows)?;
@@ -91,8 +95,12 @@ fn check_requests(
     last: Moment,
     cap: u64,
 ) -> Result<(), CheckFault>
-    ensures ok { (registered : List CertRow) → ((key : ℕ) → get nat_cmp certificates.now key ≡ find (λ row. row.serial == key) registered) → OnOk result (SoundRequests cap last registered rows.now) }
-    ensures broken { (registered : List CertRow) → ((key : ℕ) → get nat_cmp certificates.now key ≡ find (λ row. row.serial == key) registered) → IfErr result (λ fault. IsBroken fault → ¬ SoundRequests cap last registered rows.now) }
+    ensures ok { (registered : List CertRow)
+        → Indexes (λ row. row.serial) registered (get nat_cmp certificates.now)
+        → OnOk result (SoundRequests cap last registered rows.now) }
+    ensures broken { (registered : List CertRow)
+        → Indexes (λ row. row.serial) registered (get nat_cmp certificates.now)
+        → NotBrokenIf (SoundRequests cap last registered rows.now) result }
 {
     within_cap(RegisterTable::Request, rows.len(), cap)?;
     in_order(RegisterTable::Request, rows)?;
@@ -104,7 +112,7 @@ fn check_requests(
 /// Numbers are 1, 2, 3 and so on (RFC 5280 5.2.3), thisUpdates do not fall.
 fn check_crls(rows: &[CrlRow], last: Moment, cap: u64) -> Result<(), CheckFault>
     ensures ok { OnOk result (AreCrls cap last rows.now) }
-    ensures broken { IfErr result (λ fault. IsBroken fault → ¬ AreCrls cap last rows.now) }
+    ensures broken { NotBrokenIf (AreCrls cap last rows.now) result }
 {
     within_cap(RegisterTable::Crl, rows.len(), cap)?;
     in_order(RegisterTable::Crl, rows)?;
@@ -117,9 +125,11 @@ fn check_revocations(
     certificates: &BTreeMap<Serial, CertRow>,
     rows: &Rows<'_>,
 ) -> Result<BTreeMap<Serial, RevocationRow>, CheckFault>
-    ensures ok { NumberedFrom (λ row. row.id) 1 rows.now.requests.now → OnOk result (AreRevocations (λ key. get nat_cmp certificates.now key) rows.now) }
-    ensures found { IfOk result (λ found. (key : ℕ) → get nat_cmp found key ≡ find (λ row. row.serial == key) rows.now.revocations.now) }
-    ensures broken { NumberedFrom (λ row. row.id) 1 rows.now.requests.now → IfErr result (λ fault. IsBroken fault → ¬ AreRevocations (λ key. get nat_cmp certificates.now key) rows.now) }
+    ensures ok { NumberedFrom (λ row. row.id) 1 rows.now.requests.now
+        → OnOk result (AreRevocations (get nat_cmp certificates.now) rows.now) }
+    ensures found { IfOk result (λ found. Indexes (λ row. row.serial) rows.now.revocations.now (get nat_cmp found)) }
+    ensures broken { NumberedFrom (λ row. row.id) 1 rows.now.requests.now
+        → NotBrokenIf (AreRevocations (get nat_cmp certificates.now) rows.now) result }
 {
     revocations_fit(
         rows.revocations,
@@ -138,7 +148,7 @@ fn check_revocations(
 
 fn check_last(last: Moment) -> Result<(), CheckFault>
     ensures ok { OnOk result (last < clock_end) }
-    ensures broken { IfErr result (λ fault. IsBroken fault → ¬ (last < clock_end)) }
+    ensures broken { NotBrokenIf (last < clock_end) result }
 {
     if last < Moment::CLOCK_END {
         Ok(())
@@ -156,7 +166,7 @@ fn is_issued_at(crls: &[CrlRow], moment: Moment) -> bool
 /// Before anybody is entered, CRLs alone set the last accepted moment.
 fn check_last_set(rows: &Rows<'_>) -> Result<(), CheckFault>
     ensures ok { OnOk result (IsLastSet rows.now) }
-    ensures broken { IfErr result (λ fault. IsBroken fault → ¬ IsLastSet rows.now) }
+    ensures broken { NotBrokenIf (IsLastSet rows.now) result }
 {
     let is_begun = !rows.subscribers.is_empty() || rows.last == Moment::EPOCH;
     if is_begun || is_issued_at(rows.crls, rows.last) {
@@ -176,7 +186,7 @@ pub(crate) struct Found {
 pub(crate) fn check_rows(alloc: Global, rows: &Rows<'_>) -> Result<Found, CheckFault>
     ensures ok { (records : Records) → AreOf rows.now records → OnOk result (SoundRows records) }
     ensures found { IfOk result (IsIndexOf rows.now) }
-    ensures broken { (records : Records) → AreOf rows.now records → IfErr result (λ fault. IsBroken fault → ¬ SoundRows records) }
+    ensures broken { (records : Records) → AreOf rows.now records → NotBrokenIf (SoundRows records) result }
 {
     check_last(rows.last)?;
     check_last_set(rows)?;

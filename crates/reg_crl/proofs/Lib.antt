@@ -1,2 +1,5 @@
 mod Algorithms
 pub mod PublicLaws
+mod CrlNumber
+mod Written
+mod OneReading

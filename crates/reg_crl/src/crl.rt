@@ -6,22 +6,9 @@ ghost use Rattle.reg_crl.specs.Crl.{extension, crl_entry_extensions, revoked_cer
 ghost use Rattle.reg_core.specs.Crls.{EntriesAscend};
 
 use reg_core::{Entry, Memory, Moment};
+use reg_der::tags::{ENUMERATED, OBJECT_IDENTIFIER, OCTET_STRING, PRIMITIVE_0, SEQUENCE, TAGGED_0};
 use reg_der::{Issuer, put, put_bits, put_number, put_raw, put_serial, put_utc_or_general};
 use std::alloc::Global;
-
-const OCTET_STRING: u8 = 0x04;
-
-const OBJECT_IDENTIFIER: u8 = 0x06;
-
-const ENUMERATED: u8 = 0x0A;
-
-const SEQUENCE: u8 = 0x30;
-
-/// The tag octet [0] of a keyIdentifier (RFC 5280 4.2.1.1).
-const KEY_IDENTIFIER: u8 = 0x80;
-
-/// The tag octet [0] of crlExtensions (RFC 5280 5.1).
-const CRL_EXTENSIONS: u8 = 0xA0;
 
 /// The number of version 2 (RFC 5280 5.1.2.1).
 const VERSION_2: u64 = 1;
@@ -30,7 +17,7 @@ const VERSION_2: u64 = 1;
 const UNSPECIFIED: u8 = 0;
 
 /// 2.5.29.20, the CRL number (RFC 5280 5.2.3).
-const CRL_NUMBER: [u8; 3] = [0x55, 0x1D, 0x14];
+pub(crate) const CRL_NUMBER: [u8; 3] = [0x55, 0x1D, 0x14];
 
 /// 2.5.29.21, the reason code (RFC 5280 5.3.1).
 const REASON_CODE: [u8; 3] = [0x55, 0x1D, 0x15];
@@ -195,7 +182,7 @@ fn put_crl_extensions(
     put_crl_number(&mut extensions, alloc, number)?;
     let mut sequence = Vec::new(alloc);
     put(&mut sequence, SEQUENCE, &extensions)?;
-    put(out, CRL_EXTENSIONS, &sequence)
+    put(out, TAGGED_0, &sequence)
 }
 
 fn put_authority_key_identifier(
@@ -222,7 +209,7 @@ fn put_identifier(out: &mut Vec<u8>, alloc: Global, identifier: &[u8]) -> Result
     ensures longer { OnOk result (length out.new.items ≤ length out.old.items + 100) }
 {
     let mut key_identifier = Vec::new(alloc);
-    put(&mut key_identifier, KEY_IDENTIFIER, identifier)?;
+    put(&mut key_identifier, PRIMITIVE_0, identifier)?;
     let mut value = Vec::new(alloc);
     put(&mut value, SEQUENCE, &key_identifier)?;
     put_extension(out, alloc, AUTHORITY_KEY_IDENTIFIER, &value)

@@ -2,10 +2,12 @@
 #![tactic(auto)]
 
 mod crl;
+mod crl_reader;
 pub mod laws;
-mod seal;
+mod placeholder_digest;
 mod signer;
 
 pub use crl::{crl_tbs, crl_whole};
-pub use seal::DigestSeal;
+pub use crl_reader::{PublishedCrl, next_entry, read_crl};
+pub use placeholder_digest::DigestSeal;
 pub use signer::{CrlSigner, SignFault, Signer};

@@ -64,7 +64,7 @@ pub trait Signer {
         ensures { SignsOrFails identity signs failure_count self.old self.new message.now result };
 
     /// Resets the back-off: the device is asked at the next signature, also after a timeout.
-    fn rouse(&mut self)
+    fn reset_backoff(&mut self)
         ensures same_identity { identity self.new ≡ identity self.old }
         ensures same_failures { failure_count self.new ≡ failure_count self.old };
 

@@ -20,7 +20,7 @@ module _ {D : Type 0} (g : Ghosts D) where
     pub device_is : signer.device ≡ device
     pub algorithm_is : signer.algorithm ≡ algorithm
     pub failures : signer.failures ≡ 0
-    pub primed : signer.primed ≡ None
+    pub preset_signature : signer.preset_signature ≡ None
     pub key : IsKeyOf algorithm (g.public_key device)
 
   -- under an identity: the device answered the message so, and that has the form of a signature
@@ -39,9 +39,9 @@ module _ {D : Type 0} (g : Ghosts D) where
 
   -- The device is asked at its place and nowhere else; where a signature was preset, that is taken, and the device is not asked. A signature
   -- has at most 4,096 bytes. Where the device is asked, a fault of it comes only where it gave none.
-  pub record AsksAtItsPlace (old new : DeviceSigner D g) (message : List ℕ) (result : Result (Vec ℕ Global) SignFault) : Type 0 where
-    pub asked : old.primed ≡ None → IfOk result (λ signature. g.asked (g.place old.device) message signature.items)
-    pub given : ¬ (old.primed ≡ None) → IfOk result (λ signature. ∥ g.gave (g.place old.device) message signature.items ∥₁)
+  pub record AsksAtItsPath (old new : DeviceSigner D g) (message : List ℕ) (result : Result (Vec ℕ Global) SignFault) : Type 0 where
+    pub asked : old.preset_signature ≡ None → IfOk result (λ signature. g.asked (g.place old.device) message signature.items)
+    pub given : ¬ (old.preset_signature ≡ None) → IfOk result (λ signature. ∥ g.gave (g.place old.device) message signature.items ∥₁)
     pub within : IfOk result (λ signature. length signature.items ≤ 4096)
-    pub why : old.primed ≡ None → IsErrOf result Device → GivesNone old message new
-    pub same_place : g.place new.device ≡ g.place old.device
+    pub why : old.preset_signature ≡ None → IsErrOf result Device → GivesNone old message new
+    pub same_path : g.place new.device ≡ g.place old.device

@@ -10,5 +10,5 @@ pub record Exchanges {S : Type 0} (public_key place : S → List ℕ) (asked ans
   pub asked_there : IfOk result (λ count. asked (place old) message (take count room))
   pub short : IfOk result (λ count. count < length room)
   pub failed : OnErr result (fails old message new)
-  pub same_place : place new ≡ place old
+  pub same_path : place new ≡ place old
   pub same_key : public_key new ≡ public_key old

@@ -37,8 +37,8 @@ module _ {D : Type 0} (g : Ghosts D) where
   IsNobody (by.Nobody seal failures) = Unit {0}
 
   -- where the key is asked for
-  abbrev pub either_place : KeyOrDigest D g → Option (List ℕ)
-  either_place it = option_map (λ signer. g.place signer.device) (key_of it)
+  abbrev pub either_path : KeyOrDigest D g → Option (List ℕ)
+  either_path it = option_map (λ signer. g.place signer.device) (key_of it)
 
   -- what comes of asking it for a signature
   abbrev pub SigningByEither : KeyOrDigest D g → KeyOrDigest D g → List ℕ → Result (Vec ℕ Global) SignFault → Type 0
@@ -48,4 +48,4 @@ module _ {D : Type 0} (g : Ghosts D) where
   pub record SignsAsBefore (old new : KeyOrDigest D g) : Type 0 where
     pub same_identity : either_identity new ≡ either_identity old
     pub same_failures : either_failures new ≡ either_failures old
-    pub same_place : either_place new ≡ either_place old
+    pub same_path : either_path new ≡ either_path old

@@ -1,5 +1,5 @@
 pub mod Algorithms
-pub mod Asking
+pub mod SignatureRequest
 pub mod Backoff
 pub mod Both
 pub mod DeviceSigners
@@ -7,5 +7,5 @@ pub mod Devices
 pub mod Exchange
 pub mod Forms
 pub mod KeysOrDigests
-pub mod Primed
+pub mod PresetSignature
 pub mod Signed

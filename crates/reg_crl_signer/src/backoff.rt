@@ -127,12 +127,12 @@ impl<D: Device, C: Clock> Device for BackoffDevice<D, C> {
         }
     }
 
-    fn rouse(&mut self)
-        ensures same_place { D.place self.new.device ≡ D.place self.old.device }
+    fn reset_backoff(&mut self)
+        ensures same_path { D.place self.new.device ≡ D.place self.old.device }
         ensures same_key { D.public_key self.new.device ≡ D.public_key self.old.device }
         ensures reset { self.new.backoff.since ≡ None }
     {
-        self.device.rouse();
+        self.device.reset_backoff();
         self.backoff = Backoff::none();
     }
 }

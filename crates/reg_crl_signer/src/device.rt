@@ -44,7 +44,7 @@ pub trait Device {
             self.old self.new message.now room.new result };
 
     /// Resets the back-off: the next exchange asks the device, also after a timeout.
-    fn rouse(&mut self)
-        ensures same_place { place self.new ≡ place self.old }
+    fn reset_backoff(&mut self)
+        ensures same_path { place self.new ≡ place self.old }
         ensures same_key { public_key self.new ≡ public_key self.old };
 }

@@ -94,7 +94,7 @@ impl<L: DeviceConnection + Drop> Device for SocketDevice<L> {
         }
     }
 
-    fn rouse(&mut self) {}
+    fn reset_backoff(&mut self) {}
 }
 
 fn converse<L: DeviceConnection>(

@@ -3,10 +3,10 @@
 ghost use Rattle.std.specs.Prelude.{◌≡◌, None};
 ghost use Rattle.std.specs.Option.{ForSome};
 ghost use Rattle.reg_crl_signer.specs.KeysOrDigests.{IsNobody, SignsAsBefore, either_identity, key_of};
-ghost use Rattle.reg_crl_signer.specs.Primed.{IsPrimed};
+ghost use Rattle.reg_crl_signer.specs.PresetSignature.{IsPreset};
 
 use crate::device::Device;
-use crate::primed::Primed;
+use crate::preset_signature::PresetSignature;
 use crate::signer::{DeviceSigner, count_failure};
 use reg_crl::{DigestSeal, SignFault, Signer};
 use std::alloc::Global;
@@ -35,14 +35,14 @@ impl<D: Device + Drop> KeyOrDigest<D> {
         }
     }
 
-    /// Presets the key's next signature, as [`DeviceSigner::prime`] does. A digest needs nothing.
-    pub fn prime(&mut self, primed: Option<Primed>)
+    /// Presets the key's next signature, as [`DeviceSigner::set_preset`] does. A digest needs nothing.
+    pub fn set_preset(&mut self, preset_signature: Option<PresetSignature>)
         requires { ForSome (key_of D.Device self.old)
-            (λ signer. IsPrimed (D.gave (D.place signer.device)) primed) }
+            (λ signer. IsPreset (D.gave (D.place signer.device)) preset_signature) }
         ensures { SignsAsBefore D.Device self.old self.new }
     {
         match self {
-            KeyOrDigest::Key(signer) => signer.prime(primed),
+            KeyOrDigest::Key(signer) => signer.set_preset(preset_signature),
             KeyOrDigest::Digest(_) => {}
             KeyOrDigest::Nobody(_, _) => {}
         }
@@ -52,7 +52,7 @@ impl<D: Device + Drop> KeyOrDigest<D> {
 impl<D: Device + Drop> Signer for KeyOrDigest<D> {
     ghost use Rattle.std.specs.Prelude.{◌≡◌, None, IfOk, IfSome, OnOk};
     ghost use Rattle.reg_crl_signer.specs.Both.{SignsBoth};
-    ghost use Rattle.reg_crl_signer.specs.KeysOrDigests.{IsNobody, SigningByEither, either_identity, either_failures, either_place, key_of};
+    ghost use Rattle.reg_crl_signer.specs.KeysOrDigests.{IsNobody, SigningByEither, either_identity, either_failures, either_path, key_of};
 
     ghost identity = { either_identity D.Device };
 
@@ -78,10 +78,10 @@ impl<D: Device + Drop> Signer for KeyOrDigest<D> {
 
     fn sign(&mut self, alloc: Global, message: &[u8]) -> Result<Vec<u8>, SignFault>
         ensures signing { SigningByEither D.Device self.old self.new message.now result }
-        ensures asked { IfSome (key_of D.Device self.old) (λ signer. signer.primed ≡ None
+        ensures asked { IfSome (key_of D.Device self.old) (λ signer. signer.preset_signature ≡ None
             → IfOk result (λ signature. D.asked (D.place signer.device) message.now signature.items)) }
         ensures nobody { IsNobody D.Device self.old → OnOk result ⊥ }
-        ensures same_place { either_place D.Device self.new ≡ either_place D.Device self.old }
+        ensures same_path { either_path D.Device self.new ≡ either_path D.Device self.old }
     {
         match self {
             KeyOrDigest::Key(signer) => signer.sign(alloc, message),
@@ -90,9 +90,9 @@ impl<D: Device + Drop> Signer for KeyOrDigest<D> {
         }
     }
 
-    fn rouse(&mut self) {
+    fn reset_backoff(&mut self) {
         match self {
-            KeyOrDigest::Key(signer) => signer.rouse(),
+            KeyOrDigest::Key(signer) => signer.reset_backoff(),
             KeyOrDigest::Digest(_) => {}
             KeyOrDigest::Nobody(_, _) => {}
         }

@@ -2,26 +2,26 @@
 #![tactic(auto)]
 
 mod algorithm;
-mod asking;
 mod backoff;
 mod device;
 mod exchange;
 mod forms;
 mod key_or_digest;
 mod numbers;
-mod primed;
+mod preset_signature;
+mod signature_request;
 mod signed;
 mod signer;
 mod unix_connection;
 
 pub use algorithm::{Algorithm, is_key_identifier};
-pub use asking::{Asking, read_answer};
 pub use backoff::{Backoff, BackoffDevice};
 pub use device::{Device, DeviceFault};
 pub use exchange::{DeviceConnection, SocketDevice};
 pub use forms::has_form;
 pub use key_or_digest::KeyOrDigest;
-pub use primed::Primed;
+pub use preset_signature::PresetSignature;
+pub use signature_request::{SignatureRequest, read_answer};
 pub use signed::crl_algorithm;
 pub use signer::{DeviceSigner, KeyFault};
 pub use unix_connection::UnixConnection;

@@ -3,11 +3,11 @@
 ghost use Rattle.std.specs.Prelude.{◌≡◌, ◌<◌, ◌≤◌, Some, None, IfOk, OnErr, length, vec_len};
 ghost use Rattle.std.specs.Bool.{OnFalse, OnTrue};
 ghost use Rattle.reg_crl_signer.specs.Forms.{IsKeyOf, IsSignature};
-ghost use Rattle.reg_crl_signer.specs.Primed.{IsPrimed};
+ghost use Rattle.reg_crl_signer.specs.PresetSignature.{IsPreset};
 
 use crate::algorithm::Algorithm;
 use crate::device::Device;
-use crate::primed::{Primed, answer_to};
+use crate::preset_signature::{PresetSignature, answer_to};
 use reg_crl::{SignFault, Signer};
 use std::alloc::Global;
 
@@ -26,12 +26,12 @@ pub struct DeviceSigner<D: Device> {
     device: D,
     algorithm: Algorithm,
     failures: u64,
-    primed: Option<Primed>,
-    ghost came: { IsPrimed (D.gave (D.place device)) primed },
+    preset_signature: Option<PresetSignature>,
+    ghost came: { IsPreset (D.gave (D.place device)) preset_signature },
 }
 
 impl<D: Device + Drop> DeviceSigner<D> {
-    ghost use Rattle.reg_crl_signer.specs.DeviceSigners.{AsksAtItsPlace, GivesNone, IsNew, SigningByDevice, SignsByDevice, device_identity};
+    ghost use Rattle.reg_crl_signer.specs.DeviceSigners.{AsksAtItsPath, GivesNone, IsNew, SigningByDevice, SignsByDevice, device_identity};
 
     /// [`KeyFault`] where the device's public key is none of the algorithm by its form.
     pub fn new(device: D, algorithm: Algorithm) -> Result<DeviceSigner<D>, KeyFault>
@@ -45,20 +45,20 @@ impl<D: Device + Drop> DeviceSigner<D> {
             device,
             algorithm,
             failures: 0,
-            primed: None,
+            preset_signature: None,
         })
     }
 
     /// Presets the next signature, for which the device is not asked then: what the device gave to others, who asked it at its place to sign
     /// a message, or that it gave nothing. To sign another message is a failure then. `None` has the device asked again.
-    pub fn prime(&mut self, primed: Option<Primed>)
-        requires { IsPrimed (D.gave (D.place self.old.device)) primed }
-        ensures primed { self.new.primed ≡ primed }
+    pub fn set_preset(&mut self, preset_signature: Option<PresetSignature>)
+        requires { IsPreset (D.gave (D.place self.old.device)) preset_signature }
+        ensures preset_signature { self.new.preset_signature ≡ preset_signature }
         ensures same_device { self.new.device ≡ self.old.device }
         ensures same_algorithm { self.new.algorithm ≡ self.old.algorithm }
         ensures same_failures { self.new.failures ≡ self.old.failures }
     {
-        self.primed = primed;
+        self.preset_signature = preset_signature;
     }
 
     /// Whether the device gave a signature, which is then all of `answer`.
@@ -69,7 +69,7 @@ impl<D: Device + Drop> DeviceSigner<D> {
         ensures asked { OnTrue result (D.asked (D.place self.old.device) message.now answer.new.items) }
         ensures short { OnTrue result (length answer.new.items ≤ 4096) }
         ensures failed { OnFalse result (GivesNone D.Device self.old message.now self.new) }
-        ensures same_place { D.place self.new.device ≡ D.place self.old.device }
+        ensures same_path { D.place self.new.device ≡ D.place self.old.device }
         ensures same_identity { device_identity D.Device self.new ≡ device_identity D.Device self.old }
         ensures same_failures { self.new.failures ≡ self.old.failures }
     {
@@ -83,10 +83,10 @@ impl<D: Device + Drop> DeviceSigner<D> {
         }
     }
 
-    fn sign_asking(&mut self, alloc: Global, message: &[u8]) -> Result<Vec<u8>, SignFault>
-        requires { self.old.primed ≡ None }
+    fn sign_by_request(&mut self, alloc: Global, message: &[u8]) -> Result<Vec<u8>, SignFault>
+        requires { self.old.preset_signature ≡ None }
         ensures signing { SigningByDevice D.Device self.old self.new message.now result }
-        ensures asks { AsksAtItsPlace D.Device self.old self.new message.now result }
+        ensures asks { AsksAtItsPath D.Device self.old self.new message.now result }
     {
         let mut answer = vec![in alloc; 0; LONGEST_ANSWER + 1]?;
         if self.ask(message, &mut answer) {
@@ -95,15 +95,19 @@ impl<D: Device + Drop> DeviceSigner<D> {
         Err(count_failure(&mut self.failures))
     }
 
-    fn sign_primed(&mut self, primed: Primed, message: &[u8]) -> Result<Vec<u8>, SignFault>
-        requires { IsPrimed (D.gave (D.place self.old.device)) (Some primed) }
+    fn sign_preset(
+        &mut self,
+        preset_signature: PresetSignature,
+        message: &[u8],
+    ) -> Result<Vec<u8>, SignFault>
+        requires { IsPreset (D.gave (D.place self.old.device)) (Some preset_signature) }
         ensures signing { SigningByDevice D.Device self.old self.new message.now result }
         ensures given { IfOk result (λ signature.
             ∥ D.gave (D.place self.old.device) message.now signature.items ∥₁) }
         ensures within { IfOk result (λ signature. length signature.items ≤ 4096) }
         ensures same_device { self.new.device ≡ self.old.device }
     {
-        match answer_to(primed, message) {
+        match answer_to(preset_signature, message) {
             Some(answer) if self.is_signature(&answer) => Ok(answer),
             _ => Err(count_failure(&mut self.failures)),
         }
@@ -121,7 +125,7 @@ impl<D: Device + Drop> DeviceSigner<D> {
 }
 
 impl<D: Device + Drop> Signer for DeviceSigner<D> {
-    ghost use Rattle.reg_crl_signer.specs.DeviceSigners.{AsksAtItsPlace, SigningByDevice, SignsByDevice, device_identity};
+    ghost use Rattle.reg_crl_signer.specs.DeviceSigners.{AsksAtItsPath, SigningByDevice, SignsByDevice, device_identity};
 
     ghost identity = { device_identity D.Device };
 
@@ -139,16 +143,16 @@ impl<D: Device + Drop> Signer for DeviceSigner<D> {
 
     fn sign(&mut self, alloc: Global, message: &[u8]) -> Result<Vec<u8>, SignFault>
         ensures signing { SigningByDevice D.Device self.old self.new message.now result }
-        ensures asks { AsksAtItsPlace D.Device self.old self.new message.now result }
+        ensures asks { AsksAtItsPath D.Device self.old self.new message.now result }
     {
-        match self.primed.take() {
-            Some(primed) => self.sign_primed(primed, message),
-            None => self.sign_asking(alloc, message),
+        match self.preset_signature.take() {
+            Some(preset_signature) => self.sign_preset(preset_signature, message),
+            None => self.sign_by_request(alloc, message),
         }
     }
 
-    fn rouse(&mut self) {
-        self.device.rouse();
+    fn reset_backoff(&mut self) {
+        self.device.reset_backoff();
     }
 
     fn failures(&self) -> u64 {

@@ -324,6 +324,10 @@ length_is_fewest size fits = record { spells = is_length size fits; least = λ o
     least octets size fits (inl short) = inl (short.0 ∙ sym (length_octets-short size short.1))
     least octets size fits (inr long) = length_octets-fewest_long octets size fits long
 
+-- a value has two octets at least
+pub tlv_some : (tag : ℕ) (contents : List ℕ) → 2 ≤ length (tlv tag contents)
+tlv_some tag contents = omega (arith, (value_size tag contents).least)
+
 -- ---- what `take` gives
 
 -- where nothing is read, no prefix is a value

@@ -1,9 +1,9 @@
-ghost use Rattle.std.specs.Prelude.{◌≡◌, ◌+◌, ◌<◌, ◌≤◌, length, IfSome, IsSome, IsTrue, ◌↔◌, unwrap_or, []};
-ghost use Rattle.reg_core.specs.Integer.{value};
+ghost use Rattle.std.specs.Prelude.{◌≡◌, ◌<◌, length, IfSome, IsSome, IsTrue, ◌↔◌, unwrap_or, []};
 ghost use Rattle.reg_der.specs.Authority as authority;
 ghost use Rattle.reg_der.specs.ValueReading.{Gives};
 
 use crate::reading::take;
+use crate::values::number;
 use reg_core::Label;
 
 /// The tag octet [0] of a key identifier (RFC 5280 4.2.1.1).
@@ -18,17 +18,6 @@ const MOST_OCTETS: usize = 72;
 pub struct KeyIdentifier {
     pub first: u64,
     pub octets: Label,
-}
-
-fn number(octets: &[u8]) -> u64
-    requires { length octets.now ≤ 8 }
-    ensures { result ≡ value octets.now }
-{
-    let mut number = 0;
-    for octet in octets {
-        number = number * 256 + u64::from(*octet);
-    }
-    number
 }
 
 #[tactic(auto, unfolding(crate::specs::Authority::identifier_at))]

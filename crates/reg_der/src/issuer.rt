@@ -5,13 +5,12 @@ ghost use Rattle.reg_der.specs.declared.issuer.IssuerFault.TheVariants.{Memory};
 
 use crate::identifiers::{KEY_IDENTIFIER, are_identifiers, identifier_for, others_than};
 use crate::reading::take;
+use crate::tags::SEQUENCE;
 use crate::writing::{copy_of, put, put_raw};
 use reg_core::{Label, Memory};
 use sha1::Sha1;
 use std::alloc::{AllocError, Global};
 use std::marker::Model;
-
-const SEQUENCE: u8 = 0x30;
 
 const LONGEST_NAME: usize = 1_024;
 

@@ -5,7 +5,9 @@ mod identifiers;
 mod issuer;
 pub mod laws;
 mod reading;
+pub mod tags;
 mod times;
+pub mod values;
 mod writing;
 
 pub use identifiers::KeyIdentifier;

@@ -7,17 +7,10 @@ ghost use Rattle.reg_core.specs.Calendar as calendar;
 ghost use Rattle.reg_der.specs.Der.{IsTlv, tlv, length_octets};
 ghost use Rattle.reg_der.specs.WrittenValues.{integer_value, bits_value, general_value, time_value};
 
+use crate::tags::{BIT_STRING, GENERALIZED_TIME, INTEGER, UTC_TIME};
 use crate::times::{general_text, utc_text};
 use reg_core::{Memory, Moment, Serial};
 use std::alloc::Global;
-
-const INTEGER: u8 = 0x02;
-
-const BIT_STRING: u8 = 0x03;
-
-const UTC_TIME: u8 = 0x17;
-
-const GENERALIZED_TIME: u8 = 0x18;
 
 /// A length below this is one octet. A greater one is its digits, and before them this and their count (X.690 8.1.3).
 const LONG_FORM: u8 = 128;

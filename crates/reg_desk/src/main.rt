@@ -15,9 +15,9 @@ fn main(rt: HostRuntime) -> io::Result<ExitCode> {
     let status = match words_of(&rt) {
         Ok(words) => match read_words(rt.alloc(), words.as_slice()) {
             Ok(invocation) => run_desk(&rt, &invocation),
-            Err(usage) => tell_usage(&rt, &usage)?,
+            Err(usage) => print_usage(&rt, &usage)?,
         },
-        Err(usage) => tell_usage(&rt, &usage)?,
+        Err(usage) => print_usage(&rt, &usage)?,
     };
     Ok(ExitCode::from(status))
 }
@@ -31,7 +31,7 @@ fn words_of(rt: &HostRuntime) -> Result<Vec<String>, Usage> {
 }
 
 /// Tells help or the version, or why there is no invocation.
-fn tell_usage(rt: &HostRuntime, usage: &Usage) -> io::Result<u8> {
+fn print_usage(rt: &HostRuntime, usage: &Usage) -> io::Result<u8> {
     match usage {
         Usage::Help(text) | Usage::Version(text) => print!(rt; "{text}")?,
         Usage::Bad(text) => eprint!(rt; "{text}")?,

@@ -10,7 +10,7 @@ use Rattle.std.specs.Box.{box_value}
 use Rattle.clap.specs.declared.parser.matches.ArgMatches.{ArgMatches}
 use Rattle.clap.specs.declared.parser.matches.ArgMatches.TheViews.{out-ArgMatches, out-SubCommand}
 use Rattle.reg_desk_cli.specs.Desk.{desk_app}
-use Rattle.reg_desk_cli.specs.Jobs.{ClapAccepts, IsNoInvocation, IsInvocationIn, IsInvocationOf, IsUsageOf, TellsUsage, job_found}
+use Rattle.reg_desk_cli.specs.Jobs.{ClapAccepts, IsNoInvocation, IsInvocationIn, IsInvocationOf, IsUsageOf, PrintsUsage, job_found}
 use Rattle.reg_desk_cli.specs.declared.job.Invocation.{Invocation}
 use Rattle.reg_desk_cli.specs.declared.job.Usage.{Usage}
 use Rattle.reg_desk_cli.specs.declared.job.Usage.TheVariants.{Help, Version, Bad, Memory}
@@ -25,7 +25,7 @@ unfolding clap_on_literals
 simple_and_free = refl
 
 -- what is answered for an error of clap
-pub tells_usage : (words : List Text) (kind : ErrorKind) (usage : Usage) → TellsUsage kind usage
+pub tells_usage : (words : List Text) (kind : ErrorKind) (usage : Usage) → PrintsUsage kind usage
     → (kind ≡ OutOfMemory) ⊎ IsAmong kind (fault_of desk_app words) → IsUsageOf words usage
 tells_usage words kind (Help text) help (inl none) = cc (sym help ∙ none)
 tells_usage words kind (Help text) help (inr among) = subst (λ k. IsAmong k (fault_of desk_app words)) help among

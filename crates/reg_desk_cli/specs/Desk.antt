@@ -16,6 +16,10 @@ may id = record (new_rule id) { value_names = 1 }
 abbrev pub needs : Text → Rule
 needs id = record (new_rule id) { long = Some id; required = true; value_names = 1 }
 
+-- the same, which is also given as `--older VALUE`
+abbrev pub renamed : Text → Text → Rule
+renamed id older = record (needs id) { aliases = older ∷ [] }
+
 -- an option `--id VALUE` that may be left out
 abbrev pub takes_value : Text → Rule
 takes_value id = record (new_rule id) { long = Some id; value_names = 1 }
@@ -44,34 +48,37 @@ abbrev pub script_app : App
 script_app = with_rules (new_app (codes "script"))
     (may (codes "file") ∷ takes_value (codes "signer") ∷ takes_value (codes "algorithm") ∷ flag (codes "clock") ∷ flag (codes "strict") ∷ flag (codes "why") ∷ [])
 
--- `import FILE --now MOMENT [--strict] [--why]`
+-- `import FILE [--now MOMENT] [--clock] [--strict] [--why]`; that one of `--now` and `--clock` is given says `Jobs.one_moment`
 abbrev pub import_app : App
-import_app = with_rules (new_app (codes "import")) (must (codes "file") ∷ needs (codes "now") ∷ flag (codes "strict") ∷ flag (codes "why") ∷ [])
+import_app = with_rules (new_app (codes "import")) (must (codes "file") ∷ takes_value (codes "now") ∷ flag (codes "clock") ∷ flag (codes "strict") ∷ flag (codes "why") ∷ [])
 
 -- `crl FILE [--number N] [--why]`
 abbrev pub crl_app : App
 crl_app = with_rules (new_app (codes "crl")) (must (codes "file") ∷ takes_value (codes "number") ∷ flag (codes "why") ∷ [])
 
--- `serve FILE --port N --requests N [--signer SOCKET --algorithm NAME]
--- [--responder CERT --responder-signer SOCKET --responder-algorithm NAME | --embed CERT] [--log] [--log-file PATH] [--why]`
+-- `serve FILE --port N [--listen ADDRESS] --requests N [--signer SOCKET --algorithm NAME]
+-- [--responder CERT --responder-signer SOCKET --responder-algorithm NAME | --embed CERT] [--published CRL] [--log] [--log-file PATH] [--why]`
 abbrev pub serve_app : App
 serve_app = with_rules (new_app (codes "serve"))
-    (must (codes "file") ∷ needs (codes "port") ∷ needs (codes "requests") ∷ takes_value (codes "signer") ∷ takes_value (codes "algorithm")
+    (must (codes "file") ∷ needs (codes "port") ∷ takes_value (codes "listen") ∷ needs (codes "requests")
+    ∷ takes_value (codes "signer") ∷ takes_value (codes "algorithm")
     ∷ takes_value (codes "responder") ∷ takes_value (codes "responder-signer") ∷ takes_value (codes "responder-algorithm") ∷ takes_value (codes "embed")
-    ∷ flag (codes "log") ∷ takes_value (codes "log-file") ∷ flag (codes "why") ∷ [])
+    ∷ takes_value (codes "published") ∷ flag (codes "log") ∷ takes_value (codes "log-file") ∷ flag (codes "why") ∷ [])
 
--- `open FILE --port N --counter SOCKET [--signer SOCKET --algorithm NAME] [--unsigned]
--- [--responder CERT --responder-signer SOCKET --responder-algorithm NAME | --embed CERT] [--log] [--log-file PATH] [--why]`;
--- whether `--signer` or `--unsigned` must be given says `Jobs.holder_chosen`
+-- `open FILE --port N [--listen ADDRESS] --control SOCKET [--signer SOCKET --algorithm NAME] [--unsigned]
+-- [--responder CERT --responder-signer SOCKET --responder-algorithm NAME | --embed CERT] [--published CRL] [--log] [--log-file PATH] [--why]`;
+-- `--counter` is an older name of `--control`; whether `--signer` or `--unsigned` must be given says `Jobs.holder_chosen`
 abbrev pub open_app : App
 open_app = with_rules (new_app (codes "open"))
-    (must (codes "file") ∷ needs (codes "port") ∷ needs (codes "counter") ∷ takes_value (codes "signer") ∷ takes_value (codes "algorithm") ∷ flag (codes "unsigned")
+    (must (codes "file") ∷ needs (codes "port") ∷ takes_value (codes "listen") ∷ renamed (codes "control") (codes "counter")
+    ∷ takes_value (codes "signer") ∷ takes_value (codes "algorithm") ∷ flag (codes "unsigned")
     ∷ takes_value (codes "responder") ∷ takes_value (codes "responder-signer") ∷ takes_value (codes "responder-algorithm") ∷ takes_value (codes "embed")
-    ∷ flag (codes "log") ∷ takes_value (codes "log-file") ∷ flag (codes "why") ∷ [])
+    ∷ takes_value (codes "published") ∷ flag (codes "log") ∷ takes_value (codes "log-file") ∷ flag (codes "why") ∷ [])
 
--- `at SOCKET [--import FILE] [--why]`
+-- `at SOCKET [--import FILE | --revoke FILE] [--why]`
 abbrev pub at_app : App
-at_app = with_rules (new_app (codes "at")) (must (codes "counter") ∷ takes_value (codes "import") ∷ flag (codes "why") ∷ [])
+at_app = with_rules (new_app (codes "at"))
+    (must (codes "counter") ∷ takes_value (codes "import") ∷ takes_value (codes "revoke") ∷ flag (codes "why") ∷ [])
 
 -- `replay SOCKET LOG [--why]`
 abbrev pub replay_app : App

@@ -19,8 +19,11 @@ use Rattle.reg_desk_cli.specs.WordValues.{steps_of, within}
 use Rattle.reg_crl_signer.specs.Algorithms.{algorithm_named}
 use Rattle.reg_desk_cli.specs.declared.job.Answerer.{Answerer}
 use Rattle.reg_desk_cli.specs.declared.job.Answerer.TheVariants.{Issuer, Delegate}
+use Rattle.reg_desk_cli.specs.declared.job.Endpoint.{Endpoint}
+use Rattle.reg_desk_cli.specs.declared.job.Loopback.{Loopback}
+use Rattle.reg_desk_cli.specs.declared.job.Loopback.TheVariants.{V4, V6}
 use Rattle.reg_desk_cli.specs.declared.job.Job.{Job}
-use Rattle.reg_desk_cli.specs.declared.job.Job.TheVariants.{Init, Script, Lines, Import, Crl, Serve, Open, At, Replay, Schedule, KeyId, Listing, Copy, Audit}
+use Rattle.reg_desk_cli.specs.declared.job.Job.TheVariants.{Init, Script, Lines, Import, Crl, Serve, Open, At, Revoke, Replay, Schedule, KeyId, Listing, Copy, Audit}
 use Rattle.reg_desk_cli.specs.declared.job.KeyHolder.{KeyHolder}
 use Rattle.reg_desk_cli.specs.declared.job.Invocation.{Invocation}
 use Rattle.reg_desk_cli.specs.declared.job.Usage.{Usage}
@@ -39,7 +42,7 @@ given id rows = option_map_or (λ text. option_map (λ n. Some n) (number_of tex
 abbrev pub number_in : ℕ → ℕ → Text → List Row → Option ℕ
 number_in least most id rows = option_and_then (within least most) (option_and_then number_of (first_of id rows))
 
--- what holds the key, by the words of both options or neither; one alone says nothing, and nor does another name of an algorithm
+-- the signer, by the words of both options or neither; one alone says nothing, and nor does another name of an algorithm
 abbrev pub holder_told : Option Text → Option Text → Option (Option KeyHolder)
 holder_told (Some socket) (Some name) =
     option_map (λ algorithm. Some (record { socket = socket; algorithm = algorithm })) (algorithm_named name)
@@ -51,12 +54,12 @@ holder_told None None = Some None
 abbrev pub holder_by_options : Text → Text → List Row → Option (Option KeyHolder)
 holder_by_options socket algorithm rows = holder_told (first_of socket rows) (first_of algorithm rows)
 
--- what holds the key, if it is told
+-- the signer, if one is given
 abbrev pub holder_in : List Row → Option (Option KeyHolder)
 holder_in rows = holder_by_options (codes "signer") (codes "algorithm") rows
 
--- who answers OCSP requests, by the file of a responder's certificate, what holds its key, and the file of a certificate that stands
--- with the issuer's own answers: a responder is told whole, or not at all, and then the issuer's certificate may be told
+-- who answers OCSP requests, by the file of a responder's certificate, its signer, and the file of a certificate that is put into the
+-- issuer's own answers: a responder has both of its own, or there is none, and then the issuer's certificate may be given
 abbrev pub answerer_told : Option Text → Option KeyHolder → Option Text → Option Answerer
 answerer_told (Some certificate) (Some holder) None = Some (Delegate certificate holder)
 answerer_told (Some certificate) (Some holder) (Some embedded) = None
@@ -79,8 +82,8 @@ abbrev pub has_own_key : Answerer → Bool
 has_own_key (Issuer certificate) = false
 has_own_key (Delegate certificate holder) = true
 
--- what holds the issuer's key where it is to be chosen: one that does, or the word that a digest alone seals; neither and both say nothing.
--- Beside one who answers with a key of its own it is one that does, or neither.
+-- the signer of CRLs where one is to be chosen: a signer, or `--unsigned`; neither and both say nothing. Beside a responder it is a signer,
+-- or neither.
 abbrev pub chosen : Option KeyHolder → Bool → Bool → Option (Option KeyHolder)
 chosen (Some holder) false own = Some (Some holder)
 chosen (Some holder) true own = None
@@ -89,7 +92,7 @@ chosen None true false = Some None
 chosen None false true = Some None
 chosen None true true = None
 
--- what holds the issuer's key, by `--signer` with `--algorithm`, or none by `--unsigned`, or by neither beside a responder
+-- the signer of CRLs, by `--signer` with `--algorithm`, or none by `--unsigned`, or by neither beside a responder
 abbrev pub holder_chosen : Answerer → List Row → Option (Option KeyHolder)
 holder_chosen answerer rows = option_and_then (λ signer. chosen signer (is_given (codes "unsigned") rows) (has_own_key answerer)) (holder_in rows)
 
@@ -101,6 +104,24 @@ way_in rows = record { is_clocked = is_given (codes "clock") rows; is_strict = i
 abbrev pub script_by : Option Text → Option KeyHolder → Way → Option Job
 script_by None signer way = if way.is_clocked || way.is_strict then None else Some (Script None signer)
 script_by (Some file) signer way = if way.is_clocked || way.is_strict then Some (Lines (record { file = file; signer = signer; way = way })) else Some (Script (Some file) signer)
+
+-- the address that `--listen` names, which is of the loopback interface
+abbrev pub loopback_named : Text → Option Loopback
+loopback_named text =
+    if bytes_eq text (codes "127.0.0.1") then Some V4
+    else if bytes_eq text (codes "[::1]") then Some V6
+    else None
+
+-- the same, or 127.0.0.1 where it is left out
+abbrev pub loopback_in : List Row → Option Loopback
+loopback_in rows = option_map_or loopback_named (first_of (codes "listen") rows) (Some V4)
+
+-- where HTTP connections are accepted
+unfoldable pub endpoint_in : List Row → Option Endpoint
+endpoint_in rows = do
+  address ← loopback_in rows
+  port ← number_in 1 65535 (codes "port") rows
+  Some (record { address = address; port = port })
 
 -- each command by its words and options; the terms of a policy that are left out are the usual ones
 unfoldable pub init_of : List Row → Option Job
@@ -128,10 +149,26 @@ script_of rows = do
   signer ← holder_in rows
   script_by (first_of (codes "file") rows) signer (way_in rows)
 
+-- a moment that is told, if one is
+abbrev pub moment_given : Text → List Row → Option (Option ℕ)
+moment_given id rows = option_map_or (λ text. option_map (λ moment. Some moment) (moment_of text)) (first_of id rows) (Some None)
+
+-- the moment of an import, or none if it is that of the machine's clock: exactly one of `--now` and `--clock` is given
+abbrev pub one_moment : Option ℕ → Bool → Option (Option ℕ)
+one_moment (Some now) false = Some (Some now)
+one_moment None true = Some None
+one_moment (Some now) true = None
+one_moment None false = None
+
+unfoldable pub import_moment : List Row → Option (Option ℕ)
+import_moment rows = do
+  now ← moment_given (codes "now") rows
+  one_moment now (is_given (codes "clock") rows)
+
 unfoldable pub import_of : List Row → Option Job
 import_of rows = do
   file ← first_of (codes "file") rows
-  moment ← option_and_then moment_of (first_of (codes "now") rows)
+  moment ← import_moment rows
   Some (Import (record { file = file; moment = moment; is_strict = is_given (codes "strict") rows }))
 
 unfoldable pub crl_job : List Row → Option Job
@@ -143,25 +180,45 @@ crl_job rows = do
 unfoldable pub serve_of : List Row → Option Job
 serve_of rows = do
   file ← first_of (codes "file") rows
-  port ← number_in 1 65535 (codes "port") rows
+  endpoint ← endpoint_in rows
   requests ← number_in 1 1000000 (codes "requests") rows
   signer ← holder_in rows
   answerer ← answerer_in rows
-  Some (Serve (record { file = file; port = port; requests = requests; signer = signer; answerer = answerer }))
+  Some (Serve (record {
+    file = file;
+    endpoint = endpoint;
+    requests = requests;
+    signer = signer;
+    answerer = answerer;
+    published = first_of (codes "published") rows;
+  }))
 
 unfoldable pub open_of : List Row → Option Job
 open_of rows = do
   file ← first_of (codes "file") rows
-  port ← number_in 1 65535 (codes "port") rows
-  counter ← first_of (codes "counter") rows
+  endpoint ← endpoint_in rows
+  control ← first_of (codes "control") rows
   answerer ← answerer_in rows
   signer ← holder_chosen answerer rows
-  Some (Open (record { file = file; port = port; counter = counter; signer = signer; answerer = answerer }))
+  Some (Open (record {
+    file = file;
+    endpoint = endpoint;
+    control = control;
+    signer = signer;
+    answerer = answerer;
+    published = first_of (codes "published") rows;
+  }))
+
+-- lines, or the rows of a file that are imported, or revoked: not both
+abbrev pub at_by : Text → Option Text → Option Text → Option Job
+at_by counter imported None = Some (At counter imported)
+at_by counter None (Some rows) = Some (Revoke counter rows)
+at_by counter (Some imported) (Some rows) = None
 
 unfoldable pub at_of : List Row → Option Job
 at_of rows = do
   counter ← first_of (codes "counter") rows
-  Some (At counter (first_of (codes "import") rows))
+  at_by counter (first_of (codes "import") rows) (first_of (codes "revoke") rows)
 
 unfoldable pub replay_of : List Row → Option Job
 replay_of rows = do
@@ -180,10 +237,6 @@ key_id_of rows = do
   file ← first_of (codes "file") rows
   key_id ← first_of (codes "key-id") rows
   Some (KeyId file key_id)
-
--- a moment that is told, if one is
-abbrev pub moment_given : Text → List Row → Option (Option ℕ)
-moment_given id rows = option_map_or (λ text. option_map (λ moment. Some moment) (moment_of text)) (first_of id rows) (Some None)
 
 -- how a list is written
 abbrev pub form_in : List Row → Form
@@ -290,11 +343,11 @@ abbrev pub IsInvocationOf : List Text → Invocation → Type 0
 IsInvocationOf words invocation = ClapAccepts words × IsInvocationIn (matches_of desk_app words) (subcommand_of desk_app words) invocation
 
 -- what is answered for an error of a kind: help for help, the version for the version, and bad words for the rest, unless memory runs out
-abbrev pub TellsUsage : ErrorKind → Usage → Type 0
-TellsUsage kind (Help text) = kind ≡ DisplayHelp
-TellsUsage kind (Version text) = kind ≡ DisplayVersion
-TellsUsage kind (Bad text) = (kind ≢ DisplayHelp) × (kind ≢ DisplayVersion) × (kind ≢ OutOfMemory)
-TellsUsage kind Memory = Unit {0}
+abbrev pub PrintsUsage : ErrorKind → Usage → Type 0
+PrintsUsage kind (Help text) = kind ≡ DisplayHelp
+PrintsUsage kind (Version text) = kind ≡ DisplayVersion
+PrintsUsage kind (Bad text) = (kind ≢ DisplayHelp) × (kind ≢ DisplayVersion) × (kind ≢ OutOfMemory)
+PrintsUsage kind Memory = Unit {0}
 
 -- help or the version, where clap answers it; bad words, where clap finds another fault or a value is out of its form or range;
 -- memory may run out at any words

@@ -4,4 +4,4 @@ pub mod Statuses
 pub mod Table
 pub mod WordValues
 pub mod Checks
-pub mod Endings
+pub mod ExitStatus

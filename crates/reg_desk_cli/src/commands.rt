@@ -1,19 +1,22 @@
 //! The job of each command, by its words and options.
 
 ghost use Rattle.std.specs.Prelude.{◌≡◌, codes, IfOk};
+ghost use Rattle.reg_desk_cli.specs.Jobs.{endpoint_in, import_moment, one_moment};
 ghost use Rattle.clap.specs.Words.{found_of, rows_of};
-ghost use Rattle.reg_desk_cli.specs.Jobs.{job_in, serving_job_in, keeping_job_in, init_of, script_by, script_of, import_of, crl_job, number_in, serve_of, open_of, at_of, replay_of, schedule_of, key_id_of, filter_for, form_in, list_of, copy_of, audit_of};
+ghost use Rattle.reg_desk_cli.specs.Jobs.{job_in, serving_job_in, keeping_job_in, init_of, script_by, script_of, import_of, crl_job, number_in, serve_of, open_of, at_by, at_of, replay_of, schedule_of, key_id_of, filter_for, form_in, list_of, copy_of, audit_of};
 
 use crate::given_values::{
-    answerer, chosen_holder, filter_if_given, is_set, key_holder, moment, moment_if_given,
+    answerer, chosen_holder, filter_if_given, is_set, key_holder, loopback, moment_if_given,
     number_if_given, number_or, number_within, steps, text_of, way_of, word_of,
 };
 use crate::job::{
-    Job, KeptOpen, KeyHolder, LinedScript, ListToWrite, NewRegister, RowsToImport, Serving, Way,
+    Endpoint, Job, KeptOpen, KeyHolder, LinedScript, ListToWrite, NewRegister, RowsToImport,
+    Serving, Way,
 };
 use crate::word::Word;
 use crate::wrong::{LAST_PORT, MOST_REQUESTS};
 use clap::ArgMatches;
+use reg_core::Moment;
 use reg_core_lists::{Cursor, Filter, Form};
 use std::alloc::{AllocError, Global};
 
@@ -142,9 +145,27 @@ fn read_import<'a>(given: &ArgMatches<'a>) -> Option<Job<'a>>
 {
     Some(Job::Import(RowsToImport {
         file: word_of(given, "file")?,
-        moment: moment(given, "now")?,
+        moment: import_moment(given)?,
         is_strict: is_set(given, "strict"),
     }))
+}
+
+/// The moment of `--now`, or none by `--clock`; `None` where neither is given, or both.
+#[tactic(auto, unfolding(crate::specs::Jobs::import_moment))]
+fn import_moment(given: &ArgMatches<'_>) -> Option<Option<Moment>>
+    ensures { result ≡ import_moment (rows_of (found_of given.now)) }
+{
+    one_moment(moment_if_given(given, "now")?, is_set(given, "clock"))
+}
+
+fn one_moment(now: Option<Moment>, is_clocked: bool) -> Option<Option<Moment>>
+    ensures { result ≡ one_moment now is_clocked }
+{
+    if now.is_some() == is_clocked {
+        None
+    } else {
+        Some(now)
+    }
 }
 
 #[tactic(auto, unfolding(crate::specs::Jobs::crl_job))]
@@ -163,16 +184,27 @@ fn port_of(given: &ArgMatches<'_>) -> Option<u16>
     Some(number_within(given, "port", 1, LAST_PORT)? as u16)
 }
 
+#[tactic(auto, unfolding(crate::specs::Jobs::endpoint_in))]
+fn endpoint_of(given: &ArgMatches<'_>) -> Option<Endpoint>
+    ensures { result ≡ endpoint_in (rows_of (found_of given.now)) }
+{
+    Some(Endpoint {
+        address: loopback(given)?,
+        port: port_of(given)?,
+    })
+}
+
 #[tactic(auto, unfolding(crate::specs::Jobs::serve_of))]
 fn read_serve<'a>(given: &ArgMatches<'a>) -> Option<Job<'a>>
     ensures { result ≡ serve_of (rows_of (found_of given.now)) }
 {
     Some(Job::Serve(Serving {
         file: word_of(given, "file")?,
-        port: port_of(given)?,
+        endpoint: endpoint_of(given)?,
         requests: number_within(given, "requests", 1, MOST_REQUESTS)? as u32,
         signer: key_holder(given)?,
         answerer: answerer(given)?,
+        published: word_of(given, "published"),
     }))
 }
 
@@ -181,16 +213,17 @@ fn read_open<'a>(given: &ArgMatches<'a>) -> Option<Job<'a>>
     ensures { result ≡ open_of (rows_of (found_of given.now)) }
 {
     let file = word_of(given, "file")?;
-    let port = port_of(given)?;
-    let counter = word_of(given, "counter")?;
+    let endpoint = endpoint_of(given)?;
+    let control = word_of(given, "control")?;
     let answering = answerer(given)?;
     let signer = chosen_holder(given, &answering)?;
     Some(Job::Open(KeptOpen {
         file,
-        port,
-        counter,
+        endpoint,
+        control,
         signer,
         answerer: answering,
+        published: word_of(given, "published"),
     }))
 }
 
@@ -198,10 +231,22 @@ fn read_open<'a>(given: &ArgMatches<'a>) -> Option<Job<'a>>
 fn read_at<'a>(given: &ArgMatches<'a>) -> Option<Job<'a>>
     ensures { result ≡ at_of (rows_of (found_of given.now)) }
 {
-    Some(Job::At {
-        counter: word_of(given, "counter")?,
-        rows: word_of(given, "import"),
-    })
+    let counter = word_of(given, "counter")?;
+    at_job(counter, word_of(given, "import"), word_of(given, "revoke"))
+}
+
+fn at_job<'a>(
+    counter: Word<'a>,
+    imported: Option<Word<'a>>,
+    revoked: Option<Word<'a>>,
+) -> Option<Job<'a>>
+    ensures { result ≡ at_by counter.entry imported.entry revoked.entry }
+{
+    match (imported, revoked) {
+        (rows, None) => Some(Job::At { counter, rows }),
+        (None, Some(rows)) => Some(Job::Revoke { counter, rows }),
+        (Some(_), Some(_)) => None,
+    }
 }
 
 #[tactic(auto, unfolding(crate::specs::Jobs::replay_of))]

@@ -1,9 +1,9 @@
 //! The command line as clap reads it, made of the table.
 
-ghost use Rattle.std.specs.Prelude.{◌≡◌, IfOk, OnOk, false, map};
+ghost use Rattle.std.specs.Prelude.{◌≡◌, IfOk, OnOk, [], false, map};
 ghost use Rattle.clap.specs.Words.{App, app_of, rule_of, with_subcommand};
 ghost use Rattle.clap.specs.declared.builder.command.Command.TheViews.{out-Command as fields_of};
-ghost use Rattle.reg_desk_cli.specs.Desk.{may, bare_app, begun_app, desk_app, keeping_apps, running_apps, with_commands, with_rules};
+ghost use Rattle.reg_desk_cli.specs.Desk.{may, needs, bare_app, begun_app, desk_app, keeping_apps, running_apps, with_commands, with_rules};
 ghost use Rattle.reg_desk_cli.specs.Table.{AreLocal, app_told, rule_told, with_made};
 
 use crate::table::{BEFORE, CommandEntry, KEEPING, Part, RUNNING};
@@ -11,7 +11,7 @@ use clap::{Arg, ArgAction, Command};
 use std::alloc::{AllocError, Global};
 
 /// The program's version, as `--version` tells it.
-const VERSION: &str = "0.2.0";
+pub const VERSION: &str = "0.2.0";
 
 /// The program's command line: `desk COMMAND ..`.
 pub(crate) fn desk<'a>(alloc: Global) -> Result<Command<'a>, AllocError>
@@ -78,7 +78,7 @@ fn bare<'a>(alloc: Global) -> Command<'a>
         .version(VERSION)
         .about("The register and status desk of one certification authority.")
         .after_help(
-            "A first day, over a register in memory:\n  desk script < examples/first-day.txt\n\n`desk COMMAND --help` tells of one command.",
+            "A first day, over a register in memory:\n  desk script < examples/first-day.txt\n\n`desk COMMAND --help` explains one command.",
         )
         .subcommand_required(true)
         .disable_help_subcommand(true)
@@ -105,31 +105,45 @@ fn with_parts<'a>(
 {
     let mut command = command;
     for part in parts {
-        command = command.arg(arg(alloc, part))?;
+        command = command.arg(arg(alloc, part)?)?;
     }
     Ok(command)
 }
 
-fn arg<'a>(alloc: Global, part: &Part) -> Arg<'a>
-    ensures rule { rule_of result ≡ rule_told part.now }
-    ensures local { result.global ≡ false }
+fn arg<'a>(alloc: Global, part: &Part) -> Result<Arg<'a>, AllocError>
+    ensures rule { IfOk result (λ arg. rule_of arg ≡ rule_told part.now) }
+    ensures local { IfOk result (λ arg. arg.global ≡ false) }
 {
     match *part {
-        Part::Must(id, name, help) => word(alloc, id, name, help).required(true),
-        Part::May(id, name, help) => word(alloc, id, name, help),
-        Part::Rest(id, name, help) => word(alloc, id, name, help).required(true).num_args(1..),
-        Part::Needs(id, name, help) => word(alloc, id, name, help).long(id).required(true),
-        Part::Takes(id, name, help) => word(alloc, id, name, help).long(id),
-        Part::Flag(id, help) => Arg::new(alloc, id)
-            .long(id)
-            .action(ArgAction::SetTrue)
-            .help(help),
+        Part::Must(id, name, help) => Ok(word(alloc, id, name, help).required(true)),
+        Part::May(id, name, help) => Ok(word(alloc, id, name, help)),
+        Part::Rest(id, name, help) => {
+            Ok(word(alloc, id, name, help).required(true).num_args(1..))
+        }
+        Part::Needs(id, name, help) => Ok(needed(alloc, id, name, help)),
+        Part::Renamed(id, older, name, help) => needed(alloc, id, name, help).alias(older),
+        Part::Takes(id, name, help) => Ok(word(alloc, id, name, help).long(id)),
+        Part::Flag(id, help) => Ok(
+            Arg::new(alloc, id)
+                .long(id)
+                .action(ArgAction::SetTrue)
+                .help(help),
+        ),
     }
+}
+
+fn needed<'a>(alloc: Global, id: &'a str, name: &'a str, help: &'a str) -> Arg<'a>
+    ensures rule { rule_of result ≡ needs id.entry.now }
+    ensures local { result.global ≡ false }
+    ensures alone { result.aliases.items ≡ [] }
+{
+    word(alloc, id, name, help).long(id).required(true)
 }
 
 fn word<'a>(alloc: Global, id: &'a str, name: &'a str, help: &'a str) -> Arg<'a>
     ensures rule { rule_of result ≡ may id.entry.now }
     ensures local { result.global ≡ false }
+    ensures alone { result.aliases.items ≡ [] }
 {
     Arg::new(alloc, id).value_name(name).help(help)
 }

@@ -1,5 +1,5 @@
 ghost use Rattle.std.specs.Prelude.{◌≡◌, ◌≤◌, length};
-ghost use Rattle.reg_desk_cli.specs.Endings.{failure_line, exit_status};
+ghost use Rattle.reg_desk_cli.specs.ExitStatus.{failure_line, exit_status};
 
 use reg_core::{Fault, Label};
 use reg_store_tables::{DatabaseFault, StoreFault};
@@ -22,7 +22,7 @@ pub enum Failure {
     BadSigner,
     /// A certificate that is to stand with OCSP answers is none, or is of another key than it is told for.
     BadResponder,
-    /// A reply at a counter, in a strict script or in a strict import was a refusal or a fault.
+    /// A reply at a control socket, in a strict script or in a strict import was a refusal or a fault.
     Refused,
     /// The last line of standard input has no end, and was not run.
     NoLineEnd,
@@ -30,11 +30,15 @@ pub enum Failure {
     RefusedNoLineEnd,
     /// An audit told what is not sound.
     Broken,
+    /// The file of a published CRL has no CRL with a number.
+    NotACrl,
+    /// The register lacks something of a published CRL.
+    LacksPublished,
 }
 
 impl Failure {
     /// The line of standard error that tells it, without LF; where two things are told, the lines of both with an LF between them.
-    #[tactic(auto, unfolding(crate::specs::Endings::failure_line))]
+    #[tactic(auto, unfolding(crate::specs::ExitStatus::failure_line))]
     pub fn line(&self) -> Label
         ensures { result ≡ failure_line self.now }
     {
@@ -52,6 +56,8 @@ impl Failure {
             Failure::NoLineEnd => words(b"no-line-end"),
             Failure::RefusedNoLineEnd => words(b"refused\nno-line-end"),
             Failure::Broken => words(b"broken"),
+            Failure::NotACrl => words(b"not-a-crl"),
+            Failure::LacksPublished => words(b"behind-crl"),
         }
     }
 }
@@ -68,7 +74,7 @@ impl From<Fault> for Failure {
 }
 
 impl From<StoreFault> for Failure {
-    ghost use Rattle.reg_desk_cli.specs.Endings.{store_failure};
+    ghost use Rattle.reg_desk_cli.specs.ExitStatus.{store_failure};
 
     ghost from_gives = { λ fault failure. failure ≡ store_failure fault };
 
@@ -95,8 +101,8 @@ impl From<DatabaseFault> for Failure {
     }
 }
 
-/// The exit status of a job: 0 where it is done; 3 where a reply at a counter, in a strict script or in a strict import was a refusal
-/// or a fault, or the last line there has no end; 1 where it is not done.
+/// The exit status of a job: 0 if it is done; 3 if a reply at a control socket, in a strict script or in a strict import was a refusal or a
+/// fault, or the last line there has no end; 1 if it is not done.
 pub fn status_of(ending: &Result<(), Failure>) -> u8
     ensures { result ≡ exit_status ending.now }
 {

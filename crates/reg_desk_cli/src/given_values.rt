@@ -4,10 +4,10 @@ ghost use Rattle.std.specs.Prelude.{◌≡◌, ◌≤◌, ◌==◌, IfOk, IfSome
 ghost use Rattle.reg_core.specs.Calendar.{moment_of};
 ghost use Rattle.reg_core_lists.specs.Asked.{label_of};
 ghost use Rattle.clap.specs.Words.{all_of, first_of, found_of, rows_of};
-ghost use Rattle.reg_desk_cli.specs.Jobs.{answerer_in, answerer_told, given, given_or, chosen, filter_in, has_own_key, holder_by_options, holder_chosen, holder_in, is_given, label_given, moment_given, number_in, prefix_given, way_in};
+ghost use Rattle.reg_desk_cli.specs.Jobs.{answerer_in, answerer_told, given, given_or, chosen, filter_in, has_own_key, holder_by_options, holder_chosen, holder_in, is_given, label_given, loopback_in, loopback_named, moment_given, number_in, prefix_given, way_in};
 ghost use Rattle.reg_desk_cli.specs.WordValues.{step_of, step_told, steps_of, within};
 
-use crate::job::{Answerer, KeyHolder, Way};
+use crate::job::{Answerer, KeyHolder, Loopback, Way};
 use crate::word::{Steps, Word};
 use clap::ArgMatches;
 use reg_core::{Label, Moment, read_number};
@@ -87,6 +87,28 @@ pub(crate) fn moment_if_given(matches: &ArgMatches<'_>, id: &str) -> Option<Opti
     }
 }
 
+/// The address of `--listen`, or 127.0.0.1 where it is left out; `None` where it is none of the loopback interface.
+pub(crate) fn loopback(matches: &ArgMatches<'_>) -> Option<Loopback>
+    ensures { result ≡ loopback_in (rows_of (found_of matches.now)) }
+{
+    match text_of(matches, "listen") {
+        Some(text) => read_loopback(text),
+        None => Some(Loopback::V4),
+    }
+}
+
+fn read_loopback(text: &str) -> Option<Loopback>
+    ensures { result ≡ loopback_named text.now }
+{
+    if text == "127.0.0.1" {
+        Some(Loopback::V4)
+    } else if text == "[::1]" {
+        Some(Loopback::V6)
+    } else {
+        None
+    }
+}
+
 /// The filter that the four options of `list` give; `None` where the value of one can't be read.
 #[tactic(auto, unfolding(crate::specs::Jobs::filter_in))]
 pub(crate) fn filter_if_given(matches: &ArgMatches<'_>) -> Option<Filter>
@@ -126,7 +148,7 @@ pub(crate) fn prefix_if_given(matches: &ArgMatches<'_>, id: &str) -> Option<Opti
     }
 }
 
-/// What holds the key, if it is told; `None` where one of its two options is given alone, or no algorithm has the name.
+/// The signer, if one is given; `None` where one of its two options is given alone, or no algorithm has the name.
 pub(crate) fn key_holder<'a>(matches: &ArgMatches<'a>) -> Option<Option<KeyHolder<'a>>>
     ensures { result ≡ holder_in (rows_of (found_of matches.now)) }
 {
@@ -186,8 +208,7 @@ fn holder_by<'a>(
     }
 }
 
-/// What holds the issuer's key where that is to be chosen: one that does, or `--unsigned`, or neither where who answers has a key of
-/// its own; `None` where it is told otherwise.
+/// The signer of CRLs where one is to be chosen: a signer, or `--unsigned`, or neither beside a responder; `None` for any other choice.
 pub(crate) fn chosen_holder<'a>(
     matches: &ArgMatches<'a>,
     answerer: &Answerer<'_>,

@@ -8,7 +8,7 @@ use reg_core::Moment;
 use reg_core_lists::{Cursor, Filter, Form};
 use reg_crl_signer::Algorithm;
 
-/// What listens at a Unix socket and holds a key, and the algorithm of its signatures.
+/// A signer: the Unix socket at which it listens, and the algorithm of its signatures.
 #[derive(Drop)]
 pub struct KeyHolder<'a> {
     pub socket: Word<'a>,
@@ -18,11 +18,11 @@ pub struct KeyHolder<'a> {
 /// Who answers OCSP requests where a register is served (RFC 6960 2.2).
 #[derive(Drop)]
 pub enum Answerer<'a> {
-    /// Who signs its CRLs. A certificate stands with each answer, where the path of the file that has it is told.
+    /// The signer of its CRLs. A certificate is put into each answer if the path of its file is given.
     Issuer {
         certificate: Option<Word<'a>>,
     },
-    /// What holds a key of its own, by the certificate in the file at a path, which stands with each answer (RFC 6960 4.2.2.2).
+    /// A responder with its own key and signer, and the path of its certificate, which is put into each answer (RFC 6960 4.2.2.2).
     Delegate {
         certificate: Word<'a>,
         holder: KeyHolder<'a>,
@@ -60,7 +60,7 @@ pub struct NewRegister<'a> {
 #[derive(Drop)]
 pub struct LinedScript<'a> {
     pub file: Word<'a>,
-    /// What holds the key, where one does.
+    /// The signer, if there is one.
     pub signer: Option<KeyHolder<'a>>,
     pub way: Way,
 }
@@ -69,32 +69,52 @@ pub struct LinedScript<'a> {
 #[derive(Drop)]
 pub struct RowsToImport<'a> {
     pub file: Word<'a>,
-    pub moment: Moment,
+    /// The moment of the import, or none if it is the machine's clock's as the import begins.
+    pub moment: Option<Moment>,
     /// The import ends at the first refusal or fault, and registers no last row without its line end.
     pub is_strict: bool,
+}
+
+/// An address of the loopback interface (RFC 1122 3.2.1.3, RFC 4291 2.5.3).
+#[derive(Clone, Copy, PartialEq, Eq)]
+pub enum Loopback {
+    /// 127.0.0.1.
+    V4,
+    /// `::1`.
+    V6,
+}
+
+/// Where HTTP connections are accepted.
+#[derive(Clone, Copy, PartialEq, Eq)]
+pub struct Endpoint {
+    pub address: Loopback,
+    /// 1 to 65,535.
+    pub port: u16,
 }
 
 /// A register that is served to so many peers.
 #[derive(Drop)]
 pub struct Serving<'a> {
     pub file: Word<'a>,
-    /// The port, 1 to 65,535.
-    pub port: u16,
+    pub endpoint: Endpoint,
     pub requests: u32,
     pub signer: Option<KeyHolder<'a>>,
     pub answerer: Answerer<'a>,
+    /// The path of a published CRL that the register may not be behind.
+    pub published: Option<Word<'a>>,
 }
 
-/// A register that is kept open, with a counter.
+/// A register that is kept open, with a control socket.
 #[derive(Drop)]
 pub struct KeptOpen<'a> {
     pub file: Word<'a>,
-    /// The port, 1 to 65,535.
-    pub port: u16,
-    /// The path of the counter's socket.
-    pub counter: Word<'a>,
+    pub endpoint: Endpoint,
+    /// The path of the control socket.
+    pub control: Word<'a>,
     pub signer: Option<KeyHolder<'a>>,
     pub answerer: Answerer<'a>,
+    /// As of [`Serving`].
+    pub published: Option<Word<'a>>,
 }
 
 /// A list of a register that is to be written.
@@ -112,30 +132,34 @@ pub struct ListToWrite<'a> {
 #[derive(Drop)]
 pub enum Job<'a> {
     Init(NewRegister<'a>),
-    /// Runs the script of standard input, without FILE over a register in memory. Without a signer a digest seals.
+    /// Runs the script of standard input, without FILE over a register in memory. Without a signer a placeholder digest stands instead.
     Script {
         file: Option<Word<'a>>,
         signer: Option<KeyHolder<'a>>,
     },
     /// The same line by line.
     Lines(LinedScript<'a>),
-    /// Registers the rows of standard input at a moment.
+    /// Registers the rows of standard input, all at one moment.
     Import(RowsToImport<'a>),
     /// Writes a CRL, the latest where no number is given.
     Crl {
         file: Word<'a>,
         number: Option<u64>,
     },
-    /// Answers so many requests over HTTP at a port. Without a signer a digest seals.
+    /// Answers so many requests over HTTP at a port. Without a signer a placeholder digest stands instead.
     Serve(Serving<'a>),
-    /// Keeps a register open until the program is ended: answers requests over HTTP at a port, and lines at a counter, a Unix socket
-    /// at a path. What holds the key signs; a digest seals only where `--unsigned` says that none does. Where one answers with a key
-    /// of its own and nothing holds the issuer's, no CRL is signed.
+    /// Keeps a register open until the program is ended: answers requests over HTTP at a port, and lines at a control socket. The signer signs;
+    /// a placeholder digest stands instead only with `--unsigned`. With a responder and no signer, no CRL is signed.
     Open(KeptOpen<'a>),
-    /// Tells the lines of standard input to the counter at a path; or the rows of a file that is told.
+    /// Sends the lines of standard input to the control socket at a path; or the rows of a file.
     At {
         counter: Word<'a>,
         rows: Option<Word<'a>>,
+    },
+    /// Revokes the certificate of each row of the file at a path, at the control socket at a path.
+    Revoke {
+        counter: Word<'a>,
+        rows: Word<'a>,
     },
     /// Sends the accepted commands of the log at a path to the control socket at a path once more.
     Replay {

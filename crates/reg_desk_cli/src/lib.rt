@@ -15,11 +15,12 @@ mod wrong;
 pub use checks::{
     identified_issuer_of, issuer_of, key_identifier_of, office_of, policy_of, schedule_of,
 };
+pub use desk::VERSION;
 pub use failure::{Failure, status_of};
 pub use given_values::read_step;
 pub use job::{
-    Answerer, Invocation, Job, KeptOpen, KeyHolder, LinedScript, ListToWrite, NewRegister,
-    RowsToImport, Serving, Usage, Way,
+    Answerer, Endpoint, Invocation, Job, KeptOpen, KeyHolder, LinedScript, ListToWrite, Loopback,
+    NewRegister, RowsToImport, Serving, Usage, Way,
 };
 pub use reading_words::{no_text, read_words};
 pub use word::{Steps, Word};

@@ -3,7 +3,7 @@
 ghost use Rattle.std.specs.Prelude.{◌≡◌, IfErr, IfOk, map};
 ghost use Rattle.clap.specs.Words.{app_of, found_of, rows_of, subcommand_rows_of, kind_of};
 ghost use Rattle.reg_desk_cli.specs.Desk.{desk_app};
-ghost use Rattle.reg_desk_cli.specs.Jobs.{IsNoInvocation, IsInvocationIn, IsInvocationOf, IsUsageOf, TellsUsage, is_given_behind, job_found, told_behind};
+ghost use Rattle.reg_desk_cli.specs.Jobs.{IsNoInvocation, IsInvocationIn, IsInvocationOf, IsUsageOf, PrintsUsage, is_given_behind, job_found, told_behind};
 
 use crate::commands::read_command;
 use crate::desk::desk;
@@ -16,7 +16,7 @@ use clap::{ArgMatches, Command, Error};
 use std::alloc::{AllocError, Global};
 use std::convert::AsStr;
 
-const TEXT_WANTED: &str = "a word is no UTF-8 text: the name of a FILE is to be UTF-8";
+const TEXT_WANTED: &str = "a word is not UTF-8 text: the name of a FILE must be UTF-8";
 
 /// Reads the words of a command line, of which the first is the program's name; options that are left out are as in the
 /// usual policy. `Help` and `Version` come where clap answers them, `Bad` where clap finds another fault, a value is out of
@@ -97,7 +97,7 @@ fn read_job<'a>(alloc: Global, matches: &ArgMatches<'a>) -> Result<Option<Job<'a
 
 /// What is answered where a word of the command line is no text.
 pub fn no_text(alloc: Global) -> Usage
-    ensures { TellsUsage ErrorKind.InvalidValue result }
+    ensures { PrintsUsage ErrorKind.InvalidValue result }
 {
     match desk(alloc) {
         Ok(mut desk) => text_wanted(alloc, &mut desk),
@@ -106,14 +106,14 @@ pub fn no_text(alloc: Global) -> Usage
 }
 
 fn text_wanted(alloc: Global, desk: &mut Command<'_>) -> Usage
-    ensures { TellsUsage ErrorKind.InvalidValue result }
+    ensures { PrintsUsage ErrorKind.InvalidValue result }
 {
     told(alloc, desk, ErrorKind::InvalidValue, TEXT_WANTED)
 }
 
 /// What is answered where clap took the words, and a value is out of its form or range: the option and its value are named.
 fn bad_value(alloc: Global, desk: &mut Command<'_>, matches: &ArgMatches<'_>) -> Usage
-    ensures { TellsUsage ErrorKind.ValueValidation result }
+    ensures { PrintsUsage ErrorKind.ValueValidation result }
 {
     match wrong_text(alloc, matches) {
         Some(text) => told(alloc, desk, ErrorKind::ValueValidation, &text),
@@ -123,7 +123,7 @@ fn bad_value(alloc: Global, desk: &mut Command<'_>, matches: &ArgMatches<'_>) ->
 
 /// An error of our own, in the form of clap's.
 fn told(alloc: Global, desk: &mut Command<'_>, kind: ErrorKind, text: &str) -> Usage
-    ensures { TellsUsage kind result }
+    ensures { PrintsUsage kind result }
 {
     match desk.error(kind, text) {
         Ok(error) => usage_of(alloc, &error),
@@ -132,7 +132,7 @@ fn told(alloc: Global, desk: &mut Command<'_>, kind: ErrorKind, text: &str) -> U
 }
 
 fn usage_of(alloc: Global, error: &Error) -> Usage
-    ensures { TellsUsage (kind_of error.now) result }
+    ensures { PrintsUsage (kind_of error.now) result }
 {
     let Ok(text) = format!(in alloc; "{error}") else {
         return Usage::Memory;

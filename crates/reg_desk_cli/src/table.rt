@@ -9,6 +9,8 @@ pub(crate) enum Part {
     /// One word or more, all that are left.
     Rest(&'static str, &'static str, &'static str),
     Needs(&'static str, &'static str, &'static str),
+    /// The same, which is also given by an older name that help leaves out: the id, that name, and the rest.
+    Renamed(&'static str, &'static str, &'static str, &'static str),
     Takes(&'static str, &'static str, &'static str),
     /// An option that may be left out and takes no value.
     Flag(&'static str, &'static str),
@@ -23,7 +25,7 @@ pub(crate) struct CommandEntry {
     pub(crate) parts: &'static [Part],
 }
 
-// What help says of each word and option: what it is, its unit, its range and what stands where it is left out.
+// What help says of each word and option: what it is, its unit, its range and its default.
 const NEW_FILE: &str = "The register's file; it must be new or empty";
 
 const NAME: &str = "The issuer's Name, its DER in hexadecimal, at most 1024 bytes";
@@ -48,57 +50,71 @@ const OCSP_LIFE: &str =
 const CAP: &str = "The most rows of each table of the register, 1 to 1000000 [default: 1000000]";
 
 const FILE_OR_MEMORY: &str =
-    "The register's file; without it a register in memory, of a sample issuer";
+    "The register's file [default: a register in memory, of a sample issuer]";
 
 const FILE: &str = "The register's file";
 
-const NOW: &str = "The moment of the import in UTC, as 2026-01-01T00:00:00Z";
+const NOW: &str =
+    "The moment of the import in UTC, as 2026-01-01T00:00:00Z; needed without --clock";
+
+const CLOCK_IMPORT: &str =
+    "Instead of --now: import at the moment of the machine's clock as the import begins";
 
 const NUMBER: &str = "The number of the CRL, 1 to 18 digits [default: the latest]";
 
 const PORT: &str = "The TCP port, 1 to 65535";
 
+const LISTEN: &str =
+    "The address of the loopback interface at which the port is, 127.0.0.1 or [::1] [default: 127.0.0.1]";
+
 const REQUESTS: &str = "How many connections to answer before it ends, 1 to 1000000";
 
 const SIGNER: &str =
-    "The Unix socket of what holds the issuer's key [default: none, and a digest seals, which is no signature]";
+    "The Unix socket of the signer with the issuer's key [default: none, and a placeholder digest stands instead of each signature]";
 
 const OPEN_SIGNER: &str =
-    "The Unix socket of what holds the issuer's key; wants --algorithm; left out only with --unsigned, or with --responder, and then no CRL is signed";
+    "The Unix socket of the signer with the issuer's key; needs --algorithm; leave it out only with --unsigned, or with --responder, and then no CRL is signed";
 
 const UNSIGNED: &str =
-    "In place of --signer: a digest alone seals CRLs and answers, which no client accepts; not with --responder";
+    "Instead of --signer: CRLs and answers get a placeholder digest instead of a signature, which no client accepts; not with --responder";
 
 const ALGORITHM: &str =
     "The algorithm of its signatures: ecdsa-sha256, ecdsa-sha384, rsa-sha256 or ed25519";
 
 const RESPONDER: &str =
-    "The file of the certificate, in DER, by which a key of its own answers OCSP [default: none, and who signs CRLs answers]";
+    "The file of the OCSP responder's certificate, in DER; its own key then signs the answers [default: none, and the signer of CRLs signs them]";
 
-const RESPONDER_SIGNER: &str = "The Unix socket of what holds the responder's key";
+const RESPONDER_SIGNER: &str = "The Unix socket of the signer with the responder's key";
 
 const EMBED: &str =
-    "The file of the CA's certificate, in DER, which is put into each OCSP answer [default: none]";
+    "The file of the CA's certificate, in DER, to put into each OCSP answer [default: none]";
 
 const CLOCK: &str =
-    "Lines have no moment: the machine's clock is theirs; wants FILE [default: a line begins with its moment]";
+    "Lines have no moment: each runs at the moment of the machine's clock; needs FILE [default: a line begins with its moment]";
 
 const STRICT: &str =
-    "End at the first refusal or fault, and run no last line without its end: with status 3; wants FILE [default: run all lines]";
+    "Stop at the first refusal or fault, and do not run a last line without its line end: exit status 3; needs FILE [default: run all lines]";
 
 const STRICT_IMPORT: &str =
-    "End at the first refusal or fault, and register no last row without its line end: with status 3 [default: register all rows]";
+    "Stop at the first refusal or fault, and do not register a last row without its line end: exit status 3 [default: register all rows]";
 
-const COUNTER: &str = "The Unix socket of the counter, which is made with mode 0600";
+const CONTROL: &str =
+    "The Unix socket at which the open desk takes commands; it is created with mode 0600";
 
-const AT_COUNTER: &str = "The Unix socket of an open desk's counter";
+const PUBLISHED: &str =
+    "A published CRL in DER: if its number is higher than that of the register's latest CRL, or it lists a serial number that isn't revoked, nothing is served, and a line names each";
+
+const AT_CONTROL: &str = "The control socket of an open desk";
 
 const AT_IMPORT: &str =
-    "In place of standard input: register each certificate of this CSV file, order,serial,notBefore,notAfter";
+    "Instead of standard input: register each certificate of this CSV file, order,serial,notBefore,notAfter";
+
+const AT_REVOKE: &str =
+    "Instead of standard input: request and revoke the certificate of each row of this file, serial,ground; run it again to resume";
 
 const REPLAY: &str = "The log of an open desk, as --log and --log-file write it";
 
-const COPY: &str = "The path of the copy; nothing may lie there";
+const COPY: &str = "The path of the copy, which must not exist yet";
 
 const STEPS: &str =
     "From MOMENT on at most DAYS days, 1 to 398; 1 to 16 steps, the first at 1970-01-01T00:00:00Z, moments ascending";
@@ -107,37 +123,37 @@ const LIST: &str =
     "revoked, certificates, ending, open-requests, overdue, requests, subscribers, orders or crls";
 
 const BEFORE_MOMENT: &str =
-    "Of the list ending: certificates whose notAfter is before it, in UTC, as 2026-02-01T00:00:00Z";
+    "For the list ending: only certificates whose notAfter is before it, in UTC, as 2026-02-01T00:00:00Z";
 
 const LIST_NOW: &str =
-    "The moment of which statuses are told, in UTC, as 2026-01-01T00:00:00Z [default: the machine's clock]";
+    "The moment at which the list has each status, in UTC, as 2026-01-01T00:00:00Z [default: the machine's clock]";
 
 const SUBSCRIBER: &str = "Only rows of the subscriber with this name";
 
 const SERIAL: &str =
-    "Only serial numbers that begin with these 1 to 40 hexadecimal digits, with their leading zeros or without";
+    "Only serial numbers that begin with these 1 to 40 hexadecimal digits, with or without leading zeros";
 
 const FROM: &str =
-    "Only rows from this moment on: of its notBefore, or of a request when it was received, of a revocation when it was made, of a CRL its thisUpdate";
+    "Only rows from this moment on: a certificate's notBefore, a request's receipt, the moment of a revocation, a CRL's thisUpdate";
 
-const TO: &str = "Only rows before this moment, as of --from";
+const TO: &str = "Only rows before this moment; --from says which moment a row has";
 
-const JSON: &str = "Write an object of JSON a line [default: CSV with a header]";
+const JSON: &str = "Write one JSON object a line [default: CSV with a header]";
 
-const LOG: &str = "Tell each exchange in a line on standard error";
+const LOG: &str = "Log each exchange in a line on standard error";
 
 const LOG_FILE: &str =
-    "Tell each exchange in a line of this file, which is opened anew for each line; beside --log or in its place";
+    "Log each exchange in a line of this file, which is opened anew for each line; with --log or instead of it";
 
-const CAUSE: &str = "Tell the cause of a fault in a line behind its own, where it is known";
+const CAUSE: &str = "Print the cause of a fault in a second line, if it is known";
 
 const CAUSE_OR_REASON: &str =
-    "Tell the cause of a fault, or with --strict more of what was refused (E08, E09, E12), in a line behind its own, where it is known";
+    "Print the cause of a fault, or with --strict of a refusal (E08, E09, E12), in a second line, if it is known";
 
 const CAUSE_ANYWHERE: &str =
-    "Tell the cause of a fault in a line behind its own, where it is known; also behind a command";
+    "Print the cause of a fault in a second line, if it is known; also after a command";
 
-/// What stands before a command.
+/// The options before a command.
 pub(crate) const BEFORE: &[Part] = &[Part::Flag("why", CAUSE_ANYWHERE)];
 
 /// The commands that make, run and serve a register, in the order in which help lists them. One small function alone names them, since a long
@@ -175,10 +191,11 @@ pub(crate) const RUNNING: &[CommandEntry] = &[
     CommandEntry {
         name: "import",
         about: "Register the certificates of a CSV file on standard input: order,serial,notBefore,notAfter.",
-        example: "Example:\n  desk import ca.db --now 2026-01-01T00:00:00Z < certificates.csv",
+        example: "Examples:\n  desk import ca.db --now 2026-01-01T00:00:00Z < certificates.csv\n  desk import ca.db --clock --strict < certificates.csv",
         parts: &[
             Part::Must("file", "FILE", FILE),
-            Part::Needs("now", "MOMENT", NOW),
+            Part::Takes("now", "MOMENT", NOW),
+            Part::Flag("clock", CLOCK_IMPORT),
             Part::Flag("strict", STRICT_IMPORT),
             Part::Flag("why", CAUSE_OR_REASON),
         ],
@@ -195,11 +212,12 @@ pub(crate) const RUNNING: &[CommandEntry] = &[
     },
     CommandEntry {
         name: "serve",
-        about: "Answer OCSP, CRLs and status over HTTP on 127.0.0.1, by the machine's clock.",
+        about: "Answer OCSP, CRLs and status over HTTP on the loopback interface, by the machine's clock.",
         example: "Example:\n  desk serve ca.db --port 8080 --requests 1000",
         parts: &[
             Part::Must("file", "FILE", FILE),
             Part::Needs("port", "N", PORT),
+            Part::Takes("listen", "ADDRESS", LISTEN),
             Part::Needs("requests", "N", REQUESTS),
             Part::Takes("signer", "SOCKET", SIGNER),
             Part::Takes("algorithm", "NAME", ALGORITHM),
@@ -207,6 +225,7 @@ pub(crate) const RUNNING: &[CommandEntry] = &[
             Part::Takes("responder-signer", "SOCKET", RESPONDER_SIGNER),
             Part::Takes("responder-algorithm", "NAME", ALGORITHM),
             Part::Takes("embed", "CERT", EMBED),
+            Part::Takes("published", "CRL", PUBLISHED),
             Part::Flag("log", LOG),
             Part::Takes("log-file", "PATH", LOG_FILE),
             Part::Flag("why", CAUSE),
@@ -214,12 +233,13 @@ pub(crate) const RUNNING: &[CommandEntry] = &[
     },
     CommandEntry {
         name: "open",
-        about: "Keep a register open until it is ended: HTTP on 127.0.0.1, and commands at a counter, by the machine's clock.",
-        example: "Example:\n  desk open ca.db --port 8080 --counter ca.counter --signer ca.sign --algorithm ecdsa-sha256",
+        about: "Keep a register open until the program is ended: HTTP on the loopback interface, and commands at a control socket, by the machine's clock.",
+        example: "Example:\n  desk open ca.db --port 8080 --control ca.control --signer ca.sign --algorithm ecdsa-sha256",
         parts: &[
             Part::Must("file", "FILE", FILE),
             Part::Needs("port", "N", PORT),
-            Part::Needs("counter", "SOCKET", COUNTER),
+            Part::Takes("listen", "ADDRESS", LISTEN),
+            Part::Renamed("control", "counter", "SOCKET", CONTROL),
             Part::Takes("signer", "SOCKET", OPEN_SIGNER),
             Part::Takes("algorithm", "NAME", ALGORITHM),
             Part::Flag("unsigned", UNSIGNED),
@@ -227,6 +247,7 @@ pub(crate) const RUNNING: &[CommandEntry] = &[
             Part::Takes("responder-signer", "SOCKET", RESPONDER_SIGNER),
             Part::Takes("responder-algorithm", "NAME", ALGORITHM),
             Part::Takes("embed", "CERT", EMBED),
+            Part::Takes("published", "CRL", PUBLISHED),
             Part::Flag("log", LOG),
             Part::Takes("log-file", "PATH", LOG_FILE),
             Part::Flag("why", CAUSE),
@@ -235,26 +256,27 @@ pub(crate) const RUNNING: &[CommandEntry] = &[
     CommandEntry {
         name: "at",
         about: "Tell the lines of standard input to an open desk, and write one reply line for each; a line has no moment.",
-        example: "Examples:\n  echo counts | desk at ca.counter\n  desk at ca.counter --import certificates.csv\n\nExit status 3 where a reply is a refusal or a fault, or the last line has no end: that one is not told.",
+        example: "Examples:\n  echo counts | desk at ca.control\n  desk at ca.control --import certificates.csv\n  desk at ca.control --revoke revocations.csv\n\nExit status 3 if a reply is a refusal or a fault, or if the last line has no end: that line does not run.",
         parts: &[
-            Part::Must("counter", "SOCKET", AT_COUNTER),
+            Part::Must("counter", "SOCKET", AT_CONTROL),
             Part::Takes("import", "FILE", AT_IMPORT),
+            Part::Takes("revoke", "FILE", AT_REVOKE),
             Part::Flag("why", CAUSE),
         ],
     },
     CommandEntry {
         name: "replay",
-        about: "Tell the accepted commands of a log to an open desk once more, and write one reply line for each; a request is named by its serial number.",
-        example: "Example:\n  desk replay ca.counter ca.log\n\nExit status 3 at the first reply that differs from that in the log: its line stands behind that reply, and nothing behind it is told.",
+        about: "Send the accepted commands of a log to an open desk once more, and write one reply line for each; a request is named by its serial number.",
+        example: "Example:\n  desk replay ca.control ca.log\n\nExit status 3 at the first reply that differs from the one in the log: that reply and its line are printed, and no further command is sent.",
         parts: &[
-            Part::Must("counter", "SOCKET", AT_COUNTER),
+            Part::Must("counter", "SOCKET", AT_CONTROL),
             Part::Must("log", "LOG", REPLAY),
             Part::Flag("why", CAUSE),
         ],
     },
 ];
 
-/// The commands that set, list, copy and audit what a register has; help lists them behind the others.
+/// The commands that set, list, copy and audit what a register has; help lists them after the others.
 pub(crate) const KEEPING: &[CommandEntry] = &[
     CommandEntry {
         name: "schedule",
@@ -296,7 +318,7 @@ pub(crate) const KEEPING: &[CommandEntry] = &[
     CommandEntry {
         name: "copy",
         about: "Copy a register that no program has open into one new file, with what its -wal has.",
-        example: "Example:\n  desk copy ca.db /var/backups/ca/ca.db\n\nOne that is open is copied by the line `copy PATH` at its counter: echo copy /var/backups/ca/ca.db | desk at ca.counter",
+        example: "Example:\n  desk copy ca.db /var/backups/ca/ca.db\n\nAn open register is copied by the line `copy PATH` at its control socket: echo copy /var/backups/ca/ca.db | desk at ca.control",
         parts: &[
             Part::Must("file", "FILE", FILE),
             Part::Must("path", "PATH", COPY),
@@ -305,8 +327,8 @@ pub(crate) const KEEPING: &[CommandEntry] = &[
     },
     CommandEntry {
         name: "audit",
-        about: "Read all rows of a register, and tell whether they are those of sound records; nothing is changed.",
-        example: "Example:\n  desk audit ca.db\n\nExit status 1 where a row is not sound, which is named by its table and its place there, from 1 on.",
+        about: "Read all rows of a register, and print whether its records are sound; nothing is changed.",
+        example: "Example:\n  desk audit ca.db\n\nExit status 1 if a row is not sound: a line names its table and its index there, from 1 on.",
         parts: &[Part::Must("file", "FILE", FILE), Part::Flag("why", CAUSE)],
     },
 ];

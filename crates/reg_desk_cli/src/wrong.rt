@@ -1,8 +1,8 @@
-//! What is said of a value that is out of its form or range.
+//! The messages about a value that is out of its form or range.
 
 use crate::given_values::{
-    answerer, key_holder, label_if_given, moment, number_within, prefix_if_given, read_step,
-    text_of,
+    answerer, key_holder, label_if_given, loopback, moment, number_within, prefix_if_given,
+    read_step, text_of,
 };
 use clap::ArgMatches;
 use std::alloc::Global;
@@ -33,36 +33,43 @@ const MOMENTS: [(&str, &str); 4] = [
     ("to", "--to"),
 ];
 
-/// The options that tell of a responder: the id and the name of each.
+/// The options of a responder: the id and the name of each.
 const RESPONDERS: [(&str, &str); 3] = [
     ("responder-algorithm", "--responder-algorithm"),
     ("responder-signer", "--responder-signer"),
     ("responder", "--responder"),
 ];
 
-const NUMBER_WANTED: &str = "a number is 1 to 18 digits and within the range that help tells";
+const NUMBER_WANTED: &str = "a number is 1 to 18 digits and within the range that --help names";
 
 const MOMENT_WANTED: &str = "a moment is written as 2026-01-01T00:00:00Z";
+
+const IMPORT_WANTED: &str = "import needs --now MOMENT or --clock, and not both";
+
+const LOOPBACK_WANTED: &str =
+    "the desk listens only on the loopback interface, at 127.0.0.1 or [::1]; a web server in front of it serves other addresses";
 
 const STEP_WANTED: &str = "a step is written as 2026-01-01T00:00:00Z=200";
 
 const KEY_HOLDER_WANTED: &str =
-    "--signer and --algorithm are given both or neither, and an algorithm is ecdsa-sha256, ecdsa-sha384, rsa-sha256 or ed25519";
+    "give both --signer and --algorithm, or neither; an algorithm is ecdsa-sha256, ecdsa-sha384, rsa-sha256 or ed25519";
 
 const RESPONDER_WANTED: &str =
-    "--responder, --responder-signer and --responder-algorithm are given together, without --embed; an algorithm is ecdsa-sha256, ecdsa-sha384, rsa-sha256 or ed25519";
+    "give --responder, --responder-signer and --responder-algorithm together, and without --embed; an algorithm is ecdsa-sha256, ecdsa-sha384, rsa-sha256 or ed25519";
 
 const LIST_WANTED: &str =
-    "a list is revoked, certificates, ending, open-requests, overdue, requests, subscribers, orders or crls; ending wants --before, and no other takes it; crls takes neither --subscriber nor --serial, orders no --from or --to, subscribers --subscriber alone";
+    "a list is revoked, certificates, ending, open-requests, overdue, requests, subscribers, orders or crls; ending needs --before, and no other takes it; crls takes neither --subscriber nor --serial, orders no --from or --to, subscribers --subscriber alone";
 
 const SUBSCRIBER_WANTED: &str = "a subscriber's name is 1 to 64 bytes";
 
 const SERIAL_WANTED: &str = "a serial number begins with 1 to 40 hexadecimal digits";
 
-const FILE_WANTED: &str = "--clock and --strict want a FILE";
+const FILE_WANTED: &str = "--clock and --strict need a FILE";
+
+const ROWS_WANTED: &str = "at takes --import or --revoke, and not both";
 
 const CHOICE_WANTED: &str =
-    "open wants --signer SOCKET with --algorithm NAME, or --unsigned, by which a digest alone seals: one of both; beside --responder the first, or neither";
+    "open needs --signer SOCKET with --algorithm NAME, or --unsigned for a placeholder digest instead of signatures, and not both; with --responder the first, or neither";
 
 /// A value that is out of its form or range, the option that it was given for, and what is wanted in its place.
 #[derive(Clone, Copy)]
@@ -82,7 +89,7 @@ impl<'a> Wrong<'a> {
     }
 }
 
-/// What is said of the first value that is out of its form or range; `None` for want of memory.
+/// The message about the first value that is out of its form or range; `None` if out of memory.
 pub(crate) fn wrong_text(alloc: Global, matches: &ArgMatches<'_>) -> Option<String> {
     let Some(wrong) = first_wrong(matches) else {
         return String::from_str(alloc, combination_wanted(matches)).ok();
@@ -94,7 +101,9 @@ pub(crate) fn wrong_text(alloc: Global, matches: &ArgMatches<'_>) -> Option<Stri
 fn combination_wanted(matches: &ArgMatches<'_>) -> &'static str {
     match matches.subcommand() {
         Some((name, _)) if name == "open" => CHOICE_WANTED,
+        Some((name, _)) if name == "import" => IMPORT_WANTED,
         Some((name, _)) if name == "list" => LIST_WANTED,
+        Some((name, _)) if name == "at" => ROWS_WANTED,
         _ => FILE_WANTED,
     }
 }
@@ -106,6 +115,9 @@ fn first_wrong<'a>(matches: &ArgMatches<'a>) -> Option<Wrong<'a>> {
         return Some(wrong);
     }
     if let Some(wrong) = wrong_moment(given) {
+        return Some(wrong);
+    }
+    if let Some(wrong) = wrong_address(given) {
         return Some(wrong);
     }
     if let Some(wrong) = wrong_step(given) {
@@ -142,6 +154,14 @@ fn wrong_moment<'a>(given: &ArgMatches<'a>) -> Option<Wrong<'a>> {
     None
 }
 
+fn wrong_address<'a>(given: &ArgMatches<'a>) -> Option<Wrong<'a>> {
+    if loopback(given).is_some() {
+        return None;
+    }
+    let value = text_of(given, "listen")?;
+    Some(Wrong::of("--listen", value, LOOPBACK_WANTED))
+}
+
 fn wrong_step<'a>(given: &ArgMatches<'a>) -> Option<Wrong<'a>> {
     for value in given.get_strs("steps")? {
         if read_step(value.as_bytes()).is_none() {
@@ -164,7 +184,7 @@ fn wrong_filter<'a>(given: &ArgMatches<'a>) -> Option<Wrong<'a>> {
     None
 }
 
-/// What holds the key, where it is not told whole.
+/// The option of a signer that is given without the other.
 fn wrong_holder<'a>(given: &ArgMatches<'a>) -> Option<Wrong<'a>> {
     if key_holder(given).is_some() {
         return None;
@@ -176,7 +196,7 @@ fn wrong_holder<'a>(given: &ArgMatches<'a>) -> Option<Wrong<'a>> {
     Some(Wrong::of(option, value, KEY_HOLDER_WANTED))
 }
 
-/// Who answers OCSP requests, where that is not told whole, or told twice.
+/// An option of a responder that is given without the others, or with `--embed`.
 fn wrong_responder<'a>(given: &ArgMatches<'a>) -> Option<Wrong<'a>> {
     if answerer(given).is_some() {
         return None;

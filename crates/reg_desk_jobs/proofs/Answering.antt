@@ -29,7 +29,7 @@ use Rattle.reg_desk_jobs.specs.Beginning.{AnswersBegun, BeginsAt, ready_of}
 use Rattle.reg_desk_jobs.specs.Counted.{CountsBegun}
 use Rattle.reg_desk_jobs.specs.Exchanges.{AnswersBy}
 use Rattle.reg_desk_jobs.specs.Leaving.{FinishesAt, FinishesUnsigned, Meets}
-use Rattle.reg_desk_jobs.specs.declared.leaving.Unsigned.{Unsigned as UnsignedOf}
+use Rattle.reg_desk_jobs.specs.declared.unsigned_responses.Unsigned.{Unsigned as UnsignedOf}
 use Rattle.reg_desk_jobs.proofs.Finishing.{left_exchange}
 
 -- What stands in an office before and after, who signs, and the moment.

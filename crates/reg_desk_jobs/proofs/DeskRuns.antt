@@ -7,12 +7,12 @@ use Rattle.reg_office_api.proofs.PublicLaws.{follows, runs}
 use Rattle.reg_core.specs.Records.{Records}
 use Rattle.reg_desk_server.specs.Exchange.{Input, request, line, Outcome, said, pending, later, Handles}
 use Rattle.reg_io.specs.RunsOfAnswers.{Answered}
-use Rattle.reg_desk_jobs.specs.CounterWords.{Word}
+use Rattle.reg_desk_jobs.specs.ControlWords.{Word}
 use Rattle.reg_desk_jobs.specs.Exchanges.{AnswersBy, Unmoved}
 use Rattle.reg_desk_jobs.specs.Given.{GaveAt, WasGiven}
 use Rattle.reg_desk_jobs.specs.Leaving.{FinishesUnsigned, Meets}
 use Rattle.reg_desk_jobs.specs.Serving.{Exchanging, Serves, OpenWord}
-use Rattle.reg_desk_jobs.specs.declared.leaving.Unsigned.{Unsigned}
+use Rattle.reg_desk_jobs.specs.declared.unsigned_responses.Unsigned.{Unsigned}
 use Rattle.reg_desk_jobs.proofs.Finishing.{told_moves}
 
 -- a run by which something stays so, and whose steps where it is so are other ones too

@@ -8,11 +8,11 @@ use Rattle.reg_desk_jobs.specs.Ends.{SaysText}
 use Rattle.reg_core.specs.declared.refusal.Fault.TheVariants as fault
 use Rattle.reg_desk_cli.specs.declared.failure.Failure.TheVariants as failure
 use Rattle.reg_desk_jobs.specs.Serving.{Served, Unbound, listening}
-use Rattle.reg_desk_jobs.specs.Told.{IsToldLine, IsWritten}
+use Rattle.reg_desk_jobs.specs.Told.{IsAnsweredLine, IsWritten}
 
 -- a line, and then its end
 pub told : (old middle new : Option (List ℕ)) (line : List ℕ) → Appends old middle line → IsWritten middle new (10 ∷ [])
-    → IsToldLine old new line
+    → IsAnsweredLine old new line
 told old middle new line first (inl second) = inl (Appends-trans old middle new line (10 ∷ []) first second)
 told old middle new line first (inr front) = inr (front_of_second old middle new line (10 ∷ []) first front)
 

@@ -18,7 +18,7 @@ use Rattle.reg_http_head.specs.Frame.{asked}
 use Rattle.reg_http.specs.Asked.{Asked, ocsp_of, path_of, asked as asks_for}
 use Rattle.reg_http.specs.Answers.{Answers}
 use Rattle.reg_http.specs.Bodies.{ocsp_reply}
-use Rattle.reg_http.specs.Exchanges.{TellsText}
+use Rattle.reg_http.specs.Exchanges.{AnswersText}
 use Rattle.reg_http.specs.RouteNames.{route_at}
 use Rattle.reg_http.specs.Told.{ocsp_told}
 use Rattle.reg_http.specs.declared.exchange.Exchange.{Exchange}
@@ -29,9 +29,9 @@ use Rattle.reg_desk_server.specs.Exchange.{Outcome, said, pending, later}
 use Rattle.reg_desk_jobs.specs.Exchanges.{AnswersAt, SaysBy, dispatch}
 use Rattle.reg_desk_jobs.specs.Given.{AtTold, GaveAt, WasGiven}
 use Rattle.reg_desk_jobs.specs.Leaving.{FinishesUnsigned, FinishesAt, IsSignatureOf, Meets}
-use Rattle.reg_desk_jobs.specs.declared.leaving.Unsigned.{Unsigned}
-use Rattle.reg_desk_jobs.specs.declared.visiting.Dispatch.{Dispatch}
-use Rattle.reg_desk_jobs.specs.declared.visiting.Dispatch.TheVariants.{ToRegister}
+use Rattle.reg_desk_jobs.specs.declared.unsigned_responses.Unsigned.{Unsigned}
+use Rattle.reg_desk_jobs.specs.declared.http_exchanges.Dispatch.{Dispatch}
+use Rattle.reg_desk_jobs.specs.declared.http_exchanges.Dispatch.TheVariants.{ToRegister}
 
 -- The signer gave this, and what that is.
 module _ (signs : Signs) (gave : List ℕ → List ℕ → Type 0)
@@ -74,8 +74,8 @@ module _ (signs : Signs) (gave : List ℕ → List ℕ → Type 0)
         (subst P (sym made) (response_of who.answers before now request draft signature left signed), same)
     replies_of request draft signature (Err memory) (left, same) signed made = same
 
-    told_of : (signature : Option (List ℕ)) (given : Result (List ℕ) NoMemory) (exchange : Exchange) → TellsText now (ocsp_reply given) exchange
-        → TellsText now (ocsp_told (kinded signature given)).response exchange
+    told_of : (signature : Option (List ℕ)) (given : Result (List ℕ) NoMemory) (exchange : Exchange) → AnswersText now (ocsp_reply given) exchange
+        → AnswersText now (ocsp_told (kinded signature given)).response exchange
     told_of signature (Ok bytes) exchange tells = tells
     told_of signature (Err memory) exchange tells = tells
 

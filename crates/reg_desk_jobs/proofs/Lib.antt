@@ -1,5 +1,6 @@
 pub mod Answering
-pub mod CounterLines
+pub mod Comparing
+pub mod ControlLines
 pub mod DeskRuns
 pub mod Fates
 pub mod Finding
@@ -10,7 +11,9 @@ pub mod Looks
 pub mod NextLines
 pub mod PageByPage
 pub mod Replaying
+pub mod Revoking
 pub mod SerialBytes
 pub mod Setting
 pub mod StepWords
 pub mod Talking
+pub mod WrongFields

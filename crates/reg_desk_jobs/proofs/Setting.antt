@@ -9,7 +9,7 @@ use Rattle.reg_desk_cli.specs.declared.failure.Failure.{Failure}
 use Rattle.reg_office_api.proofs.PublicLaws.{follows, stays}
 use Rattle.reg_core.specs.declared.refusal.Fault.{Fault}
 use Rattle.reg_desk_jobs.specs.Schedules.{SetsSteps}
-use Rattle.reg_desk_jobs.specs.Visits.{ending_of}
+use Rattle.reg_desk_jobs.specs.Visits.{exit_of}
 use Rattle.reg_office_api.specs.Settings.{Reschedules}
 
 module _ {S : Type 0} (is_clean : S → Type 0) (stands : Signatory → S → Records → Type 0) (s t : S) (steps : List (ℕ × ℕ)) where
@@ -27,7 +27,7 @@ module _ {S : Type 0} (is_clean : S → Type 0) (stands : Signatory → S → Re
 
   -- they are, and were set, or a fault came
   pub one_set : (set : Result (Unit {0}) Fault) (schedule : List (ℕ × ℕ)) (result : Result (Unit {0}) Failure) → schedule ≡ steps → IsSchedule schedule
-      → result ≡ ending_of set → Leads is_clean stands (λ identity. Reschedules schedule set) s t
+      → result ≡ exit_of set → Leads is_clean stands (λ identity. Reschedules schedule set) s t
       → Leads is_clean stands (λ identity before after. SetsSteps steps result before after) s t
   one_set set schedule result is sound ending moved =
       follows is_clean stands

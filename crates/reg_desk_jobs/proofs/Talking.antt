@@ -11,7 +11,7 @@ use Rattle.reg_desk_cli.specs.declared.failure.Failure.TheVariants as failure
 use Rattle.reg_lines.specs.Accepted.{IsAccepted}
 use Rattle.reg_lines.proofs.PublicLaws.{concat_push}
 use Rattle.reg_lines.specs.Script.{IsWholeLine}
-use Rattle.reg_desk_jobs.specs.Asking.{AreWhole, IsCutOff, IsInput, Talked, Talks, TalksOnce}
+use Rattle.reg_desk_jobs.specs.SignatureRequest.{AreWhole, IsCutOff, IsInput, Talked, Talks, TalksOnce}
 use Rattle.reg_desk_jobs.specs.declared.at_job.Step.TheVariants as step
 
 -- one line more that ends with its LF
@@ -20,11 +20,11 @@ whole_push [] line all one = (one, tt)
 whole_push (first ∷ rest) line all one = (all.0, whole_push rest line all.1 one)
 
 -- all replies so far, and one more
-pub all_push : (replies : List (List ℕ)) (reply : List ℕ)
-    → AllByRecursion IsAccepted (replies ++ reply ∷ []) ↔ (AllByRecursion IsAccepted replies × IsAccepted reply)
-all_push [] reply = ((λ all. (tt, all.0)), (λ both. (both.1, tt)))
-all_push (first ∷ replies) reply =
-    let rest = all_push replies reply in (
+pub all_push : (Is : List ℕ → Type 0) (replies : List (List ℕ)) (reply : List ℕ)
+    → AllByRecursion Is (replies ++ reply ∷ []) ↔ (AllByRecursion Is replies × Is reply)
+all_push Is [] reply = ((λ all. (tt, all.0)), (λ both. (both.1, tt)))
+all_push Is (first ∷ replies) reply =
+    let rest = all_push Is replies reply in (
       (λ all. let more = rest.0 all.1 in ((all.0, more.0), more.1)),
       (λ both. (both.0.0, rest.1 (both.0.1, both.1))),
     )
@@ -75,7 +75,7 @@ module _ (input sent came out : Option (List ℕ)) where
     goes_on input'' before accepted after so once both =
         let (lines, replies, talked, read, all) = so in
         let (line, reply, whole, took, (told, heard, said), is) = once in
-        let push = all_push replies reply in (
+        let push = all_push IsAccepted replies reply in (
           lines ++ line ∷ [],
           replies ++ reply ∷ [],
           record {

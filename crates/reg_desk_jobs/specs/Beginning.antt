@@ -18,7 +18,7 @@ use Rattle.reg_io.specs.declared.begun.Begun.{Begun}
 use Rattle.reg_io.specs.declared.begun.Begun.TheVariants.{Ready, Unsigned}
 use Rattle.reg_desk_jobs.specs.Exchanges.{AnswersAt, IsExchange, IsRouteOf, Says, dispatch}
 use Rattle.reg_desk_jobs.specs.Leaving.{FinishesAt}
-use Rattle.reg_desk_jobs.specs.declared.visiting.Dispatch.TheVariants.{ToRegister}
+use Rattle.reg_desk_jobs.specs.declared.http_exchanges.Dispatch.TheVariants.{ToRegister}
 
 -- an answer that is ready, or out of memory
 abbrev pub ready_of : Result Answered Memory → Result (Begun Answered Drafted) Memory

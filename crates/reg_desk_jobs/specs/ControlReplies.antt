@@ -12,40 +12,41 @@ use Rattle.reg_core.specs.Lines.{fault_line}
 use Rattle.reg_core.specs.declared.command.Command.TheVariants.{Crl}
 use Rattle.reg_core.specs.declared.refusal.Fault.{Fault}
 use Rattle.reg_core.specs.declared.refusal.Fault.TheVariants as fault
-use Rattle.reg_desk_cli.specs.Endings.{failure_line}
+use Rattle.reg_desk_cli.specs.ExitStatus.{failure_line}
 use Rattle.reg_desk_cli.specs.declared.failure.Failure.TheVariants as failure
 use Rattle.reg_lines.specs.Accepted.{IsAccepted}
 use Rattle.reg_lines.specs.Replies.{outcome_line, with_lf}
 use Rattle.reg_lines.specs.declared.answered.Answered.{Answered}
 use Rattle.reg_lines.specs.declared.answered.Answered.TheVariants as answered
 use Rattle.reg_lines.specs.declared.answered.Asked.TheVariants.{Command, Ocsp}
-use Rattle.reg_desk_jobs.specs.declared.control_reply.Came.{Came}
-use Rattle.reg_desk_jobs.specs.declared.control_reply.Came.TheVariants.{CameTo, Response, Done, Failed, Silent}
+use Rattle.reg_desk_jobs.specs.declared.control_reply.LineOutcome.{LineOutcome}
+use Rattle.reg_desk_jobs.specs.declared.control_reply.LineOutcome.TheVariants.{CameTo, Response, Done, Failed, Silent, Uncopied}
 
 -- these bytes are told, or nothing where there was no memory for them
 abbrev pub IsSaid : List ℕ → List ℕ → Type 0
 IsSaid bytes text = (text ≡ bytes) ⊎ (text ≡ [])
 
 -- the line of a fault is told
-abbrev pub TellsFault : Fault → List ℕ → Type 0
-TellsFault why text = IsSaid (fault_line why ++ 10 ∷ []) text
+abbrev pub ReportsFault : Fault → List ℕ → Type 0
+ReportsFault why text = IsSaid (fault_line why ++ 10 ∷ []) text
 
 -- what a command line came to
-abbrev pub came_of : Answered → Came
-came_of (answered.CameTo what outcome) = CameTo what outcome
-came_of (answered.Response reply) = Response reply.is_refusal
+abbrev pub line_outcome_of : Answered → LineOutcome
+line_outcome_of (answered.CameTo what outcome) = CameTo what outcome
+line_outcome_of (answered.Response reply) = Response reply.is_refusal
 
 -- the reply tells what a line came to; an OCSP response refuses where it has five bytes: a status and nothing else (RFC 6960 4.2.1)
-abbrev pub TellsCame : Came → List ℕ → Type 0
-TellsCame (CameTo what outcome) text = text ≡ with_lf (outcome_line outcome)
-TellsCame (Response refuses) text =
+abbrev pub ReportsLineOutcome : LineOutcome → List ℕ → Type 0
+ReportsLineOutcome (CameTo what outcome) text = text ≡ with_lf (outcome_line outcome)
+ReportsLineOutcome (Response refuses) text =
     (response : List ℕ) × (text ≡ with_lf (codes "ocsp " ++ encode_lower response)) × (refuses ≡ (length response == 5))
-TellsCame Done text = IsAccepted text × (0 < length text)
-TellsCame (Failed why) text = text ≡ failure_line why ++ 10 ∷ []
-TellsCame Silent text = text ≡ []
+ReportsLineOutcome Done text = IsAccepted text × (0 < length text)
+ReportsLineOutcome (Failed why) text = text ≡ failure_line why ++ 10 ∷ []
+ReportsLineOutcome (Uncopied why) text = text ≡ fault_line why ++ 10 ∷ []
+ReportsLineOutcome Silent text = text ≡ []
 
 -- the reply to a word that came to this is these bytes; or there was no memory for it
-abbrev pub IsOf : List ℕ → Came → List ℕ → Came → Type 0
+abbrev pub IsOf : List ℕ → LineOutcome → List ℕ → LineOutcome → Type 0
 IsOf bytes came text told = ((text ≡ bytes) × (told ≡ came)) ⊎ ((text ≡ []) × (told ≡ Silent))
 
 -- ---- what is counted
@@ -56,11 +57,12 @@ kind_of_fault (fault.Refused refusal) = kind.Refused
 kind_of_fault other = kind.Fault
 
 -- how a line was answered
-abbrev pub kind_of : Came → LineReply
+abbrev pub kind_of : LineOutcome → LineReply
 kind_of (CameTo what (Ok reply)) = kind.Accepted
 kind_of (CameTo what (Err why)) = kind_of_fault why
 kind_of (Failed (failure.Fault why)) = kind_of_fault why
 kind_of (Failed other) = kind.Refused
+kind_of (Uncopied why) = kind_of_fault why
 kind_of Silent = kind.Fault
 kind_of other = kind.Accepted
 
@@ -69,27 +71,27 @@ abbrev pub failed_if : Bool → SignatureFate
 failed_if is_unsigned = cond is_unsigned fate.Failed fate.NotAsked
 
 -- the signature of a CRL, by whether one failed at the line
-abbrev pub crl_fate : Bool → Came → SignatureFate
+abbrev pub crl_fate : Bool → LineOutcome → SignatureFate
 crl_fate is_unsigned (CameTo (Command Crl) (Ok reply)) = fate.Made
 crl_fate is_unsigned (CameTo (Command Crl) (Err why)) = failed_if is_unsigned
 crl_fate is_unsigned other = fate.NotAsked
 
 -- the signature of an OCSP response
-abbrev pub ocsp_fate : Bool → Came → SignatureFate
+abbrev pub ocsp_fate : Bool → LineOutcome → SignatureFate
 ocsp_fate is_unsigned (CameTo Ocsp outcome) = failed_if is_unsigned
 ocsp_fate is_unsigned (Response true) = failed_if is_unsigned
 ocsp_fate is_unsigned (Response false) = cond is_unsigned fate.Failed fate.Made
 ocsp_fate is_unsigned other = fate.NotAsked
 
 -- what the line says of the store: a command that was accepted was written
-abbrev pub store_effect : Came → StoreEffect
+abbrev pub store_effect : LineOutcome → StoreEffect
 store_effect (CameTo (Command command) (Ok reply)) = effect.Written
 store_effect (CameTo what (Err fault.Store)) = effect.Failed
 store_effect (Failed (failure.Fault fault.Store)) = effect.Failed
 store_effect other = effect.Unwritten
 
 -- what is counted of a line, at which a signature failed or did not
-abbrev pub effects_of : Bool → Came → LineEffects
+abbrev pub effects_of : Bool → LineOutcome → LineEffects
 effects_of is_unsigned came = record {
   reply = kind_of came;
   crl = crl_fate is_unsigned came;

@@ -14,7 +14,7 @@ unfoldable pub copied_text : ℕ → ℕ → List ℕ
 copied_text bytes millis = codes "copied " ++ decimal bytes ++ codes " bytes in " ++ decimal millis ++ codes " ms\n"
 
 -- the reply: that a copy was created, or the fault for which none was; or there was no memory for it, and that is nothing
-abbrev pub TellsCopy : (ℕ → Type 0) → List ℕ → Type 0
-TellsCopy Copied text =
+abbrev pub AnswersCopy : (ℕ → Type 0) → List ℕ → Type 0
+AnswersCopy Copied text =
     ((bytes millis : ℕ) × Copied bytes × (text ≡ copied_text bytes millis))
     ⊎ (((fault : Fault) × IsOfStore fault × (text ≡ fault_line fault ++ 10 ∷ [])) ⊎ (text ≡ []))

@@ -3,11 +3,11 @@ use Rattle.std.specs.Prelude.{◌≡◌, ◌⊎◌, ◌↔◌, ◌<◌, ℕ, Boo
 use Rattle.reg_http.specs.declared.exchange.Exchange.{Exchange}
 use Rattle.reg_http.specs.declared.exchange.Left.{Left}
 use Rattle.reg_desk_server.specs.Exchange.{Outcome, said, pending}
-use Rattle.reg_desk_jobs.specs.ControlReplies.{TellsCame, effects_of}
-use Rattle.reg_desk_jobs.specs.declared.control_reply.Came.{Came}
+use Rattle.reg_desk_jobs.specs.ControlReplies.{ReportsLineOutcome, effects_of}
+use Rattle.reg_desk_jobs.specs.declared.control_reply.LineOutcome.{LineOutcome}
 use Rattle.reg_desk_jobs.specs.Exchanges.{IsRouteOf}
 use Rattle.reg_desk_jobs.specs.Leaving.{FinishesUnsigned}
-use Rattle.reg_desk_jobs.specs.declared.leaving.Unsigned.{Unsigned}
+use Rattle.reg_desk_jobs.specs.declared.unsigned_responses.Unsigned.{Unsigned}
 use Rattle.reg_desk_metrics.specs.Tallies.{with_exchange, with_line}
 use Rattle.reg_desk_metrics.specs.declared.tally.Tally.{Tally}
 use Rattle.reg_io.specs.declared.begun.Begun.{Begun}
@@ -35,5 +35,5 @@ SignatureFailed crls answers before after = (crls before < crls after) ⊎ (answ
 -- a line is counted, by what it came to, which its reply tells
 abbrev pub CountsLine : Type 0 → ℕ → List ℕ → Tally → Tally → Type 0
 CountsLine failed now reply tally tally' =
-    (micros : ℕ) × (came : Came) × (is_unsigned : Bool) × TellsCame came reply × (IsTrue is_unsigned ↔ failed)
+    (micros : ℕ) × (came : LineOutcome) × (is_unsigned : Bool) × ReportsLineOutcome came reply × (IsTrue is_unsigned ↔ failed)
     × (tally' ≡ with_line now (effects_of is_unsigned came) micros tally)

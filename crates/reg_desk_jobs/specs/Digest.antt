@@ -1,4 +1,4 @@
--- Who signs for the registers of the program.
+-- The placeholder digest instead of signatures.
 use Rattle.std.specs.Prelude.{◌≡◌, ℕ, List}
 use Rattle.sha1.specs.Sha1.{sha1}
 use Rattle.reg_crl.specs.Signing.{Identity}

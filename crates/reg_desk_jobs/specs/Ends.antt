@@ -1,5 +1,5 @@
 -- How a job of the program ends.
-use Rattle.std.specs.Prelude.{◌≡◌, ◌≢◌, ◌⊎◌, ℕ, Bool, true, false, List, codes, is_some, Result, Ok, Err, Some, None}
+use Rattle.std.specs.Prelude.{◌≡◌, ◌≢◌, ◌⊎◌, ℕ, Bool, true, false, List, codes, is_some, IsFalse, IsTrue, Result, Ok, Err, Some, None}
 use Rattle.std.specs.declared.option.Option.{Option}
 use Rattle.std.specs.Io.KnownBytes.{Appends}
 use Rattle.reg_core.specs.Issuer.{Issuer}
@@ -14,42 +14,45 @@ use Rattle.reg_office_api.specs.CallSteps.{Crls}
 use Rattle.reg_office_api.specs.declared.office.Office.{Ghosts as Office}
 use Rattle.reg_desk_server.specs.Exchange.{Input, Outcome}
 use Rattle.reg_desk_cli.specs.Checks.{WritesIdentified, WritesIdentifier, IsNoIdentifier, IsNoOffice, IsNoSchedule, terms_of_days}
-use Rattle.reg_desk_cli.specs.Endings.{exit_status}
+use Rattle.reg_desk_cli.specs.ExitStatus.{exit_status}
 use Rattle.reg_desk_cli.specs.declared.failure.Failure.{Failure}
 use Rattle.reg_desk_cli.specs.declared.failure.Failure.TheVariants as failure
 use Rattle.reg_lines.specs.Import.{ImportEnds}
 use Rattle.reg_core_lists.specs.Pages.{GivesWholeList}
 use Rattle.reg_lines.specs.Script.{LinesEnd, ScriptEnds}
 use Rattle.reg_lines.specs.Strict.{StrictEnds}
-use Rattle.reg_audit_rows.specs.FindingLines.{broken_text, sound_text}
+use Rattle.reg_audit_rows.specs.AuditLines.{broken_text, sound_text}
 use Rattle.reg_audit_rows.specs.declared.lines.TheConstants.{OTHER_SCHEMA}
-use Rattle.reg_audit_rows.specs.declared.verdict.Verdict.{Verdict}
-use Rattle.reg_audit_rows.specs.declared.verdict.Verdict.TheVariants as verdict
+use Rattle.reg_audit_rows.specs.declared.audit_result.AuditResult.{AuditResult}
+use Rattle.reg_audit_rows.specs.declared.audit_result.AuditResult.TheVariants as audit_result
 use Rattle.reg_io.specs.Put.{AppendsFront}
 use Rattle.reg_desk_cli.specs.declared.job.Job.{Job}
 use Rattle.reg_desk_cli.specs.declared.job.Job.TheVariants as job
 use Rattle.reg_desk_cli.specs.declared.job.Answerer.{Answerer}
+use Rattle.reg_desk_cli.specs.declared.job.Endpoint.{Endpoint}
 use Rattle.reg_desk_cli.specs.declared.job.KeptOpen.{KeptOpen}
 use Rattle.reg_desk_cli.specs.declared.job.KeyHolder.{KeyHolder}
 use Rattle.reg_desk_cli.specs.declared.job.LinedScript.{LinedScript}
 use Rattle.reg_desk_cli.specs.declared.job.ListToWrite.{ListToWrite}
 use Rattle.reg_desk_cli.specs.declared.job.NewRegister.{NewRegister}
 use Rattle.reg_desk_cli.specs.declared.job.Serving.{Serving}
-use Rattle.reg_desk_jobs.specs.Asking.{AtCounter, RowsAtCounter}
+use Rattle.reg_desk_jobs.specs.SignatureRequest.{AtControlSocket, RowsAtControlSocket}
 use Rattle.reg_desk_jobs.specs.Copies.{copied_text}
 use Rattle.reg_desk_jobs.specs.Digest.{digest_alone, digests}
 use Rattle.reg_desk_jobs.specs.RegisterFailures.{IsMaking, IsOpening}
 use Rattle.reg_office_api.specs.LookUps.{IsOfStore}
 use Rattle.reg_office_api.specs.Settings.{Identifies, Reschedules}
 use Rattle.reg_desk_jobs.specs.Given.{GaveAt}
+use Rattle.reg_desk_jobs.specs.Published.{Compares, HasAll}
 use Rattle.reg_desk_jobs.specs.Sample.{sample_records}
 use Rattle.reg_desk_jobs.specs.Replays.{ReplaysAt}
+use Rattle.reg_desk_jobs.specs.Revokes.{RevokesAt}
 use Rattle.reg_desk_jobs.specs.Registers.{Audits, Unaudited}
 use Rattle.reg_desk_jobs.specs.Serving.{IsBound, Serves, ServedAt}
 use Rattle.reg_desk_jobs.specs.Told.{Explains}
 use Rattle.reg_desk_jobs.specs.WhoSigns.{Signing, answer_socket, by_itself, signing_told, unsigned}
-use Rattle.reg_desk_jobs.specs.Visits.{Visits, NotMade, NotOpened, Makes, ending_of, ending_of_run}
-use Rattle.reg_desk_jobs.specs.declared.leaving.Unsigned.{Unsigned}
+use Rattle.reg_desk_jobs.specs.Visits.{Visits, NotMade, NotOpened, Makes, exit_of, exit_of_run}
+use Rattle.reg_desk_jobs.specs.declared.unsigned_responses.Unsigned.{Unsigned}
 use Rattle.reg_desk_jobs.specs.declared.machine.Machine.{Ghosts as Machine}
 
 -- a text is said and the job is done; or a front of it, where the writer fails
@@ -68,8 +71,8 @@ TellsSet text contents writer writer' (Ok done) result = SaysText text (contents
 TellsSet text contents writer writer' (Err why) result = (result ≡ Err (failure.Fault why)) × IsOfStore why × (writer' ≡ writer)
 
 -- the text of a line is said, or there was no memory for it
-abbrev pub TellsLine : {W : Type 0} → List ℕ → (W → Option (List ℕ)) → W → W → Result (Unit {0}) Failure → Type 0
-TellsLine text contents writer writer' result =
+abbrev pub PrintsLine : {W : Type 0} → List ℕ → (W → Option (List ℕ)) → W → W → Result (Unit {0}) Failure → Type 0
+PrintsLine text contents writer writer' result =
     SaysText text (contents writer) (contents writer') result ⊎ ((result ≡ Err (failure.Fault fault.Memory)) × (writer' ≡ writer))
 
 -- the text of an audit that found a broken row is said, and the job is not done; or a front of it, where the writer fails; or there was
@@ -81,11 +84,11 @@ TellsBroken text contents writer writer' result =
     ⊎ ((result ≡ Err (failure.Fault fault.Memory)) × (writer' ≡ writer)))
 
 -- what an audit found, as it is told
-abbrev pub TellsVerdict : {W : Type 0} → (W → Option (List ℕ)) → W → W → Verdict → Result (Unit {0}) Failure → Type 0
-TellsVerdict contents writer writer' (verdict.Sound found) result = TellsLine (sound_text found) contents writer writer' result
-TellsVerdict contents writer writer' (verdict.Broken broken) result = TellsBroken (broken_text broken) contents writer writer' result
-TellsVerdict contents writer writer' verdict.OtherSchema result = TellsBroken OTHER_SCHEMA.now contents writer writer' result
-TellsVerdict contents writer writer' verdict.Older result = (result ≡ Err failure.OldVersion) × (writer' ≡ writer)
+abbrev pub ReportsAuditResult : {W : Type 0} → (W → Option (List ℕ)) → W → W → AuditResult → Result (Unit {0}) Failure → Type 0
+ReportsAuditResult contents writer writer' (audit_result.Sound found) result = PrintsLine (sound_text found) contents writer writer' result
+ReportsAuditResult contents writer writer' (audit_result.Broken broken) result = TellsBroken (broken_text broken) contents writer writer' result
+ReportsAuditResult contents writer writer' audit_result.OtherSchema result = TellsBroken OTHER_SCHEMA.now contents writer writer' result
+ReportsAuditResult contents writer writer' audit_result.Older result = (result ≡ Err failure.OldVersion) × (writer' ≡ writer)
 
 -- the moment that is told, or else one that a clock told
 abbrev pub IsMomentOf : (ℕ → Type 0) → Option ℕ → ℕ → Type 0
@@ -131,7 +134,7 @@ module _ {M O D S R W : Type 0} (machines : Machine M O D S R) (offices : Office
   AuditAt path result =
       (machine' ≡ machine)
       × (((why : Failure) × (result ≡ Err why) × Unaudited machines machine path why × IsOpening why × (writer' ≡ writer))
-      ⊎ ((found : Verdict) × Audits machines machine path found × TellsVerdict contents writer writer' found result))
+      ⊎ ((found : AuditResult) × Audits machines machine path found × ReportsAuditResult contents writer writer' found result))
 
   -- a copy of the register at a path, under another that nothing had: none was created; or one of so many bytes was, and that is told, with
   -- how many milliseconds it took
@@ -139,7 +142,7 @@ module _ {M O D S R W : Type 0} (machines : Machine M O D S R) (offices : Office
   CopyAt path to result =
       ((why : Failure) × (result ≡ Err why) × machines.uncopied machine path to why machine' × IsOpening why × (writer' ≡ writer))
       ⊎ ((bytes millis : ℕ) × machines.copied machine path to bytes machine'
-      × TellsLine (copied_text bytes millis) contents writer writer' result)
+      × PrintsLine (copied_text bytes millis) contents writer writer' result)
 
   -- another schedule for the register at a path: its steps are looked at before the path is
   abbrev pub ScheduleAt : List ℕ → List (ℕ × ℕ) → Result (Unit {0}) Failure → Type 0
@@ -156,23 +159,6 @@ module _ {M O D S R W : Type 0} (machines : Machine M O D S R) (offices : Office
       ⊎ ((octets : List ℕ) × WritesIdentifier key_id octets × Over path unsigned result ((set : Result (Unit {0}) Fault)
       × Visits machines offices machine machine' path unsigned (λ identity. Identifies octets set)
       × TellsSet (codes "key-id set\n") contents writer writer' set result))
-
-  -- HTTP requests over the register at a path (RFC 9112), which is opened before the port is bound, and lines where there is a control socket:
-  -- what came on each connection and what came of that, in this order. A signature that was waited for is one that the signer at the path of who
-  -- answers gave.
-  abbrev pub AtPort : List ℕ → Option KeyHolder → Answerer → ℕ → Option (List ℕ) → ℕ → Result (Unit {0}) Failure → Type 0
-  AtPort path signer answerer port counter requests result = Over path (signing_told signer answerer) result ((inputs : List Input)
-      × (outcomes : List (Outcome Unsigned)) × Visits machines offices machine machine' path (signing_told signer answerer)
-      (Serves (is_some counter) offices.signs (GaveAt machines.gave (answer_socket signer answerer)) machines.told inputs outcomes)
-      × ServedAt contents writer writer' (IsBound machines.bound machines.laid machines.moded port counter) port requests inputs result)
-
-  -- so many requests
-  abbrev pub ServeAt : Serving → Result (Unit {0}) Failure → Type 0
-  ServeAt it = AtPort it.file it.signer it.answerer it.port None it.requests
-
-  -- requests and lines, as many as can be counted: the program is ended before
-  abbrev pub OpenAt : KeptOpen → Result (Unit {0}) Failure → Type 0
-  OpenAt it = AtPort it.file it.signer it.answerer it.port (Some it.counter) 18446744073709551615
 
 -- A new register at a path.
 module _ {M O D S R W : Type 0} (machines : Machine M O D S R) (offices : Office O) (contents : W → Option (List ℕ))
@@ -204,7 +190,7 @@ abbrev pub ScriptInMemory
     : {E W : Type 0} → (E → Option (List ℕ)) → (W → Option (List ℕ)) → E → E → W → W → Result (Unit {0}) Failure → Type 0
 ScriptInMemory remaining contents reader reader' writer writer' result =
     ((why : Failure) × (result ≡ Err why) × IsMaking why × (reader' ≡ reader) × (writer' ≡ writer))
-    ⊎ ((ran : Result (Unit {0}) Fault) × (result ≡ ending_of ran) × ((after : Records)
+    ⊎ ((ran : Result (Unit {0}) Fault) × (result ≡ exit_of ran) × ((after : Records)
     × ScriptEnds (Lines digests digest_alone) remaining contents sample_records after reader reader' writer writer' ran))
 
 -- A job over a machine that reads and writes.
@@ -219,25 +205,55 @@ module _ {M O D S R E W : Type 0} (machines : Machine M O D S R) (offices : Offi
 
   -- a script over the register at a path
   abbrev pub ScriptAt : List ℕ → Option KeyHolder → Result (Unit {0}) Failure → Type 0
-  ScriptAt path signer = RunsAt ending_of path (signing_told signer by_itself) (λ ran identity before after.
+  ScriptAt path signer = RunsAt exit_of path (signing_told signer by_itself) (λ ran identity before after.
       ScriptEnds (Lines offices.signs identity) remaining contents before after reader reader' writer writer' ran)
 
   -- a script over the register at a path, run line by line
   abbrev pub LinesAt : LinedScript → Result (Unit {0}) Failure → Type 0
-  LinesAt it = RunsAt ending_of_run it.file (signing_told it.signer by_itself) (λ ran identity before after.
+  LinesAt it = RunsAt exit_of_run it.file (signing_told it.signer by_itself) (λ ran identity before after.
       LinesEnd (Lines offices.signs identity) remaining contents before after reader reader' writer writer' machines.told
       it.way.is_clocked it.way.is_strict ran)
 
   -- a strict import into the register at a path, at a moment
   abbrev pub StrictImportAt : List ℕ → ℕ → Result (Unit {0}) Failure → Type 0
-  StrictImportAt path now = RunsAt ending_of_run path unsigned (λ ran identity before after.
+  StrictImportAt path now = RunsAt exit_of_run path unsigned (λ ran identity before after.
       StrictEnds (Lines offices.signs identity) remaining contents now before after reader reader' writer writer' ran)
 
   -- an import into the register at a path, at a moment, which is strict or is not
   abbrev pub ImportAt : Bool → List ℕ → ℕ → Result (Unit {0}) Failure → Type 0
-  ImportAt false path now = RunsAt ending_of path unsigned (λ ran identity before after.
+  ImportAt false path now = RunsAt exit_of path unsigned (λ ran identity before after.
       ImportEnds (Lines offices.signs identity) remaining contents now before after reader reader' writer writer' ran)
   ImportAt true path now = StrictImportAt path now
+
+  -- the same at the moment that is told; or else at one that the clock told as it began, and nothing is done where the clock can't be read
+  abbrev pub ImportByClock : Option ℕ → Bool → List ℕ → Result (Unit {0}) Failure → Type 0
+  ImportByClock (Some now) is_strict path result = ImportAt is_strict path now result
+  ImportByClock None is_strict path result =
+      ((result ≡ Err (failure.Fault fault.Read)) × (machine' ≡ machine) × (reader' ≡ reader) × (writer' ≡ writer))
+      ⊎ ((now : ℕ) × machines.told now × ImportAt is_strict path now result)
+
+  -- HTTP requests over the register at a path (RFC 9112), which is opened before the port is bound, and lines where there is a control socket.
+  -- A published CRL that is told can stop it: it could not be compared, or the register lacks something of it, and nothing is served. Else the
+  -- register has all of it, and this is what came on each connection and what came of that, in this order. A signature that was waited for is one
+  -- that the signer at the path of who answers gave. Nothing is read where no published CRL is told.
+  abbrev pub AtPort : List ℕ → Option KeyHolder → Answerer → Option (List ℕ) → Endpoint → Option (List ℕ) → ℕ → Result (Unit {0}) Failure → Type 0
+  AtPort path signer answerer published endpoint control requests result =
+      let VisitsIt = Visits machines offices machine machine' path (signing_told signer answerer) in
+      (IsFalse (is_some published) → reader' ≡ reader) × Over machines offices contents machine machine' writer writer' path (signing_told signer answerer) result
+      (((why : Failure) × (result ≡ Err why) × IsTrue (is_some published) × VisitsIt
+      (λ identity before after. Compares before (remaining reader) (contents writer) (contents writer') (Err why) × (after ≡ before)))
+      ⊎ ((inputs : List Input) × (outcomes : List (Outcome Unsigned)) × VisitsIt
+      (λ identity before after. (IsTrue (is_some published) → HasAll before (remaining reader))
+      × Serves (is_some control) offices.signs (GaveAt machines.gave (answer_socket signer answerer)) machines.told inputs outcomes identity before after)
+      × ServedAt contents writer writer' (IsBound machines.bound machines.laid machines.has_mode endpoint control) endpoint.port requests inputs result))
+
+  -- so many requests
+  abbrev pub ServeAt : Serving → Result (Unit {0}) Failure → Type 0
+  ServeAt it = AtPort it.file it.signer it.answerer it.published it.endpoint None it.requests
+
+  -- requests and lines, as many as can be counted: the program is ended before
+  abbrev pub OpenAt : KeptOpen → Result (Unit {0}) Failure → Type 0
+  OpenAt it = AtPort it.file it.signer it.answerer it.published it.endpoint (Some it.control) 18446744073709551615
 
   -- a job that reads nothing
   abbrev pub Writes : (Result (Unit {0}) Failure → Type 0) → Result (Unit {0}) Failure → Type 0
@@ -252,19 +268,21 @@ module _ {M O D S R E W : Type 0} (machines : Machine M O D S R) (offices : Offi
   Ends (job.Script None (Some holder)) = λ result.
       (machine' ≡ machine) × (reader' ≡ reader) × (writer' ≡ writer) × (result ≡ Err failure.BadSigner)
   Ends (job.Lines it) = LinesAt it
-  Ends (job.Import it) = ImportAt it.is_strict it.file it.moment
+  Ends (job.Import it) = ImportByClock it.moment it.is_strict it.file
   Ends (job.Crl file number) = Writes (CrlAt machines offices contents machine machine' writer writer' file number)
   Ends (job.Schedule file steps) = Writes (ScheduleAt machines offices contents machine machine' writer writer' file steps)
   Ends (job.KeyId file key_id) = Writes (KeyIdAt machines offices contents machine machine' writer writer' file key_id)
-  Ends (job.Serve it) = Writes (ServeAt machines offices contents machine machine' writer writer' it)
-  Ends (job.Open it) = Writes (OpenAt machines offices contents machine machine' writer writer' it)
+  Ends (job.Serve it) = ServeAt it
+  Ends (job.Open it) = OpenAt it
   Ends (job.Listing it) = Writes (ListAt machines offices contents machine machine' writer writer' it)
   Ends (job.Copy file to) = Writes (CopyAt machines offices contents machine machine' writer writer' file to)
   Ends (job.Audit file) = Writes (AuditAt machines offices contents machine machine' writer writer' file)
   Ends (job.At counter None) = λ result.
-      (machine' ≡ machine) × AtCounter (machines.met counter) (remaining reader) (contents writer) (contents writer') result
+      (machine' ≡ machine) × AtControlSocket (machines.met counter) (remaining reader) (contents writer) (contents writer') result
   Ends (job.At counter (Some file)) = λ result. (machine' ≡ machine)
-      × RowsAtCounter (machines.met counter) (remaining reader) (remaining reader') (contents writer) (contents writer') result
+      × RowsAtControlSocket (machines.met counter) (remaining reader) (remaining reader') (contents writer) (contents writer') result
+  Ends (job.Revoke counter rows) = λ result.
+      (machine' ≡ machine) × RevokesAt (machines.met counter) (remaining reader) (contents writer) (contents writer') result
   Ends (job.Replay counter log) = λ result.
       (machine' ≡ machine) × ReplaysAt (machines.met counter) (remaining reader) (contents writer) (contents writer') result
 

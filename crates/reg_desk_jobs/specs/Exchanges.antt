@@ -18,8 +18,8 @@ use Rattle.reg_http.specs.declared.exchange.Exchange.{Exchange as HttpExchange}
 use Rattle.reg_http.specs.declared.route.Route.{Route}
 use Rattle.reg_http.specs.declared.route.Route.TheVariants.{List as ListOf, Health, Metrics}
 use Rattle.reg_desk_jobs.specs.Watched.{ByGet, SaysHealth, SaysMetrics}
-use Rattle.reg_desk_jobs.specs.declared.visiting.Dispatch.{Dispatch}
-use Rattle.reg_desk_jobs.specs.declared.visiting.Dispatch.TheVariants.{ToRegister, ToList, ToHealth, ToMetrics}
+use Rattle.reg_desk_jobs.specs.declared.http_exchanges.Dispatch.{Dispatch}
+use Rattle.reg_desk_jobs.specs.declared.http_exchanges.Dispatch.TheVariants.{ToRegister, ToList, ToHealth, ToMetrics}
 
 -- ---- requests
 

@@ -5,12 +5,12 @@ use Rattle.reg_office_api.specs.declared.effects.SignatureFate.TheVariants.{Made
 use Rattle.reg_office_api.specs.declared.effects.StoreEffect.TheVariants.{Unwritten}
 use Rattle.reg_core.specs.declared.memory.Memory.{Memory}
 use Rattle.reg_http.specs.Bodies.{ocsp_reply}
-use Rattle.reg_http.specs.Exchanges.{TellsText}
+use Rattle.reg_http.specs.Exchanges.{AnswersText}
 use Rattle.reg_http.specs.declared.exchange.Exchange.{Exchange}
 use Rattle.reg_desk_server.specs.Exchange.{Outcome, said, pending, later}
 use Rattle.reg_ocsp.specs.Drafts.{Drafted, drafted_response}
 use Rattle.reg_crl_signer.specs.Forms.{HasForm}
-use Rattle.reg_desk_jobs.specs.declared.leaving.Unsigned.{Unsigned}
+use Rattle.reg_desk_jobs.specs.declared.unsigned_responses.Unsigned.{Unsigned}
 
 -- this was given for what is to be signed, and it has the form of a signature by who is to sign; or there is none
 abbrev pub IsSignatureOf : (List ℕ → List ℕ → Type 0) → Drafted → Option (List ℕ) → Type 0
@@ -27,7 +27,7 @@ fate_of None = Failed
 pub record IsFinished (draft : Drafted) (moment : ℕ) (signature : Option (List ℕ)) (exchange : Exchange) : Type 0 where
   pub given : Result (List ℕ) Memory
   pub made : IfOk given (λ bytes. bytes ≡ drafted_response draft signature)
-  pub tells : TellsText moment (ocsp_reply given) exchange
+  pub tells : AnswersText moment (ocsp_reply given) exchange
   pub fate : exchange.signature ≡ fate_of signature
   pub store : exchange.store ≡ Unwritten
 

@@ -1,10 +1,10 @@
-pub mod Asking
+pub mod SignatureRequest
 pub mod Beginning
 pub mod Clocks
 pub mod ControlReplies
 pub mod Copies
 pub mod Counted
-pub mod CounterWords
+pub mod ControlWords
 pub mod Deferring
 pub mod Digest
 pub mod Ends
@@ -14,10 +14,12 @@ pub mod Leaving
 pub mod Log
 pub mod LogEntries
 pub mod LogNames
+pub mod Published
 pub mod Reasons
 pub mod RegisterFailures
 pub mod Registers
 pub mod Replays
+pub mod Revokes
 pub mod Sample
 pub mod Schedules
 pub mod Sealing
@@ -25,6 +27,8 @@ pub mod Serving
 pub mod Settlings
 pub mod Showings
 pub mod Told
+pub mod Validities
 pub mod Visits
 pub mod Watched
 pub mod WhoSigns
+pub mod Syntax

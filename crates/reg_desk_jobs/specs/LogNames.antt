@@ -10,9 +10,9 @@ use Rattle.reg_lines.specs.Fields.{fields_of}
 use Rattle.reg_lines.specs.Meaning.{LineMeans, tells}
 use Rattle.reg_lines.specs.Script.{line_of}
 use Rattle.reg_lines.specs.declared.answered.Asked.TheVariants as asked
-use Rattle.reg_desk_jobs.specs.CounterWords.{settling_in}
-use Rattle.reg_desk_jobs.specs.declared.control_reply.Came.{Came}
-use Rattle.reg_desk_jobs.specs.declared.control_reply.Came.TheVariants.{CameTo}
+use Rattle.reg_desk_jobs.specs.ControlWords.{settling_in}
+use Rattle.reg_desk_jobs.specs.declared.control_reply.LineOutcome.{LineOutcome}
+use Rattle.reg_desk_jobs.specs.declared.control_reply.LineOutcome.TheVariants.{CameTo}
 
 -- a line decides the request of a number: with a serial number, or by the number alone
 abbrev pub Decides : List ℕ → ℕ → Type 0
@@ -37,6 +37,6 @@ NamesAccepted (Decline request) reply before named = named ≡ before
 NamesAccepted other reply before named = named ≡ None
 
 -- what is named of what a line came to
-abbrev pub NamesRequest : Came → Option NamedRequest → Option NamedRequest → Type 0
+abbrev pub NamesRequest : LineOutcome → Option NamedRequest → Option NamedRequest → Type 0
 NamesRequest (CameTo (asked.Command command) (Ok reply)) before named = NamesAccepted command reply before named
 NamesRequest other before named = named ≡ None

@@ -3,12 +3,13 @@ use Rattle.std.specs.Prelude.{◌≡◌, ℕ, ◌+◌, ◌-◌, ◌*◌, List, [
 use Rattle.reg_core.specs.Calendar.{moment_text}
 use Rattle.reg_core.specs.Serial.{serial_text}
 use Rattle.reg_desk_jobs.specs.declared.reasons.Reason.{Reason}
-use Rattle.reg_desk_jobs.specs.declared.reasons.Reason.TheVariants.{NoOrder, Filled, Latest, OtherSerial}
+use Rattle.reg_desk_jobs.specs.declared.reasons.Reason.TheVariants.{NoOrder, Filled, Latest, OtherSerial, Unsigned, Wrong}
+use Rattle.reg_desk_jobs.specs.Syntax.{wrong_text}
 
 -- what is told: what was noted, or nothing
-unfoldable pub noted_why_text : List ℕ → List ℕ
-noted_why_text [] = codes "why nothing\n"
-noted_why_text (first ∷ rest) = codes "why " ++ first ∷ rest
+unfoldable pub kept_reason_text : List ℕ → List ℕ
+kept_reason_text [] = codes "why nothing\n"
+kept_reason_text (first ∷ rest) = codes "why " ++ first ∷ rest
 
 -- the last second of so many days from a moment on, both ends counted (RFC 5280 4.1.2.5)
 abbrev pub last_second : ℕ → ℕ → ℕ
@@ -32,6 +33,8 @@ reason_text (NoOrder order) = order_text (codes "no order ") order []
 reason_text (Filled order) = order_text (codes "order ") order (codes " has its certificate")
 reason_text (Latest at) = latest_text at
 reason_text (OtherSerial request serial) = other_text request serial
+reason_text (Wrong wrong) = wrong_text wrong
+reason_text (Unsigned number) = order_text (codes "CRL ") number (codes " has a placeholder digest: the next one is due at once")
 
 -- the line of a reason, with an LF, behind what stands before it
 abbrev pub IsReasonLine : List ℕ → Option Reason → List ℕ → Type 0

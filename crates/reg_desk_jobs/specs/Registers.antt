@@ -1,7 +1,7 @@
 -- A register is opened, made and audited at a machine. Each of these leads from the machine before it to the one after it.
 use Rattle.std.specs.Prelude.{◌≡◌, ◌⊎◌, ℕ, List}
 use Rattle.reg_desk_cli.specs.declared.failure.Failure.{Failure}
-use Rattle.reg_audit_rows.specs.declared.verdict.Verdict.{Verdict}
+use Rattle.reg_audit_rows.specs.declared.audit_result.AuditResult.{AuditResult}
 use Rattle.reg_desk_jobs.specs.WhoSigns.{HasCertificate, Signing}
 use Rattle.reg_desk_jobs.specs.declared.machine.Machine.{Ghosts as Machine}
 
@@ -41,10 +41,10 @@ module _ {M O D S R : Type 0} (machines : Machine M O D S R) (machine : M) (path
       ⊎ (machines.unconnected machine path why machine' ⊎ ((database : D) × Connects database machine'))
 
   -- An audit of the register at a path said this. The files were opened for reading alone.
-  pub record Audits (verdict : Verdict) : Type 0 where
+  pub record Audits (audit_result : AuditResult) : Type 0 where
     pub sources : S
     pub read : machines.read machine path sources
-    pub audited : machines.audited sources verdict
+    pub audited : machines.audited sources audit_result
 
   -- It was not audited, for this reason: the files at the path could not be read, or what they hold could not.
   abbrev pub Unaudited : Failure → Type 0

@@ -3,17 +3,17 @@ use Rattle.std.specs.Prelude.{◌≡◌, ◌⊎◌, ℕ, List, [], ◌∷◌, �
 use Rattle.reg_core.specs.Records.{Records}
 use Rattle.reg_core.specs.Schedule.{IsSchedule}
 use Rattle.reg_desk_cli.specs.Checks.{IsNoSchedule}
-use Rattle.reg_desk_cli.specs.Endings.{failure_line}
+use Rattle.reg_desk_cli.specs.ExitStatus.{failure_line}
 use Rattle.reg_desk_cli.specs.declared.failure.Failure.{Failure}
 use Rattle.reg_core.specs.declared.refusal.Fault.{Fault}
 use Rattle.reg_office_api.specs.Settings.{Reschedules}
-use Rattle.reg_desk_jobs.specs.Visits.{ending_of}
+use Rattle.reg_desk_jobs.specs.Visits.{exit_of}
 
 -- steps are set as the schedule; those that are none are refused, and the records stay
 abbrev pub SetsSteps : List (ℕ × ℕ) → Result (Unit {0}) Failure → Records → Records → Type 0
 SetsSteps steps result before after =
     ((why : Failure) × (result ≡ Err why) × IsNoSchedule steps why × (after ≡ before))
-    ⊎ (IsSchedule steps × (set : Result (Unit {0}) Fault) × (result ≡ ending_of set) × Reschedules steps set before after)
+    ⊎ (IsSchedule steps × (set : Result (Unit {0}) Fault) × (result ≡ exit_of set) × Reschedules steps set before after)
 
 -- the reply that tells it, without its LF
 abbrev pub set_line : Result (Unit {0}) Failure → List ℕ

@@ -11,4 +11,4 @@ IsFirstCrl answered = (what : Asked) × (entries : ℕ) × (answered ≡ CameTo 
 
 -- the line that says that this is no signature, with its LF
 unfoldable pub sealed_line : List ℕ
-sealed_line = codes "warning: CRL 1 is sealed by a digest, which is no signature; to sign: --signer SOCKET --algorithm NAME\n"
+sealed_line = codes "warning: CRL 1 has a placeholder digest instead of a signature; to sign: --signer SOCKET --algorithm NAME\n"

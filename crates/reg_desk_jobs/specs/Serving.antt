@@ -6,12 +6,15 @@ use Rattle.reg_core.specs.declared.refusal.Fault.TheVariants as fault
 use Rattle.reg_office_api.specs.Signatories.{Signatory}
 use Rattle.reg_office_api.specs.CallSteps.{Signs}
 use Rattle.reg_desk_server.specs.Exchange.{Input, Outcome, Handles, asked_in}
+use Rattle.reg_desk_cli.specs.declared.job.Endpoint.{Endpoint}
+use Rattle.reg_desk_cli.specs.declared.job.Loopback.{Loopback}
+use Rattle.reg_desk_cli.specs.declared.job.Loopback.TheVariants.{V4, V6}
 use Rattle.reg_desk_cli.specs.declared.failure.Failure.{Failure}
 use Rattle.reg_desk_cli.specs.declared.failure.Failure.TheVariants as failure
 use Rattle.reg_desk_jobs.specs.Exchanges.{AnswersBy, Unmoved}
 use Rattle.reg_desk_jobs.specs.Leaving.{FinishesUnsigned, Meets}
-use Rattle.reg_desk_jobs.specs.CounterWords.{Word}
-use Rattle.reg_desk_jobs.specs.declared.leaving.Unsigned.{Unsigned}
+use Rattle.reg_desk_jobs.specs.ControlWords.{Word}
+use Rattle.reg_desk_jobs.specs.declared.unsigned_responses.Unsigned.{Unsigned}
 use Rattle.reg_io.specs.Put.{AppendsFront}
 use Rattle.reg_io.specs.RunsOfAnswers.{Answered}
 
@@ -34,9 +37,10 @@ abbrev pub Serves
 Serves is_open signs gave told inputs outcomes identity before after =
     Answered (Handles (Exchanging is_open signs gave told identity) (OpenWord is_open signs told identity) Unmoved) before inputs outcomes after
 
--- this machine alone: the address of the loopback interface (RFC 1122 3.2.1.3)
-abbrev pub loopback : List ℕ
-loopback = 127 ∷ 0 ∷ 0 ∷ 1 ∷ []
+-- this machine alone: an address of the loopback interface (RFC 1122 3.2.1.3, RFC 4291 2.5.3)
+abbrev pub loopback : Loopback → List ℕ
+loopback V4 = 127 ∷ 0 ∷ 0 ∷ 1 ∷ []
+loopback V6 = 0 ∷ 0 ∷ 0 ∷ 0 ∷ 0 ∷ 0 ∷ 0 ∷ 0 ∷ 0 ∷ 0 ∷ 0 ∷ 0 ∷ 0 ∷ 0 ∷ 0 ∷ 1 ∷ []
 
 -- the line that tells the port
 abbrev pub listening : ℕ → List ℕ
@@ -61,9 +65,9 @@ ServedAt contents writer writer' Bound port requests inputs result =
 
 -- a control socket was created at a path: a socket with the mode 0600
 abbrev pub IsControlSocket : (List ℕ → Type 0) → (List ℕ → ℕ → Type 0) → List ℕ → Type 0
-IsControlSocket laid moded path = laid path × moded path 384
+IsControlSocket laid has_mode path = laid path × has_mode path 384
 
 -- a port of the loopback interface was bound, and a control socket was created where one is told
-abbrev pub IsBound : (List ℕ → ℕ → Type 0) → (List ℕ → Type 0) → (List ℕ → ℕ → Type 0) → ℕ → Option (List ℕ) → Type 0
-IsBound bound laid moded port None = bound loopback port
-IsBound bound laid moded port (Some counter) = bound loopback port × IsControlSocket laid moded counter
+abbrev pub IsBound : (List ℕ → ℕ → Type 0) → (List ℕ → Type 0) → (List ℕ → ℕ → Type 0) → Endpoint → Option (List ℕ) → Type 0
+IsBound bound laid has_mode at None = bound (loopback at.address) at.port
+IsBound bound laid has_mode at (Some control) = bound (loopback at.address) at.port × IsControlSocket laid has_mode control

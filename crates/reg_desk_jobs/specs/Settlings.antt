@@ -14,7 +14,7 @@ use Rattle.reg_lines.specs.Answer.{IsAsked, reply_of}
 use Rattle.reg_lines.specs.ByCalls.{Lines}
 use Rattle.reg_lines.specs.Meaning.{tells}
 use Rattle.reg_lines.specs.declared.answered.Answered.{Answered}
-use Rattle.reg_desk_jobs.specs.ControlReplies.{TellsFault}
+use Rattle.reg_desk_jobs.specs.ControlReplies.{ReportsFault}
 use Rattle.reg_desk_jobs.specs.Showings.{FailsAt}
 use Rattle.reg_desk_jobs.specs.declared.words.Settling.{Settling}
 
@@ -31,11 +31,11 @@ IsForOther records settling = IsSomeAnd (request_in records.requests settling.re
 abbrev pub RunsAt : Signs → ℕ → Signatory → Records → Command → List ℕ → Records → Type 0
 RunsAt signs now identity before command text after =
     ((answered : Answered) × IsAsked (Lines signs identity) now before (tells command) answered after × (text ≡ reply_of answered))
-    ⊎ (TellsFault Memory text × (after ≡ before))
+    ⊎ (ReportsFault Memory text × (after ≡ before))
 
 -- a decision and its reply: that there is no such request, where it is for another serial number; else the command's; or why the look-up failed
 abbrev pub SettlesAt : Signs → ℕ → Signatory → Records → Settling → List ℕ → Records → Type 0
 SettlesAt signs now identity before settling text after =
-    (IsForOther before settling × TellsFault (Refused NoRequest) text × (after ≡ before))
+    (IsForOther before settling × ReportsFault (Refused NoRequest) text × (after ≡ before))
     ⊎ (((¬ IsForOther before settling) × RunsAt signs now identity before settling.command text after)
-    ⊎ ((why : Fault) × FailsAt before now why × TellsFault why text × (after ≡ before)))
+    ⊎ ((why : Fault) × FailsAt before now why × ReportsFault why text × (after ≡ before)))

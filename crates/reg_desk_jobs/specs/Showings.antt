@@ -61,8 +61,8 @@ found_text shown (Ok None) = fault_line (Refused (refusal_of shown)) ++ 10 ∷ [
 found_text shown (Err why) = fault_line why ++ 10 ∷ []
 
 -- what is told of a row that is asked for
-abbrev pub TellsShown : Records → ℕ → Shown → List ℕ → Type 0
-TellsShown records now shown text =
+abbrev pub AnswersShown : Records → ℕ → Shown → List ℕ → Type 0
+AnswersShown records now shown text =
     (found : Result (Option Row) Fault) × IsLookedUp records now (row_shown records now shown) found × IsSaid (found_text shown found) text
 
 -- the words of the control socket, in one line

@@ -5,7 +5,7 @@ use Rattle.std.specs.declared.option.Option.{Option}
 use Rattle.std.specs.Io.KnownBytes.{Appends}
 use Rattle.reg_core.specs.Causes.{cause_line}
 use Rattle.reg_core.specs.declared.cause.Cause.{Cause}
-use Rattle.reg_desk_cli.specs.Endings.{failure_line, exit_status}
+use Rattle.reg_desk_cli.specs.ExitStatus.{failure_line, exit_status}
 use Rattle.reg_desk_cli.specs.declared.failure.Failure.{Failure}
 use Rattle.reg_desk_jobs.specs.Reasons.{reason_text}
 use Rattle.reg_desk_jobs.specs.declared.reasons.Reason.{Reason}
@@ -16,25 +16,25 @@ abbrev pub IsWritten : Option (List ℕ) → Option (List ℕ) → List ℕ → 
 IsWritten old new bytes = Appends old new bytes ⊎ AppendsFront old new bytes
 
 -- the line was written with its LF, or a front of that
-abbrev pub IsToldLine : Option (List ℕ) → Option (List ℕ) → List ℕ → Type 0
-IsToldLine old new line = IsWritten old new (line ++ 10 ∷ [])
+abbrev pub IsAnsweredLine : Option (List ℕ) → Option (List ℕ) → List ℕ → Type 0
+IsAnsweredLine old new line = IsWritten old new (line ++ 10 ∷ [])
 
 -- what standard error gets of an ending: nothing where the job is done, else the failure's line
-abbrev pub TellsEnding : Result (Unit {0}) Failure → Option (List ℕ) → Option (List ℕ) → Type 0
-TellsEnding (Ok done) old new = new ≡ old
-TellsEnding (Err why) old new = IsToldLine old new (failure_line why)
+abbrev pub ReportsExit : Result (Unit {0}) Failure → Option (List ℕ) → Option (List ℕ) → Type 0
+ReportsExit (Ok done) old new = new ≡ old
+ReportsExit (Err why) old new = IsAnsweredLine old new (failure_line why)
 
 -- nothing is told, or why a registration was refused
-abbrev pub TellsReason : Option (List ℕ) → Option (List ℕ) → Type 0
-TellsReason old new = (new ≡ old) ⊎ ((reason : Reason) × IsToldLine old new (codes "  " ++ reason_text reason))
+abbrev pub AnswersReason : Option (List ℕ) → Option (List ℕ) → Type 0
+AnswersReason old new = (new ≡ old) ⊎ ((reason : Reason) × IsAnsweredLine old new (codes "  " ++ reason_text reason))
 
 -- nothing more is told; or, where that is asked for, a cause where the exit status is 1, and why a registration was refused where it is 3
 abbrev pub Adds : Bool → ℕ → Option (List ℕ) → Option (List ℕ) → Type 0
 Adds is_asked exit_status old new =
     (new ≡ old)
-    ⊎ (IsTrue is_asked × (((exit_status ≡ 1) × ((cause : Cause) × IsToldLine old new (cause_line cause))) ⊎ ((exit_status ≡ 3) × TellsReason old new)))
+    ⊎ (IsTrue is_asked × (((exit_status ≡ 1) × ((cause : Cause) × IsAnsweredLine old new (cause_line cause))) ⊎ ((exit_status ≡ 3) × AnswersReason old new)))
 
 -- what standard error gets of an ending where more is asked for or not: what it gets without that, and then perhaps one line more
 abbrev pub Explains : Bool → Result (Unit {0}) Failure → Option (List ℕ) → Option (List ℕ) → Type 0
 Explains is_asked ending old new =
-    (between : Option (List ℕ)) × TellsEnding ending old between × Adds is_asked (exit_status ending) between new
+    (between : Option (List ℕ)) × ReportsExit ending old between × Adds is_asked (exit_status ending) between new

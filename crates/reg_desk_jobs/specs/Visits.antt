@@ -15,16 +15,16 @@ use Rattle.reg_desk_jobs.specs.WhoSigns.{Signing}
 use Rattle.reg_desk_jobs.specs.declared.machine.Machine.{Ghosts as Machine}
 
 -- how a job ends whose run of a register ended so
-abbrev pub ending_of : Result (Unit {0}) Fault → Result (Unit {0}) Failure
-ending_of (Ok done) = Ok done
-ending_of (Err fault) = Err (failure.Fault fault)
+abbrev pub exit_of : Result (Unit {0}) Fault → Result (Unit {0}) Failure
+exit_of (Ok done) = Ok done
+exit_of (Err fault) = Err (failure.Fault fault)
 
 -- how a job ends whose run of lines or rows ended so
-abbrev pub ending_of_run : Result Ended Fault → Result (Unit {0}) Failure
-ending_of_run (Ok ended.Whole) = Ok tt
-ending_of_run (Ok (ended.Refused refused)) = Err failure.Refused
-ending_of_run (Ok ended.NoLineEnd) = Err failure.NoLineEnd
-ending_of_run (Err fault) = Err (failure.Fault fault)
+abbrev pub exit_of_run : Result Ended Fault → Result (Unit {0}) Failure
+exit_of_run (Ok ended.Whole) = Ok tt
+exit_of_run (Ok (ended.Refused refused)) = Err failure.Refused
+exit_of_run (Ok ended.NoLineEnd) = Err failure.NoLineEnd
+exit_of_run (Err fault) = Err (failure.Fault fault)
 
 -- What calls of a machine did: the machine before them and after them. No other call that may change it lies between.
 module _ {M O D S R : Type 0} (machines : Machine M O D S R) (offices : Office O) (machine machine' : M) where

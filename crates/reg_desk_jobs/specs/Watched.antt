@@ -1,8 +1,9 @@
 -- What an open register tells of itself, at two routes of its own: `/health` and `/metrics`.
-use Rattle.std.specs.Prelude.{◌≡◌, ◌⊎◌, ℕ, Bool, cond, List, codes, bytes_eq, Some, None, Result, Ok, Err, MatchBool}
+use Rattle.std.specs.Prelude.{◌≡◌, ◌⊎◌, ◌↔◌, ℕ, Bool, true, false, cond, List, codes, bytes_eq, Some, None, Result, Ok, Err, IsTrue, MatchBool, option_map}
 use Rattle.std.specs.declared.option.Option.{Option}
+use Rattle.reg_core.specs.Crls.{latest}
 use Rattle.reg_core.specs.Queries.{answer}
-use Rattle.reg_core.specs.Records.{Records}
+use Rattle.reg_core.specs.Records.{Crl, Records}
 use Rattle.reg_core.specs.declared.command.Overdue.{Overdue}
 use Rattle.reg_core.specs.declared.command.Query.{Query}
 use Rattle.reg_core.specs.declared.command.Query.TheVariants.{Counts as AskCounts, NextCrl as AskNextCrl, Overdue as AskOverdue}
@@ -10,17 +11,27 @@ use Rattle.reg_core.specs.declared.command.Reply.{Reply}
 use Rattle.reg_core.specs.declared.command.Reply.TheVariants.{Counts as CountsAre, NextCrl as NextCrlIs, Overdue as OverdueAre}
 use Rattle.reg_core.specs.declared.refusal.Fault.{Fault}
 use Rattle.reg_core.specs.declared.refusal.Fault.TheVariants.{Refused}
+use Rattle.reg_crl.specs.Signing.{sha1_algorithm}
+use Rattle.reg_crl_signer.specs.Signed.{IsCrlUnder}
+use Rattle.reg_desk_cli.specs.declared.desk.TheConstants.{VERSION}
 use Rattle.reg_http_head.specs.Response.{Response}
 use Rattle.reg_http.specs.Bodies.{json, only}
 use Rattle.reg_http.specs.Told.{Told, plain}
 use Rattle.reg_desk_metrics.specs.Healths.{health_of, health_text, is_well}
 use Rattle.reg_desk_metrics.specs.Metrics.{metrics_text}
-use Rattle.reg_desk_metrics.specs.Tallies.{with_counted}
+use Rattle.reg_desk_metrics.specs.Tallies.{has_crl_key, read_of, with_counted, with_read}
 use Rattle.reg_desk_metrics.specs.declared.health.Health.{Health as HealthOf}
-use Rattle.reg_desk_metrics.specs.declared.numbers.Heard.{Heard}
+use Rattle.reg_desk_metrics.specs.declared.numbers.ConnectionTotals.{ConnectionTotals}
 use Rattle.reg_desk_metrics.specs.declared.numbers.Numbers.{Numbers}
+use Rattle.reg_desk_metrics.specs.declared.numbers.CrlSigning.{CrlSigning}
+use Rattle.reg_desk_metrics.specs.declared.numbers.CrlSigning.TheVariants as signing
+use Rattle.reg_desk_metrics.specs.declared.numbers.ReadCrl.{ReadCrl}
 use Rattle.reg_desk_metrics.specs.declared.numbers.Requests.{Requests}
 use Rattle.reg_office_api.specs.LookUps.{HasOpen, IsStanding}
+use Rattle.reg_desk_jobs.specs.declared.crl_signer.CrlSigner.{CrlSigner}
+use Rattle.reg_desk_jobs.specs.declared.crl_signer.CrlSigner.TheVariants as signer
+use Rattle.reg_desk_jobs.specs.declared.reasons.Reason.{Reason}
+use Rattle.reg_desk_jobs.specs.declared.reasons.Reason.TheVariants.{Unsigned}
 use Rattle.reg_desk_metrics.specs.declared.tally.Tally.{Tally}
 
 -- ---- what is found in a register
@@ -40,12 +51,61 @@ abbrev pub HasOverdue : Records → ℕ → Result ℕ Fault → Type 0
 HasOverdue records now (Ok count) = (overdue : Option Overdue) × (answer records now AskOverdue ≡ Ok (OverdueAre overdue)) × (count ≡ many_in overdue)
 HasOverdue records now (Err fault) = Unit {0}
 
--- what a register has at a moment: its counts and when its next CRL is due, as the queries have them, and what stands there; or why it tells nothing
-abbrev pub HasFound : Records → ℕ → Result Numbers Fault → Type 0
-HasFound records now (Ok numbers) =
-    Has AskCounts CountsAre records now (Ok numbers.counts) × Has AskNextCrl NextCrlIs records now (Ok numbers.due) × IsStanding records numbers.standing
-HasFound records now (Err (Refused refusal)) = (answer records now AskCounts ≡ Err refusal) ⊎ (answer records now AskNextCrl ≡ Err refusal)
-HasFound records now (Err other) = Unit {0}
+-- who signs the CRLs, as it is counted
+abbrev pub signing_by : CrlSigner → CrlSigning
+signing_by (signer.Holder holder) = signing.Key
+signing_by signer.Digest = signing.Digest
+signing_by signer.Nobody = signing.Nobody
+
+-- whether a placeholder digest stands in place of a CRL's signature, by its signatureAlgorithm (RFC 5280 5.1.1.2)
+abbrev pub IsUnsigned : List ℕ → Bool → Type 0
+IsUnsigned crl is_unsigned = (algorithm : List ℕ) → IsCrlUnder crl algorithm → (IsTrue is_unsigned ↔ (algorithm ≡ sha1_algorithm))
+
+-- what is read in a CRL
+abbrev pub IsReadIn : Crl → ReadCrl → Type 0
+IsReadIn crl read = (read.number ≡ crl.number) × IsUnsigned crl.bytes read.is_unsigned
+
+-- what is read in the latest CRL, which has this number
+abbrev pub IsReadAt : Records → ℕ → ReadCrl → Type 0
+IsReadAt records number read = (crl : Crl) → latest records.crls ≡ Some crl → number ≡ crl.number → IsReadIn crl read
+
+-- what is known of the latest CRL: what was read in it now, or before in the one with its number; nothing where no key signs the next, and before the first
+abbrev pub IsLatestRead : Tally → Records → Option ReadCrl → Type 0
+IsLatestRead tally records (Some read) = (has_crl_key tally ≡ true)
+    × ((crl : Crl) × (latest records.crls ≡ Some crl) × ((read_of crl.number tally ≡ Some read) ⊎ IsReadIn crl read))
+IsLatestRead tally records None = (has_crl_key tally ≡ false) ⊎ (latest records.crls ≡ None)
+
+-- at once behind a CRL without a signature, else as the query has it
+abbrev pub due_after : ReadCrl → Option ℕ → Option ℕ
+due_after read asked = cond read.is_unsigned None asked
+
+abbrev pub due_behind : Option ReadCrl → Option ℕ → Option ℕ
+due_behind None asked = asked
+due_behind (Some read) asked = due_after read asked
+
+-- when the next CRL is due at a moment: as the query has it, or at once where a key signs it and the latest one has no signature
+abbrev pub HasDue : Tally → Records → ℕ → Result (Option ℕ) Fault → Type 0
+HasDue tally records now (Ok due) = (asked : Option ℕ) × (read : Option ReadCrl)
+    × Has AskNextCrl NextCrlIs records now (Ok asked) × IsLatestRead tally records read × (due ≡ due_behind read asked)
+HasDue tally records now (Err (Refused refusal)) = answer records now AskNextCrl ≡ Err refusal
+HasDue tally records now (Err other) = Unit {0}
+
+-- what was read in the latest CRL is noted, or nothing is
+abbrev pub NotesRead : Tally → Records → Tally → Type 0
+NotesRead tally records tally' = (tally' ≡ tally) ⊎ ((read : ReadCrl) × IsLatestRead tally records (Some read) × (tally' ≡ with_read read tally))
+
+-- why the next CRL is due at once: the latest has no signature
+abbrev pub SaysUnsigned : Tally → Records → Option Reason → Type 0
+SaysUnsigned tally records (Some (Unsigned number)) = (read : ReadCrl) × IsLatestRead tally records (Some read) × IsTrue read.is_unsigned × (number ≡ read.number)
+SaysUnsigned tally records (Some other) = ⊥
+SaysUnsigned tally records None = (read : Option ReadCrl) × IsLatestRead tally records read × ((asked : Option ℕ) → due_behind read asked ≡ asked)
+
+-- what a register has at a moment: its counts as the query has them, when its next CRL is due, and what stands there; or why it tells nothing
+abbrev pub HasFound : Tally → Records → ℕ → Result Numbers Fault → Type 0
+HasFound tally records now (Ok numbers) =
+    Has AskCounts CountsAre records now (Ok numbers.counts) × HasDue tally records now (Ok numbers.due) × IsStanding records numbers.standing
+HasFound tally records now (Err (Refused refusal)) = (answer records now AskCounts ≡ Err refusal) ⊎ (answer records now AskNextCrl ≡ Err refusal)
+HasFound tally records now (Err other) = Unit {0}
 
 -- its requests for revocation at a moment
 abbrev pub HasRequests : Records → ℕ → Result Requests Fault → Type 0
@@ -58,9 +118,15 @@ abbrev pub Recounts : Records → ℕ → Tally → Tally → Type 0
 Recounts records now tally tally' =
     (tally' ≡ tally) ⊎ ((requests : Requests) × HasRequests records now (Ok requests) × (tally' ≡ with_counted requests tally))
 
--- the same of what was counted alone: all else stays
+-- requests for revocation were counted anew, and a CRL was read, or not: all else stays
+abbrev pub IsCounted : Tally → Tally → Type 0
+IsCounted tally tally' = (tally' ≡ tally) ⊎ ((requests : Requests) × (tally' ≡ with_counted requests tally))
+
+abbrev pub IsCrlRead : Tally → Tally → Type 0
+IsCrlRead tally tally' = (tally' ≡ tally) ⊎ ((read : ReadCrl) × (tally' ≡ with_read read tally))
+
 abbrev pub IsRecounted : Tally → Tally → Type 0
-IsRecounted tally tally' = (tally' ≡ tally) ⊎ ((requests : Requests) × (tally' ≡ with_counted requests tally))
+IsRecounted tally tally' = (tally' ≡ tally) ⊎ ((counted : Tally) × IsCounted tally counted × IsCrlRead counted tally')
 
 -- ---- what it tells
 
@@ -82,11 +148,10 @@ ByGet method Says it = MatchBool (bytes_eq method (codes "GET")) (Says it) (it �
 
 -- its health: by what was found at a moment, with what was counted
 abbrev pub SaysHealth : ℕ → Records → Told → Type 0
-SaysHealth now records it =
-    (found : Result Numbers Fault) × HasFound records now found × ((tally : Tally) × (it ≡ plain (health_response (health_of now found tally))))
+SaysHealth now records it = (tally : Tally) × (found : Result Numbers Fault) × HasFound tally records now found
+    × ((tally' : Tally) × (it ≡ plain (health_response (health_of now found tally'))))
 
 -- its metrics: by what was found at a moment, with what was counted, and what was heard of connections
 abbrev pub SaysMetrics : ℕ → Records → Told → Type 0
-SaysMetrics now records it =
-    (found : Result Numbers Fault) × HasFound records now found
-    × ((tally : Tally) × (heard : Heard) × (it ≡ plain (metrics_response (metrics_text now found tally heard))))
+SaysMetrics now records it = (tally : Tally) × (found : Result Numbers Fault) × HasFound tally records now found
+    × ((tally' : Tally) × (heard : ConnectionTotals) × (it ≡ plain (metrics_response (metrics_text VERSION.now now found tally' heard))))

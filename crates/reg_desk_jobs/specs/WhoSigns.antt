@@ -1,4 +1,4 @@
--- Who signs for a register that is opened.
+-- The signers of a register that is opened.
 use Rattle.std.specs.Prelude.{◌≡◌, ◌⊎◌, ℕ, List, Option, Some, None, IfSome, MatchOption, option_map}
 use Rattle.reg_office_api.specs.Signatories.{Responder, Signatory, signs_both}
 use Rattle.reg_core.specs.Crls.{latest}
@@ -15,13 +15,13 @@ use Rattle.reg_desk_cli.specs.declared.job.Answerer.{Answerer}
 use Rattle.reg_desk_cli.specs.declared.job.Answerer.TheVariants.{Issuer, Delegate}
 use Rattle.reg_desk_cli.specs.declared.job.KeyHolder.{KeyHolder}
 
--- who signs CRLs, as the words say: the holder of the issuer's key; or where none is told, a digest, or nobody where a responder answers
+-- the signer of CRLs, as the command line names it; or else a placeholder digest, or nobody beside a responder
 abbrev pub signs_crls : Option KeyHolder → Answerer → CrlSigner
 signs_crls (Some holder) answerer = Holder holder
 signs_crls None (Issuer certificate) = Digest
 signs_crls None (Delegate certificate holder) = Nobody
 
--- for which signatures a register is opened: who signs its CRLs, and who answers OCSP requests
+-- for which signatures a register is opened: the signer of its CRLs, and the one of OCSP answers
 abbrev pub Signing : Type 0
 Signing = CrlSigner × Answerer
 
@@ -29,7 +29,7 @@ Signing = CrlSigner × Answerer
 abbrev pub signing_told : Option KeyHolder → Answerer → Signing
 signing_told signer answerer = (signs_crls signer answerer, answerer)
 
--- who signs CRLs answers too, and no certificate stands with an answer
+-- the signer of CRLs signs answers too, and no certificate is put into an answer
 abbrev pub by_itself : Answerer
 by_itself = Issuer None
 
@@ -43,16 +43,16 @@ HasCertificate (Issuer None) = ⊥
 HasCertificate (Issuer (Some path)) = Unit {0}
 HasCertificate (Delegate path holder) = Unit {0}
 
--- the path of what signs CRLs, where what holds a key does
+-- the path of the signer of CRLs, if there is one
 abbrev pub crl_socket : Option KeyHolder → Option (List ℕ)
 crl_socket signer = option_map (λ holder. holder.socket) signer
 
--- the path of what signs OCSP answers, where what holds a key does: the responder's, or that of what signs CRLs
+-- the path of the signer of OCSP answers, if there is one: the responder's, or that of the signer of CRLs
 abbrev pub answer_socket : Option KeyHolder → Answerer → Option (List ℕ)
 answer_socket signer (Issuer certificate) = crl_socket signer
 answer_socket signer (Delegate certificate holder) = Some holder.socket
 
--- who signs over an issuer's key (RFC 5280 4.1.2.7): what holds it, under its algorithm, or the digest
+-- a signature over an issuer's key (RFC 5280 4.1.2.7): the signer's, under its algorithm, or the placeholder digest
 abbrev pub identity_told : Option KeyHolder → List ℕ → Identity
 identity_told None key = digest
 identity_told (Some holder) key = identity_of holder.algorithm key

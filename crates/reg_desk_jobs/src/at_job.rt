@@ -3,11 +3,11 @@
 ghost use Rattle.std.specs.Prelude.{◌≡◌, ◌⊎◌, ◌↔◌, IsFalse, IsTrue, IfErr, IfOk, MatchResult};
 ghost use Rattle.std.specs.Io.{StopsAt};
 ghost use Rattle.std.specs.Io.BufRead.{ends_with_byte};
-ghost use Rattle.std.specs.Io.KnownBytes.{Consumes};
-ghost use Rattle.reg_desk_jobs.specs.Asking.{AtCounter, IsOfTalk, IsReadAs, NextIs, RowsAtCounter, Talks, TalksLine, TalksOnce, TalksOver};
+ghost use Rattle.std.specs.Io.KnownBytes.{Appends, Consumes};
+ghost use Rattle.reg_desk_jobs.specs.SignatureRequest.{AtControlSocket, IsOfTalk, IsReadAs, NextIs, RowsAtControlSocket, Talks, TalksLine, TalksOnce, TalksOver};
 
 use crate::machine::Machine;
-use crate::telling::say;
+use crate::output_lines::say;
 use reg_core::Fault;
 use reg_desk_cli::Failure;
 use reg_lines::{is_accepted, lines_of_rows};
@@ -45,7 +45,7 @@ pub fn at<M: Machine, R: Read, W: Write>(
     reader: &mut R,
     writer: &mut W,
 ) -> Result<(), Failure>
-    ensures { AtCounter (M.met counter.now) (R.remaining reader.old) (W.contents writer.old) (W.contents writer.new) result }
+    ensures { AtControlSocket (M.met counter.now) (R.remaining reader.old) (W.contents writer.old) (W.contents writer.new) result }
 {
     match machine.meet(counter) {
         Ok(link) => talk_over(alloc, &link, reader, writer),
@@ -61,7 +61,7 @@ pub fn at_rows<M: Machine, R: Read, W: Write>(
     reader: &mut R,
     writer: &mut W,
 ) -> Result<(), Failure>
-    ensures { RowsAtCounter (M.met counter.now) (R.remaining reader.old) (R.remaining reader.new) (W.contents writer.old) (W.contents writer.new) result }
+    ensures { RowsAtControlSocket (M.met counter.now) (R.remaining reader.old) (R.remaining reader.new) (W.contents writer.old) (W.contents writer.new) result }
 {
     match lines_of_rows(alloc, reader) {
         Ok(lines) => at(alloc, machine, counter, &mut lines.as_slice(), writer),
@@ -116,13 +116,13 @@ pub fn talk<R: BufRead, W: Write, C: BufRead, S: Write>(
     Err(Failure::Fault(Fault::Read))
 }
 
-fn both(first: bool, second: bool) -> bool
+pub(crate) fn both(first: bool, second: bool) -> bool
     ensures { IsTrue result ↔ (IsTrue first × IsTrue second) }
 {
     first && second
 }
 
-fn ended(is_accepted: bool) -> Result<(), Failure>
+pub(crate) fn ended(is_accepted: bool) -> Result<(), Failure>
     ensures { MatchResult result (λ done. IsTrue is_accepted) (λ why. (why ≡ Failure.Refused) × IsFalse is_accepted) }
 {
     if is_accepted {
@@ -132,7 +132,7 @@ fn ended(is_accepted: bool) -> Result<(), Failure>
     }
 }
 
-fn cut_off(is_accepted: bool) -> Failure
+pub(crate) fn cut_off(is_accepted: bool) -> Failure
     ensures { ((result ≡ Failure.NoLineEnd) × IsTrue is_accepted) ⊎ ((result ≡ Failure.RefusedNoLineEnd) × IsFalse is_accepted) }
 {
     if is_accepted {
@@ -174,10 +174,24 @@ pub(crate) fn exchange<W: Write, C: BufRead, S: Write>(
         (W.contents writer.old) (W.contents writer.new) line.now reply.items) }
     ensures err { IfErr result IsOfTalk }
 {
-    say(sent, line)?;
-    let reply = next_reply(alloc, came)?;
+    let reply = ask(alloc, line, came, sent)?;
     say(writer, &reply)?;
     Ok(reply)
+}
+
+/// Sends a line to a control socket, and reads its reply.
+pub(crate) fn ask<C: BufRead, S: Write>(
+    alloc: Global,
+    line: &[u8],
+    came: &mut C,
+    sent: &mut S,
+) -> Result<Vec<u8>, Failure>
+    ensures sent { IfOk result (λ reply. Appends (S.contents sent.old) (S.contents sent.new) line.now) }
+    ensures came { IfOk result (λ reply. Consumes (C.remaining came.old) (C.remaining came.new) reply.items) }
+    ensures err { IfErr result IsOfTalk }
+{
+    say(sent, line)?;
+    next_reply(alloc, came)
 }
 
 pub(crate) fn next_line<R: BufRead>(alloc: Global, input: &mut R) -> Result<Next, Failure>

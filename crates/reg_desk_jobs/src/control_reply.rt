@@ -3,7 +3,7 @@
 ghost use Rattle.std.specs.Prelude.{◌≡◌, ◌≤◌, ◌++◌, ◌∷◌, [], ℕ, List, IfOk, vec_capacity};
 ghost use Rattle.reg_core.specs.Lines.{fault_line};
 ghost use Rattle.reg_lines.specs.Answer.{reply_of};
-ghost use Rattle.reg_desk_jobs.specs.ControlReplies.{IsOf, came_of, crl_fate, effects_of, failed_if as failed_where, kind_of, kind_of_fault as kind_by_fault, ocsp_fate, store_effect};
+ghost use Rattle.reg_desk_jobs.specs.ControlReplies.{IsOf, line_outcome_of, crl_fate, effects_of, failed_if as failed_where, kind_of, kind_of_fault as kind_by_fault, ocsp_fate, store_effect};
 
 use reg_core::{Command, Fault, Outcome};
 use reg_desk_cli::Failure;
@@ -13,7 +13,7 @@ use std::alloc::{AllocError, Global};
 
 /// What a line at the control socket came to.
 #[derive(Clone, Copy)]
-pub(crate) enum Came {
+pub(crate) enum LineOutcome {
     /// A command line: what it asked, and what that came to.
     CameTo(Asked, Outcome),
     /// A command line: an OCSP response, and whether it refuses.
@@ -22,17 +22,19 @@ pub(crate) enum Came {
     Done,
     /// It was not done.
     Failed(Failure),
+    /// No copy was created, for this fault, which says nothing of the register's own file.
+    Uncopied(Fault),
     /// There was no memory for its reply.
     Silent,
 }
 
-impl Came {
-    fn of(answered: &Answered) -> Came
-        ensures { result ≡ came_of answered.now }
+impl LineOutcome {
+    fn of(answered: &Answered) -> LineOutcome
+        ensures { result ≡ line_outcome_of answered.now }
     {
         match answered {
-            Answered::CameTo(asked, outcome) => Came::CameTo(*asked, *outcome),
-            Answered::Response(reply) => Came::Response(reply.is_refusal),
+            Answered::CameTo(asked, outcome) => LineOutcome::CameTo(*asked, *outcome),
+            Answered::Response(reply) => LineOutcome::Response(reply.is_refusal),
         }
     }
 
@@ -52,13 +54,14 @@ impl Came {
         ensures { result ≡ kind_of self.now }
     {
         match self {
-            Came::CameTo(_, Ok(_)) => LineReply::Accepted,
-            Came::CameTo(_, Err(fault)) => kind_of_fault(fault),
-            Came::Response(_) => LineReply::Accepted,
-            Came::Done => LineReply::Accepted,
-            Came::Failed(Failure::Fault(fault)) => kind_of_fault(fault),
-            Came::Failed(_) => LineReply::Refused,
-            Came::Silent => LineReply::Fault,
+            LineOutcome::CameTo(_, Ok(_)) => LineReply::Accepted,
+            LineOutcome::CameTo(_, Err(fault)) => kind_of_fault(fault),
+            LineOutcome::Response(_) => LineReply::Accepted,
+            LineOutcome::Done => LineReply::Accepted,
+            LineOutcome::Failed(Failure::Fault(fault)) => kind_of_fault(fault),
+            LineOutcome::Failed(_) => LineReply::Refused,
+            LineOutcome::Uncopied(fault) => kind_of_fault(fault),
+            LineOutcome::Silent => LineReply::Fault,
         }
     }
 
@@ -66,8 +69,8 @@ impl Came {
         ensures { result ≡ crl_fate is_unsigned self.now }
     {
         match self {
-            Came::CameTo(Asked::Command(Command::Crl), Ok(_)) => SignatureFate::Made,
-            Came::CameTo(Asked::Command(Command::Crl), Err(_)) => failed_if(is_unsigned),
+            LineOutcome::CameTo(Asked::Command(Command::Crl), Ok(_)) => SignatureFate::Made,
+            LineOutcome::CameTo(Asked::Command(Command::Crl), Err(_)) => failed_if(is_unsigned),
             _ => SignatureFate::NotAsked,
         }
     }
@@ -76,10 +79,10 @@ impl Came {
         ensures { result ≡ ocsp_fate is_unsigned self.now }
     {
         match self {
-            Came::CameTo(Asked::Ocsp, _) => failed_if(is_unsigned),
-            Came::Response(true) => failed_if(is_unsigned),
-            Came::Response(false) if !is_unsigned => SignatureFate::Made,
-            Came::Response(false) => SignatureFate::Failed,
+            LineOutcome::CameTo(Asked::Ocsp, _) => failed_if(is_unsigned),
+            LineOutcome::Response(true) => failed_if(is_unsigned),
+            LineOutcome::Response(false) if !is_unsigned => SignatureFate::Made,
+            LineOutcome::Response(false) => SignatureFate::Failed,
             _ => SignatureFate::NotAsked,
         }
     }
@@ -88,9 +91,9 @@ impl Came {
         ensures { result ≡ store_effect self.now }
     {
         match self {
-            Came::CameTo(Asked::Command(_), Ok(_)) => StoreEffect::Written,
-            Came::CameTo(_, Err(Fault::Store)) => StoreEffect::Failed,
-            Came::Failed(Failure::Fault(Fault::Store)) => StoreEffect::Failed,
+            LineOutcome::CameTo(Asked::Command(_), Ok(_)) => StoreEffect::Written,
+            LineOutcome::CameTo(_, Err(Fault::Store)) => StoreEffect::Failed,
+            LineOutcome::Failed(Failure::Fault(Fault::Store)) => StoreEffect::Failed,
             _ => StoreEffect::Unwritten,
         }
     }
@@ -120,7 +123,7 @@ fn failed_if(is_unsigned: bool) -> SignatureFate
 pub(crate) struct ControlReply {
     /// The reply with its LF; nothing where there was no memory for it.
     pub(crate) text: Vec<u8>,
-    pub(crate) came: Came,
+    pub(crate) came: LineOutcome,
 }
 
 impl ControlReply {
@@ -129,9 +132,9 @@ impl ControlReply {
         requires empty { room.items ≡ [] }
         requires room { 84 ≤ vec_capacity room }
         ensures text { result.text.items ≡ reply_of answered }
-        ensures came { result.came ≡ came_of answered }
+        ensures came { result.came ≡ line_outcome_of answered }
     {
-        let came = Came::of(&answered);
+        let came = LineOutcome::of(&answered);
         ControlReply {
             text: answered.into_reply(room),
             came,
@@ -139,28 +142,44 @@ impl ControlReply {
     }
 
     /// A line as the reply, to a word that came to this; nothing where there is no memory for it.
-    pub(crate) fn line(alloc: Global, line: &[u8], came: Came) -> ControlReply
+    pub(crate) fn line(alloc: Global, line: &[u8], came: LineOutcome) -> ControlReply
         ensures { IsOf (line.now ++ 10 ∷ []) came result.text.items result.came }
     {
         ControlReply::made(alloc, with_lf(alloc, line), came)
     }
 
     pub(crate) fn fault(alloc: Global, fault: Fault) -> ControlReply
-        ensures { IsOf (fault_line fault ++ 10 ∷ []) (Came.Failed (Failure.Fault fault)) result.text.items result.came }
+        ensures { IsOf (fault_line fault ++ 10 ∷ []) (LineOutcome.Failed (Failure.Fault fault)) result.text.items result.came }
     {
         let line = fault.line();
-        ControlReply::line(alloc, line.as_bytes(), Came::Failed(Failure::Fault(fault)))
+        ControlReply::line(
+            alloc,
+            line.as_bytes(),
+            LineOutcome::Failed(Failure::Fault(fault)),
+        )
+    }
+
+    /// The line of the fault for which no copy was created.
+    pub(crate) fn uncopied(alloc: Global, fault: Fault) -> ControlReply
+        ensures { IsOf (fault_line fault ++ 10 ∷ []) (LineOutcome.Uncopied fault) result.text.items result.came }
+    {
+        let line = fault.line();
+        ControlReply::line(alloc, line.as_bytes(), LineOutcome::Uncopied(fault))
     }
 
     /// The reply to a word that came to this, where there was memory for its text.
-    pub(crate) fn made(alloc: Global, text: Result<Vec<u8>, AllocError>, came: Came) -> ControlReply
+    pub(crate) fn made(
+        alloc: Global,
+        text: Result<Vec<u8>, AllocError>,
+        came: LineOutcome,
+    ) -> ControlReply
         ensures { (bytes : List ℕ) → IfOk text (λ made. made.items ≡ bytes) → IsOf bytes came result.text.items result.came }
     {
         match text {
             Ok(text) => ControlReply { text, came },
             Err(_) => ControlReply {
                 text: Vec::new(alloc),
-                came: Came::Silent,
+                came: LineOutcome::Silent,
             },
         }
     }

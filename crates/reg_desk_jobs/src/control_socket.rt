@@ -16,10 +16,10 @@ const MOST_WAITING: usize = 4_096;
 
 /// Creates a socket at a path, which only its owner may connect to, and listens there without waiting. A socket at which no program listens
 /// any more is taken over. Errors: `AddrInUse` where a program listens there, `AlreadyExists` where something else than a socket lies there.
-pub(crate) fn lay_socket<M: Machine>(machine: &M, path: &str) -> io::Result<UnixListener>
-    ensures { OnOk result (IsControlSocket M.laid M.moded path.now) }
+pub(crate) fn create_control_socket<M: Machine>(machine: &M, path: &str) -> io::Result<UnixListener>
+    ensures { OnOk result (IsControlSocket M.laid M.has_mode path.now) }
 {
-    match lay_for_owner(machine, path) {
+    match create_for_owner(machine, path) {
         Ok(listener) => Ok(listener),
         Err(error) => {
             machine.note(of_io(error.kind()));
@@ -28,16 +28,16 @@ pub(crate) fn lay_socket<M: Machine>(machine: &M, path: &str) -> io::Result<Unix
     }
 }
 
-fn lay_for_owner<M: Machine>(machine: &M, path: &str) -> io::Result<UnixListener>
-    ensures { OnOk result (IsControlSocket M.laid M.moded path.now) }
+fn create_for_owner<M: Machine>(machine: &M, path: &str) -> io::Result<UnixListener>
+    ensures { OnOk result (IsControlSocket M.laid M.has_mode path.now) }
 {
-    let listener = lay_anew(machine, path)?;
+    let listener = replace_stale_socket(machine, path)?;
     machine.set_mode(path, OWNER_ALONE)?;
     drop_waiting(&listener);
     Ok(listener)
 }
 
-fn lay_anew<M: Machine>(machine: &M, path: &str) -> io::Result<UnixListener>
+fn replace_stale_socket<M: Machine>(machine: &M, path: &str) -> io::Result<UnixListener>
     ensures { OnOk result (M.laid path.now) }
 {
     match machine.lay(path) {

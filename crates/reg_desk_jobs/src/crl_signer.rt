@@ -1,23 +1,23 @@
-//! Who signs the CRLs of a register that is opened.
+//! The signer of CRLs of a register that is opened.
 
 ghost use Rattle.std.specs.Prelude.{◌≡◌};
 ghost use Rattle.reg_desk_jobs.specs.WhoSigns.{signs_crls};
 
 use reg_desk_cli::{Answerer, KeyHolder, Word};
 
-/// Who signs the CRLs of a register that is opened.
+/// The signer of CRLs of a register that is opened.
 #[derive(Drop)]
 pub enum CrlSigner<'a> {
     /// Nobody: each CRL comes to a fault of the signer.
     Nobody,
     /// A placeholder digest stands in place of a signature.
     Digest,
-    /// The holder of the issuer's key.
+    /// The signer with the issuer's key.
     Holder(KeyHolder<'a>),
 }
 
 impl<'a> CrlSigner<'a> {
-    /// Who signs as the words say: the holder of the issuer's key. Where none is told, a digest; or nobody, where a responder answers.
+    /// The signer that is given; or else a placeholder digest, or nobody beside a responder.
     pub(crate) fn told(signer: &Option<KeyHolder<'a>>, answerer: &Answerer<'_>) -> CrlSigner<'a>
         ensures { result ≡ signs_crls signer.now answerer.now }
     {

@@ -2,16 +2,16 @@
 
 ghost use Rattle.std.specs.Prelude.{◌≡◌, IfOk, MatchOption, OnErr};
 
-use crate::deferring::{Looked, Wanted, known_of, socket_of};
-use crate::entering::tell_counted;
-use crate::leaving::{Unsigned, finish_visit};
-use crate::logging::log_lost;
+use crate::control_lines::answer_counted;
+use crate::deferred_commands::{Looked, Wanted, known_of, socket_of};
+use crate::exchange_log::log_lost;
+use crate::http_exchanges::visit;
 use crate::machine::Machine;
-use crate::visiting::visit;
-use reg_crl_signer::{Asking, Backoff};
+use crate::unsigned_responses::{Unsigned, finish_visit};
+use reg_crl_signer::{Backoff, SignatureRequest};
 use reg_desk_cli::{Answerer, KeyHolder};
-use reg_desk_metrics::{Heard, Tally};
-use reg_desk_server::{Crowd, Deferred, Handler, HubFault, PeerFault};
+use reg_desk_metrics::{ConnectionTotals, Tally};
+use reg_desk_server::{ConnectionCounts, ConnectionFault, Deferred, EventLoopFault, Handler};
 use reg_http_head::Collected;
 use reg_io::Begun;
 use reg_lines::{command_in, read_line};
@@ -30,7 +30,7 @@ pub(crate) struct Desk<'a, 'w, M: Machine> {
     pub(crate) machine: &'a M,
     pub(crate) is_open: bool,
     pub(crate) file: &'a str,
-    /// Who signs CRLs, and who answers OCSP requests, as it was told.
+    /// The signer of CRLs, and the one of OCSP answers, as the command line names them.
     pub(crate) signer: &'a Option<KeyHolder<'w>>,
     pub(crate) answerer: &'a Answerer<'w>,
     /// The back-off of lines from the signer of OCSP answers.
@@ -38,19 +38,19 @@ pub(crate) struct Desk<'a, 'w, M: Machine> {
     /// What was counted since the register was opened. No clause of the desk reads it: an answer that was left to be signed is counted where it
     /// is finished, at which the desk stays as it is.
     pub(crate) tally: &'a Cell<Tally>,
-    pub(crate) heard: &'a Cell<Heard>,
+    pub(crate) heard: &'a Cell<ConnectionTotals>,
 }
 
 impl<'a, 'w, M: Machine> Handler for Desk<'a, 'w, M> {
     ghost use Rattle.std.specs.Prelude.{[], IsTrue};
     ghost use Rattle.reg_office_api.specs.Leads.{Leads};
-    ghost use Rattle.reg_desk_jobs.specs.CounterWords.{Word};
+    ghost use Rattle.reg_desk_jobs.specs.ControlWords.{Word};
     ghost use Rattle.reg_desk_jobs.specs.Deferring.{socket_for};
     ghost use Rattle.reg_desk_jobs.specs.Exchanges.{AnswersBy};
     ghost use Rattle.reg_desk_jobs.specs.Given.{AtTold, GaveAt, WasGiven};
     ghost use Rattle.reg_desk_jobs.specs.Leaving.{FinishesUnsigned, Meets};
     ghost use Rattle.reg_desk_jobs.specs.WhoSigns.{answer_socket};
-    ghost use Rattle.reg_crl_signer.specs.Asking.{IsAsking};
+    ghost use Rattle.reg_crl_signer.specs.SignatureRequest.{IsSignatureRequest};
 
     type Ticket = Unsigned;
 
@@ -74,9 +74,9 @@ impl<'a, 'w, M: Machine> Handler for Desk<'a, 'w, M> {
         &mut self,
         peer: SocketAddr,
         request: &Collected,
-    ) -> Result<Begun<Vec<u8>, Unsigned>, HubFault> {
+    ) -> Result<Begun<Vec<u8>, Unsigned>, EventLoopFault> {
         let Ok(now) = self.machine.moment() else {
-            return Err(HubFault);
+            return Err(EventLoopFault);
         };
         let mut tally = self.tally.get();
         let begun = visit::<M>(
@@ -94,9 +94,9 @@ impl<'a, 'w, M: Machine> Handler for Desk<'a, 'w, M> {
         Ok(begun)
     }
 
-    fn ask(&self, ticket: &Unsigned) -> io::Result<Asking>
+    fn ask(&self, ticket: &Unsigned) -> io::Result<SignatureRequest>
         ensures { IfOk result (λ asking. AtTold (answer_socket self.now.signer.now self.now.answerer.now)
-            (λ path. M.asked path ticket.now.draft.message × IsAsking path ticket.now.draft.message asking)) }
+            (λ path. M.asked path ticket.now.draft.message × IsSignatureRequest path ticket.now.draft.message asking)) }
     {
         match socket_of(self.signer, self.answerer, Wanted::Answer) {
             Some(socket) => self.machine.ask(socket, ticket.draft.message()),
@@ -104,7 +104,7 @@ impl<'a, 'w, M: Machine> Handler for Desk<'a, 'w, M> {
         }
     }
 
-    fn finish(&self, ticket: Unsigned, link: Option<Asking>) -> Vec<u8> {
+    fn finish(&self, ticket: Unsigned, link: Option<SignatureRequest>) -> Vec<u8> {
         let mut tally = self.tally.get();
         let text = finish_visit::<M>(
             self.alloc,
@@ -119,16 +119,16 @@ impl<'a, 'w, M: Machine> Handler for Desk<'a, 'w, M> {
         text
     }
 
-    fn tell(&mut self, line: &[u8], noted: &mut Vec<u8>) -> Result<Vec<u8>, HubFault> {
+    fn tell(&mut self, line: &[u8], noted: &mut Vec<u8>) -> Result<Vec<u8>, EventLoopFault> {
         if !self.is_open {
-            return Err(HubFault);
+            return Err(EventLoopFault);
         }
         let Ok(now) = self.machine.moment() else {
-            return Err(HubFault);
+            return Err(EventLoopFault);
         };
         let began = self.machine.micros();
         let mut tally = self.tally.get();
-        let text = tell_counted::<M>(
+        let text = answer_counted::<M>(
             self.alloc,
             &mut self.office,
             self.machine,
@@ -150,23 +150,23 @@ impl<'a, 'w, M: Machine> Handler for Desk<'a, 'w, M> {
         }
     }
 
-    fn reach(&self, ticket: &Looked) -> io::Result<Asking>
+    fn reach(&self, ticket: &Looked) -> io::Result<SignatureRequest>
         ensures { IfOk result (λ asking. AtTold (socket_for self.now.signer.now self.now.answerer.now ticket.now.wanted)
-            (λ path. M.reached path × IsAsking path [] asking)) }
+            (λ path. M.reached path × IsSignatureRequest path [] asking)) }
     {
         match socket_of(self.signer, self.answerer, ticket.wanted) {
-            Some(socket) if !ticket.is_left_alone => self.machine.reach(socket),
+            Some(socket) if !ticket.is_backed_off => self.machine.reach(socket),
             _ => Err(io::Error::from(ErrorKind::NotFound)),
         }
     }
 
-    fn tell_deferred(
+    fn answer_deferred(
         &mut self,
         line: &[u8],
         noted: &mut Vec<u8>,
         deferred: Deferred<Looked>,
-        link: Option<Asking>,
-    ) -> Result<Option<Vec<u8>>, HubFault>
+        link: Option<SignatureRequest>,
+    ) -> Result<Option<Vec<u8>>, EventLoopFault>
         ensures ok { IfOk result (λ told. MatchOption told
             ((self.new.is_open ≡ self.old.is_open)
             × Leads M.Office.is_clean M.Office.stands (λ identity before after. after ≡ before) self.old.office self.new.office)
@@ -175,7 +175,7 @@ impl<'a, 'w, M: Machine> Handler for Desk<'a, 'w, M> {
         ensures err { OnErr result ((self.new ≡ self.old) × (noted.new ≡ noted.old)) }
     {
         if !self.is_open {
-            return Err(HubFault);
+            return Err(EventLoopFault);
         }
         let Deferred { message, ticket } = deferred;
         let looked = ticket;
@@ -193,37 +193,40 @@ impl<'a, 'w, M: Machine> Handler for Desk<'a, 'w, M> {
         )?;
         self.backoff = self.backoff_after(asked, has_come);
         match known {
-            Some(known) => Ok(Some(self.tell_known(line, noted, ticket, known))),
+            Some(known) => Ok(Some(self.answer_known(line, noted, ticket, known))),
             None => Ok(None),
         }
     }
 
-    fn lose(&self, peer: Option<SocketAddr>, why: PeerFault) {
+    fn lose(&self, peer: Option<SocketAddr>, why: ConnectionFault) {
         self.heard.set(with_loss(self.heard.get(), why));
         log_lost(self.alloc, self.machine, peer, why);
     }
 
-    fn hold(&self, crowd: Crowd) {
-        self.heard.set(with_crowd(self.heard.get(), crowd));
+    fn hold(&self, connection_counts: ConnectionCounts) {
+        self.heard.set(with_connection_counts(self.heard.get(), connection_counts));
     }
 }
 
-fn with_loss(heard: Heard, why: PeerFault) -> Heard {
+fn with_loss(heard: ConnectionTotals, why: ConnectionFault) -> ConnectionTotals {
     let mut heard = heard;
     match why {
-        PeerFault::Broken => heard.broken = heard.broken.saturating_add(1),
-        PeerFault::Late => heard.late = heard.late.saturating_add(1),
-        PeerFault::Crowded => heard.crowded = heard.crowded.saturating_add(1),
-        PeerFault::Memory => heard.memory = heard.memory.saturating_add(1),
+        ConnectionFault::Broken => heard.broken = heard.broken.saturating_add(1),
+        ConnectionFault::Late => heard.late = heard.late.saturating_add(1),
+        ConnectionFault::Evicted => heard.evicted = heard.evicted.saturating_add(1),
+        ConnectionFault::Memory => heard.memory = heard.memory.saturating_add(1),
     }
     heard
 }
 
-fn with_crowd(heard: Heard, crowd: Crowd) -> Heard {
-    Heard {
-        peers: crowd.peers as u64,
-        counters: crowd.counters as u64,
-        accepted: crowd.accepted,
+fn with_connection_counts(
+    heard: ConnectionTotals,
+    connection_counts: ConnectionCounts,
+) -> ConnectionTotals {
+    ConnectionTotals {
+        peers: connection_counts.peers as u64,
+        counters: connection_counts.counters as u64,
+        accepted: connection_counts.accepted,
         ..heard
     }
 }

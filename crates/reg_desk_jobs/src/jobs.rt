@@ -5,18 +5,18 @@ ghost use Rattle.reg_office_api.specs.Items.{items_of};
 ghost use Rattle.reg_office_api.specs.Leads.{Leads};
 ghost use Rattle.reg_lines.specs.ByCalls.{Lines};
 ghost use Rattle.reg_lines.specs.Strict.{StrictEnds};
-ghost use Rattle.reg_desk_jobs.specs.Ends.{AuditAt, CrlAt, ImportAt, InitAt, KeyIdAt, MakesAt, ScheduleAt, ScriptAt, StrictImportAt};
-ghost use Rattle.reg_desk_jobs.specs.Ends.{SaysGiven, TellsBroken, TellsLine, TellsSet, TellsVerdict};
-ghost use Rattle.reg_desk_jobs.specs.Visits.{ending_of, ending_of_run};
+ghost use Rattle.reg_desk_jobs.specs.Ends.{AuditAt, CrlAt, ImportAt, ImportByClock, InitAt, KeyIdAt, MakesAt, ScheduleAt, ScriptAt, StrictImportAt};
+ghost use Rattle.reg_desk_jobs.specs.Ends.{SaysGiven, TellsBroken, PrintsLine, TellsSet, ReportsAuditResult};
+ghost use Rattle.reg_desk_jobs.specs.Visits.{exit_of, exit_of_run};
 ghost use Rattle.reg_office_api.specs.LookUps.{IsOfStore};
-ghost use Rattle.reg_audit_rows.specs.FindingLines.{broken_text, sound_text};
+ghost use Rattle.reg_audit_rows.specs.AuditLines.{broken_text, sound_text};
 
 use crate::lines_job::run_script_over;
 use crate::machine::Machine;
+use crate::output_lines::say;
 use crate::reasons::{Reason, keep_reason};
 use crate::registers::{audit_at, make, open_signed, open_unsigned};
-use crate::telling::say;
-use reg_audit_rows::{Audited, BrokenRow, OTHER_SCHEMA, Verdict, broken_line, sound_line};
+use reg_audit_rows::{AuditResult, Audited, BrokenRow, OTHER_SCHEMA, broken_line, sound_line};
 use reg_core::{Fault, Moment, Policy};
 use reg_der::Issuer;
 use reg_desk_cli::{
@@ -31,7 +31,7 @@ use std::io::{Read, Write};
 
 /// How a job ends whose run of a register ended so.
 pub fn ended(ran: Result<(), Fault>) -> Result<(), Failure>
-    ensures { result ≡ ending_of ran }
+    ensures { result ≡ exit_of ran }
 {
     match ran {
         Ok(()) => Ok(()),
@@ -112,8 +112,8 @@ pub fn script<M: Machine, R: Read, W: Write>(
     ended(ran)
 }
 
-/// Imports standard input into the register at a path. A strict import ends at the first refusal or fault, and runs no last row without
-/// its line end; why its last row was refused, if it was, is kept.
+/// Imports standard input into the register at a path, at one moment: the one that is told, or the clock's as it begins. A strict import ends at
+/// the first refusal or fault, and runs no last row without its line end; why its last row was refused, if it was, is kept.
 pub fn import_rows<M: Machine, R: Read, W: Write>(
     alloc: Global,
     machine: &mut M,
@@ -122,14 +122,35 @@ pub fn import_rows<M: Machine, R: Read, W: Write>(
     reader: &mut R,
     writer: &mut W,
 ) -> Result<(), Failure>
+    ensures { ImportByClock M.Machine M.Office.Office R.remaining W.contents machine.old machine.new
+        reader.old reader.new writer.old writer.new rows.now.moment rows.now.is_strict rows.now.file result }
+{
+    match rows.moment {
+        Some(now) => import_at(alloc, machine, rows, now, reason, reader, writer),
+        None => match machine.moment() {
+            Ok(now) => import_at(alloc, machine, rows, now, reason, reader, writer),
+            Err(_) => Err(Failure::Fault(Fault::Read)),
+        },
+    }
+}
+
+fn import_at<M: Machine, R: Read, W: Write>(
+    alloc: Global,
+    machine: &mut M,
+    rows: &RowsToImport<'_>,
+    now: Moment,
+    reason: &Cell<Option<Reason>>,
+    reader: &mut R,
+    writer: &mut W,
+) -> Result<(), Failure>
     ensures { ImportAt M.Machine M.Office.Office R.remaining W.contents machine.old machine.new
-        reader.old reader.new writer.old writer.new rows.now.is_strict rows.now.file rows.now.moment result }
+        reader.old reader.new writer.old writer.new rows.now.is_strict rows.now.file now result }
 {
     let path = rows.file.as_str();
     if rows.is_strict {
-        return import_to_refusal(alloc, machine, path, rows.moment, reason, reader, writer);
+        return import_to_refusal(alloc, machine, path, now, reason, reader, writer);
     }
-    import_all(alloc, machine, path, rows.moment, reader, writer)
+    import_all(alloc, machine, path, now, reader, writer)
 }
 
 fn import_to_refusal<M: Machine, R: Read, W: Write>(
@@ -168,7 +189,7 @@ fn import_kept<M: Machine, R: Read, W: Write>(
 }
 
 pub(crate) fn run_ended(ran: Result<Ended, Fault>) -> Result<(), Failure>
-    ensures { result ≡ ending_of_run ran }
+    ensures { result ≡ exit_of_run ran }
 {
     match ran {
         Ok(Ended::Whole) => Ok(()),
@@ -239,7 +260,7 @@ pub fn schedule<M: Machine, W: Write>(
     let mut register = open_unsigned(machine, path)?;
     let set = register.set_schedule(alloc, schedule);
     machine.close(path, register);
-    tell_set(writer, b"schedule set\n", set)
+    answer_setting(writer, b"schedule set\n", set)
 }
 
 /// Gives the issuer of the register at a path a key identifier of its own, for the CRLs from the next one on. The word is looked
@@ -258,10 +279,14 @@ pub fn key_identifier<M: Machine, W: Write>(
     let mut register = open_unsigned(machine, path)?;
     let set = register.set_key_identifier(alloc, octets);
     machine.close(path, register);
-    tell_set(writer, b"key-id set\n", set)
+    answer_setting(writer, b"key-id set\n", set)
 }
 
-fn tell_set<W: Write>(writer: &mut W, text: &[u8], set: Result<(), Fault>) -> Result<(), Failure>
+fn answer_setting<W: Write>(
+    writer: &mut W,
+    text: &[u8],
+    set: Result<(), Fault>,
+) -> Result<(), Failure>
     requires { IfErr set IsOfStore }
     ensures { TellsSet text.now W.contents writer.old writer.new set result }
 {
@@ -280,23 +305,27 @@ pub fn audit<M: Machine, W: Write>(
 ) -> Result<(), Failure>
     ensures { AuditAt M.Machine M.Office.Office W.contents machine.now machine.now writer.old writer.new path.now result }
 {
-    let verdict = audit_at(machine, path)?;
-    tell_verdict(alloc, writer, verdict)
+    let audit_result = audit_at(machine, path)?;
+    report_audit_result(alloc, writer, audit_result)
 }
 
-fn tell_verdict<W: Write>(alloc: Global, writer: &mut W, verdict: Verdict) -> Result<(), Failure>
-    ensures { TellsVerdict W.contents writer.old writer.new verdict result }
+fn report_audit_result<W: Write>(
+    alloc: Global,
+    writer: &mut W,
+    audit_result: AuditResult,
+) -> Result<(), Failure>
+    ensures { ReportsAuditResult W.contents writer.old writer.new audit_result result }
 {
-    match verdict {
-        Verdict::Sound(found) => tell_sound(alloc, writer, found),
-        Verdict::Broken(broken) => tell_broken(alloc, writer, broken),
-        Verdict::OtherSchema => say_broken(writer, OTHER_SCHEMA.as_bytes()),
-        Verdict::Older => Err(Failure::OldVersion),
+    match audit_result {
+        AuditResult::Sound(found) => tell_sound(alloc, writer, found),
+        AuditResult::Broken(broken) => tell_broken(alloc, writer, broken),
+        AuditResult::OtherSchema => say_broken(writer, OTHER_SCHEMA.as_bytes()),
+        AuditResult::Older => Err(Failure::OldVersion),
     }
 }
 
 fn tell_sound<W: Write>(alloc: Global, writer: &mut W, found: Audited) -> Result<(), Failure>
-    ensures { TellsLine (sound_text found) W.contents writer.old writer.new result }
+    ensures { PrintsLine (sound_text found) W.contents writer.old writer.new result }
 {
     match sound_line(alloc, found) {
         Ok(line) => say(writer, &line),

@@ -137,6 +137,6 @@ fn warn<M: Machine>(machine: &M)
     ensures { M.warned sealed_line }
 {
     machine.warn(
-        b"warning: CRL 1 is sealed by a digest, which is no signature; to sign: --signer SOCKET --algorithm NAME\n",
+        b"warning: CRL 1 has a placeholder digest instead of a signature; to sign: --signer SOCKET --algorithm NAME\n",
     );
 }

@@ -1,13 +1,13 @@
 //! The machine that a job runs on: its files, clock, ports, sockets and standard error.
 
 use crate::clock::moment_at;
-use crate::copying::Uncopied;
+use crate::copy_job::Uncopied;
 use crate::crl_signer::CrlSigner;
-use crate::deferring::Wanted;
+use crate::deferred_commands::Wanted;
 use mio::net::{TcpListener, UnixListener};
-use reg_audit_rows::Verdict;
+use reg_audit_rows::AuditResult;
 use reg_core::{Cause, Fault, Memory, Moment, Policy};
-use reg_crl_signer::{Asking, Primed};
+use reg_crl_signer::{PresetSignature, SignatureRequest};
 use reg_der::Issuer;
 use reg_desk_cli::{Answerer, Failure};
 use reg_office_api::Office;
@@ -28,13 +28,13 @@ pub trait Machine {
     ghost use Rattle.reg_core.specs.Records.{no_records};
     ghost use Rattle.reg_crl.specs.Signing.{Identity};
     ghost use Rattle.reg_desk_cli.specs.declared.failure.Failure.{Failure as Failing};
-    ghost use Rattle.reg_audit_rows.specs.declared.verdict.Verdict.{Verdict as Verdicts};
+    ghost use Rattle.reg_audit_rows.specs.declared.audit_result.AuditResult.{AuditResult as AuditResults};
     ghost use Rattle.reg_desk_jobs.specs.Clocks.{Tells};
     ghost use Rattle.reg_desk_jobs.specs.Given.{WasGiven};
     ghost use Rattle.reg_desk_jobs.specs.RegisterFailures.{IsMaking, IsOpening};
     ghost use Rattle.reg_desk_jobs.specs.WhoSigns.{HasCertificate};
     ghost use Rattle.reg_desk_jobs.specs.declared.crl_signer.CrlSigner.{CrlSigner as SignsCrls};
-    ghost use Rattle.reg_crl_signer.specs.Asking.{IsAsking};
+    ghost use Rattle.reg_crl_signer.specs.SignatureRequest.{IsSignatureRequest};
     ghost use Rattle.reg_crl_signer.specs.Forms.{HasForm};
     ghost use Rattle.reg_desk_cli.specs.declared.job.Answerer.{Answerer as Answering};
 
@@ -81,7 +81,7 @@ pub trait Machine {
     /// The files at the path were opened for reading alone.
     ghost read: { Self → List ℕ → Self.Sources → Type 0 };
     /// An audit of the register in the files said this.
-    ghost audited: { Self.Sources → Verdicts → Type 0 };
+    ghost audited: { Self.Sources → AuditResults → Type 0 };
     /// A copy of so many bytes of the register at the path was created at another path, at which nothing lay, and the machine after it.
     ghost copied: { Self → List ℕ → List ℕ → ℕ → Self → Type 0 };
     /// For this reason no copy of the register at the path was created at another path, and the machine after it.
@@ -95,12 +95,12 @@ pub trait Machine {
     ghost stood: { ℕ → Type 0 };
     /// The clock stood at this moment, or was past it.
     ghost told: { ℕ → Type 0 };
-    /// This port of this address was bound (four bytes, RFC 791 3.1).
+    /// This port of this address was bound (four bytes, RFC 791 3.1, or sixteen, RFC 4291 2).
     ghost bound: { List ℕ → ℕ → Type 0 };
     /// A socket was created at this path.
     ghost laid: { List ℕ → Type 0 };
     /// What lies at this path was given this mode.
-    ghost moded: { List ℕ → ℕ → Type 0 };
+    ghost has_mode: { List ℕ → ℕ → Type 0 };
     /// No program listened any more at the socket at this path.
     ghost deserted: { List ℕ → Type 0 };
     /// The program connected to the socket at this path.
@@ -144,6 +144,9 @@ pub trait Machine {
         ensures unconnected { IfErr result (λ why. unconnected self.old path.now why self.new) }
         ensures faults { IfErr result (λ why. (why ≡ Failure.Fault Fault.Memory) ⊎ (why ≡ Failure.Fault Fault.Store)) };
 
+    /// The bytes of the file at a path; `None` where it can't be read.
+    fn file(&self, path: &str) -> Option<Vec<u8>>;
+
     /// Reads the certificates of who answers OCSP requests; `BadResponder` where one can't be read, is none, or has a key of another algorithm.
     fn certify(&self, answerer: &Answerer<'_>) -> Result<Self::Responder, Failure>
         ensures certified { IfOk result (certified answerer.now) }
@@ -186,7 +189,7 @@ pub trait Machine {
         ensures faults { IfErr result IsOpening };
 
     /// Audits the register in files, without making an older version newer; `NotARegister` and `NewVersion` for other tables.
-    fn audit_in(&self, sources: Self::Sources) -> Result<Verdict, Failure>
+    fn audit_in(&self, sources: Self::Sources) -> Result<AuditResult, Failure>
         ensures audited { IfOk result (audited sources) }
         ensures faults { IfErr result IsOpening };
 
@@ -216,13 +219,17 @@ pub trait Machine {
     fn listen(&self, address: [u8; 4], port: u16) -> io::Result<TcpListener>
         ensures { OnOk result (bound address port) };
 
+    /// The same at an IPv6 address.
+    fn listen_v6(&self, address: [u8; 16], port: u16) -> io::Result<TcpListener>
+        ensures { OnOk result (bound address port) };
+
     /// Creates a socket at a path, and listens there without waiting; `AddrInUse` where something lies there.
     fn lay(&self, path: &str) -> io::Result<UnixListener>
         ensures { OnOk result (laid path.now) };
 
     /// Sets the mode of the file at a path.
     fn set_mode(&self, path: &str, mode: u32) -> io::Result<()>
-        ensures { OnOk result (moded path.now mode) };
+        ensures { OnOk result (has_mode path.now mode) };
 
     /// Whether the file at a path is a socket.
     fn is_socket(&self, path: &str) -> io::Result<bool>;
@@ -241,24 +248,28 @@ pub trait Machine {
 
     /// Asks the signer at the socket at a path to sign a message, and waits for nothing: the connection on which the answer comes, up to its end;
     /// `WouldBlock` where the socket has no room for one more.
-    fn ask(&self, path: &str, message: &[u8]) -> io::Result<Asking>
+    fn ask(&self, path: &str, message: &[u8]) -> io::Result<SignatureRequest>
         ensures asked { OnOk result (asked path.now message.now) }
-        ensures kept { IfOk result (IsAsking path.now message.now) };
+        ensures kept { IfOk result (IsSignatureRequest path.now message.now) };
 
     /// Connects to a signer in the same way, with no message on the connection yet.
-    fn reach(&self, path: &str) -> io::Result<Asking>
+    fn reach(&self, path: &str) -> io::Result<SignatureRequest>
         ensures reached { OnOk result (reached path.now) }
-        ensures kept { IfOk result (IsAsking path.now []) };
+        ensures kept { IfOk result (IsSignatureRequest path.now []) };
 
     /// The answer on a connection to a signer, once it is whole. `None` where it is not, is longer than 4,096 bytes, or memory is refused.
-    fn hear(alloc: Global, link: &mut Asking) -> Option<Vec<u8>>
-        ensures given { IfSome result (λ answer. (path message : List ℕ) → IsAsking path message link.old → gave path message answer.items) }
+    fn hear(alloc: Global, link: &mut SignatureRequest) -> Option<Vec<u8>>
+        ensures given { IfSome result (λ answer. (path message : List ℕ) → IsSignatureRequest path message link.old → gave path message answer.items) }
         ensures short { IfSome result (λ answer. length answer.items ≤ 4096) };
 
     /// Presets the next signature of an office: what a signer gave for a message, or that it gave nothing. The signer is not asked then. `None` has
     /// it asked again.
-    fn prime(office: &mut Self::Office, wanted: Wanted, primed: Option<Primed>)
-        requires { IfSome primed (λ known. IfSome known.answer (λ answer. WasGiven gave known.message.items answer.items)) }
+    fn set_preset(
+        office: &mut Self::Office,
+        wanted: Wanted,
+        preset_signature: Option<PresetSignature>,
+    )
+        requires { IfSome preset_signature (λ known. IfSome known.answer (λ answer. WasGiven gave known.message.items answer.items)) }
         ensures { Leads Self.Office.is_clean Self.Office.stands (λ identity before after. after ≡ before) office.old office.new };
 
     /// Whether exchanges are logged.

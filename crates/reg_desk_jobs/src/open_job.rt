@@ -4,32 +4,36 @@ ghost use Rattle.reg_desk_jobs.specs.Ends.{OpenAt};
 
 use crate::machine::Machine;
 use crate::registers::open_signed;
-use crate::serve_job::serve_desk;
+use crate::serve_job::serve_checked;
 use reg_desk_cli::{Failure, KeptOpen};
-use std::io::Write;
+use std::io::{Read, Write};
 
 /// Keeps the register at a path open, until the program is ended. It is opened before the port is bound, and the port is bound
-/// before the control socket is created.
-pub fn hold_open<M: Machine, W: Write>(
+/// before the control socket is created. If a published CRL is told, `reader` has its bytes, and a register that lacks something of it is not served.
+pub fn hold_open<M: Machine, R: Read, W: Write>(
     rt: &HostRuntime,
     machine: &mut M,
     kept: &KeptOpen<'_>,
+    reader: &mut R,
     writer: &mut W,
 ) -> Result<(), Failure>
-    ensures { OpenAt M.Machine M.Office.Office W.contents machine.old machine.new writer.old writer.new kept.now result }
+    ensures { OpenAt M.Machine M.Office.Office R.remaining W.contents machine.old machine.new reader.old reader.new
+        writer.old writer.new kept.now result }
 {
     let path = kept.file.as_str();
     let office = open_signed(machine, path, &kept.signer, &kept.answerer)?;
-    let (office, ending) = serve_desk(
+    let (office, ending) = serve_checked(
         rt,
         machine,
         office,
         path,
         &kept.signer,
         &kept.answerer,
-        kept.port,
-        Some(kept.counter.as_str()),
+        kept.endpoint,
+        Some(kept.control.as_str()),
         u64::MAX,
+        kept.published.is_some(),
+        reader,
         writer,
     );
     machine.close(path, office);

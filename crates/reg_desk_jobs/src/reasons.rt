@@ -2,14 +2,15 @@
 
 ghost use Rattle.std.specs.Prelude.{◌≡◌, ◌++◌, ◌∷◌, [], IfOk, IfSome};
 ghost use Rattle.reg_office_api.specs.Leads.{Leads};
-ghost use Rattle.reg_desk_jobs.specs.ControlReplies.{TellsCame};
-ghost use Rattle.reg_desk_jobs.specs.Reasons.{IsReasonLine, last_second, latest_text, order_text, other_text, reason_text, noted_why_text};
+ghost use Rattle.reg_desk_jobs.specs.ControlReplies.{ReportsLineOutcome};
+ghost use Rattle.reg_desk_jobs.specs.Reasons.{IsReasonLine, last_second, latest_text, order_text, other_text, reason_text, kept_reason_text};
 
-use crate::control_reply::{Came, ControlReply};
+use crate::control_reply::{ControlReply, LineOutcome};
 use crate::machine::Machine;
+use crate::syntax::{WrongField, wrong_field, wrong_words};
 use reg_core::{Command, Decimal, Fault, Moment, Refusal, Serial};
-use reg_lines::{Ended, RefusedCommand};
-use reg_office_api::Office;
+use reg_lines::{Ended, RefusedCommand, read_line};
+use reg_office_api::{LineReply, Office};
 use std::alloc::{AllocError, Global};
 use std::cell::Cell;
 
@@ -26,17 +27,21 @@ pub enum Reason {
     Latest(Moment),
     /// The request of this number is for this serial number, and not for the one that was told.
     OtherSerial(u64, Serial),
+    /// The line can't be read, for this.
+    Wrong(WrongField),
+    /// The CRL of this number has a placeholder digest, and the next one will be signed.
+    Unsigned(u64),
 }
 
 pub(crate) fn told_why(alloc: Global, noted: &[u8]) -> ControlReply
-    ensures { TellsCame result.came result.text.items }
+    ensures { ReportsLineOutcome result.came result.text.items }
 {
-    ControlReply::made(alloc, why_reply(alloc, noted), Came::Done)
+    ControlReply::made(alloc, why_reply(alloc, noted), LineOutcome::Done)
 }
 
-#[tactic(auto, unfolding(crate::specs::Reasons::noted_why_text))]
+#[tactic(auto, unfolding(crate::specs::Reasons::kept_reason_text))]
 fn why_reply(alloc: Global, noted: &[u8]) -> Result<Vec<u8>, AllocError>
-    ensures { IfOk result (λ text. text.items ≡ noted_why_text noted.now) }
+    ensures { IfOk result (λ text. text.items ≡ kept_reason_text noted.now) }
 {
     let mut text = Vec::from_slice(alloc, b"why ")?;
     if noted.is_empty() {
@@ -61,21 +66,32 @@ pub(crate) fn note<M: Machine>(
     match refused {
         Some(refused) => {
             let reason = reason_of::<M>(office, &refused);
-            note_text(reason_line(alloc, b"", reason), reply, noted);
+            keep_reason_text(reason_line(alloc, b"", reason), reply, noted);
         }
-        None => note_reply(reply, noted),
+        None => keep_reply_reason(reply, noted),
     }
 }
 
 /// Notes a text in place of what was noted; where there is none, or no memory for it, the reply.
-pub(crate) fn note_text(text: Option<Vec<u8>>, reply: &[u8], noted: &mut Vec<u8>) {
+pub(crate) fn keep_reason_text(text: Option<Vec<u8>>, reply: &[u8], noted: &mut Vec<u8>) {
     match text {
         Some(text) => *noted = text,
-        None => note_reply(reply, noted),
+        None => keep_reply_reason(reply, noted),
     }
 }
 
-pub(crate) fn note_reply(reply: &[u8], noted: &mut Vec<u8>) {
+/// Notes which field of a line is wrong by which it can't be read, in place of its reply; where the line can be read, nothing.
+pub(crate) fn note_syntax(alloc: Global, line: &[u8], reply: &ControlReply, noted: &mut Vec<u8>) {
+    if reply.came.kind() == LineReply::Refused && read_line(line).is_none() {
+        keep_reason_text(reason_line(alloc, b"", syntax_of(line)), &reply.text, noted);
+    }
+}
+
+fn syntax_of(line: &[u8]) -> Option<Reason> {
+    Some(Reason::Wrong(wrong_field(line)?))
+}
+
+pub(crate) fn keep_reply_reason(reply: &[u8], noted: &mut Vec<u8>) {
     noted.clear();
     let _ = noted.extend_from_slice(reply);
 }
@@ -137,10 +153,10 @@ pub(crate) fn reason_line(alloc: Global, front: &[u8], reason: Option<Reason>) -
     ensures { IfSome result (λ text. IsReasonLine front.now reason text.items) }
 {
     let words = reason_words(alloc, reason?).ok()?;
-    front_and_end(alloc, front, &words).ok()
+    prefix_and_end(alloc, front, &words).ok()
 }
 
-pub(crate) fn front_and_end(
+pub(crate) fn prefix_and_end(
     alloc: Global,
     front: &[u8],
     words: &[u8],
@@ -161,6 +177,13 @@ fn reason_words(alloc: Global, reason: Reason) -> Result<Vec<u8>, AllocError>
         Reason::Filled(order) => order_text_of(alloc, b"order ", order, b" has its certificate"),
         Reason::Latest(at) => latest_text_of(alloc, at),
         Reason::OtherSerial(request, serial) => other_text_of(alloc, request, serial),
+        Reason::Wrong(wrong) => wrong_words(alloc, wrong),
+        Reason::Unsigned(number) => order_text_of(
+            alloc,
+            b"CRL ",
+            number,
+            b" has a placeholder digest: the next one is due at once",
+        ),
     }
 }
 

@@ -9,7 +9,7 @@ ghost use Rattle.reg_desk_jobs.specs.WhoSigns.{signing_told, unsigned};
 
 use crate::crl_signer::CrlSigner;
 use crate::machine::Machine;
-use reg_audit_rows::Verdict;
+use reg_audit_rows::AuditResult;
 use reg_core::{Fault, Policy};
 use reg_der::Issuer;
 use reg_desk_cli::{Answerer, Failure, KeyHolder};
@@ -79,7 +79,7 @@ pub(crate) fn make<M: Machine>(
 
 /// Audits the register at a path. It only reads: each byte of the files stays, nothing is created beside them, and one of an older version is
 /// not made newer.
-pub(crate) fn audit_at<M: Machine>(machine: &M, path: &str) -> Result<Verdict, Failure>
+pub(crate) fn audit_at<M: Machine>(machine: &M, path: &str) -> Result<AuditResult, Failure>
     ensures ok { IfOk result (Audits M.Machine machine.now path.now) }
     ensures err { IfErr result (Unaudited M.Machine machine.now path.now) }
     ensures faults { IfErr result IsOpening }

@@ -10,7 +10,7 @@ use crate::log_entries::{
 };
 use crate::log_lines::{put_number, put_word};
 use crate::machine::Machine;
-use crate::telling::say;
+use crate::output_lines::say;
 use reg_core::{Fault, read_number};
 use reg_desk_cli::Failure;
 use reg_lines::without_end;

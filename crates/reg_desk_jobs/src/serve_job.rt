@@ -1,67 +1,117 @@
 //! The job `serve`, HTTP on the loopback interface; and what it shares with the job `open`, many connections at once.
 
-ghost use Rattle.std.specs.Prelude.{◌≡◌, ◌⊎◌, ◌++◌, ◌∷◌, [], List, None, OnOk, IfErr, decimal, is_some, option_copied};
-ghost use Rattle.reg_office_api.specs.Leads.{Leads};
+ghost use Rattle.std.specs.Prelude.{◌≡◌, ◌⊎◌, ◌++◌, ◌∷◌, [], List, None, Err, OnOk, IfErr, IsTrue, IsFalse, decimal, is_some, option_copied};
+ghost use Rattle.reg_office_api.specs.Leads.{Leads, Looks};
 ghost use Rattle.reg_desk_server.specs.Exchange.{Input, Outcome, Handles};
 ghost use Rattle.reg_desk_jobs.specs.Ends.{SaysText, ServeAt};
+ghost use Rattle.reg_desk_cli.specs.declared.failure.Failure.{Failure as Failing};
 ghost use Rattle.reg_desk_jobs.specs.Given.{GaveAt};
+ghost use Rattle.reg_desk_jobs.specs.Published.{Compares, HasAll};
 ghost use Rattle.reg_desk_jobs.specs.WhoSigns.{answer_socket};
-ghost use Rattle.reg_desk_jobs.specs.declared.leaving.Unsigned.{Unsigned};
-ghost use Rattle.reg_desk_jobs.specs.Serving.{IsBound, Served, ServedAt, Serves, listening};
+ghost use Rattle.reg_desk_jobs.specs.declared.unsigned_responses.Unsigned.{Unsigned};
+ghost use Rattle.reg_desk_jobs.specs.Serving.{IsBound, Served, ServedAt, Serves, listening, loopback};
 ghost use Rattle.reg_io.specs.RunsOfAnswers.{Answered};
 
-use crate::control_socket::lay_socket;
+use crate::control_socket::create_control_socket;
+use crate::crl_signer::CrlSigner;
 use crate::desks::Desk;
+use crate::health_routes::{responder_end, signing_of};
 use crate::machine::Machine;
+use crate::output_lines::say;
+use crate::published::check_published;
 use crate::registers::open_signed;
-use crate::telling::say;
 use mio::net::{TcpListener, UnixListener};
 use reg_core::{Decimal, Fault};
 use reg_crl_signer::Backoff;
-use reg_desk_cli::{Answerer, Failure, KeyHolder, Serving};
-use reg_desk_metrics::{Heard, Tally};
-use reg_desk_server::{Handler, Hub, MOST_HTTP_PEERS};
+use reg_desk_cli::{Answerer, Endpoint, Failure, KeyHolder, Loopback, Serving};
+use reg_desk_metrics::{ConnectionTotals, Tally};
+use reg_desk_server::{EventLoop, Handler, MOST_HTTP_CONNECTIONS};
 use std::cell::Cell;
-use std::io::{ErrorKind, Write};
+use std::io;
+use std::io::{ErrorKind, Read, Write};
 
 const LOOPBACK: [u8; 4] = [127, 0, 0, 1];
 
-/// Answers so many requests over a register, which is opened before the port is bound.
-pub fn serve<M: Machine, W: Write>(
+const LOOPBACK_V6: [u8; 16] = [0, 0, 0, 0, 0, 0, 0, 0, 0, 0, 0, 0, 0, 0, 0, 1];
+
+/// Answers so many requests over a register, which is opened before the port is bound. If a published CRL is told, `reader` has its bytes, and a
+/// register that lacks something of it is not served.
+pub fn serve<M: Machine, R: Read, W: Write>(
     rt: &HostRuntime,
     machine: &mut M,
     serving: &Serving<'_>,
+    reader: &mut R,
     writer: &mut W,
 ) -> Result<(), Failure>
-    ensures { ServeAt M.Machine M.Office.Office W.contents machine.old machine.new writer.old writer.new serving.now result }
+    ensures { ServeAt M.Machine M.Office.Office R.remaining W.contents machine.old machine.new reader.old reader.new
+        writer.old writer.new serving.now result }
 {
     let path = serving.file.as_str();
     let office = open_signed(machine, path, &serving.signer, &serving.answerer)?;
-    let (office, ending) = serve_desk(
+    let (office, ending) = serve_checked(
         rt,
         machine,
         office,
         path,
         &serving.signer,
         &serving.answerer,
-        serving.port,
+        serving.endpoint,
         None,
         u64::from(serving.requests),
+        serving.published.is_some(),
+        reader,
         writer,
     );
     machine.close(path, office);
     ending
 }
 
+/// Serves a register, and gives the office back. If a published CRL is told, the register must have all of it ([`check_published`]).
+pub(crate) fn serve_checked<'a, 'w, M: Machine, R: Read, W: Write>(
+    rt: &HostRuntime,
+    machine: &'a M,
+    mut office: M::Office,
+    file: &'a str,
+    signer: &'a Option<KeyHolder<'w>>,
+    answerer: &'a Answerer<'w>,
+    endpoint: Endpoint,
+    counter: Option<&str>,
+    requests: u64,
+    is_published: bool,
+    reader: &mut R,
+    writer: &mut W,
+) -> (M::Office, Result<(), Failure>)
+    ensures unread { IsFalse is_published → reader.new ≡ reader.old }
+    ensures ends { ((why : Failing) × (result.1 ≡ Err why) × IsTrue is_published × Looks M.Office.is_clean M.Office.stands
+        (λ records. Compares records (R.remaining reader.old) (W.contents writer.old) (W.contents writer.new) (Err why))
+        office result.0)
+        ⊎ ((inputs : List Input) × (outcomes : List (Outcome Unsigned)) × Leads M.Office.is_clean M.Office.stands
+        (λ identity before after. (IsTrue is_published → HasAll before (R.remaining reader.old))
+        × Serves (is_some counter.entry) M.Office.signs (GaveAt M.gave (answer_socket signer.now answerer.now)) M.told inputs outcomes identity before after)
+        office result.0
+        × ServedAt W.contents writer.old writer.new (IsBound M.bound M.laid M.has_mode endpoint (option_copied counter.entry)) endpoint.port requests
+        inputs result.1) }
+{
+    if is_published {
+        match check_published(rt.alloc(), &mut office, reader, writer) {
+            Ok(()) => {}
+            Err(why) => return (office, Err(why)),
+        }
+    }
+    serve_desk(
+        rt, machine, office, file, signer, answerer, endpoint, counter, requests, writer,
+    )
+}
+
 /// Binds the port, creates the control socket where one is told, tells the port, answers so many requests, and gives the office back.
-pub(crate) fn serve_desk<'a, 'w, M: Machine, W: Write>(
+fn serve_desk<'a, 'w, M: Machine, W: Write>(
     rt: &HostRuntime,
     machine: &'a M,
     office: M::Office,
     file: &'a str,
     signer: &'a Option<KeyHolder<'w>>,
     answerer: &'a Answerer<'w>,
-    port: u16,
+    endpoint: Endpoint,
     counter: Option<&str>,
     requests: u64,
     writer: &mut W,
@@ -69,16 +119,19 @@ pub(crate) fn serve_desk<'a, 'w, M: Machine, W: Write>(
     ensures { (inputs : List Input) × (outcomes : List (Outcome Unsigned)) × Leads M.Office.is_clean M.Office.stands
         (Serves (is_some counter.entry) M.Office.signs (GaveAt M.gave (answer_socket signer.now answerer.now)) M.told inputs outcomes)
         office result.0
-        × ServedAt W.contents writer.old writer.new (IsBound M.bound M.laid M.moded port (option_copied counter.entry)) port requests
+        × ServedAt W.contents writer.old writer.new (IsBound M.bound M.laid M.has_mode endpoint (option_copied counter.entry)) endpoint.port requests
         inputs result.1 }
 {
-    let hub: Hub<Desk<'_, '_, M>> = match hub_at(rt, machine, port, counter) {
-        Ok(hub) => hub,
+    let event_loop: EventLoop<Desk<'_, '_, M>> = match event_loop_at(
+        rt, machine, endpoint, counter,
+    ) {
+        Ok(event_loop) => event_loop,
         Err(why) => return (office, Err(why)),
     };
     let alloc = rt.alloc();
-    let tally = Cell::new(Tally::new());
-    let heard = Cell::new(Heard::nothing());
+    let signing = signing_of(&CrlSigner::told(signer, answerer));
+    let tally = Cell::new(Tally::new(signing, responder_end(machine, answerer)));
+    let heard = Cell::new(ConnectionTotals::nothing());
     let mut desk: Desk<'_, '_, M> = Desk {
         office,
         alloc,
@@ -91,40 +144,49 @@ pub(crate) fn serve_desk<'a, 'w, M: Machine, W: Write>(
         tally: &tally,
         heard: &heard,
     };
-    let ending = serve_hub(rt, hub, &mut desk, port, requests, writer);
+    let ending = run_event_loop(rt, event_loop, &mut desk, endpoint.port, requests, writer);
     (desk.office, ending)
 }
 
-fn hub_at<H: Handler, M: Machine>(
+fn event_loop_at<H: Handler, M: Machine>(
     rt: &HostRuntime,
     machine: &M,
-    port: u16,
+    endpoint: Endpoint,
     counter: Option<&str>,
-) -> Result<Hub<H>, Failure>
-    ensures ok { OnOk result (IsBound M.bound M.laid M.moded port (option_copied counter.entry)) }
+) -> Result<EventLoop<H>, Failure>
+    ensures ok { OnOk result (IsBound M.bound M.laid M.has_mode endpoint (option_copied counter.entry)) }
     ensures err { IfErr result (λ why. (why ≡ Failure.Fault Fault.Read) ⊎ (why ≡ Failure.Fault Fault.Memory)) }
 {
-    let Ok(listener) = machine.listen(LOOPBACK, port) else {
+    let Ok(listener) = listen(machine, endpoint) else {
         return Err(Failure::Fault(Fault::Read));
     };
     match counter {
-        None => hub_over(rt, listener, None),
-        Some(path) => match lay_socket(machine, path) {
-            Ok(counter) => hub_over(rt, listener, Some(counter)),
+        None => event_loop_over(rt, listener, None),
+        Some(path) => match create_control_socket(machine, path) {
+            Ok(counter) => event_loop_over(rt, listener, Some(counter)),
             Err(_) => Err(Failure::Fault(Fault::Read)),
         },
     }
 }
 
-fn hub_over<H: Handler>(
+fn listen<M: Machine>(machine: &M, endpoint: Endpoint) -> io::Result<TcpListener>
+    ensures { OnOk result (M.bound (loopback endpoint.address) endpoint.port) }
+{
+    match endpoint.address {
+        Loopback::V4 => machine.listen(LOOPBACK, endpoint.port),
+        Loopback::V6 => machine.listen_v6(LOOPBACK_V6, endpoint.port),
+    }
+}
+
+fn event_loop_over<H: Handler>(
     rt: &HostRuntime,
     listener: TcpListener,
     counter: Option<UnixListener>,
-) -> Result<Hub<H>, Failure>
+) -> Result<EventLoop<H>, Failure>
     ensures { IfErr result (λ why. (why ≡ Failure.Fault Fault.Read) ⊎ (why ≡ Failure.Fault Fault.Memory)) }
 {
-    match Hub::new(rt, listener, counter, MOST_HTTP_PEERS) {
-        Ok(hub) => Ok(hub),
+    match EventLoop::new(rt, listener, counter, MOST_HTTP_CONNECTIONS) {
+        Ok(event_loop) => Ok(event_loop),
         Err(error) if error.kind() == ErrorKind::OutOfMemory => {
             Err(Failure::Fault(Fault::Memory))
         }
@@ -133,9 +195,9 @@ fn hub_over<H: Handler>(
 }
 
 /// Tells the port, answers so many requests, and sends on what they were answered.
-fn serve_hub<H: Handler, W: Write>(
+fn run_event_loop<H: Handler, W: Write>(
     rt: &HostRuntime,
-    mut hub: Hub<H>,
+    mut event_loop: EventLoop<H>,
     handler: &mut H,
     port: u16,
     requests: u64,
@@ -145,31 +207,31 @@ fn serve_hub<H: Handler, W: Write>(
         × Answered (Handles H.answers H.tells H.defers) handler.old inputs outcomes handler.new
         × Served port requests inputs (W.contents writer.old) (W.contents writer.new) result }
 {
-    match tell_port(writer, port) {
+    match print_port(writer, port) {
         Ok(()) => {}
         Err(why) => return Err(why),
     }
     let mut made = 0;
     // It stops early where the clock or the sockets fail.
-    let _ = hub.serve_all(rt, handler, &mut made, requests);
+    let _ = event_loop.serve_all(rt, handler, &mut made, requests);
     if made != requests {
         return Err(Failure::Fault(Fault::Read));
     }
     // Who does not take its answer in time is let go.
-    let _ = hub.finish(rt, handler);
+    let _ = event_loop.finish(rt, handler);
     Ok(())
 }
 
-fn tell_port<W: Write>(writer: &mut W, port: u16) -> Result<(), Failure>
+fn print_port<W: Write>(writer: &mut W, port: u16) -> Result<(), Failure>
     ensures { SaysText (listening port) (W.contents writer.old) (W.contents writer.new) result }
 {
     match say(writer, b"listening ") {
-        Ok(()) => tell_number(writer, port),
+        Ok(()) => answer_number(writer, port),
         Err(why) => Err(why),
     }
 }
 
-fn tell_number<W: Write>(writer: &mut W, number: u16) -> Result<(), Failure>
+fn answer_number<W: Write>(writer: &mut W, number: u16) -> Result<(), Failure>
     ensures { SaysText (decimal number ++ 10 ∷ []) (W.contents writer.old) (W.contents writer.new) result }
 {
     let digits = Decimal::of(u64::from(number));

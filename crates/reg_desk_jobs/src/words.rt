@@ -3,10 +3,10 @@
 ghost use Rattle.std.specs.Prelude.{◌≡◌, IfOk};
 ghost use Rattle.reg_core_lists.specs.Asked.{label_of};
 ghost use Rattle.reg_desk_cli.specs.WordValues.{steps_of};
-ghost use Rattle.reg_desk_jobs.specs.CounterWords.{IsWord, settling_by, settling_in, shown_by, shown_in, steps_set};
+ghost use Rattle.reg_desk_jobs.specs.ControlWords.{IsWord, settling_by, settling_in, shown_by, shown_in, steps_set};
 ghost use Rattle.reg_lines.specs.Fields.{fields_of};
 
-use crate::copying::{asks_copy, path_in};
+use crate::copy_job::{asks_copy, path_in};
 use reg_core::{Command, Label, Serial, read_number};
 use reg_desk_cli::{Steps, read_step};
 use reg_lines::{Fields, command_in, without_end};

@@ -2,16 +2,20 @@
 use Rattle.std.proofs.Common.{◌≡◌, ◌∙◌, ℕ, ◌+◌, ◌-◌, List, ◌++◌, min, refl, sym, ap, add-one, append-nil, append_assoc}
 use Rattle.std.specs.Prelude.{slice_index_or}
 use Rattle.reg_core.specs.declared.rows.CrlRow.{CrlRow}
-use Rattle.reg_desk_metrics.specs.Metrics.{answer_text, answers_front, bucket_name, bucket_text, buckets_text, issued_text, sum_of}
+use Rattle.reg_desk_metrics.specs.Metrics.{answer_text, answers_prefix, bucket_name, bucket_text, buckets_text, issued_text, route_name, route_text, routes_front, sum_of}
 use Rattle.reg_desk_metrics.specs.Samples.{sample}
 use Rattle.reg_desk_metrics.specs.declared.names.TheConstants.{CRL_AGE, CRL_NUMBER, NEXT_UPDATE, THIS_UPDATE}
 use Rattle.reg_desk_metrics.specs.Tallies.{greatest}
+use Rattle.reg_desk_metrics.specs.declared.tally.Tally.{Tally}
 
 -- behind a text and a front, one part more
 one_more : (before front text part more : List ℕ) → text ≡ before ++ front → more ≡ text ++ part → more ≡ before ++ (front ++ part)
 one_more before front text part more is added = added ∙ ap (λ (it : List ℕ). it ++ part) is ∙ append_assoc before front part
 
 -- ---- so many parts, one behind the other
+
+pub further : (text before part more : List ℕ) → text ≡ before → more ≡ text ++ part → more ≡ before ++ part
+further text before part more is added = added ∙ ap (λ (it : List ℕ). it ++ part) is
 
 pub parts_3 : (t0 t1 t2 t3 a b c : List ℕ) → t1 ≡ t0 ++ a → t2 ≡ t1 ++ b → t3 ≡ t2 ++ c → t3 ≡ t0 ++ ((a ++ b) ++ c)
 parts_3 t0 t1 t2 t3 a b c one two three = one_more t0 (a ++ b) t2 c t3 (one_more t0 a t1 b t2 one two) three
@@ -41,19 +45,40 @@ issued_is t0 t1 t2 t3 t4 now crl life at next age one two three four at_is next_
 
 -- ---- answers
 
-pub answers_begin : (text answers : List ℕ) → text ≡ text ++ answers_front answers 0
-unfolding answers_front
+pub answers_begin : (text answers : List ℕ) → text ≡ text ++ answers_prefix answers 0
+unfolding answers_prefix
 answers_begin text answers = sym (append-nil text)
 
-answers_next : (answers : List ℕ) (place : ℕ) → answers_front answers (place + 1) ≡ answers_front answers place ++ answer_text place (slice_index_or answers place 0)
-unfolding answers_front
+answers_next : (answers : List ℕ) (place : ℕ) → answers_prefix answers (place + 1) ≡ answers_prefix answers place ++ answer_text place (slice_index_or answers place 0)
+unfolding answers_prefix
 answers_next answers place = rw add-one
 
-pub answers_more : (before text more answers : List ℕ) (place : ℕ) → text ≡ before ++ answers_front answers place
-    → more ≡ text ++ answer_text place (slice_index_or answers place 0) → more ≡ before ++ answers_front answers (place + 1)
+pub answers_more : (before text more answers : List ℕ) (place : ℕ) → text ≡ before ++ answers_prefix answers place
+    → more ≡ text ++ answer_text place (slice_index_or answers place 0) → more ≡ before ++ answers_prefix answers (place + 1)
 answers_more before text more answers place is added =
-    one_more before (answers_front answers place) text (answer_text place (slice_index_or answers place 0)) more is added
+    one_more before (answers_prefix answers place) text (answer_text place (slice_index_or answers place 0)) more is added
     ∙ ap (λ (it : List ℕ). before ++ it) (sym (answers_next answers place))
+
+-- ---- routes
+
+pub routes_begin : (text : List ℕ) (tally : Tally) → text ≡ text ++ routes_front tally 0
+unfolding routes_front
+routes_begin text tally = sym (append-nil text)
+
+-- what a route puts there
+abbrev route_at : Tally → List ℕ → ℕ → List ℕ
+route_at tally name place = route_text name (slice_index_or tally.route_micros place 0) (slice_index_or tally.route_counts place 0)
+
+routes_next : (tally : Tally) (place : ℕ) → routes_front tally (place + 1) ≡ routes_front tally place ++ route_at tally (route_name place) place
+unfolding routes_front
+routes_next tally place = rw add-one
+
+pub routes_more : (before text more name : List ℕ) (tally : Tally) (place : ℕ) → text ≡ before ++ routes_front tally place
+    → more ≡ text ++ route_at tally name place → name ≡ route_name place → more ≡ before ++ routes_front tally (place + 1)
+routes_more before text more name tally place is added named =
+    one_more before (routes_front tally place) text (route_at tally name place) more is added
+    ∙ ap (λ (it : List ℕ). before ++ (routes_front tally place ++ route_at tally it place)) named
+    ∙ ap (λ (it : List ℕ). before ++ it) (sym (routes_next tally place))
 
 -- ---- ranges
 

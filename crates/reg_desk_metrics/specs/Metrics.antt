@@ -9,17 +9,21 @@ use Rattle.reg_core.specs.declared.refusal.Refusal.TheVariants.{ClockBack}
 use Rattle.reg_core.specs.declared.rows.CrlRow.{CrlRow}
 use Rattle.reg_desk_metrics.specs.Samples.{moment_or_none, sample, sample_of_seconds}
 use Rattle.reg_desk_metrics.specs.Tallies.{greatest}
-use Rattle.reg_desk_metrics.specs.declared.names.TheConstants.{ACCEPTED, ACCEPTED_LINES, ANSWER, ANSWER_CODE, ANSWERED, BEHIND, BROKEN, CLOCK, COUNTED, COUNTERS, CRL_AGE, CRL_DUE, CRL_FAILING, CRL_LAST, CRL_LAST_FAILED, CRL_NUMBER, CRL_SIGNED, CRL_UNSIGNED, CROWDED, EXPIRED, FAULTS, GOOD, LABEL_END, LAST_COMMAND, LATE, NEXT_UPDATE, NO_MEMORY, OCSP_FAILING, OCSP_LAST, OCSP_LAST_FAILED, OCSP_SIGNED, OCSP_UNSIGNED, OPEN, OVERDUE, PEERS, READABLE, REFUSED_LINES, REVOKED, SECONDS, SECONDS_COUNT, SECONDS_SUM, SECONDS_TO, STORE_FAILING, THIS_UPDATE}
-use Rattle.reg_desk_metrics.specs.declared.numbers.Heard.{Heard}
+use Rattle.reg_desk_metrics.specs.declared.names.TheConstants.{ACCEPTED, ACCEPTED_LINES, ANSWER, ANSWER_CODE, ANSWERED, BEHIND, BROKEN, BUILD, CLOCK, COUNTED, COUNTERS, CRL_AGE, CRL_DUE, CRL_FAILING, CRL_LAST, CRL_LAST_FAILED, CRL_NUMBER, CRL_SIGNED, CRL_UNSIGNED, EVICTED, EXPIRED, FAULTS, GOOD, LABEL_END, LAST_COMMAND, LATE, NEXT_UPDATE, NO_MEMORY, OCSP_BY_SIGNER, OCSP_BY_STORE, OCSP_FAILING, OCSP_LAST, OCSP_LAST_FAILED, OCSP_SIGNED, OCSP_UNSIGNED, OPEN, OVERDUE, PEERS, READABLE, REFUSED_LINES, RESPONDER_ENDS, REVOKED, ROUTE_COUNT, ROUTE_SECONDS, ROUTE_SUM, SECONDS, SECONDS_COUNT, SECONDS_SUM, SECONDS_TO, STORE_FAILING, THIS_UPDATE}
+use Rattle.reg_desk_metrics.specs.declared.numbers.ConnectionTotals.{ConnectionTotals}
 use Rattle.reg_desk_metrics.specs.declared.numbers.Numbers.{Numbers}
 use Rattle.reg_desk_metrics.specs.declared.numbers.Requests.{Requests}
-use Rattle.reg_desk_metrics.specs.declared.signing.Signing.{Signing}
+use Rattle.reg_desk_metrics.specs.declared.signature_outcomes.Signing.{Signing}
 use Rattle.reg_desk_metrics.specs.declared.tally.Tally.{Tally}
 
 -- how many seconds the clock is behind the last command
 abbrev pub seconds_behind : ℕ → Result Numbers Fault → ℕ
 seconds_behind now (Err (Refused (ClockBack last))) = last - now
 seconds_behind now other = 0
+
+-- the version of the program
+unfoldable pub build_text : List ℕ → List ℕ
+build_text version = BUILD.now ++ version ++ sample LABEL_END.now 1
 
 -- the clock
 unfoldable pub clock_text : ℕ → Result Numbers Fault → List ℕ
@@ -92,13 +96,13 @@ answer_text place count =
     else ANSWER.now ++ route_name (place / 11) ++ ANSWER_CODE.now ++ code_name (place % 11) ++ sample LABEL_END.now count
 
 -- the first so many places, in their order
-unfoldable pub answers_front : List ℕ → ℕ → List ℕ
-answers_front answers zero = []
-answers_front answers (suc place) = answers_front answers place ++ answer_text place (slice_index_or answers place 0)
+unfoldable pub answers_prefix : List ℕ → ℕ → List ℕ
+answers_prefix answers zero = []
+answers_prefix answers (suc place) = answers_prefix answers place ++ answer_text place (slice_index_or answers place 0)
 
 -- the answers, by route and status
 abbrev pub answers_text : List ℕ → List ℕ
-answers_text answers = ANSWERED.now ++ answers_front answers 121
+answers_text answers = ANSWERED.now ++ answers_prefix answers 121
 
 -- the lines at the counter
 unfoldable pub lines_text : Tally → List ℕ
@@ -123,12 +127,12 @@ signers_text tally =
     ++ sample STORE_FAILING.now (moment_or_none tally.store_since)
 
 -- the connections, and those that ended by a fault
-unfoldable pub connections_text : Heard → List ℕ
+unfoldable pub connections_text : ConnectionTotals → List ℕ
 connections_text heard = sample PEERS.now heard.peers ++ sample COUNTERS.now heard.counters ++ sample ACCEPTED.now heard.accepted
 
-unfoldable pub lost_text : Heard → List ℕ
+unfoldable pub lost_text : ConnectionTotals → List ℕ
 lost_text heard =
-    sample BROKEN.now heard.broken ++ sample LATE.now heard.late ++ sample CROWDED.now heard.crowded ++ sample NO_MEMORY.now heard.memory
+    sample BROKEN.now heard.broken ++ sample LATE.now heard.late ++ sample EVICTED.now heard.evicted ++ sample NO_MEMORY.now heard.memory
 
 -- the end of a range in seconds, by its place
 unfoldable pub bucket_name : ℕ → List ℕ
@@ -165,8 +169,32 @@ unfoldable pub seconds_text : Tally → List ℕ
 seconds_text tally =
     SECONDS.now ++ buckets_text tally.buckets 12 ++ sample_of_seconds SECONDS_SUM.now tally.micros ++ sample SECONDS_COUNT.now (sum_of tally.buckets 12)
 
+-- the seconds of a route's answers, and how many there were
+unfoldable pub route_text : List ℕ → ℕ → ℕ → List ℕ
+route_text name micros count =
+    ROUTE_SUM.now ++ name ++ sample_of_seconds LABEL_END.now micros ++ ROUTE_COUNT.now ++ name ++ sample LABEL_END.now count
+
+-- the first so many routes, in their order
+unfoldable pub routes_front : Tally → ℕ → List ℕ
+routes_front tally zero = []
+routes_front tally (suc place) =
+    routes_front tally place ++ route_text (route_name place) (slice_index_or tally.route_micros place 0) (slice_index_or tally.route_counts place 0)
+
+abbrev pub routes_text : Tally → List ℕ
+routes_text tally = ROUTE_SECONDS.now ++ routes_front tally 11
+
+-- the OCSP responses that were internalError
+unfoldable pub failures_text : Tally → List ℕ
+failures_text tally = sample OCSP_BY_SIGNER.now tally.ocsp_unsigned ++ sample OCSP_BY_STORE.now tally.ocsp_unread
+
+-- when the responder's certificate ends, where that is known
+abbrev pub responder_text : Option ℕ → List ℕ
+responder_text None = []
+responder_text (Some at) = sample RESPONDER_ENDS.now at
+
 -- all of it
-abbrev pub metrics_text : ℕ → Result Numbers Fault → Tally → Heard → List ℕ
-metrics_text now found tally heard =
-    clock_text now found ++ register_text now found ++ requests_text tally.requests ++ answers_text tally.answers ++ lines_text tally
+abbrev pub metrics_text : List ℕ → ℕ → Result Numbers Fault → Tally → ConnectionTotals → List ℕ
+metrics_text version now found tally heard =
+    build_text version ++ clock_text now found ++ register_text now found ++ requests_text tally.requests ++ answers_text tally.answers ++ lines_text tally
     ++ signed_text tally.crls tally.ocsp ++ last_text tally.crls tally.ocsp ++ signers_text tally ++ connections_text heard ++ lost_text heard ++ seconds_text tally
+    ++ routes_text tally ++ failures_text tally ++ responder_text tally.responder_ends

@@ -1,5 +1,5 @@
 -- What is counted: each exchange once, and sums that stop at the greatest number of 64 bits.
-use Rattle.std.specs.Prelude.{◌≡◌, ℕ, Bool, true, ◌||◌, ◌==◌, ◌+◌, ◌-◌, ◌*◌, ◌^◌, min, nat_lt, nat_le, List, replicate, slice_set, slice_index_or, if◌then◌else◌, Some, None}
+use Rattle.std.specs.Prelude.{◌≡◌, ℕ, Bool, true, false, cond, ◌&&◌, ◌||◌, ◌==◌, ◌+◌, ◌-◌, ◌*◌, ◌^◌, min, nat_lt, nat_le, List, replicate, slice_set, slice_index_or, if◌then◌else◌, Some, None}
 use Rattle.std.specs.Option.{option_or}
 use Rattle.std.specs.declared.option.Option.{Option}
 use Rattle.reg_office_api.specs.declared.effects.LineEffects.{LineEffects}
@@ -12,8 +12,11 @@ use Rattle.reg_office_api.specs.declared.effects.StoreEffect.TheVariants as stor
 use Rattle.reg_http.specs.declared.exchange.Exchange.{Exchange}
 use Rattle.reg_http.specs.declared.route.Route.{Route}
 use Rattle.reg_http.specs.declared.route.Route.TheVariants as routes
+use Rattle.reg_desk_metrics.specs.declared.numbers.CrlSigning.{CrlSigning}
+use Rattle.reg_desk_metrics.specs.declared.numbers.CrlSigning.TheVariants.{Key, Digest, Nobody}
+use Rattle.reg_desk_metrics.specs.declared.numbers.ReadCrl.{ReadCrl}
 use Rattle.reg_desk_metrics.specs.declared.numbers.Requests.{Requests}
-use Rattle.reg_desk_metrics.specs.declared.signing.Signing.{Signing}
+use Rattle.reg_desk_metrics.specs.declared.signature_outcomes.Signing.{Signing}
 use Rattle.reg_desk_metrics.specs.declared.tally.Tally.{Tally}
 
 -- the greatest number of 64 bits
@@ -27,6 +30,10 @@ one_more count = min (count + 1) greatest
 -- one more at a place
 abbrev pub bumped : List ℕ → ℕ → List ℕ
 bumped counts place = slice_set counts place (one_more (slice_index_or counts place 0))
+
+-- so much more at a place
+abbrev pub with_amount : List ℕ → ℕ → ℕ → List ℕ
+with_amount sums place amount = slice_set sums place (min (slice_index_or sums place 0 + amount) greatest)
 
 -- the places of the routes, and of the statuses
 abbrev pub route_number : Route → ℕ
@@ -92,11 +99,13 @@ store_after store.Unwritten now since = since
 store_after store.Written now since = None
 store_after store.Failed now since = option_or since (Some now)
 
--- nothing was counted yet
-abbrev pub is_new : Tally → Type 0
-is_new tally =
+-- nothing was counted yet, at a desk whose CRLs are signed so, and whose responder's certificate ends then
+abbrev pub is_new : CrlSigning → Option ℕ → Tally → Type 0
+is_new signing ends tally =
     (tally.answers ≡ replicate 121 0) × (tally.accepted ≡ 0) × (tally.refused ≡ 0) × (tally.faults ≡ 0) × (tally.buckets ≡ replicate 12 0)
-    × (tally.micros ≡ 0) × (tally.crls ≡ nothing_signed) × (tally.ocsp ≡ nothing_signed) × (tally.store_since ≡ None) × (tally.requests ≡ None)
+    × (tally.micros ≡ 0) × (tally.route_counts ≡ replicate 11 0) × (tally.route_micros ≡ replicate 11 0) × (tally.ocsp_unsigned ≡ 0) × (tally.ocsp_unread ≡ 0)
+    × (tally.crls ≡ nothing_signed) × (tally.ocsp ≡ nothing_signed) × (tally.store_since ≡ None) × (tally.requests ≡ None)
+    × (tally.crl_signing ≡ signing) × (tally.responder_ends ≡ ends) × (tally.read ≡ None)
 
 -- one exchange more, by how long it took
 abbrev pub with_seconds : ℕ → Tally → Tally
@@ -108,26 +117,87 @@ with_reply_to_line Accepted tally = record tally { accepted = one_more tally.acc
 with_reply_to_line Refused tally = record tally { refused = one_more tally.refused }
 with_reply_to_line Fault tally = record tally { faults = one_more tally.faults }
 
+-- an answer of a route, and how long it took
+abbrev pub with_route : ℕ → ℕ → Tally → Tally
+with_route number micros tally = record tally {
+  route_counts = bumped tally.route_counts number;
+  route_micros = with_amount tally.route_micros number micros;
+}
+
+-- whether a route is asked for OCSP responses
+abbrev pub asks_ocsp : Route → Bool
+asks_ocsp routes.Ocsp = true
+asks_ocsp routes.OcspRest = true
+asks_ocsp _ = false
+
+-- whether an exchange gave an OCSP response, which has status 200 (RFC 6960 A.2)
+abbrev pub response_by : Route → Option ℕ → Bool
+response_by route None = false
+response_by route (Some code) = (code == 200) && asks_ocsp route
+
+abbrev pub has_response : Exchange → Bool
+has_response exchange = response_by exchange.route exchange.status
+
+-- an OCSP response that was internalError (RFC 6960 2.3): the signer failed, or the store did
+abbrev pub with_cause : SignatureFate → StoreEffect → Tally → Tally
+with_cause signature.Failed effect tally = record tally { ocsp_unsigned = one_more tally.ocsp_unsigned }
+with_cause other store.Failed tally = record tally { ocsp_unread = one_more tally.ocsp_unread }
+with_cause other effect tally = tally
+
+abbrev pub with_failure : Exchange → Tally → Tally
+with_failure exchange tally = cond (has_response exchange) (with_cause exchange.signature exchange.store tally) tally
+
+-- what became of the signature of a CRL: none was asked for where nobody signs
+abbrev pub fate_by : CrlSigning → SignatureFate → SignatureFate
+fate_by Nobody fate = signature.NotAsked
+fate_by other fate = fate
+
 -- what an exchange said of signatures, of CRLs and of OCSP answers, and of the store
-abbrev pub heard_as : ℕ → SignatureFate → SignatureFate → StoreEffect → Tally → Tally
-heard_as now crl ocsp effect tally = record tally {
-  crls = signing_after crl now tally.crls;
+abbrev pub outcomes_counted : ℕ → SignatureFate → SignatureFate → StoreEffect → Tally → Tally
+outcomes_counted now crl ocsp effect tally = record tally {
+  crls = signing_after (fate_by tally.crl_signing crl) now tally.crls;
   ocsp = signing_after ocsp now tally.ocsp;
   store_since = store_after effect now tally.store_since;
 }
 
+-- an answer of a route and a status
+abbrev pub with_answer : Route → Option ℕ → ℕ → Tally → Tally
+with_answer route status micros tally =
+    with_seconds micros (with_route (route_number route) micros (record tally { answers = bumped tally.answers (route_number route * 11 + code_number status) }))
+
 -- an exchange of a moment is counted: by its route and its status, how long it took, and what became of its signature and of the store
 abbrev pub with_exchange : ℕ → Exchange → ℕ → Tally → Tally
 with_exchange now exchange micros tally =
-    heard_as now signature.NotAsked exchange.signature exchange.store (with_seconds micros (record tally { answers = bumped tally.answers (route_number exchange.route * 11 + code_number exchange.status) }))
+    outcomes_counted now signature.NotAsked exchange.signature exchange.store (with_failure exchange (with_answer exchange.route exchange.status micros tally))
 
 -- a line is counted: by how it was answered, how long it took, and what became of its signatures and of the store
 abbrev pub with_line : ℕ → LineEffects → ℕ → Tally → Tally
-with_line now line micros tally = heard_as now line.crl line.ocsp line.store (with_seconds micros (with_reply_to_line line.reply tally))
+with_line now line micros tally = outcomes_counted now line.crl line.ocsp line.store (with_seconds micros (with_reply_to_line line.reply tally))
 
 -- the requests for revocation were counted
 abbrev pub with_counted : Requests → Tally → Tally
 with_counted requests tally = record tally { requests = Some requests }
+
+-- whether a key signs CRLs
+abbrev pub is_key : CrlSigning → Bool
+is_key Key = true
+is_key Digest = false
+is_key Nobody = false
+
+abbrev pub has_crl_key : Tally → Bool
+has_crl_key tally = is_key tally.crl_signing
+
+-- what was read, if that was in the CRL with a number
+abbrev pub read_with : ℕ → Option ReadCrl → Option ReadCrl
+read_with number None = None
+read_with number (Some read) = if read.number == number then Some read else None
+
+abbrev pub read_of : ℕ → Tally → Option ReadCrl
+read_of number tally = read_with number tally.read
+
+-- a CRL was read
+abbrev pub with_read : ReadCrl → Tally → Tally
+with_read read tally = record tally { read = Some read }
 
 -- whether requests for revocation are to be counted at a moment: they never were, or a minute before it, or the moment at which they were lies ahead
 abbrev pub wants_requests : ℕ → Option Requests → Bool

@@ -1,41 +1,44 @@
 //! The metrics of an open register, in the text form of Prometheus, version 0.0.4.
 
 ghost use Rattle.std.specs.Prelude.{◌≡◌, ◌++◌, IfOk, OnOk};
-ghost use Rattle.reg_desk_metrics.specs.Metrics.{answer_text, answers_text, seconds_behind as behind_told, bucket_name as bucket_named, bucket_text, buckets_text, certificates_text, clock_text, code_name as code_named, connections_text, crl_text as crl_told, issued_text, last_text, lines_text, lost_text, metrics_text, numbers_text, register_text, requests_text, route_name as route_named, seconds_text, signers_text, signed_text, sum_of};
+ghost use Rattle.reg_desk_metrics.specs.Metrics.{answer_text, answers_text, seconds_behind as behind_told, bucket_name as bucket_named, bucket_text, buckets_text, certificates_text, clock_text, code_name as code_named, connections_text, crl_text as crl_told, issued_text, last_text, lines_text, lost_text, metrics_text, numbers_text, register_text, requests_text, route_name as route_named, route_text, routes_text, build_text, failures_text, responder_text, seconds_text, signers_text, signed_text, sum_of};
 
 use crate::names::{
-    ACCEPTED, ACCEPTED_LINES, ANSWER, ANSWER_CODE, ANSWERED, BEHIND, BROKEN, CLOCK, COUNTED,
+    ACCEPTED, ACCEPTED_LINES, ANSWER, ANSWER_CODE, ANSWERED, BEHIND, BROKEN, BUILD, CLOCK, COUNTED,
     COUNTERS, CRL_AGE, CRL_DUE, CRL_FAILING, CRL_LAST, CRL_LAST_FAILED, CRL_NUMBER, CRL_SIGNED,
-    CRL_UNSIGNED, CROWDED, EXPIRED, FAULTS, GOOD, LABEL_END, LAST_COMMAND, LATE, NEXT_UPDATE,
-    NO_MEMORY, OCSP_FAILING, OCSP_LAST, OCSP_LAST_FAILED, OCSP_SIGNED, OCSP_UNSIGNED, OPEN,
-    OVERDUE, PEERS, READABLE, REFUSED_LINES, REVOKED, SECONDS, SECONDS_COUNT, SECONDS_SUM,
+    CRL_UNSIGNED, EVICTED, EXPIRED, FAULTS, GOOD, LABEL_END, LAST_COMMAND, LATE, NEXT_UPDATE,
+    NO_MEMORY, OCSP_BY_SIGNER, OCSP_BY_STORE, OCSP_FAILING, OCSP_LAST, OCSP_LAST_FAILED,
+    OCSP_SIGNED, OCSP_UNSIGNED, OPEN, OVERDUE, PEERS, READABLE, REFUSED_LINES, RESPONDER_ENDS,
+    REVOKED, ROUTE_COUNT, ROUTE_SECONDS, ROUTE_SUM, SECONDS, SECONDS_COUNT, SECONDS_SUM,
     SECONDS_TO, STORE_FAILING, THIS_UPDATE,
 };
-use crate::numbers::{Found, Heard, Numbers, Requests};
+use crate::numbers::{ConnectionTotals, Found, Numbers, Requests};
 use crate::samples::{put_moment, put_sample, put_seconds};
-use crate::signing::Signing;
-use crate::tally::{ANSWERS, BUCKETS, CODES, Tally};
+use crate::signature_outcomes::Signing;
+use crate::tally::{ANSWERS, BUCKETS, CODES, ROUTES, Tally};
 use reg_core::{Counts, CrlRow, Fault, Moment, Refusal};
 use std::alloc::{AllocError, Global};
 
 /// The bytes of room that are made for the text.
-const ROOM: usize = 8_192;
+const ROOM: usize = 12_288;
 
-/// The metrics of a register at a moment: what was found there, what was counted and what was heard.
+/// The metrics of a register at a moment: the program's version, what was found there, what was counted and what was heard.
 ///
 /// # Errors
 ///
 /// [`AllocError`], where memory is refused.
 pub fn metrics(
     alloc: Global,
+    version: &str,
     now: Moment,
     found: &Found,
     tally: &Tally,
-    heard: Heard,
+    heard: ConnectionTotals,
 ) -> Result<Vec<u8>, AllocError>
-    ensures { IfOk result (λ text. text.items ≡ metrics_text now found.now tally.now heard) }
+    ensures { IfOk result (λ text. text.items ≡ metrics_text version.now now found.now tally.now heard) }
 {
     let mut text = Vec::with_capacity(alloc, ROOM)?;
+    put_build(&mut text, version)?;
     put_clock(&mut text, now, found)?;
     put_register(&mut text, now, found)?;
     put_requests(&mut text, tally.requests)?;
@@ -47,7 +50,19 @@ pub fn metrics(
     put_connections(&mut text, heard)?;
     put_lost(&mut text, heard)?;
     put_times(&mut text, tally)?;
+    put_routes(&mut text, tally)?;
+    put_failures(&mut text, tally)?;
+    put_responder(&mut text, tally.responder_ends)?;
     Ok(text)
+}
+
+#[tactic(auto, unfolding(crate::specs::Metrics::build_text))]
+fn put_build(text: &mut Vec<u8>, version: &str) -> Result<(), AllocError>
+    ensures { OnOk result (text.new.items ≡ text.old.items ++ build_text version.now) }
+{
+    text.extend_from_slice(BUILD.as_bytes())?;
+    text.extend_from_slice(version.as_bytes())?;
+    put_sample(text, LABEL_END, 1)
 }
 
 /// How many seconds the clock is behind the last command.
@@ -243,7 +258,7 @@ fn put_signers(text: &mut Vec<u8>, tally: &Tally) -> Result<(), AllocError>
 }
 
 #[tactic(auto, unfolding(crate::specs::Metrics::connections_text))]
-fn put_connections(text: &mut Vec<u8>, heard: Heard) -> Result<(), AllocError>
+fn put_connections(text: &mut Vec<u8>, heard: ConnectionTotals) -> Result<(), AllocError>
     ensures { OnOk result (text.new.items ≡ text.old.items ++ connections_text heard) }
 {
     put_sample(text, PEERS, heard.peers)?;
@@ -252,12 +267,12 @@ fn put_connections(text: &mut Vec<u8>, heard: Heard) -> Result<(), AllocError>
 }
 
 #[tactic(auto, unfolding(crate::specs::Metrics::lost_text))]
-fn put_lost(text: &mut Vec<u8>, heard: Heard) -> Result<(), AllocError>
+fn put_lost(text: &mut Vec<u8>, heard: ConnectionTotals) -> Result<(), AllocError>
     ensures { OnOk result (text.new.items ≡ text.old.items ++ lost_text heard) }
 {
     put_sample(text, BROKEN, heard.broken)?;
     put_sample(text, LATE, heard.late)?;
-    put_sample(text, CROWDED, heard.crowded)?;
+    put_sample(text, EVICTED, heard.evicted)?;
     put_sample(text, NO_MEMORY, heard.memory)
 }
 
@@ -310,4 +325,48 @@ fn put_bucket(text: &mut Vec<u8>, name: &str, count: u64) -> Result<(), AllocErr
     text.extend_from_slice(SECONDS_TO.as_bytes())?;
     text.extend_from_slice(name.as_bytes())?;
     put_sample(text, LABEL_END, count)
+}
+
+fn put_routes(text: &mut Vec<u8>, tally: &Tally) -> Result<(), AllocError>
+    ensures { OnOk result (text.new.items ≡ text.old.items ++ routes_text tally.now) }
+{
+    text.extend_from_slice(ROUTE_SECONDS.as_bytes())?;
+    for place in 0..ROUTES {
+        put_route(
+            text,
+            route_name(place),
+            tally.route_micros[place],
+            tally.route_counts[place],
+        )?;
+    }
+    Ok(())
+}
+
+#[tactic(auto, unfolding(crate::specs::Metrics::route_text))]
+fn put_route(text: &mut Vec<u8>, name: &str, micros: u64, count: u64) -> Result<(), AllocError>
+    ensures { OnOk result (text.new.items ≡ text.old.items ++ route_text name.now micros count) }
+{
+    text.extend_from_slice(ROUTE_SUM.as_bytes())?;
+    text.extend_from_slice(name.as_bytes())?;
+    put_seconds(text, LABEL_END, micros)?;
+    text.extend_from_slice(ROUTE_COUNT.as_bytes())?;
+    text.extend_from_slice(name.as_bytes())?;
+    put_sample(text, LABEL_END, count)
+}
+
+#[tactic(auto, unfolding(crate::specs::Metrics::failures_text))]
+fn put_failures(text: &mut Vec<u8>, tally: &Tally) -> Result<(), AllocError>
+    ensures { OnOk result (text.new.items ≡ text.old.items ++ failures_text tally.now) }
+{
+    put_sample(text, OCSP_BY_SIGNER, tally.ocsp_unsigned)?;
+    put_sample(text, OCSP_BY_STORE, tally.ocsp_unread)
+}
+
+fn put_responder(text: &mut Vec<u8>, ends: Option<Moment>) -> Result<(), AllocError>
+    ensures { OnOk result (text.new.items ≡ text.old.items ++ responder_text ends) }
+{
+    match ends {
+        Some(at) => put_sample(text, RESPONDER_ENDS, at.secs()),
+        None => Ok(()),
+    }
 }

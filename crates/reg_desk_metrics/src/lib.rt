@@ -6,10 +6,10 @@ mod health;
 mod names;
 mod numbers;
 mod samples;
-mod signing;
+mod signature_outcomes;
 mod tally;
 
 pub use families::metrics;
 pub use health::Health;
-pub use numbers::{Found, Heard, Numbers, Requests};
+pub use numbers::{ConnectionTotals, CrlSigning, Found, Numbers, ReadCrl, Requests};
 pub use tally::Tally;

@@ -1,5 +1,8 @@
 //! The names of series, each with a space behind it; before the first one of a family stand its lines of help and of type.
 
+pub(crate) const BUILD: &str =
+    "# HELP desk_build_info 1, with the version of the program.\n# TYPE desk_build_info gauge\ndesk_build_info{version=\"";
+
 pub(crate) const CLOCK: &str =
     "# HELP desk_clock_timestamp_seconds The machine's clock, as the desk reads it.\n# TYPE desk_clock_timestamp_seconds gauge\ndesk_clock_timestamp_seconds ";
 
@@ -44,7 +47,7 @@ pub(crate) const COUNTED: &str =
     "# HELP desk_requests_counted_timestamp_seconds When requests were counted last: at most once a minute.\n# TYPE desk_requests_counted_timestamp_seconds gauge\ndesk_requests_counted_timestamp_seconds ";
 
 pub(crate) const ACCEPTED_LINES: &str =
-    "# HELP desk_lines_total Lines at the counter by their reply.\n# TYPE desk_lines_total counter\ndesk_lines_total{reply=\"accepted\"} ";
+    "# HELP desk_lines_total Lines at the control socket by their reply.\n# TYPE desk_lines_total counter\ndesk_lines_total{reply=\"accepted\"} ";
 
 pub(crate) const REFUSED_LINES: &str = "desk_lines_total{reply=\"refused\"} ";
 
@@ -91,7 +94,7 @@ pub(crate) const BROKEN: &str =
 
 pub(crate) const LATE: &str = "desk_connections_lost_total{why=\"late\"} ";
 
-pub(crate) const CROWDED: &str = "desk_connections_lost_total{why=\"crowded\"} ";
+pub(crate) const EVICTED: &str = "desk_connections_lost_total{why=\"crowded\"} ";
 
 pub(crate) const NO_MEMORY: &str = "desk_connections_lost_total{why=\"memory\"} ";
 
@@ -112,3 +115,18 @@ pub(crate) const SECONDS_TO: &str = "desk_exchange_seconds_bucket{le=\"";
 pub(crate) const SECONDS_SUM: &str = "desk_exchange_seconds_sum ";
 
 pub(crate) const SECONDS_COUNT: &str = "desk_exchange_seconds_count ";
+
+pub(crate) const ROUTE_SECONDS: &str =
+    "# HELP desk_http_response_seconds Seconds in which answers over HTTP were made, by route.\n# TYPE desk_http_response_seconds summary\n";
+
+pub(crate) const ROUTE_SUM: &str = "desk_http_response_seconds_sum{route=\"";
+
+pub(crate) const ROUTE_COUNT: &str = "desk_http_response_seconds_count{route=\"";
+
+pub(crate) const RESPONDER_ENDS: &str =
+    "# HELP desk_responder_certificate_not_after_timestamp_seconds notAfter of the responder's certificate.\n# TYPE desk_responder_certificate_not_after_timestamp_seconds gauge\ndesk_responder_certificate_not_after_timestamp_seconds ";
+
+pub(crate) const OCSP_BY_SIGNER: &str =
+    "# HELP desk_ocsp_internal_errors_total OCSP responses over HTTP that were internalError, by what failed.\n# TYPE desk_ocsp_internal_errors_total counter\ndesk_ocsp_internal_errors_total{cause=\"signer\"} ";
+
+pub(crate) const OCSP_BY_STORE: &str = "desk_ocsp_internal_errors_total{cause=\"store\"} ";

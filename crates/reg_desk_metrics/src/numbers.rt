@@ -26,9 +26,28 @@ pub struct Requests {
     pub overdue: u64,
 }
 
+/// Who signs the CRLs of an open desk.
+#[derive(Clone, Copy, PartialEq, Eq)]
+pub enum CrlSigning {
+    /// The holder of the issuer's key.
+    Key,
+    /// A placeholder digest stands in place of a signature.
+    Digest,
+    /// Nobody: the desk has only a responder.
+    Nobody,
+}
+
+/// What was read in a CRL.
+#[derive(Clone, Copy, PartialEq, Eq)]
+pub struct ReadCrl {
+    pub number: u64,
+    /// Whether a placeholder digest stands in place of its signature.
+    pub is_unsigned: bool,
+}
+
 /// What is heard of connections.
 #[derive(Clone, Copy, PartialEq, Eq)]
-pub struct Heard {
+pub struct ConnectionTotals {
     /// Connections at the port, and at the control socket.
     pub peers: u64,
     pub counters: u64,
@@ -36,19 +55,19 @@ pub struct Heard {
     /// Connections that ended by a fault, and why.
     pub broken: u64,
     pub late: u64,
-    pub crowded: u64,
+    pub evicted: u64,
     pub memory: u64,
 }
 
-impl Heard {
-    pub fn nothing() -> Heard {
-        Heard {
+impl ConnectionTotals {
+    pub fn nothing() -> ConnectionTotals {
+        ConnectionTotals {
             peers: 0,
             counters: 0,
             accepted: 0,
             broken: 0,
             late: 0,
-            crowded: 0,
+            evicted: 0,
             memory: 0,
         }
     }

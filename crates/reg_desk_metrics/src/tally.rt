@@ -1,20 +1,22 @@
 //! What a desk counts while it is open: each exchange once. Sums stop at the greatest number.
 
 ghost use Rattle.std.specs.Prelude.{◌≡◌, ◌<◌};
-ghost use Rattle.reg_desk_metrics.specs.Tallies.{is_new, bumped, bucket_of as bucket_told, route_number as number_of_route, code_number as number_of_code, with_seconds as timed, with_exchange, with_line, heard_as, with_reply_to_line, with_counted, wants_requests as wants_counted};
+ghost use Rattle.reg_desk_metrics.specs.Tallies.{is_new, bumped, bucket_of as bucket_told, route_number as number_of_route, code_number as number_of_code, with_seconds as timed, with_exchange, with_line, outcomes_counted, with_reply_to_line, with_counted, wants_requests as wants_counted, has_crl_key as has_key, read_of, with_read, with_amount, asks_ocsp, has_response, with_route, with_failure, fate_by};
 
-use crate::numbers::Requests;
-use crate::signing::{Signing, store_after};
+use crate::numbers::{CrlSigning, ReadCrl, Requests};
+use crate::signature_outcomes::{Signing, store_after};
 use reg_core::Moment;
 use reg_http::{Exchange, Route};
 use reg_office_api::{LineEffects, LineReply, SignatureFate, StoreEffect};
 
-/// How many statuses answers are counted by, how many pairs of a route and a status there are, and how many ranges of seconds.
+/// How many statuses answers are counted by, how many pairs of a route and a status there are, how many ranges of seconds, and how many routes.
 pub(crate) const CODES: usize = 11;
 
 pub(crate) const ANSWERS: usize = 121;
 
 pub(crate) const BUCKETS: usize = 12;
+
+pub(crate) const ROUTES: usize = 11;
 
 /// What was counted.
 #[derive(Clone, Copy)]
@@ -29,11 +31,22 @@ pub struct Tally {
     pub(crate) buckets: [u64; BUCKETS],
     /// How long all of them took, in microseconds.
     pub(crate) micros: u64,
+    /// Answers by route, and how long each route's took, in microseconds.
+    pub(crate) route_counts: [u64; ROUTES],
+    pub(crate) route_micros: [u64; ROUTES],
+    /// OCSP responses that were internalError, since the signer failed, and since the store did.
+    pub(crate) ocsp_unsigned: u64,
+    pub(crate) ocsp_unread: u64,
     pub(crate) crls: Signing,
     pub(crate) ocsp: Signing,
     pub(crate) store_since: Option<Moment>,
     /// The requests for revocation, when they were counted last.
     pub(crate) requests: Option<Requests>,
+    pub(crate) crl_signing: CrlSigning,
+    /// notAfter of the responder's certificate (RFC 5280 4.1.2.5), where that is known.
+    pub(crate) responder_ends: Option<Moment>,
+    /// The CRL that was read last.
+    pub(crate) read: Option<ReadCrl>,
 }
 
 fn bump<const N: usize>(counts: &mut [u64; N], place: usize)
@@ -41,6 +54,33 @@ fn bump<const N: usize>(counts: &mut [u64; N], place: usize)
     ensures { counts.new ≡ bumped counts.old place }
 {
     counts[place] = counts[place].saturating_add(1);
+}
+
+fn add<const N: usize>(sums: &mut [u64; N], place: usize, amount: u64)
+    requires { place < N }
+    ensures { sums.new ≡ with_amount sums.old place amount }
+{
+    sums[place] = sums[place].saturating_add(amount);
+}
+
+fn is_ocsp(route: Route) -> bool
+    ensures { result ≡ asks_ocsp route }
+{
+    match route {
+        Route::Ocsp => true,
+        Route::OcspRest => true,
+        _ => false,
+    }
+}
+
+/// Whether an exchange gave an OCSP response, which has status 200 (RFC 6960 A.2).
+fn gave_response(exchange: &Exchange) -> bool
+    ensures { result ≡ has_response exchange.now }
+{
+    match exchange.status {
+        Some(200) => is_ocsp(exchange.route),
+        _ => false,
+    }
 }
 
 fn route_number(route: Route) -> usize
@@ -107,10 +147,20 @@ fn bucket_of(micros: u64) -> usize
     }
 }
 
+/// What became of the signature of a CRL: none was asked for where nobody signs.
+fn fate_at(signing: CrlSigning, fate: SignatureFate) -> SignatureFate
+    ensures { result ≡ fate_by signing fate }
+{
+    match signing {
+        CrlSigning::Nobody => SignatureFate::NotAsked,
+        _ => fate,
+    }
+}
+
 impl Tally {
-    /// Nothing was counted yet.
-    pub fn new() -> Tally
-        ensures { is_new result }
+    /// Nothing was counted yet, at a desk whose CRLs are signed so, and whose responder's certificate ends then.
+    pub fn new(crl_signing: CrlSigning, responder_ends: Option<Moment>) -> Tally
+        ensures { is_new crl_signing responder_ends result }
     {
         Tally {
             answers: [0; ANSWERS],
@@ -119,10 +169,17 @@ impl Tally {
             faults: 0,
             buckets: [0; BUCKETS],
             micros: 0,
+            route_counts: [0; ROUTES],
+            route_micros: [0; ROUTES],
+            ocsp_unsigned: 0,
+            ocsp_unread: 0,
             crls: Signing::nothing(),
             ocsp: Signing::nothing(),
             store_since: None,
             requests: None,
+            crl_signing,
+            responder_ends,
+            read: None,
         }
     }
 
@@ -130,9 +187,14 @@ impl Tally {
     pub fn count_exchange(&mut self, now: Moment, exchange: &Exchange, micros: u64)
         ensures { self.new ≡ with_exchange now exchange.now micros self.old }
     {
-        let place = route_number(exchange.route) * CODES + code_number(exchange.status);
-        bump(&mut self.answers, place);
+        let number = route_number(exchange.route);
+        bump(
+            &mut self.answers,
+            number * CODES + code_number(exchange.status),
+        );
+        self.add_route(number, micros);
         self.add_seconds(micros);
+        self.add_failure(exchange);
         self.hear(
             now,
             SignatureFate::NotAsked,
@@ -161,10 +223,37 @@ impl Tally {
     }
 
     /// Notes the requests for revocation.
-    pub fn note_requests(&mut self, requests: Requests)
+    pub fn set_requests(&mut self, requests: Requests)
         ensures { self.new ≡ with_counted requests self.old }
     {
         self.requests = Some(requests);
+    }
+
+    /// Whether a key signs the CRLs.
+    pub fn has_crl_key(&self) -> bool
+        ensures { result ≡ has_key self.now }
+    {
+        match self.crl_signing {
+            CrlSigning::Key => true,
+            _ => false,
+        }
+    }
+
+    /// What was read in the CRL with this number, if that was read last.
+    pub fn read_crl(&self, number: u64) -> Option<ReadCrl>
+        ensures { result ≡ read_of number self.now }
+    {
+        match self.read {
+            Some(read) if read.number == number => Some(read),
+            _ => None,
+        }
+    }
+
+    /// Notes what was read in a CRL.
+    pub fn note_crl(&mut self, read: ReadCrl)
+        ensures { self.new ≡ with_read read self.old }
+    {
+        self.read = Some(read);
     }
 
     fn add_line(&mut self, reply: LineReply)
@@ -184,10 +273,34 @@ impl Tally {
         self.micros = self.micros.saturating_add(micros);
     }
 
-    fn hear(&mut self, now: Moment, crl: SignatureFate, ocsp: SignatureFate, store: StoreEffect)
-        ensures { self.new ≡ heard_as now crl ocsp store self.old }
+    fn add_route(&mut self, number: usize, micros: u64)
+        requires { number < 11 }
+        ensures { self.new ≡ with_route number micros self.old }
     {
-        self.crls = self.crls.after(crl, now);
+        bump(&mut self.route_counts, number);
+        add(&mut self.route_micros, number, micros);
+    }
+
+    /// Counts an OCSP response that was internalError, by what failed.
+    fn add_failure(&mut self, exchange: &Exchange)
+        ensures { self.new ≡ with_failure exchange.now self.old }
+    {
+        if !gave_response(exchange) {
+            return;
+        }
+        match (exchange.signature, exchange.store) {
+            (SignatureFate::Failed, _) => {
+                self.ocsp_unsigned = self.ocsp_unsigned.saturating_add(1);
+            }
+            (_, StoreEffect::Failed) => self.ocsp_unread = self.ocsp_unread.saturating_add(1),
+            _ => {}
+        }
+    }
+
+    fn hear(&mut self, now: Moment, crl: SignatureFate, ocsp: SignatureFate, store: StoreEffect)
+        ensures { self.new ≡ outcomes_counted now crl ocsp store self.old }
+    {
+        self.crls = self.crls.after(fate_at(self.crl_signing, crl), now);
         self.ocsp = self.ocsp.after(ocsp, now);
         self.store_since = store_after(self.store_since, store, now);
     }

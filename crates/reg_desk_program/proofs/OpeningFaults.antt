@@ -1,6 +1,6 @@
 -- What a store's fault is as the end of a job that opens a register, or makes one.
 use Rattle.std.proofs.Common.{◌≡◌, ◌≢◌, ◌⊎◌, refl, sym, subst, inl, inr}
-use Rattle.reg_desk_cli.specs.Endings.{store_failure}
+use Rattle.reg_desk_cli.specs.ExitStatus.{store_failure}
 use Rattle.reg_desk_cli.specs.declared.failure.Failure.{Failure}
 use Rattle.reg_store_tables.specs.Stays.{IsDatabaseFault}
 use Rattle.reg_store_tables.specs.declared.fault.StoreFault.{StoreFault}

@@ -16,17 +16,17 @@ use Rattle.reg_store_tables.specs.Columns.{Columns}
 use Rattle.reg_store_tables.specs.Shows.{AreBoth}
 use Rattle.reg_audit.specs.Complete.{ShowsSound}
 use Rattle.reg_audit.specs.Presumed.{IsPresumed}
-use Rattle.reg_audit.specs.Verdicts.{CountedBy, IsSound}
-use Rattle.reg_audit_rows.specs.declared.verdict.Verdict.{Verdict}
+use Rattle.reg_audit.specs.AuditResults.{CountedBy, IsSound}
+use Rattle.reg_audit_rows.specs.declared.audit_result.AuditResult.{AuditResult}
 use Rattle.reg_desk_program.specs.Files.{IsAudited, IsOpenedFrom}
 use Rattle.reg_desk_jobs.specs.declared.crl_signer.CrlSigner.{CrlSigner}
 
 -- an audit of a file that said that all is sound, with a disk that returned what was written, and where what is presumed of the
 -- connection and of the file holds
 pub record FoundSound {D : Type 0} (g : disk.Ghosts D) : Type 0 where
-  pub verdict : Verdict
-  pub audited : IsAudited g verdict
-  pub sound : IsSound verdict
+  pub audit_result : AuditResult
+  pub audited : IsAudited g audit_result
+  pub sound : IsSound audit_result
   pub clean : HasCleanDisk (file_state audited.after)
   pub presumed : IsPresumed over_files audited.connection
 
@@ -45,7 +45,7 @@ pub record OpensSame {A D : Type 0} {a : disk.Ghosts A} {g : disk.Ghosts D} (fou
 -- has the signature of who signs there, or below some number, the next one at the latest, the digest's seal: that an audit does not tell.
 pub record StandsOnceAudited {A D : Type 0} {a : disk.Ghosts A} (g : disk.Ghosts D) (signs : Identity → List ℕ → List ℕ → Type 0) (found : FoundSound a) : Type 0 where
   pub shown : ShowsSound (tables_of found)
-  pub counted : CountedBy found.verdict shown.records
+  pub counted : CountedBy found.audit_result shown.records
   pub stand : (records : Records) (columns : Columns) → AreBoth (tables_of found) records columns
       → (register : Held (FileStore D g)) (who : Signatory) → OpensSame found register who
       → (since : ℕ) → since ≤ next_number records.crls → CrlsSigned (sealed_until since signs who.crls) records

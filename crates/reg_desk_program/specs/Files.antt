@@ -22,8 +22,8 @@ use Rattle.reg_audit.specs.Complete.{ShowsSound}
 use Rattle.reg_audit.specs.Stored.{IsSomeCrl}
 use Rattle.reg_audit.specs.ReadableValues.{HasAllowedDays}
 use Rattle.reg_audit.specs.Presumed.{IsPresumed}
-use Rattle.reg_audit.specs.Verdicts.{CountedBy, DeniedBy, IsSound, TellsOf}
-use Rattle.reg_audit_rows.specs.declared.verdict.Verdict.{Verdict}
+use Rattle.reg_audit.specs.AuditResults.{CountedBy, DeniedBy, IsSound, TellsOf}
+use Rattle.reg_audit_rows.specs.declared.audit_result.AuditResult.{AuditResult}
 use Rattle.reg_office_api.specs.CallSteps.{Signs}
 use Rattle.reg_office_api.specs.Signatories.{Signatory}
 use Rattle.reg_crl.specs.Signing.{Identity}
@@ -32,7 +32,7 @@ use Rattle.reg_desk_cli.specs.declared.failure.Failure.{Failure}
 use Rattle.reg_desk_cli.specs.declared.failure.Failure.TheVariants as failure
 use Rattle.reg_desk_files.specs.declared.reading.Unread.{Unread}
 use Rattle.reg_desk_files.specs.declared.reading.Unread.TheVariants as unread
-use Rattle.reg_office.specs.AfterStoppedCommand.{LeavesThese, LeavesTold}
+use Rattle.reg_office.specs.AfterStoppedCommand.{LeavesThese, LeavesReported}
 use Rattle.reg_office.specs.Calls.{seen}
 use Rattle.reg_office.specs.Stands.{Stands}
 use Rattle.reg_office.specs.declared.office.Office.{Office}
@@ -68,7 +68,7 @@ module _ {C : Type 0} (g : Ghosts C) (connection : Held C) where
   -- or view.
   pub record MakesOver (signs : Signs) (register : Held C) (who : Identity) (records : Records) : Type 0 where
     pub stands : Stands g signs register who records
-    pub leaves : IsWhole → LeavesTold g signs register who records
+    pub leaves : IsWhole → LeavesReported g signs register who records
     pub empty : connection.schema ≡ no_schema
     pub clean : doubt (state g connection).is_clean ≤ doubt (state g register).is_clean
 
@@ -101,28 +101,28 @@ module _ {D : Type 0} {g : disk.Ghosts D} where
 -- such records, where what is presumed of the connection holds. Where a row was told, they showed no such records whose values are a
 -- register's; and where it was not told for the bytes of a CRL, none whatever the bytes of CRLs are. That it is of an older version, or
 -- of other tables, is told where they say so.
-pub record Says {D : Type 0} {g : disk.Ghosts D} (connection after : Held (FileStore D g)) (verdict : Verdict) : Type 0 where
+pub record Says {D : Type 0} {g : disk.Ghosts D} (connection after : Held (FileStore D g)) (audit_result : AuditResult) : Type 0 where
   pub sound : (records : Records) (columns : Columns) → ShowsBoth over_files connection records columns → HasCleanDisk (file_state after)
-      → IsSound verdict → Sound IsSomeCrl records × Kept columns records × HasAllowedDays columns
-  pub shown : IsPresumed over_files connection → HasCleanDisk (file_state after) → IsSound verdict → ShowsSound (file_state connection).now
+      → IsSound audit_result → Sound IsSomeCrl records × Kept columns records × HasAllowedDays columns
+  pub shown : IsPresumed over_files connection → HasCleanDisk (file_state after) → IsSound audit_result → ShowsSound (file_state connection).now
   pub counted : (records : Records) (columns : Columns) → ShowsBoth over_files connection records columns → HasCleanDisk (file_state after)
-      → CountedBy verdict records
+      → CountedBy audit_result records
   pub broken : (records : Records) (columns : Columns) → ShowsBoth over_files connection records columns → HasCleanDisk (file_state after)
-      → DeniedBy verdict records columns
-  pub tells : HasCleanDisk (file_state after) → TellsOf verdict (file_state connection).now
-  pub register : IsSound verdict → IsRegister (file_state after)
+      → DeniedBy audit_result records columns
+  pub tells : HasCleanDisk (file_state after) → TellsOf audit_result (file_state connection).now
+  pub register : IsSound audit_result → IsRegister (file_state after)
   pub stays : Stays (file_state connection) (file_state after)
 
 -- a database was audited by a connection, and this was said of it
-pub record IsAudited {D : Type 0} (g : disk.Ghosts D) (verdict : Verdict) : Type 0 where
+pub record IsAudited {D : Type 0} (g : disk.Ghosts D) (audit_result : AuditResult) : Type 0 where
   pub connection : Held (FileStore D g)
   pub after : Held (FileStore D g)
   pub connects : IsConnection connection
-  pub says : Says connection after verdict
+  pub says : Says connection after audit_result
 
 -- the same of files that hold these bytes: the connection finds what these stand for
-pub record IsAuditOf {D : Type 0} (g : disk.Ghosts D) (image : Image) (verdict : Verdict) : Type 0 where
-  pub audited : IsAudited g verdict
+pub record IsAuditOf {D : Type 0} (g : disk.Ghosts D) (image : Image) (audit_result : AuditResult) : Type 0 where
+  pub audited : IsAudited g audit_result
   pub found : HasCleanDisk (file_state audited.connection) → FindsIn image (file_state audited.connection)
 
 -- how it is told why files are not opened

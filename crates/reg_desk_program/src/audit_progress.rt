@@ -2,7 +2,7 @@
 
 use crate::host::Host;
 use crate::progress::seconds;
-use reg_audit::Watch;
+use reg_audit::ProgressObserver;
 
 /// Tells at most once a second how many rows an audit read and how many CRLs it compared, where that is to be told.
 #[derive(Drop)]
@@ -41,7 +41,7 @@ impl AuditProgress {
     }
 }
 
-impl Watch for AuditProgress {
+impl ProgressObserver for AuditProgress {
     fn rows_read(&mut self, count: usize) {
         self.rows = self.rows.saturating_add(count);
         self.tell();

@@ -3,27 +3,27 @@
 use crate::dispatch::perform_untold;
 use crate::host::{Host, open_log};
 use crate::input::Input;
-use crate::progress::{CountedOutput, tell_opening};
+use crate::progress::{CountedOutput, report_opening};
 use reg_core::{Fault, of_io};
 use reg_desk_cli::{Failure, Invocation, status_of};
-use reg_desk_jobs::tell_ending;
+use reg_desk_jobs::report_exit;
 use std::cell::Cell;
 use std::io;
 use std::io::IsTerminal;
 
-/// Does the job of an invocation over standard input, or the file of its rows, and standard output, and gives the exit status that [`perform`]
-/// gives. Nothing is done where the log can't be written, or the file of the rows not be read: 1, with the line of that on standard error.
+/// Does the job of an invocation over standard input, or the file that it reads, and standard output, and gives the exit status that [`perform`]
+/// gives. Nothing is done where the log can't be written, or that file can't be opened: 1, with the line of that on standard error.
 ///
 /// [`perform`]: crate::perform
 pub fn run_desk(rt: &HostRuntime, invocation: &Invocation<'_>) -> u8 {
     let log_file = log_path(invocation);
     if let Err(error) = check_log(rt, log_file) {
-        return tell_fault(rt, invocation, Fault::Write, &error);
+        return report_fault(rt, invocation, Fault::Write, &error);
     }
-    tell_opening(rt, &invocation.job);
+    report_opening(rt, &invocation.job);
     let mut input = match Input::of(rt, &invocation.job) {
         Ok(input) => input,
-        Err(error) => return tell_fault(rt, invocation, Fault::Read, &error),
+        Err(error) => return report_fault(rt, invocation, Fault::Read, &error),
     };
     let noted = Cell::new(None);
     let mut errors = rt.stderr();
@@ -63,14 +63,14 @@ fn check_log(rt: &HostRuntime, log_file: Option<&str>) -> io::Result<()> {
 }
 
 /// Tells a fault for which nothing is done, and gives the exit status.
-fn tell_fault(
+fn report_fault(
     rt: &HostRuntime,
     invocation: &Invocation<'_>,
     fault: Fault,
     error: &io::Error,
 ) -> u8 {
     let ending = Err(Failure::Fault(fault));
-    tell_ending(
+    report_exit(
         rt.alloc(),
         &mut rt.stderr(),
         &ending,

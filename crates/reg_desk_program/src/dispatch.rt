@@ -7,7 +7,7 @@ use reg_core::{Cause, of_terms};
 use reg_desk_cli::{Failure, Job, status_of};
 use reg_desk_jobs::{
     Machine, Reason, at, at_rows, audit, copy, crl, hold_open, import_rows, init, key_identifier,
-    list, replay, schedule, script, script_by_lines, serve, tell_ending,
+    list, replay, report_exit, revoke_rows, schedule, script, script_by_lines, serve,
 };
 use std::cell::Cell;
 use std::io::{Read, Write};
@@ -32,7 +32,7 @@ pub fn perform<M: Machine, R: Read, W: Write, E: Write>(
     let ending = run(rt, machine, job, &reason, reader, writer);
     note_terms(machine, job, &ending);
     let alloc = rt.alloc();
-    tell_ending(
+    report_exit(
         alloc,
         errors,
         &ending,
@@ -87,8 +87,8 @@ fn run<M: Machine, R: Read, W: Write>(
         Job::Lines(lined) => script_by_lines(alloc, machine, lined, reason, reader, writer),
         Job::Import(rows) => import_rows(alloc, machine, rows, reason, reader, writer),
         Job::Crl { file, number } => crl(alloc, machine, file.as_str(), *number, writer),
-        Job::Serve(serving) => serve(rt, machine, serving, writer),
-        Job::Open(kept) => hold_open(rt, machine, kept, writer),
+        Job::Serve(serving) => serve(rt, machine, serving, reader, writer),
+        Job::Open(kept) => hold_open(rt, machine, kept, reader, writer),
         Job::At {
             counter,
             rows: None,
@@ -97,6 +97,9 @@ fn run<M: Machine, R: Read, W: Write>(
             counter,
             rows: Some(_),
         } => at_rows(alloc, &*machine, counter.as_str(), reader, writer),
+        Job::Revoke { counter, .. } => {
+            revoke_rows(alloc, &*machine, counter.as_str(), reader, writer)
+        }
         Job::Replay { counter, .. } => replay(alloc, &*machine, counter.as_str(), reader, writer),
         Job::Schedule { file, steps } => schedule(alloc, machine, file.as_str(), steps, writer),
         Job::KeyId { file, key_id } => key_identifier(

@@ -7,7 +7,7 @@ ghost use Rattle.reg_desk_program.specs.Files.{IsAudited, IsConnection};
 use crate::audit_progress::AuditProgress;
 use crate::host::Host;
 use reg_audit::judge;
-use reg_audit_rows::Verdict;
+use reg_audit_rows::AuditResult;
 use reg_desk_cli::Failure;
 use sqlite::{Connection, FileStore};
 use sqlite_disk::Disk;
@@ -16,17 +16,17 @@ use sqlite_disk::Disk;
 pub(crate) fn audit_over<D: Disk + Drop>(
     host: &Host<'_>,
     connection: Connection<FileStore<D>>,
-) -> Result<Verdict, Failure>
+) -> Result<AuditResult, Failure>
     requires idle { connection.in_transaction ≡ false }
     requires connects { IsConnection connection }
-    ensures ok { IfOk result (λ verdict. (audited : IsAudited D.Disk verdict) × (audited.connection ≡ connection)) }
+    ensures ok { IfOk result (λ audit_result. (audited : IsAudited D.Disk audit_result) × (audited.connection ≡ connection)) }
     ensures err { IfErr result IsOpening }
 {
     let mut connection = connection;
     let mut progress = AuditProgress::of(host);
     let told = judge(host.rt.alloc(), &mut connection, &mut progress);
     match told {
-        Ok(verdict) => Ok(verdict),
+        Ok(audit_result) => Ok(audit_result),
         Err(fault) => Err(Failure::from(fault)),
     }
 }

@@ -8,17 +8,19 @@ ghost use Rattle.reg_desk_files.specs.Reading.{IsUnread};
 ghost use Rattle.reg_desk_jobs.specs.RegisterFailures.{IsOpening};
 ghost use Rattle.reg_desk_program.specs.Calls.{Unsaid, is_claimed};
 ghost use Rattle.reg_desk_program.specs.Files.{failure_of};
-ghost use Rattle.reg_crl_signer.specs.Asking.{IsAsking};
+ghost use Rattle.reg_crl_signer.specs.SignatureRequest.{IsSignatureRequest};
 
-use crate::answering::{delegate_told, issuer_told};
 use crate::file_audit::audit_over;
 use crate::file_office::{FileOffice, FileSigner};
-use crate::offices::{FileConnection, close, connection_of, made_over, office_over, prime_wanted};
+use crate::ocsp_answerer::{delegate_answerer, issuer_answerer};
+use crate::offices::{FileConnection, close, connection_of, made_over, office_over, preset_wanted};
 use mio::net::{TcpListener, UnixListener, UnixStream as UnwaitingStream};
-use reg_audit_rows::Verdict;
+use reg_audit_rows::AuditResult;
 use reg_core::{Cause, Fault, Memory, Policy, of_io, of_port};
 use reg_crl::{DigestSeal, Signer};
-use reg_crl_signer::{Asking, DeviceConnection, KeyOrDigest, Primed, read_answer};
+use reg_crl_signer::{
+    DeviceConnection, KeyOrDigest, PresetSignature, SignatureRequest, read_answer,
+};
 use reg_der::Issuer;
 use reg_desk_cli::{Answerer, Failure};
 use reg_desk_files::{
@@ -77,6 +79,16 @@ impl<'a> Host<'a> {
     {
         self.note(why.cause);
         why.fault
+    }
+
+    fn bind(&self, address: SocketAddr) -> io::Result<TcpListener> {
+        match TcpListener::bind(&self.rt, address) {
+            Ok(listener) => Ok(listener),
+            Err(error) => {
+                self.note(of_port(error.kind()));
+                Err(error)
+            }
+        }
     }
 
     fn is_claimed(&self, claim: Result<(), ClaimFault>) -> Result<bool, Memory>
@@ -157,7 +169,7 @@ impl<'a> Machine for Host<'a> {
 
     ghost laid = { λ path. Unsaid path };
 
-    ghost moded = { λ path mode. Unsaid path };
+    ghost has_mode = { λ path mode. Unsaid path };
 
     ghost deserted = { λ path. Unsaid path };
 
@@ -199,13 +211,17 @@ impl<'a> Machine for Host<'a> {
         }
     }
 
+    fn file(&self, path: &str) -> Option<Vec<u8>> {
+        fs::read(&self.rt, path).ok()
+    }
+
     fn certify(&self, answerer: &Answerer<'_>) -> Result<Responder<FileSigner>, Failure> {
         match answerer {
-            Answerer::Issuer { certificate } => issuer_told(self, certificate),
+            Answerer::Issuer { certificate } => issuer_answerer(self, certificate),
             Answerer::Delegate {
                 certificate,
                 holder,
-            } => delegate_told(self, certificate, holder),
+            } => delegate_answerer(self, certificate, holder),
         }
     }
 
@@ -251,7 +267,7 @@ impl<'a> Machine for Host<'a> {
         }
     }
 
-    fn audit_in(&self, sources: Sources<ReadFile>) -> Result<Verdict, Failure> {
+    fn audit_in(&self, sources: Sources<ReadFile>) -> Result<AuditResult, Failure> {
         match open_sources(self.rt.alloc(), sources) {
             Ok(connection) => audit_over(self, connection),
             Err(why) => Err(self.unread(why)),
@@ -284,13 +300,11 @@ impl<'a> Machine for Host<'a> {
     }
 
     fn listen(&self, address: [u8; 4], port: u16) -> io::Result<TcpListener> {
-        match TcpListener::bind(&self.rt, SocketAddr::from((address, port))) {
-            Ok(listener) => Ok(listener),
-            Err(error) => {
-                self.note(of_port(error.kind()));
-                Err(error)
-            }
-        }
+        self.bind(SocketAddr::from((address, port)))
+    }
+
+    fn listen_v6(&self, address: [u8; 16], port: u16) -> io::Result<TcpListener> {
+        self.bind(SocketAddr::from((address, port)))
     }
 
     fn lay(&self, path: &str) -> io::Result<UnixListener> {
@@ -327,35 +341,39 @@ impl<'a> Machine for Host<'a> {
         }
     }
 
-    fn ask(&self, path: &str, message: &[u8]) -> io::Result<Asking> {
-        match Asking::ask(&self.rt, path, message) {
+    fn ask(&self, path: &str, message: &[u8]) -> io::Result<SignatureRequest> {
+        match SignatureRequest::ask(&self.rt, path, message) {
             Ok(link) => Ok(link),
             Err(error) => Err(for_room(error)),
         }
     }
 
-    fn reach(&self, path: &str) -> io::Result<Asking> {
-        match Asking::connect(&self.rt, path) {
+    fn reach(&self, path: &str) -> io::Result<SignatureRequest> {
+        match SignatureRequest::connect(&self.rt, path) {
             Ok(link) => Ok(link),
             Err(error) => Err(for_room(error)),
         }
     }
 
-    fn hear(alloc: Global, link: &mut Asking) -> Option<Vec<u8>>
-        ensures given { IfSome result (λ answer. (path message : List ℕ) → IsAsking path message link.old → Unsaid path) }
+    fn hear(alloc: Global, link: &mut SignatureRequest) -> Option<Vec<u8>>
+        ensures given { IfSome result (λ answer. (path message : List ℕ) → IsSignatureRequest path message link.old → Unsaid path) }
         ensures short { IfSome result (λ answer. length answer.items ≤ 4096) }
     {
         read_answer(alloc, link)
     }
 
-    fn prime(office: &mut FileOffice, wanted: Wanted, primed: Option<Primed>)
+    fn set_preset(
+        office: &mut FileOffice,
+        wanted: Wanted,
+        preset_signature: Option<PresetSignature>,
+    )
         ensures { Leads ⟦<FileOffice as reg_office_api::Office>⟧.is_clean ⟦<FileOffice as reg_office_api::Office>⟧.stands (λ identity before after. after ≡ before) office.old office.new }
     {
-        prime_wanted(
+        preset_wanted(
             &mut office.office.signer,
             &mut office.office.responder,
             wanted,
-            primed,
+            preset_signature,
         );
     }
 

@@ -1,6 +1,6 @@
 //! Standard input, or the file that a job reads.
 
-use reg_desk_cli::Job;
+use reg_desk_cli::{Job, KeptOpen, Serving};
 use std::fs::File;
 use std::io;
 use std::io::{Read, Stdin};
@@ -18,7 +18,20 @@ impl Input {
                 rows: Some(path),
                 ..
             }
-            | Job::Replay { log: path, .. } => Ok(Input::File(File::open(rt, path.as_str())?)),
+            | Job::Revoke { rows: path, .. }
+            | Job::Replay { log: path, .. }
+            | Job::Serve(
+                Serving {
+                    published: Some(path),
+                    ..
+                },
+            )
+            | Job::Open(
+                KeptOpen {
+                    published: Some(path),
+                    ..
+                },
+            ) => { Ok(Input::File(File::open(rt, path.as_str())?)) }
             _ => Ok(Input::Standard(rt.stdin())),
         }
     }

@@ -2,7 +2,7 @@
 
 ghost use Rattle.reg_office.specs.Following.{IsSeal};
 ghost use Rattle.reg_desk_program.specs.Audited.{FoundSound, StandsOnceAudited};
-ghost use Rattle.reg_desk_program.specs.Stops.{LeavesWhatWasTold};
+ghost use Rattle.reg_desk_program.specs.Stops.{LeavesWhatWasReported};
 ghost use Rattle.reg_crl_signer.specs.Both.{SignsBoth, digest};
 
 use reg_crl::Signer;
@@ -36,6 +36,6 @@ pub fn the_digest_is_a_seal<D: Device>()
 ///
 /// A job that a stop cuts is one over a disk that refuses each call from that moment on, and nobody receives its later replies. A reply is
 /// written only after its call.
-pub fn a_stop_leaves_what_was_told<D: Disk, S: Signer>()
-    ensures { LeavesWhatWasTold D.Disk S.signs }
+pub fn a_stop_leaves_what_was_reported<D: Disk, S: Signer>()
+    ensures { LeavesWhatWasReported D.Disk S.signs }
 {}

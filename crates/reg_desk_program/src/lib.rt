@@ -1,8 +1,8 @@
 //! The program `desk`: its words, the machine that it runs on, and the registers in its files.
 #![tactic(auto)]
 
-mod answering;
 mod audit_progress;
+mod crl_signer;
 mod desk;
 mod dispatch;
 mod file_audit;
@@ -11,9 +11,9 @@ mod host;
 mod input;
 pub mod laws;
 mod memory;
+mod ocsp_answerer;
 mod offices;
 mod progress;
-mod signing;
 
 pub use desk::run_desk;
 pub use dispatch::perform;

@@ -3,7 +3,7 @@
 ghost use Rattle.std.specs.Prelude.{◌≡◌, None, IfErr, IfOk};
 ghost use Rattle.reg_desk_jobs.specs.Ends.{ScriptInMemory};
 ghost use Rattle.sqlite.specs.Steps.{over_memory};
-ghost use Rattle.reg_office.specs.AfterStoppedCommand.{LeavesTold};
+ghost use Rattle.reg_office.specs.AfterStoppedCommand.{LeavesReported};
 ghost use Rattle.reg_office.specs.Stands.{Stands};
 ghost use Rattle.reg_office.specs.declared.responder.Responder.TheVariants.{Issuer as ByIssuer};
 ghost use Rattle.reg_desk_jobs.specs.Digest.{digests};
@@ -45,7 +45,7 @@ pub(crate) fn script_in_memory<R: Read, W: Write>(
 /// The office over a new register in memory, of a sample issuer and under the usual policy.
 fn office_in_memory(alloc: Global) -> Result<MemoryOffice, Failure>
     ensures ok { IfOk result (λ office. Stands over_memory digests office.store digest sample_records) }
-    ensures leaves { IfOk result (λ office. LeavesTold over_memory digests office.store digest sample_records) }
+    ensures leaves { IfOk result (λ office. LeavesReported over_memory digests office.store digest sample_records) }
     ensures alone { IfOk result (λ office. office.responder ≡ ByIssuer None) }
     ensures err { IfErr result IsMaking }
 {

@@ -8,12 +8,12 @@ ghost use Rattle.reg_office.specs.Calls.{seen};
 ghost use Rattle.reg_office.specs.declared.responder.Responder.TheVariants.{Issuer as ByIssuer};
 ghost use Rattle.reg_desk_program.specs.Files.{MakesOver, OpensOver};
 
+use crate::crl_signer::signer_for;
 use crate::file_office::FileSigner;
 use crate::host::Host;
-use crate::signing::signer_for;
 use reg_core::Policy;
 use reg_crl::Signer;
-use reg_crl_signer::Primed;
+use reg_crl_signer::PresetSignature;
 use reg_der::Issuer;
 use reg_desk_cli::Failure;
 use reg_desk_jobs::{CrlSigner, Wanted};
@@ -81,17 +81,17 @@ pub(crate) fn close<D: Disk + Drop>(connection: Connection<FileStore<D>>) {
 
 /// Presets the next signature of the signer of CRLs, or of the responder. No contract says what a socket gave, so any answer may be preset.
 #[tactic(auto, using(crate::proofs::Priming::given_anyhow))]
-pub(crate) fn prime_wanted(
+pub(crate) fn preset_wanted(
     signer: &mut FileSigner,
     responder: &mut Responder<FileSigner>,
     wanted: Wanted,
-    primed: Option<Primed>,
+    preset_signature: Option<PresetSignature>,
 )
     ensures { signatory_of ⟦<FileSigner as Signer>⟧.identity (⟦<FileSigner as Signer>⟧.identity signer.new) responder.new
         ≡ signatory_of ⟦<FileSigner as Signer>⟧.identity (⟦<FileSigner as Signer>⟧.identity signer.old) responder.old }
 {
     match (wanted, responder) {
-        (Wanted::Answer, Responder::Delegate(own, _)) => own.prime(primed),
-        _ => signer.prime(primed),
+        (Wanted::Answer, Responder::Delegate(own, _)) => own.set_preset(preset_signature),
+        _ => signer.set_preset(preset_signature),
     }
 }

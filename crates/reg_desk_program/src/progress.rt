@@ -82,7 +82,7 @@ impl<'a> Write for CountedOutput<'a> {
 }
 
 /// Tells that a large file is opened, where standard error is a terminal.
-pub(crate) fn tell_opening(rt: &HostRuntime, job: &Job<'_>) {
+pub(crate) fn report_opening(rt: &HostRuntime, job: &Job<'_>) {
     let Some(path) = file_of(job) else {
         return;
     };
@@ -108,6 +108,7 @@ fn is_long(job: &Job<'_>) -> bool {
             | Job::Lines(_)
             | Job::Import(_)
             | Job::At { rows: Some(_), .. }
+            | Job::Revoke { .. }
             | Job::Replay { .. }
     )
 }
@@ -127,6 +128,6 @@ fn file_of<'a>(job: &Job<'a>) -> Option<&'a str> {
         // It is read as it lies, and not opened.
         Job::Copy { .. } => None,
         Job::Init(_) => None,
-        Job::At { .. } | Job::Replay { .. } => None,
+        Job::At { .. } | Job::Revoke { .. } | Job::Replay { .. } => None,
     }
 }

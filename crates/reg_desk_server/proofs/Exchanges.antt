@@ -2,11 +2,11 @@
 use Rattle.std.proofs.Common.{◌≡◌, ℕ, ◌+◌, List, [], ◌∷◌, ◌++◌, refl, arith, inl, inr}
 use Rattle.reg_io.proofs.PublicLaws.{answered_append}
 use Rattle.std.specs.Prelude.{Result, Ok, Err, OnOk, OnErr, take}
-use Rattle.reg_desk_server.specs.CounterLines.{Deferring, Telling, TellingLater}
+use Rattle.reg_desk_server.specs.ControlLines.{Deferring, Telling, TellingLater}
 use Rattle.reg_desk_server.specs.Exchange.{Input, request, line, Outcome, said, later, asked_in, Handles, Exchanged}
 use Rattle.reg_desk_server.specs.Handling.{Handled}
 use Rattle.reg_desk_server.specs.Held.{unsent_of}
-use Rattle.reg_desk_server.specs.declared.counter_peer.CounterPeer.{CounterPeer}
+use Rattle.reg_desk_server.specs.declared.control_connection.ControlConnection.{ControlConnection}
 use Rattle.reg_desk_server.specs.declared.handler.Handler.{Ghosts}
 
 -- the requests of two lists
@@ -56,18 +56,18 @@ module _ {S T L : Type 0} (g : Ghosts S T L) where
   }
 
   -- a line was answered, or none was there
-  pub handled_telling : {P : Type 0} (s t : S) (made : ℕ) (old new : CounterPeer P) → Telling g.tells s t old new → Handled g s t made made
+  pub handled_telling : {P : Type 0} (s t : S) (made : ℕ) (old new : ControlConnection P) → Telling g.tells s t old new → Handled g s t made made
   handled_telling s t made old new (inl told) = handled_line s t made (take told.0 old.came.items) (unsent_of new.unsent) told.3
   handled_telling s t made old new (inr silent) = handled_none s t made made silent.1 refl
 
   -- or it stopped before
-  pub handled_told : {P U E : Type 0} (Q : Type 0) (r : Result U E) (s t : S) (made : ℕ) (old new : CounterPeer P)
+  pub handled_told : {P U E : Type 0} (Q : Type 0) (r : Result U E) (s t : S) (made : ℕ) (old new : ControlConnection P)
       → OnOk r (Telling g.tells s t old new) → OnErr r (Q × (t ≡ s)) → Handled g s t made made
   handled_told Q (Ok u) s t made old new told stopped = handled_telling s t made old new told
   handled_told Q (Err e) s t made old new told stopped = handled_none s t made made stopped.1 refl
 
   -- a line was looked at, or none was
-  pub handled_deferring : {P : Type 0} (s t : S) (made : ℕ) (old : CounterPeer P) → Deferring g.defers s t old → Handled g s t made made
+  pub handled_deferring : {P : Type 0} (s t : S) (made : ℕ) (old : ControlConnection P) → Deferring g.defers s t old → Handled g s t made made
   handled_deferring s t made old (inl looked) = record {
     inputs = line (take looked.0 old.came.items) ∷ [];
     outcomes = later ∷ [];
@@ -77,7 +77,7 @@ module _ {S T L : Type 0} (g : Ghosts S T L) where
   handled_deferring s t made old (inr same) = handled_none s t made made same refl
 
   -- a line that was looked at was answered then, or looked at again; or it stopped before
-  pub handled_told_later : {P U E : Type 0} (Q : Type 0) (r : Result U E) (s t : S) (made : ℕ) (old new : CounterPeer P)
+  pub handled_told_later : {P U E : Type 0} (Q : Type 0) (r : Result U E) (s t : S) (made : ℕ) (old new : ControlConnection P)
       → OnOk r (TellingLater g.tells g.defers s t old new) → OnErr r (Q × (t ≡ s)) → Handled g s t made made
   handled_told_later Q (Ok u) s t made old new (inl told) stopped = handled_telling s t made old new told
   handled_told_later Q (Ok u) s t made old new (inr looked) stopped = handled_deferring s t made old looked.0

@@ -5,10 +5,10 @@ use Rattle.std.specs.Io.KnownBytes.{Consumes}
 use Rattle.std.proofs.KnownBytes.{Consumes-nil, Consumes-trans}
 use Rattle.std.proofs.lemmas.List.{append-nil, append_assoc}
 use Rattle.reg_desk_server.specs.Held.{Receives, SendsUnsent, unsent_of}
-use Rattle.reg_desk_server.specs.CounterLines.{Advances, Gathers, StaysEnded}
-use Rattle.reg_desk_server.specs.declared.counter_peer.CounterPeer.{CounterPeer}
-use Rattle.reg_desk_server.specs.declared.receiving.Received.{Received}
-use Rattle.reg_desk_server.specs.declared.receiving.Received.TheVariants as received
+use Rattle.reg_desk_server.specs.ControlLines.{Advances, Gathers, StaysEnded}
+use Rattle.reg_desk_server.specs.declared.control_connection.ControlConnection.{ControlConnection}
+use Rattle.reg_desk_server.specs.declared.request_bytes.Received.{Received}
+use Rattle.reg_desk_server.specs.declared.request_bytes.Received.TheVariants as received
 use Rattle.reg_desk_server.specs.declared.unsent.Unsent.{Unsent}
 use Rattle.reg_desk_server.specs.declared.unsent.Sent.{Sent}
 
@@ -56,7 +56,7 @@ gathers_then a b c x y z ended ended' goes first rest = record {
 }
 
 -- a reply was sent on, and then what came was received
-pub advances_taken : {S : Type 0} (contents remaining : S → Option (List ℕ)) (old new : CounterPeer S) (m : S) (u : Unsent) (rests : Sent)
+pub advances_taken : {S : Type 0} (contents remaining : S → Option (List ℕ)) (old new : ControlConnection S) (m : S) (u : Unsent) (rests : Sent)
     → SendsUnsent contents old.link m old.unsent u rests → new.unsent ≡ u
     → Gathers (remaining m) (remaining new.link) old.came.items new.came.items new.has_ended
     → StaysEnded old new → Advances contents remaining old new

@@ -8,11 +8,11 @@ use Rattle.reg_io.specs.Mark.{EndsWith, FirstMark, HasNoMark}
 use Rattle.reg_io.proofs.PublicLaws.{no_mark_in_front}
 use Rattle.reg_desk_server.specs.Stages.{HoldsAnswer, HoldsRest, IsDropped, Sends}
 use Rattle.reg_desk_server.specs.Held.{AddsTo, Receives, SendsOn}
-use Rattle.reg_desk_server.specs.declared.http_peer.HttpPeer.{HttpPeer}
-use Rattle.reg_desk_server.specs.declared.http_peer.Stage.{Stage}
-use Rattle.reg_desk_server.specs.declared.http_peer.Stage.TheVariants as stage
-use Rattle.reg_desk_server.specs.declared.receiving.Received.{Received}
-use Rattle.reg_desk_server.specs.declared.receiving.Received.TheVariants as received
+use Rattle.reg_desk_server.specs.declared.http_connection.HttpConnection.{HttpConnection}
+use Rattle.reg_desk_server.specs.declared.http_connection.Stage.{Stage}
+use Rattle.reg_desk_server.specs.declared.http_connection.Stage.TheVariants as stage
+use Rattle.reg_desk_server.specs.declared.request_bytes.Received.{Received}
+use Rattle.reg_desk_server.specs.declared.request_bytes.Received.TheVariants as received
 use Rattle.reg_desk_server.specs.declared.unsent.Sent.{Sent}
 use Rattle.reg_desk_server.specs.declared.unsent.Sent.TheVariants as sent
 
@@ -78,7 +78,7 @@ none_left (stage.Sending unsent exact) rest left empty = left ∙ sym empty
 none_left _ rest left empty = absurd empty
 
 -- all of an answer was sent, and the client has it
-pub sends_last : {S H T L : Type 0} (contents : S → Option (List ℕ)) (old between new : HttpPeer S H T L) → Sends contents old between
+pub sends_last : {S H T L : Type 0} (contents : S → Option (List ℕ)) (old between new : HttpConnection S H T L) → Sends contents old between
     → HoldsAnswer between.stage [] → new.link ≡ between.link → new.stage ≡ stage.Draining → Sends contents old new
 sends_last {S = S} {T = T} contents old between new sends empty same drains text holds =
     let (went, rest, parted, appended, left) = sends text holds in (

@@ -10,16 +10,16 @@ use Rattle.reg_io.specs.Mark.{FirstMark}
 use Rattle.reg_io.proofs.PublicLaws.{byte_first}
 use Rattle.reg_http_head.specs.Bytes.{collected_bytes}
 use Rattle.reg_http_head.specs.declared.collected.Collected.{Collected}
-use Rattle.reg_desk_server.specs.Connections.{FinishesOnce, HasServed, HasTold, IsAnsweredOnce, IsToldBy, KeepsServed, ServesOn, SinceAccepted, TellsNoneAnew, TellsOneAnew, WasAnswered, WasLeft, more_came, more_went, nothing_yet}
-use Rattle.reg_desk_server.specs.CounterLines.{Deferring, Gathers, IsFresh, SameLines, SameLinkAndEnd, Telling, TellingLater}
+use Rattle.reg_desk_server.specs.Connections.{FinishesOnce, HasServed, HasAnsweredLines, IsAnsweredOnce, IsListedBy, KeepsServed, ServesOn, SinceAccepted, TellsNoneAnew, TellsOneAnew, WasAnswered, WasLeft, more_came, more_went, nothing_yet}
+use Rattle.reg_desk_server.specs.ControlLines.{Deferring, Gathers, IsFresh, SameLines, SameLinkAndEnd, Telling, TellingLater}
 use Rattle.reg_desk_server.specs.Exchange.{Outcome, said, pending, later}
 use Rattle.reg_desk_server.specs.Stages.{Answering, Finishing, HasReceived, HoldsAnswer, HoldsRest, IsDraining, IsDropped, IsHeld, AwaitsSignature, KeepsSigning}
 use Rattle.reg_desk_server.specs.Held.{unsent_of}
-use Rattle.reg_desk_server.specs.declared.counter_peer.CounterPeer.{CounterPeer}
+use Rattle.reg_desk_server.specs.declared.control_connection.ControlConnection.{ControlConnection}
 use Rattle.reg_desk_server.specs.declared.handler.Handler.{Ghosts}
-use Rattle.reg_desk_server.specs.declared.http_peer.HttpPeer.{HttpPeer}
-use Rattle.reg_desk_server.specs.declared.http_peer.Stage.{Stage}
-use Rattle.reg_desk_server.specs.declared.http_peer.Stage.TheVariants as stage
+use Rattle.reg_desk_server.specs.declared.http_connection.HttpConnection.{HttpConnection}
+use Rattle.reg_desk_server.specs.declared.http_connection.Stage.{Stage}
+use Rattle.reg_desk_server.specs.declared.http_connection.Stage.TheVariants as stage
 
 -- one list more at the end of those that are joined
 concat_more : (xs : List (List ℕ)) (x : List ℕ) → concat (xs ++ x ∷ []) ≡ concat xs ++ x
@@ -50,7 +50,7 @@ part_on gone went rest text parted = ap (λ (l : List ℕ). gone ++ l) parted �
 
 module _ {S H : Type 0} (contents remaining : S → Option (List ℕ)) (tells : H → List ℕ → List ℕ → H → Type 0) where
   -- on a connection that was accepted no line was answered
-  pub told_none : (peer : CounterPeer S) → IsFresh peer → HasTold contents remaining tells peer.link peer [] []
+  pub told_none : (peer : ControlConnection S) → IsFresh peer → HasAnsweredLines contents remaining tells peer.link peer [] []
   told_none peer fresh = record {
     came = [];
     gone = [];
@@ -83,10 +83,10 @@ module _ {S H : Type 0} (contents remaining : S → Option (List ℕ)) (tells : 
       }
 
   -- its first line was answered
-  told_more : (first : S) (s t : H) (old new : CounterPeer S) (lines replies : List (List ℕ)) (end : ℕ)
-      → HasTold contents remaining tells first old lines replies → SameLinkAndEnd old new → FirstMark (10 ∷ []) old.came.items end
+  told_more : (first : S) (s t : H) (old new : ControlConnection S) (lines replies : List (List ℕ)) (end : ℕ)
+      → HasAnsweredLines contents remaining tells first old lines replies → SameLinkAndEnd old new → FirstMark (10 ∷ []) old.came.items end
       → unsent_of old.unsent ≡ [] → tells s (take end old.came.items) (unsent_of new.unsent) t → new.came.items ≡ drop end old.came.items
-      → HasTold contents remaining tells first new (lines ++ take end old.came.items ∷ []) (replies ++ unsent_of new.unsent ∷ [])
+      → HasAnsweredLines contents remaining tells first new (lines ++ take end old.came.items ∷ []) (replies ++ unsent_of new.unsent ∷ [])
   told_more first s t old new lines replies end was same mark none step rest =
       let held = old.came.items in
       record {
@@ -104,13 +104,13 @@ module _ {S H : Type 0} (contents remaining : S → Option (List ℕ)) (tells : 
         answered =
             concat_more replies (unsent_of new.unsent)
             ∙ ap (λ (l : List ℕ). l ++ unsent_of new.unsent) (was.answered ∙ ap (λ (l : List ℕ). was.gone ++ l) none ∙ append-nil was.gone);
-        each = AllZip-push (IsToldBy tells) lines replies (take end held) (unsent_of new.unsent) was.each (byte_first 10 held end mark, (s, t, step));
+        each = AllZip-push (IsListedBy tells) lines replies (take end held) (unsent_of new.unsent) was.each (byte_first 10 held end mark, (s, t, step));
         whole = subst (λ (ended : Bool). (was.lost ≡ []) ⊎ (ended ≡ true)) (sym same.1) was.whole;
       }
 
   -- nothing was held or sent anew
-  told_same : (first : S) (old new : CounterPeer S) (lines replies : List (List ℕ)) → SameLinkAndEnd old new → SameLines old new
-      → HasTold contents remaining tells first old lines replies → HasTold contents remaining tells first new lines replies
+  told_same : (first : S) (old new : ControlConnection S) (lines replies : List (List ℕ)) → SameLinkAndEnd old new → SameLines old new
+      → HasAnsweredLines contents remaining tells first old lines replies → HasAnsweredLines contents remaining tells first new lines replies
   told_same first old new lines replies same as_held was = record {
     came = was.came;
     gone = was.gone;
@@ -246,7 +246,7 @@ module _ {H T : Type 0} (answers : H → List ℕ → Outcome T → H → Type 0
 
 module _ {S H T L : Type 0} (contents remaining : S → Option (List ℕ)) (g : Ghosts H T L) where
   -- a connection that was accepted
-  pub served_none : (peer : HttpPeer S H T L) → HasReceived peer.stage [] → HasServed contents remaining g peer.link peer
+  pub served_none : (peer : HttpConnection S H T L) → HasReceived peer.stage [] → HasServed contents remaining g peer.link peer
   served_none peer asks = record { came = []; gone = []; since = nothing_yet; once = go peer.stage asks }
     where
       go : (at : Stage T) → HasReceived at [] → IsAnsweredOnce g.answers (FinishesOnce g.finishes) [] [] at (is_some peer.fault)

@@ -8,5 +8,5 @@ abbrev pub Handled : {H T L : Type 0} → Ghosts H T L → H → H → ℕ → �
 Handled g = Exchanged g.answers g.tells g.defers
 
 -- the same by lines alone, of which none is counted
-abbrev pub ToldLines : {H T L : Type 0} → Ghosts H T L → H → H → Type 0
-ToldLines g s t = (made : ℕ) → Handled g s t made made
+abbrev pub AnsweredLines : {H T L : Type 0} → Ghosts H T L → H → H → Type 0
+AnsweredLines g s t = (made : ℕ) → Handled g s t made made

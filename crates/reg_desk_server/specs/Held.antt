@@ -4,8 +4,8 @@ use Rattle.std.specs.Io.KnownBytes.{Appends, Consumes}
 use Rattle.reg_http_head.specs.Bytes.{collected_bytes}
 use Rattle.reg_http_head.specs.Collected.{IsWholeRequest}
 use Rattle.reg_http_head.specs.declared.collected.Collected.{Collected}
-use Rattle.reg_desk_server.specs.declared.receiving.Received.{Received}
-use Rattle.reg_desk_server.specs.declared.receiving.Received.TheVariants as received
+use Rattle.reg_desk_server.specs.declared.request_bytes.Received.{Received}
+use Rattle.reg_desk_server.specs.declared.request_bytes.Received.TheVariants as received
 use Rattle.reg_desk_server.specs.declared.unsent.Sent.{Sent}
 use Rattle.reg_desk_server.specs.declared.unsent.Sent.TheVariants as sent
 use Rattle.reg_desk_server.specs.declared.unsent.Unsent.{Unsent}

@@ -1,5 +1,5 @@
 pub mod Connections
-pub mod CounterLines
+pub mod ControlLines
 pub mod Exchange
 pub mod Handling
 pub mod Held

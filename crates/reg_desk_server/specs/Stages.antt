@@ -4,11 +4,11 @@ use Rattle.std.specs.Prelude.{◌≡◌, ℕ, true, List, [], ◌++◌, Option, 
 use Rattle.std.specs.Io.KnownBytes.{Appends, Consumes}
 use Rattle.reg_http_head.specs.Bytes.{collected_bytes}
 use Rattle.reg_desk_server.specs.Exchange.{Outcome, said, pending, later}
-use Rattle.reg_desk_server.specs.CounterLines.{Gathers}
+use Rattle.reg_desk_server.specs.ControlLines.{Gathers}
 use Rattle.reg_desk_server.specs.Held.{unsent_of}
-use Rattle.reg_desk_server.specs.declared.http_peer.HttpPeer.{HttpPeer}
-use Rattle.reg_desk_server.specs.declared.http_peer.Stage.{Stage}
-use Rattle.reg_desk_server.specs.declared.http_peer.Stage.TheVariants as stage
+use Rattle.reg_desk_server.specs.declared.http_connection.HttpConnection.{HttpConnection}
+use Rattle.reg_desk_server.specs.declared.http_connection.Stage.{Stage}
+use Rattle.reg_desk_server.specs.declared.http_connection.Stage.TheVariants as stage
 
 -- the bytes of a request that came
 abbrev pub HasReceived : {T : Type 0} → Stage T → List ℕ → Type 0
@@ -64,25 +64,25 @@ IsDropped input left = (dropped : List ℕ) × Consumes input left dropped
 module _ {S H T L : Type 0} where
   -- what is held of a request is what was, and the next bytes of the connection behind it; where memory is out the last may be lost, and then
   -- no more of it is waited for. Where none is, none is held.
-  abbrev pub ReceivesMore : (S → Option (List ℕ)) → HttpPeer S H T L → HttpPeer S H T L → Type 0
+  abbrev pub ReceivesMore : (S → Option (List ℕ)) → HttpConnection S H T L → HttpConnection S H T L → Type 0
   ReceivesMore remaining old new =
       (bytes : List ℕ) → HasReceived old.stage bytes
       → (bytes' : List ℕ) × HasReceived new.stage bytes' × Gathers (remaining old.link) (remaining new.link) bytes bytes' (is_some new.fault)
       × (is_some old.fault ≡ true → (bytes' ≡ bytes) × (is_some new.fault ≡ true))
 
   -- what went out of an answer are its next bytes, and the rest is held
-  abbrev pub Sends : (S → Option (List ℕ)) → HttpPeer S H T L → HttpPeer S H T L → Type 0
+  abbrev pub Sends : (S → Option (List ℕ)) → HttpConnection S H T L → HttpConnection S H T L → Type 0
   Sends contents old new =
       (text : List ℕ) → HoldsAnswer old.stage text
       → (went : List ℕ) × (rest : List ℕ) × (text ≡ went ++ rest) × Appends (contents old.link) (contents new.link) went
       × HoldsRest new.stage rest
 
   -- what comes where an answer is left to be signed, or the client has it, is dropped, and nothing else is done
-  abbrev pub Drops : (S → Option (List ℕ)) → HttpPeer S H T L → HttpPeer S H T L → Type 0
+  abbrev pub Drops : (S → Option (List ℕ)) → HttpConnection S H T L → HttpConnection S H T L → Type 0
   Drops remaining old new =
       ((ticket : T) → AwaitsSignature old.stage ticket → AwaitsSignature new.stage ticket × IsDropped (remaining old.link) (remaining new.link))
       × (IsDraining old.stage → IsDraining new.stage × IsDropped (remaining old.link) (remaining new.link))
 
   -- its link is as it was, and so is the fault by which no more is waited for
-  abbrev pub SameLinkAndFault : HttpPeer S H T L → HttpPeer S H T L → Type 0
+  abbrev pub SameLinkAndFault : HttpConnection S H T L → HttpConnection S H T L → Type 0
   SameLinkAndFault old new = (new.link ≡ old.link) × (new.fault ≡ old.fault)

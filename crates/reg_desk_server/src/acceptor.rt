@@ -2,10 +2,10 @@
 
 ghost use Rattle.std.specs.Prelude.{◌≡◌, ◌≤◌, IfOk, false, true};
 
-use crate::handler::{Handler, HubFault};
+use crate::handler::{EventLoopFault, Handler};
+use crate::http_connection::HttpConnection;
 use crate::http_connections::HttpConnections;
-use crate::http_peer::HttpPeer;
-use crate::poller::{HTTP_LISTENER, Poller};
+use crate::poller::{HTTP_LISTENER, Poller, is_out_of_descriptors};
 use crate::shared::Shared;
 use mio::Interest;
 use mio::net::{TcpListener, TcpStream};
@@ -25,6 +25,8 @@ pub(crate) struct Acceptor {
     may_have_more: bool,
     /// Whether it has one for sure: it was ready, and none was accepted since.
     has_more: bool,
+    /// Whether no descriptor was left for one that waits, and none of an HTTP connection could be freed for it.
+    pub(crate) is_short: bool,
     pub(crate) accepted: u64,
 }
 
@@ -38,11 +40,12 @@ impl Acceptor {
             next: None,
             may_have_more: true,
             has_more: false,
+            is_short: false,
             accepted: 0,
         })
     }
 
-    pub(crate) fn note_ready(&mut self)
+    pub(crate) fn mark_ready(&mut self)
         ensures { self.new.has_more ≡ true }
     {
         self.may_have_more = true;
@@ -54,23 +57,33 @@ impl Acceptor {
         self.next.is_some() || (self.may_have_more && self.accepted < most)
     }
 
-    /// Accepts connections, as long as there are any, at most so many in all. It is a [`HubFault`] where the system gives none, and there
-    /// is none whose end could help.
+    /// Accepts connections, as long as there are any, at most so many in all. If no descriptor is left and no HTTP connection has one, the
+    /// next call tries again; another fault of the system is then a [`EventLoopFault`].
     pub(crate) fn accept_all<H: Handler>(
         &mut self,
         most: u64,
         connections: &mut HttpConnections<H>,
         shared: &mut Shared,
         now: u64,
-    ) -> Result<(), HubFault>
+    ) -> Result<(), EventLoopFault>
         ensures { self.old.accepted ≤ most → self.new.accepted ≤ most }
     {
+        self.try_again();
         for _ in 0..MOST_ACCEPTED {
             if !self.accept(most, connections, shared, now)? {
                 return Ok(());
             }
         }
         Ok(())
+    }
+
+    fn try_again(&mut self)
+        ensures { self.new.accepted ≡ self.old.accepted }
+    {
+        if self.is_short {
+            self.is_short = false;
+            self.may_have_more = true;
+        }
     }
 
     /// Accepts the next connection and gives it a slot; whether there may be one more.
@@ -80,7 +93,7 @@ impl Acceptor {
         connections: &mut HttpConnections<H>,
         shared: &mut Shared,
         now: u64,
-    ) -> Result<bool, HubFault>
+    ) -> Result<bool, EventLoopFault>
         ensures { self.old.accepted ≤ most → self.new.accepted ≤ most }
     {
         self.accept_next(most, connections, shared)?;
@@ -90,7 +103,7 @@ impl Acceptor {
         }
         match self.next.take() {
             Some((link, peer)) => {
-                let connection = HttpPeer::new(shared.alloc, link, peer, self.accepted, now);
+                let connection = HttpConnection::new(shared.alloc, link, peer, self.accepted, now);
                 if let Some(slot) = connections.slots.free.pop() {
                     connections.drive(slot, connection, shared, now);
                 }
@@ -105,7 +118,7 @@ impl Acceptor {
         most: u64,
         connections: &mut HttpConnections<H>,
         shared: &mut Shared,
-    ) -> Result<(), HubFault>
+    ) -> Result<(), EventLoopFault>
         ensures within { self.old.accepted ≤ most → self.new.accepted ≤ most }
         ensures kept { self.old.has_more ≡ false → connections.new ≡ connections.old }
     {
@@ -119,20 +132,20 @@ impl Acceptor {
                 self.next = Some((link, peer));
                 Ok(())
             }
-            Err(error) => self.after_fault(error.kind(), connections, shared),
+            Err(error) => self.after_fault(&error, connections, shared),
         }
     }
 
     fn after_fault<H: Handler>(
         &mut self,
-        why: ErrorKind,
+        why: &io::Error,
         connections: &mut HttpConnections<H>,
         shared: &mut Shared,
-    ) -> Result<(), HubFault>
+    ) -> Result<(), EventLoopFault>
         ensures same { self.new.accepted ≡ self.old.accepted }
         ensures kept { self.old.has_more ≡ false → connections.new ≡ connections.old }
     {
-        match why {
+        match why.kind() {
             ErrorKind::WouldBlock => {
                 self.may_have_more = false;
                 Ok(())
@@ -143,11 +156,17 @@ impl Acceptor {
                 self.poll_again(&shared.poller);
                 Ok(())
             }
-            _ if connections.slots.reserved() == 0 => Err(HubFault),
-            _ => {
+            _ if connections.slots.reserved() > 0 => {
                 connections.evict(shared);
                 Ok(())
             }
+            // Control connections and signature requests have them all.
+            _ if is_out_of_descriptors(why) => {
+                self.may_have_more = false;
+                self.is_short = true;
+                Ok(())
+            }
+            _ => Err(EventLoopFault),
         }
     }
 

@@ -1,13 +1,13 @@
 //! The control connections: their listener, and each connection in its slot.
 
 ghost use Rattle.std.specs.Prelude.{◌≡◌};
-ghost use Rattle.reg_desk_server.specs.Handling.{ToldLines};
+ghost use Rattle.reg_desk_server.specs.Handling.{AnsweredLines};
 
-use crate::counter_peer::CounterPeer;
-use crate::handler::{Handler, HubFault, PeerFault};
+use crate::control_connection::ControlConnection;
+use crate::handler::{ConnectionFault, EventLoopFault, Handler};
+use crate::http_connection::Next;
 use crate::http_connections::SWEEP;
-use crate::http_peer::Next;
-use crate::poller::{CONTROL_LISTENER, FIRST_CONTROL, Poller};
+use crate::poller::{CONTROL_LISTENER, FIRST_CONTROL, Poller, is_out_of_descriptors};
 use crate::shared::{LostConnection, Shared};
 use crate::signature_requests::PAUSE;
 use crate::slots::Slots;
@@ -24,10 +24,12 @@ const MOST_CONTROL_CONNECTIONS: usize = 8;
 #[derive(Drop)]
 pub(crate) struct ControlConnections<H: Handler> {
     listener: Option<UnixListener>,
-    pub(crate) slots: Slots<CounterPeer<UnixStream>>,
+    pub(crate) slots: Slots<ControlConnection<UnixStream>>,
     /// The line that waits for a signature, if one does. Until it is answered no other line is.
     pub(crate) waiting: Option<WaitingLine<H>>,
     pub(crate) may_accept: bool,
+    /// Whether no descriptor was left for a connection, which may wait.
+    pub(crate) is_short: bool,
     /// Whether a connection may have a line that was not answered yet.
     has_lines: bool,
 }
@@ -47,6 +49,7 @@ impl<H: Handler> ControlConnections<H> {
             slots,
             waiting: None,
             may_accept: true,
+            is_short: false,
             has_lines: false,
         })
     }
@@ -73,8 +76,13 @@ impl<H: Handler> ControlConnections<H> {
         self.waiting = None;
     }
 
-    /// Accepts connections, as long as slots are free; further ones wait in the system's queue.
+    /// Accepts connections, as long as slots are free; further ones wait in the system's queue. If no descriptor is left, the next call tries
+    /// again.
     pub(crate) fn accept_all(&mut self, shared: &mut Shared) {
+        if self.is_short {
+            self.is_short = false;
+            self.may_accept = true;
+        }
         for _ in 0..MOST_CONTROL_CONNECTIONS {
             if !self.may_accept || !self.slots.has_free() {
                 return;
@@ -88,14 +96,15 @@ impl<H: Handler> ControlConnections<H> {
         }
     }
 
-    fn accept(&mut self, alloc: Global) -> Option<CounterPeer<UnixStream>> {
+    fn accept(&mut self, alloc: Global) -> Option<ControlConnection<UnixStream>> {
         let Some(listener) = &self.listener else {
             return None;
         };
         match listener.accept() {
-            Ok((link, _)) => Some(CounterPeer::new(alloc, link)),
+            Ok((link, _)) => Some(ControlConnection::new(alloc, link)),
             Err(error) => {
                 self.may_accept = error.kind() == ErrorKind::Interrupted;
+                self.is_short = is_out_of_descriptors(&error);
                 None
             }
         }
@@ -108,7 +117,12 @@ impl<H: Handler> ControlConnections<H> {
     }
 
     /// Goes on with a connection that was taken out of a slot, and puts it back unless it is to be closed.
-    fn drive(&mut self, slot: usize, mut connection: CounterPeer<UnixStream>, shared: &mut Shared) {
+    fn drive(
+        &mut self,
+        slot: usize,
+        mut connection: ControlConnection<UnixStream>,
+        shared: &mut Shared,
+    ) {
         match connection.advance(shared.room.as_mut_slice()) {
             Next::Due => {
                 self.has_lines = true;
@@ -116,14 +130,14 @@ impl<H: Handler> ControlConnections<H> {
             }
             Next::Poll(interest) => {
                 let token = slot.saturating_add(FIRST_CONTROL);
-                let CounterPeer {
+                let ControlConnection {
                     link,
                     is_registered,
                     ..
                 } = &mut connection;
                 if shared
                     .poller
-                    .register_noted(link, token, interest, is_registered)
+                    .register_again(link, token, interest, is_registered)
                 {
                     self.slots.put(slot, connection);
                 } else {
@@ -133,7 +147,7 @@ impl<H: Handler> ControlConnections<H> {
             Next::Park => self.slots.put(slot, connection),
             Next::Close => {
                 if connection.unsent.len() > 0 {
-                    let why = PeerFault::Broken;
+                    let why = ConnectionFault::Broken;
                     shared.lost.note(LostConnection { peer: None, why });
                 }
                 self.close(slot, connection);
@@ -141,7 +155,7 @@ impl<H: Handler> ControlConnections<H> {
         }
     }
 
-    fn close(&mut self, slot: usize, connection: CounterPeer<UnixStream>)
+    fn close(&mut self, slot: usize, connection: ControlConnection<UnixStream>)
         ensures { self.new.has_lines ≡ self.old.has_lines }
     {
         drop(connection);
@@ -150,13 +164,13 @@ impl<H: Handler> ControlConnections<H> {
 
     /// Answers one line of each connection; or goes on with the one that waits for a signature, until which no other is answered.
     #[tactic(auto, using(crate::proofs::Exchanges::exchanged_none))]
-    pub(crate) fn tell_all(
+    pub(crate) fn answer_all_lines(
         &mut self,
         shared: &mut Shared,
         handler: &mut H,
         now: u64,
-    ) -> Result<(), HubFault>
-        ensures { ToldLines H.Handler handler.old handler.new }
+    ) -> Result<(), EventLoopFault>
+        ensures { AnsweredLines H.Handler handler.old handler.new }
     {
         if let Some(waiting) = self.waiting.take() {
             return self.go_on(waiting, shared, handler, now);
@@ -166,7 +180,7 @@ impl<H: Handler> ControlConnections<H> {
         }
         self.has_lines = false;
         for slot in 0..MOST_CONTROL_CONNECTIONS {
-            self.tell_at(slot, shared, handler, now)?;
+            self.answer_line_at(slot, shared, handler, now)?;
         }
         Ok(())
     }
@@ -179,12 +193,12 @@ impl<H: Handler> ControlConnections<H> {
         shared: &mut Shared,
         handler: &mut H,
         now: u64,
-    ) -> Result<(), HubFault>
-        ensures { ToldLines H.Handler handler.old handler.new }
+    ) -> Result<(), EventLoopFault>
+        ensures { AnsweredLines H.Handler handler.old handler.new }
     {
         if waiting.is_due(now) {
             let (slot, mut connection, deferred, link) = waiting.into_parts();
-            let told = connection.tell_deferred(handler, deferred, link);
+            let told = connection.answer_deferred(handler, deferred, link);
             self.drive(slot, connection, shared);
             return told;
         }
@@ -195,14 +209,14 @@ impl<H: Handler> ControlConnections<H> {
 
     /// Answers one line of the connection of a slot, unless a line waits for a signature: this one, or one before it.
     #[tactic(auto, using(crate::proofs::Exchanges::exchanged_none))]
-    fn tell_at(
+    fn answer_line_at(
         &mut self,
         slot: usize,
         shared: &mut Shared,
         handler: &mut H,
         now: u64,
-    ) -> Result<(), HubFault>
-        ensures { ToldLines H.Handler handler.old handler.new }
+    ) -> Result<(), EventLoopFault>
+        ensures { AnsweredLines H.Handler handler.old handler.new }
     {
         if self.waiting.is_some() {
             self.has_lines = true;

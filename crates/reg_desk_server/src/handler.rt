@@ -1,6 +1,6 @@
 //! The handler, which answers requests and lines.
 
-use reg_crl_signer::Asking;
+use reg_crl_signer::SignatureRequest;
 use reg_http_head::Collected;
 use reg_io::Begun;
 use std::io;
@@ -8,24 +8,24 @@ use std::net::SocketAddr;
 
 /// No more can be answered: the clock can't be read, or the sockets fail.
 #[derive(Clone, Copy, Debug, PartialEq, Eq)]
-pub struct HubFault;
+pub struct EventLoopFault;
 
 /// Why a connection ended by a fault.
 #[derive(Clone, Copy, Debug, PartialEq, Eq)]
-pub enum PeerFault {
+pub enum ConnectionFault {
     /// The client broke it off, or it can't be polled.
     Broken,
     /// Its time was over: its request was not whole, or its answer not taken.
     Late,
     /// It was evicted: its request was not whole, or its answer not taken.
-    Crowded,
+    Evicted,
     /// There was no memory for what came on it.
     Memory,
 }
 
 /// How many connections there are, and how many HTTP connections were accepted up to now.
 #[derive(Clone, Copy, Debug, PartialEq, Eq)]
-pub struct Crowd {
+pub struct ConnectionCounts {
     pub peers: usize,
     pub counters: usize,
     pub accepted: u64,
@@ -69,22 +69,22 @@ pub trait Handler {
         &mut self,
         peer: SocketAddr,
         request: &Collected,
-    ) -> Result<Begun<Vec<u8>, Self::Ticket>, HubFault>
+    ) -> Result<Begun<Vec<u8>, Self::Ticket>, EventLoopFault>
         ensures ok { IfOk result (λ begun.
             answers self.old (collected_bytes request.now) (outcome_of begun) self.new) }
         ensures err { OnErr result (self.new ≡ self.old) };
 
     /// Requests the signature of what was left, and waits for nothing: the connection on which it will come, up to its end. An error
     /// is `WouldBlock` where the signer has no room for one more.
-    fn ask(&self, ticket: &Self::Ticket) -> io::Result<Asking>;
+    fn ask(&self, ticket: &Self::Ticket) -> io::Result<SignatureRequest>;
 
     /// The text that finishes what was left: with what came on the connection on which its signature was requested, which is at its
     /// end; or without a signature.
-    fn finish(&self, ticket: Self::Ticket, link: Option<Asking>) -> Vec<u8>
+    fn finish(&self, ticket: Self::Ticket, link: Option<SignatureRequest>) -> Vec<u8>
         ensures { finishes self.now ticket result.items };
 
     /// Answers one line of a control connection. What is noted of that connection is written here alone, and is empty where it begins.
-    fn tell(&mut self, line: &[u8], noted: &mut Vec<u8>) -> Result<Vec<u8>, HubFault>
+    fn tell(&mut self, line: &[u8], noted: &mut Vec<u8>) -> Result<Vec<u8>, EventLoopFault>
         ensures ok { IfOk result (λ text. tells self.old line.now text.items self.new) }
         ensures err { OnErr result ((self.new ≡ self.old) × (noted.new ≡ noted.old)) };
 
@@ -93,24 +93,24 @@ pub trait Handler {
         ensures { defers self.old line.now self.new };
 
     /// Connects to the signer for a line, and waits for nothing. An error is `WouldBlock` where the signer has no room for one more.
-    fn reach(&self, ticket: &Self::Line) -> io::Result<Asking>;
+    fn reach(&self, ticket: &Self::Line) -> io::Result<SignatureRequest>;
 
     /// Answers a line that was looked at: with what came on the connection on which its message went out, which is at its end; or
     /// without a signature. `None` where another message is to be signed by now: the line is to be looked at again.
-    fn tell_deferred(
+    fn answer_deferred(
         &mut self,
         line: &[u8],
         noted: &mut Vec<u8>,
         deferred: Deferred<Self::Line>,
-        link: Option<Asking>,
-    ) -> Result<Option<Vec<u8>>, HubFault>
+        link: Option<SignatureRequest>,
+    ) -> Result<Option<Vec<u8>>, EventLoopFault>
         ensures ok { IfOk result (λ told. MatchOption told (defers self.old line.now self.new)
             (λ text. tells self.old line.now text.items self.new)) }
         ensures err { OnErr result ((self.new ≡ self.old) × (noted.new ≡ noted.old)) };
 
     /// Is told that the connection from an address ended by a fault; a control connection has no address.
-    fn lose(&self, peer: Option<SocketAddr>, why: PeerFault);
+    fn lose(&self, peer: Option<SocketAddr>, why: ConnectionFault);
 
     /// Is told how many connections there are, before it answers any in an iteration.
-    fn hold(&self, crowd: Crowd);
+    fn hold(&self, connection_counts: ConnectionCounts);
 }

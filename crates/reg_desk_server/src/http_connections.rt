@@ -3,8 +3,8 @@
 ghost use Rattle.std.specs.Prelude.{◌≡◌, ◌+◌, ◌-◌, ◌^◌, min, [], IfOk};
 ghost use Rattle.reg_desk_server.specs.Held.{Notes};
 
-use crate::handler::{Handler, PeerFault};
-use crate::http_peer::{HttpPeer, Next};
+use crate::handler::{ConnectionFault, Handler};
+use crate::http_connection::{HttpConnection, Next};
 use crate::poller::{FIRST_HTTP, Poller};
 use crate::shared::{LostConnection, Shared};
 use crate::signature_requests::Requester;
@@ -15,7 +15,7 @@ use std::io;
 use std::io::ErrorKind;
 
 /// How many HTTP connections there may be at once: with what else a program has open, that fits the usual limit of 1,024 descriptors.
-pub const MOST_HTTP_PEERS: usize = 1_000;
+pub const MOST_HTTP_CONNECTIONS: usize = 1_000;
 
 const MOST_UNSENT: usize = 67_108_864;
 
@@ -31,7 +31,7 @@ enum Selection {
 }
 
 impl Selection {
-    fn takes<H: Handler>(self, connection: &HttpPeer<TcpStream, H>, slot: usize) -> bool {
+    fn takes<H: Handler>(self, connection: &HttpConnection<TcpStream, H>, slot: usize) -> bool {
         match self {
             Selection::Unanswered => !connection.has_answer(),
             Selection::Answered => connection.has_answer(),
@@ -42,7 +42,7 @@ impl Selection {
 
 #[derive(Drop)]
 pub(crate) struct HttpConnections<H: Handler> {
-    pub(crate) slots: Slots<HttpPeer<TcpStream, H>>,
+    pub(crate) slots: Slots<HttpConnection<TcpStream, H>>,
     /// Those that are to be answered in this iteration.
     pub(crate) due: Vec<usize>,
     unsent: usize,
@@ -80,7 +80,7 @@ impl<H: Handler> HttpConnections<H> {
     pub(crate) fn drive(
         &mut self,
         slot: usize,
-        mut connection: HttpPeer<TcpStream, H>,
+        mut connection: HttpConnection<TcpStream, H>,
         shared: &mut Shared,
         now: u64,
     ) {
@@ -91,26 +91,26 @@ impl<H: Handler> HttpConnections<H> {
             Next::Due => self.put_due(slot, connection),
             Next::Poll(interest) => {
                 let token = slot.saturating_add(FIRST_HTTP);
-                let HttpPeer {
+                let HttpConnection {
                     link,
                     is_registered,
                     ..
                 } = &mut connection;
                 if shared
                     .poller
-                    .register_noted(link, token, interest, is_registered)
+                    .register_again(link, token, interest, is_registered)
                 {
                     self.slots.put(slot, connection);
                 } else {
-                    self.close(slot, connection, shared, PeerFault::Broken);
+                    self.close(slot, connection, shared, ConnectionFault::Broken);
                 }
             }
             Next::Park => self.slots.put(slot, connection),
-            Next::Close => self.close(slot, connection, shared, PeerFault::Broken),
+            Next::Close => self.close(slot, connection, shared, ConnectionFault::Broken),
         }
     }
 
-    fn put_due(&mut self, slot: usize, connection: HttpPeer<TcpStream, H>)
+    fn put_due(&mut self, slot: usize, connection: HttpConnection<TcpStream, H>)
         ensures { Notes slot self.old.due.items self.new.due.items }
     {
         self.slots.put(slot, connection);
@@ -123,9 +123,9 @@ impl<H: Handler> HttpConnections<H> {
     fn close(
         &mut self,
         slot: usize,
-        connection: HttpPeer<TcpStream, H>,
+        connection: HttpConnection<TcpStream, H>,
         shared: &mut Shared,
-        why: PeerFault,
+        why: ConnectionFault,
     )
         ensures { self.new.due ≡ self.old.due }
     {
@@ -148,9 +148,9 @@ impl<H: Handler> HttpConnections<H> {
         };
         if let Some(mut connection) = self.slots.take(slot) {
             if connection.is_receiving() {
-                connection.fault = Some(PeerFault::Crowded);
+                connection.fault = Some(ConnectionFault::Evicted);
             }
-            self.expire(slot, connection, shared, PeerFault::Crowded);
+            self.expire(slot, connection, shared, ConnectionFault::Evicted);
         }
     }
 
@@ -184,7 +184,7 @@ impl<H: Handler> HttpConnections<H> {
         for slot in 0..self.slots.held.len() {
             match self.slots.take(slot) {
                 Some(connection) if connection.is_late(now) => {
-                    self.expire(slot, connection, shared, PeerFault::Late);
+                    self.expire(slot, connection, shared, ConnectionFault::Late);
                 }
                 Some(connection) => self.slots.put(slot, connection),
                 None => {}
@@ -196,9 +196,9 @@ impl<H: Handler> HttpConnections<H> {
     fn expire(
         &mut self,
         slot: usize,
-        connection: HttpPeer<TcpStream, H>,
+        connection: HttpConnection<TcpStream, H>,
         shared: &mut Shared,
-        why: PeerFault,
+        why: ConnectionFault,
     ) {
         if connection.is_receiving() {
             self.put_due(slot, connection);
@@ -209,7 +209,7 @@ impl<H: Handler> HttpConnections<H> {
 
     /// Holds no more unsent bytes than there may be: closes the oldest whose answer is not sent, but for the newest answer.
     pub(crate) fn limit_unsent(&mut self, newest: usize, shared: &mut Shared) {
-        for _ in 0..MOST_HTTP_PEERS {
+        for _ in 0..MOST_HTTP_CONNECTIONS {
             if self.unsent <= MOST_UNSENT {
                 return;
             }
@@ -217,7 +217,7 @@ impl<H: Handler> HttpConnections<H> {
                 return;
             };
             if let Some(connection) = self.slots.take(slot) {
-                self.expire(slot, connection, shared, PeerFault::Crowded);
+                self.expire(slot, connection, shared, ConnectionFault::Evicted);
             }
         }
     }
@@ -242,7 +242,7 @@ impl<H: Handler> HttpConnections<H> {
     fn close_unanswered(&mut self, slot: usize, shared: &mut Shared) {
         if let Some(connection) = self.slots.take(slot) {
             if connection.is_receiving() {
-                self.close(slot, connection, shared, PeerFault::Late);
+                self.close(slot, connection, shared, ConnectionFault::Late);
             } else {
                 self.slots.put(slot, connection);
             }
@@ -257,7 +257,10 @@ impl<H: Handler> HttpConnections<H> {
         }
     }
 
-    pub(crate) fn take_waiting(&mut self, requester: Requester) -> Option<HttpPeer<TcpStream, H>> {
+    pub(crate) fn take_waiting(
+        &mut self,
+        requester: Requester,
+    ) -> Option<HttpConnection<TcpStream, H>> {
         if self.is_waiting(requester) {
             self.slots.take(requester.slot)
         } else {
@@ -287,7 +290,7 @@ impl<H: Handler> HttpConnections<H> {
         self.advance(requester.slot, shared, now);
         match self.take_waiting(requester) {
             Some(connection) if connection.has_ended => {
-                self.close(requester.slot, connection, shared, PeerFault::Broken);
+                self.close(requester.slot, connection, shared, ConnectionFault::Broken);
                 true
             }
             Some(connection) => {

@@ -1,11 +1,11 @@
 //! Laws of whole connections. The functions do nothing: their contracts are the laws.
 
 ghost use Rattle.std.specs.Prelude.{◌≡◌, []};
-ghost use Rattle.reg_desk_server.specs.Connections.{HasServed, HasTold, KeepsServed, ServesOn, TellsNoneAnew, TellsOneAnew};
-ghost use Rattle.reg_desk_server.specs.CounterLines.{Deferring, IsFresh, Telling, TellingLater};
+ghost use Rattle.reg_desk_server.specs.Connections.{HasServed, HasAnsweredLines, KeepsServed, ServesOn, TellsNoneAnew, TellsOneAnew};
+ghost use Rattle.reg_desk_server.specs.ControlLines.{Deferring, IsFresh, Telling, TellingLater};
 ghost use Rattle.reg_desk_server.specs.Stages.{Answering, Finishing, HasReceived, KeepsSigning};
-ghost use Rattle.reg_desk_server.specs.declared.counter_peer.CounterPeer.{CounterPeer};
-ghost use Rattle.reg_desk_server.specs.declared.http_peer.HttpPeer.{HttpPeer};
+ghost use Rattle.reg_desk_server.specs.declared.control_connection.ControlConnection.{ControlConnection};
+ghost use Rattle.reg_desk_server.specs.declared.http_connection.HttpConnection.{HttpConnection};
 
 use crate::handler::Handler;
 use crate::link::Link;
@@ -13,11 +13,11 @@ use crate::link::Link;
 /// On a control connection each line is answered once, in order, and so is each reply.
 ///
 /// Over any steps from when it was accepted, what came on it are the lines that were answered, and then what is held; what went out on it, and
-/// behind it what is unsent, are the replies to these lines (`HasTold`). It begins so. `CounterPeer::advance` answers no line; `tell` and
-/// `tell_deferred` answer one, or none. The bytes are those of a link that tells them: of a socket no clause does.
-pub fn a_counter_is_told_line_by_line<S: Link, H: Handler>()
-    ensures begins { (peer : CounterPeer S) → IsFresh peer
-        → HasTold S.Write.contents S.Read.remaining H.tells peer.link peer [] [] }
+/// behind it what is unsent, are the replies to these lines (`HasAnsweredLines`). It begins so. `ControlConnection::advance` answers no line; `tell` and
+/// `answer_deferred` answer one, or none. The bytes are those of a link that tells them: of a socket no clause does.
+pub fn each_line_is_answered_once_in_order<S: Link, H: Handler>()
+    ensures begins { (peer : ControlConnection S) → IsFresh peer
+        → HasAnsweredLines S.Write.contents S.Read.remaining H.tells peer.link peer [] [] }
     ensures advances { TellsNoneAnew S.Write.contents S.Read.remaining H.tells }
     ensures tells { TellsOneAnew S.Write.contents S.Read.remaining H.tells
         (Telling H.tells) (λ s t _. t ≡ s) }
@@ -29,10 +29,10 @@ pub fn a_counter_is_told_line_by_line<S: Link, H: Handler>()
 ///
 /// Over any steps from when an HTTP connection was accepted, what came on it is held until it is answered, and nothing went out; from then on
 /// what went out, and behind it what is unsent, is the answer to a front of what came, which is asked of the handler once, and what came behind
-/// that is dropped (`HasServed`). It begins so, and `HttpPeer::advance`, `answer` and `complete` keep it, also where a signature is requested,
+/// that is dropped (`HasServed`). It begins so, and `HttpConnection::advance`, `answer` and `complete` keep it, also where a signature is requested,
 /// or no more of its request is waited for.
-pub fn a_peer_is_answered_once<S: Link, H: Handler>()
-    ensures begins { (peer : HttpPeer S H H.Ticket H.Line) → HasReceived peer.stage []
+pub fn each_request_is_answered_once<S: Link, H: Handler>()
+    ensures begins { (peer : HttpConnection S H H.Ticket H.Line) → HasReceived peer.stage []
         → HasServed S.Write.contents S.Read.remaining H.Handler peer.link peer }
     ensures advances { ServesOn S.Write.contents S.Read.remaining H.Handler }
     ensures answers { (s t : H)

@@ -3,25 +3,25 @@
 #![tactic(auto)]
 
 mod acceptor;
+mod control_connection;
 mod control_connections;
-mod counter_peer;
+mod event_loop;
 mod handler;
+mod http_connection;
 mod http_connections;
-mod http_peer;
-mod hub;
 pub mod laws;
 mod link;
 mod poller;
-mod receiving;
+mod request_bytes;
 mod shared;
 mod signature_requests;
 mod slots;
 mod unsent;
 mod waiting_line;
 
-pub use counter_peer::CounterPeer;
-pub use handler::{Crowd, Deferred, Handler, HubFault, PeerFault};
-pub use http_connections::MOST_HTTP_PEERS;
-pub use http_peer::{HttpPeer, Next};
-pub use hub::Hub;
+pub use control_connection::ControlConnection;
+pub use event_loop::EventLoop;
+pub use handler::{ConnectionCounts, ConnectionFault, Deferred, EventLoopFault, Handler};
+pub use http_connection::{HttpConnection, Next};
+pub use http_connections::MOST_HTTP_CONNECTIONS;
 pub use link::Link;

@@ -2,7 +2,7 @@
 
 ghost use Rattle.std.specs.Prelude.{◌≡◌, [], IfOk, true};
 
-use crate::handler::HubFault;
+use crate::handler::EventLoopFault;
 use mio::event::Source;
 use mio::{Events, Interest, Poll, Token};
 use std::alloc::AllocGlobal;
@@ -11,6 +11,11 @@ use std::net::Net;
 use std::time::Duration;
 
 const MOST_EVENTS: usize = 1_024;
+
+/// What the system says where too many files are open, in this process (EMFILE) or in all (ENFILE).
+const TOO_MANY_HERE: i32 = 24;
+
+const TOO_MANY: i32 = 23;
 
 pub(crate) const MOST_SIGNATURES: usize = 32;
 
@@ -72,7 +77,7 @@ impl Poller {
     }
 
     /// Registers a connection, or once more where it is noted that it was; whether that could be done.
-    pub(crate) fn register_noted<S: Source>(
+    pub(crate) fn register_again<S: Source>(
         &self,
         source: &mut S,
         token: usize,
@@ -89,9 +94,9 @@ impl Poller {
     }
 
     /// Waits until something is ready, no longer than this. Then `tokens` has what is: a signature is, where all of it is there.
-    pub(crate) fn poll(&mut self, longest: Duration) -> Result<(), HubFault> {
+    pub(crate) fn poll(&mut self, longest: Duration) -> Result<(), EventLoopFault> {
         if self.poll.poll(&mut self.events, Some(longest)).is_err() {
-            return Err(HubFault);
+            return Err(EventLoopFault);
         }
         self.tokens.clear();
         for event in &self.events {
@@ -114,4 +119,11 @@ fn ready_token(token: usize, is_ended: bool) -> Option<usize> {
         return Some(LINE_ENDED);
     }
     Some(token)
+}
+
+pub(crate) fn is_out_of_descriptors(error: &io::Error) -> bool {
+    match error.raw_os_error() {
+        Some(TOO_MANY_HERE | TOO_MANY) => true,
+        _ => false,
+    }
 }

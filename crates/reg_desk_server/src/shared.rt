@@ -3,7 +3,7 @@
 ghost use Rattle.std.specs.Prelude.{◌≡◌, [], IfOk};
 ghost use Rattle.reg_desk_server.specs.Held.{Notes};
 
-use crate::handler::{Handler, PeerFault};
+use crate::handler::{ConnectionFault, Handler};
 use crate::poller::Poller;
 use std::alloc::{AllocError, AllocGlobal, Global};
 use std::io;
@@ -39,7 +39,7 @@ impl Shared {
 #[derive(Clone, Copy)]
 pub(crate) struct LostConnection {
     pub(crate) peer: Option<SocketAddr>,
-    pub(crate) why: PeerFault,
+    pub(crate) why: ConnectionFault,
 }
 
 /// The connections that ended by a fault and were not reported yet, in the order in which they ended.

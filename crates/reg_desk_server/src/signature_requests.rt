@@ -129,7 +129,7 @@ impl SignatureRequests {
         self.requested.push(Some(requested)).is_ok()
     }
 
-    pub(crate) fn note_end(&mut self, index: usize) {
+    pub(crate) fn mark_ended(&mut self, index: usize) {
         if let Some(Some(requested)) = self.requested.get_mut(index) {
             requested.has_come = true;
         }

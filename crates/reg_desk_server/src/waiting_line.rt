@@ -1,12 +1,12 @@
 //! A line of a control connection that waits for a signature.
 
-use crate::counter_peer::CounterPeer;
+use crate::control_connection::ControlConnection;
 use crate::handler::{Deferred, Handler};
 use crate::poller::{LINE, Poller};
 use crate::unsent::{Sent, Unsent};
 use mio::Interest;
 use mio::net::UnixStream;
-use reg_crl_signer::{Asking, DeviceConnection};
+use reg_crl_signer::{DeviceConnection, SignatureRequest};
 use std::io::ErrorKind;
 
 /// How many milliseconds a signature may take, from when its line was looked at.
@@ -26,12 +26,12 @@ enum Progress {
 #[derive(Drop)]
 pub(crate) struct WaitingLine<H: Handler> {
     slot: usize,
-    connection: CounterPeer<UnixStream>,
+    connection: ControlConnection<UnixStream>,
     ticket: H::Line,
     /// The message to be signed, with what of it is not sent yet.
     message: Unsent,
     /// The connection to the signer, once there is one.
-    pub(crate) link: Option<Asking>,
+    pub(crate) link: Option<SignatureRequest>,
     is_registered: bool,
     progress: Progress,
     until: u64,
@@ -40,7 +40,7 @@ pub(crate) struct WaitingLine<H: Handler> {
 impl<H: Handler> WaitingLine<H> {
     pub(crate) fn new(
         slot: usize,
-        connection: CounterPeer<UnixStream>,
+        connection: ControlConnection<UnixStream>,
         deferred: Deferred<H::Line>,
         now: u64,
     ) -> WaitingLine<H> {
@@ -65,7 +65,7 @@ impl<H: Handler> WaitingLine<H> {
     }
 
     /// The connection to the signer is at its end: what came on it is there, unless the message had not gone out.
-    pub(crate) fn note_end(&mut self) {
+    pub(crate) fn mark_ended(&mut self) {
         self.progress = match self.progress {
             Progress::Waiting | Progress::Come => Progress::Come,
             Progress::Sending | Progress::Failed => Progress::Failed,
@@ -104,7 +104,7 @@ impl<H: Handler> WaitingLine<H> {
                 return;
             }
         };
-        let is_polled = poller.register_noted(link, LINE, interest, &mut self.is_registered);
+        let is_polled = poller.register_again(link, LINE, interest, &mut self.is_registered);
         self.progress = if is_polled {
             progress
         } else {
@@ -117,9 +117,9 @@ impl<H: Handler> WaitingLine<H> {
         self,
     ) -> (
         usize,
-        CounterPeer<UnixStream>,
+        ControlConnection<UnixStream>,
         Deferred<H::Line>,
-        Option<Asking>,
+        Option<SignatureRequest>,
     ) {
         let WaitingLine {
             slot,

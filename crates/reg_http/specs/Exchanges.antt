@@ -27,13 +27,13 @@ abbrev pub IsUntold : Exchange → Type 0
 IsUntold exchange = ((exchange.status ≡ Some 500) × (exchange.text.items ≡ memory_text)) ⊎ IsEmpty exchange
 
 -- the response at a moment: its whole text, so no answer is cut; or out of memory
-abbrev pub TellsText : ℕ → Response → Exchange → Type 0
-TellsText now response exchange = ((exchange.status ≡ Some response.status) × IsText response now exchange.text.items) ⊎ IsUntold exchange
+abbrev pub AnswersText : ℕ → Response → Exchange → Type 0
+AnswersText now response exchange = ((exchange.status ≡ Some response.status) × IsText response now exchange.text.items) ⊎ IsUntold exchange
 
 -- the same, with what became of the signature, what is said of the store, and the request for revocation that is named
 abbrev pub TellsAnswered : ℕ → Told → Exchange → Type 0
 TellsAnswered now it exchange =
-    (exchange.signature ≡ it.signature) × (exchange.store ≡ it.store) × (exchange.named ≡ it.named) × TellsText now it.response exchange
+    (exchange.signature ≡ it.signature) × (exchange.store ≡ it.store) × (exchange.named ≡ it.named) × AnswersText now it.response exchange
 
 -- this is said of a signature; nothing of the store, and no request is named
 abbrev pub SaysOnly : SignatureFate → Exchange → Type 0

@@ -39,12 +39,12 @@ behind (Some at) text = drop (at + 1) text
 behind None text = []
 
 -- a text up to the end of the path that it begins with
-abbrev pub front_to : List ℕ → List ℕ
-front_to text = before (position ends_path text) text
+abbrev pub prefix_to : List ℕ → List ℕ
+prefix_to text = before (position ends_path text) text
 
 -- the path that the first line of a request names (RFC 9112 3): behind the first space, up to a `?` or to the next space
 abbrev pub named_path : List ℕ → List ℕ
-named_path request = front_to (behind (position is_space request) request)
+named_path request = prefix_to (behind (position is_space request) request)
 
 -- its route
 abbrev pub named_route : List ℕ → Route

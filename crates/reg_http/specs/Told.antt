@@ -33,22 +33,22 @@ told answered = record {
 }
 
 -- a response without a signature, which says this of the store and names no request
-abbrev pub told_unsigned : Response → StoreEffect → Told
-told_unsigned response effect = record { response = response; signature = NotAsked; store = effect; named = None }
+abbrev pub unsigned_answer : Response → StoreEffect → Told
+unsigned_answer response effect = record { response = response; signature = NotAsked; store = effect; named = None }
 
 -- a response that says nothing of the store either
 abbrev pub plain : Response → Told
-plain response = told_unsigned response Unwritten
+plain response = unsigned_answer response Unwritten
 
 -- a refusal or a fault is told by its line
 abbrev pub fault_told : Fault → Told
-fault_told fault = told_unsigned (fault_response fault) (store_of_fault fault)
+fault_told fault = unsigned_answer (fault_response fault) (store_of_fault fault)
 
 -- a reply to what a request can ask: 200 with its body; any other, which no office gives, is a fault of the store
 abbrev pub reply_told : Reply → Told
 reply_told (Status status) = plain (json 200 (status_text status))
 reply_told (Counts counts) = plain (json 200 (counts_text counts))
-reply_told (Request id due) = told_unsigned (json 200 (due_text id due)) Written
+reply_told (Request id due) = unsigned_answer (json 200 (due_text id due)) Written
 reply_told other = fault_told Store
 
 abbrev pub outcome_told : Result Reply Fault → Told

@@ -5,7 +5,7 @@ ghost use Rattle.reg_office_api.specs.Items.{items_of};
 ghost use Rattle.reg_http_head.specs.Response.{shown};
 ghost use Rattle.reg_http.specs.Answers.{TellsOcsp};
 ghost use Rattle.reg_http.specs.Bodies.{ocsp_reply};
-ghost use Rattle.reg_http.specs.Told.{crl_told, entered_request, fault_told, ocsp_told, outcome_told, plain as plainly, reply_told, request_told, told, told_unsigned as unsigned_told};
+ghost use Rattle.reg_http.specs.Told.{crl_told, entered_request, fault_told, ocsp_told, outcome_told, plain as plainly, reply_told, request_told, told, unsigned_answer as unsigned_told};
 
 use crate::bodies::{
     OCSP_RESPONSE, PKIX_CRL, der, fault_answer, json, put_counts, put_due, put_status,
@@ -56,7 +56,7 @@ impl Answered {
 }
 
 /// The answer that tells a refusal or a fault by its line.
-pub(crate) fn told_fault(room: Vec<u8>, fault: Fault) -> Answered
+pub(crate) fn answer_of_fault(room: Vec<u8>, fault: Fault) -> Answered
     requires empty { room.items ≡ [] }
     requires room { 256 ≤ vec_capacity room }
     ensures { told result ≡ fault_told fault }
@@ -67,7 +67,7 @@ pub(crate) fn told_fault(room: Vec<u8>, fault: Fault) -> Answered
 
 /// The answer that tells a reply to a query or to a request for revocation. One to anything else, which no office gives, is told as a fault
 /// of the store.
-fn told_reply(mut room: Vec<u8>, reply: Reply) -> Answered
+fn reply_answer(mut room: Vec<u8>, reply: Reply) -> Answered
     requires empty { room.items ≡ [] }
     requires room { 256 ≤ vec_capacity room }
     ensures { told result ≡ reply_told reply }
@@ -85,29 +85,34 @@ fn told_reply(mut room: Vec<u8>, reply: Reply) -> Answered
             put_due(&mut room, id, due);
             Answered::unsigned(json(status::OK, room), StoreEffect::Written)
         }
-        _ => told_fault(room, Fault::Store),
+        _ => answer_of_fault(room, Fault::Store),
     }
 }
 
-pub(crate) fn told_outcome(room: Vec<u8>, outcome: Outcome) -> Answered
+pub(crate) fn outcome_answer(room: Vec<u8>, outcome: Outcome) -> Answered
     requires empty { room.items ≡ [] }
     requires room { 256 ≤ vec_capacity room }
     ensures { told result ≡ outcome_told outcome }
 {
     match outcome {
-        Ok(reply) => told_reply(room, reply),
-        Err(fault) => told_fault(room, fault),
+        Ok(reply) => reply_answer(room, reply),
+        Err(fault) => answer_of_fault(room, fault),
     }
 }
 
 /// The answer to a command for a revocation, which names the request that it entered.
-pub(crate) fn told_request(room: Vec<u8>, serial: Serial, word: Label, outcome: Outcome) -> Answered
+pub(crate) fn request_answer(
+    room: Vec<u8>,
+    serial: Serial,
+    word: Label,
+    outcome: Outcome,
+) -> Answered
     requires empty { room.items ≡ [] }
     requires room { 256 ≤ vec_capacity room }
     ensures { told result ≡ request_told serial word outcome }
 {
     let named = entered_request(serial, word, &outcome);
-    let mut answered = told_outcome(room, outcome);
+    let mut answered = outcome_answer(room, outcome);
     answered.named = named;
     answered
 }
@@ -125,18 +130,18 @@ fn entered_request(serial: Serial, word: Label, outcome: &Outcome) -> Option<Nam
     }
 }
 
-pub(crate) fn told_crl(room: Vec<u8>, given: Result<Vec<u8>, Fault>) -> Answered
+pub(crate) fn crl_answer(room: Vec<u8>, given: Result<Vec<u8>, Fault>) -> Answered
     requires empty { room.items ≡ [] }
     requires room { 256 ≤ vec_capacity room }
     ensures { told result ≡ crl_told (items_of given) }
 {
     match given {
         Ok(bytes) => Answered::plain(der(PKIX_CRL, bytes)),
-        Err(fault) => told_fault(room, fault),
+        Err(fault) => answer_of_fault(room, fault),
     }
 }
 
-fn told_ocsp(response: OcspResponse) -> Answered
+fn ocsp_answer_of(response: OcspResponse) -> Answered
     ensures { told result ≡ ocsp_told (Ok (response.kind, response.bytes.items)) }
 {
     let OcspResponse { bytes, kind } = response;
@@ -149,7 +154,7 @@ fn told_ocsp(response: OcspResponse) -> Answered
 }
 
 /// The answer that carries an OCSP response, or what is left to be signed for it.
-pub(crate) fn told_begun(
+pub(crate) fn begun_answer(
     room: Vec<u8>,
     given: Result<Begun<OcspResponse, Draft>, Memory>,
 ) -> Begun<Answered, Draft>
@@ -158,9 +163,9 @@ pub(crate) fn told_begun(
     ensures { TellsOcsp given result }
 {
     match given {
-        Ok(Begun::Ready(response)) => Begun::Ready(told_ocsp(response)),
+        Ok(Begun::Ready(response)) => Begun::Ready(ocsp_answer_of(response)),
         Ok(Begun::Unsigned(draft)) => Begun::Unsigned(draft),
-        Err(_) => Begun::Ready(told_fault(room, Fault::Memory)),
+        Err(_) => Begun::Ready(answer_of_fault(room, Fault::Memory)),
     }
 }
 

@@ -4,7 +4,7 @@ ghost use Rattle.std.specs.Prelude.{◌≡◌, ◌≤◌, [], IfOk, vec_capacity
 ghost use Rattle.reg_office_api.specs.Items.{items_of};
 ghost use Rattle.reg_http_head.specs.Response.{shown};
 ghost use Rattle.reg_http.specs.Bodies.{ocsp_reply};
-ghost use Rattle.reg_http.specs.Exchanges.{IsEmpty, IsUntold, PutsText, SaysNothing, SaysOnly, TellsAnswered, TellsBegun, TellsText};
+ghost use Rattle.reg_http.specs.Exchanges.{IsEmpty, IsUntold, PutsText, SaysNothing, SaysOnly, TellsAnswered, TellsBegun, AnswersText};
 ghost use Rattle.reg_http.specs.Told.{told};
 
 use crate::answered::{Answered, NamedRequest, ocsp_answer};
@@ -111,7 +111,7 @@ impl Exchange {
         response: Result<Vec<u8>, Memory>,
         signature: SignatureFate,
     ) -> Exchange
-        ensures tells { TellsText now (ocsp_reply (items_of response)) result }
+        ensures tells { AnswersText now (ocsp_reply (items_of response)) result }
         ensures effects { SaysOnly signature result }
         ensures route { result.route ≡ route }
     {

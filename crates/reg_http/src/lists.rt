@@ -6,7 +6,7 @@ ghost use Rattle.reg_office_api.specs.Leads.{Looks};
 ghost use Rattle.reg_http.specs.Lists.{RespondsList, given_told, list_asked, page_in, page_told, wanted_body};
 ghost use Rattle.reg_http.specs.Told.{fault_told, told};
 
-use crate::answered::{Answered, told_fault};
+use crate::answered::{Answered, answer_of_fault};
 use crate::bodies::{json, json_room};
 use crate::routes::only_get;
 use http::Method;
@@ -44,10 +44,10 @@ pub fn answer_list<O: Office>(
     match read_list(alloc, method, target) {
         Ok(ListAsked::Page(wanted)) => {
             let given = office.page(alloc, now, wanted.from, wanted.most);
-            tell_page(alloc, &wanted, &given)
+            answer_page(alloc, &wanted, &given)
         }
         Ok(ListAsked::OnlyGet) => only_get(alloc),
-        Ok(ListAsked::Unread) => tell_fault(alloc, Fault::Refused(Refusal::Syntax)),
+        Ok(ListAsked::Unread) => report_fault(alloc, Fault::Refused(Refusal::Syntax)),
         Err(memory) => Err(memory),
     }
 }
@@ -92,7 +92,7 @@ fn page_behind(path: &[u8], told: &[u8]) -> ListAsked
 }
 
 /// The answer with the rows of a page that are wanted, or why there is none.
-fn tell_page(
+fn answer_page(
     alloc: Global,
     wanted: &PageAsked,
     given: &Result<Page, Fault>,
@@ -104,7 +104,7 @@ fn tell_page(
             Ok(text) => Ok(Answered::plain(json(status::OK, text))),
             Err(_) => Err(Memory),
         },
-        Err(fault) => tell_fault(alloc, *fault),
+        Err(fault) => report_fault(alloc, *fault),
     }
 }
 
@@ -115,8 +115,8 @@ fn wanted_text(alloc: Global, wanted: &PageAsked, page: &Page) -> Result<Vec<u8>
     page_text(alloc, wanted.from, &rows, page.next)
 }
 
-fn tell_fault(alloc: Global, fault: Fault) -> Result<Answered, Memory>
+fn report_fault(alloc: Global, fault: Fault) -> Result<Answered, Memory>
     ensures { IfOk result (λ answered. told answered ≡ fault_told fault) }
 {
-    Ok(told_fault(json_room(alloc)?, fault))
+    Ok(answer_of_fault(json_room(alloc)?, fault))
 }

@@ -7,7 +7,7 @@ ghost use Rattle.reg_http.specs.Bodies.{der, malformed_text};
 ghost use Rattle.reg_http.specs.Parts.{call_asks};
 ghost use Rattle.reg_http.specs.Told.{told};
 
-use crate::answered::{Answered, told_crl, told_fault, told_outcome, told_request};
+use crate::answered::{Answered, answer_of_fault, crl_answer, outcome_answer, request_answer};
 use crate::bodies::{OCSP_RESPONSE, der, only, refusal};
 use crate::parts::Call;
 use reg_core::{Command, Fault, Moment, Query, Refusal};
@@ -43,20 +43,20 @@ pub(crate) fn respond<O: Office>(
         Call::Refused(status) => Answered::plain(refusal(room, status)),
         Call::OnlyGet => Answered::plain(only(room, "GET")),
         Call::OnlyPost => Answered::plain(only(room, "POST")),
-        Call::Unread => told_fault(room, Fault::Refused(Refusal::Syntax)),
+        Call::Unread => answer_of_fault(room, Fault::Refused(Refusal::Syntax)),
         Call::Malformed => Answered::plain(malformed(room)),
-        Call::Crl(number) => told_crl(room, office.crl_bytes(alloc, number)),
+        Call::Crl(number) => crl_answer(room, office.crl_bytes(alloc, number)),
         Call::Status(serial) => {
             let query = Query::Status(serial);
-            told_outcome(room, office.ask(alloc, now, &query))
+            outcome_answer(room, office.ask(alloc, now, &query))
         }
-        Call::Counts => told_outcome(room, office.ask(alloc, now, &Query::Counts)),
+        Call::Counts => outcome_answer(room, office.ask(alloc, now, &Query::Counts)),
         Call::Request { serial, word } => {
             let command = Command::Request {
                 serial,
                 ground: word,
             };
-            told_request(room, serial, word, office.run_one(alloc, now, &command))
+            request_answer(room, serial, word, office.run_one(alloc, now, &command))
         }
     }
 }

@@ -3,7 +3,7 @@
 ghost use Rattle.std.specs.Prelude.{◌≡◌, ◌<◌, IfSome, length};
 ghost use Rattle.std.specs.List.{position};
 ghost use Rattle.reg_http.specs.Asked.{path_of as path_in};
-ghost use Rattle.reg_http.specs.RouteNames.{ends_path as ends_a_path, front_to, is_space, named_path, named_route, route_at as route_of_path};
+ghost use Rattle.reg_http.specs.RouteNames.{ends_path as ends_a_path, prefix_to, is_space, named_path, named_route, route_at as route_of_path};
 
 /// A route, whatever stands at the part of the path that it leaves open.
 #[derive(Clone, Copy, PartialEq, Eq)]
@@ -72,7 +72,7 @@ fn space_in(text: &[u8]) -> Option<usize>
 }
 
 fn front_of(text: &[u8]) -> &[u8]
-    ensures { result.now ≡ front_to text.now }
+    ensures { result.now ≡ prefix_to text.now }
 {
     match path_end(text) {
         Some(end) => &text[..end],

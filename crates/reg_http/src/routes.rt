@@ -12,7 +12,7 @@ ghost use Rattle.reg_http.specs.Asked.{asked};
 ghost use Rattle.reg_http.specs.Bodies.{http_refusal, only as only_response};
 ghost use Rattle.reg_http.specs.Told.{plain, told};
 
-use crate::answered::{Answered, ocsp_answer, told_begun};
+use crate::answered::{Answered, begun_answer, ocsp_answer};
 use crate::bodies::{json_room, only, refusal};
 use crate::parts::{Part, read_part};
 use crate::respond::respond;
@@ -73,8 +73,8 @@ pub fn begin<O: Office>(
 {
     let room = json_room(alloc)?;
     match read_part(alloc, method, target, body)? {
-        Part::Posted => Ok(told_begun(room, office.begin_ocsp(alloc, now, body))),
-        Part::Decoded(request) => Ok(told_begun(room, office.begin_ocsp(alloc, now, &request))),
+        Part::Posted => Ok(begun_answer(room, office.begin_ocsp(alloc, now, body))),
+        Part::Decoded(request) => Ok(begun_answer(room, office.begin_ocsp(alloc, now, &request))),
         Part::Other(call) => Ok(Begun::Ready(respond(alloc, room, call, now, office))),
     }
 }

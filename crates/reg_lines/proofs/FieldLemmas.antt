@@ -3,17 +3,17 @@ use Rattle.std.proofs.Common.{◌≡◌, ◌≢◌, ◌==◌, ℕ, suc, ◌+◌,
 use Rattle.std.specs.List.{position_or_len}
 use Rattle.std.proofs.lemmas.List.{take_rest}
 use Rattle.std.proofs.lemmas.Bool.{ltb-true, ltb-false}
-use Rattle.reg_lines.specs.Fields.{fields_of, in_front, fields_left}
+use Rattle.reg_lines.specs.Fields.{fields_of, in_prefix, fields_left}
 
 abbrev is_space : ℕ → Bool
 is_space byte = byte == 32
 
 -- a line has a field
-front_some : (byte : ℕ) (fields : List (List ℕ)) → in_front byte fields ≢ []
+front_some : (byte : ℕ) (fields : List (List ℕ)) → in_prefix byte fields ≢ []
 front_some byte [] e = cc e
 front_some byte (field ∷ fields) e = cc e
 
-some_by : (byte : ℕ) (rest : List ℕ) (b : Bool) → cond b ([] ∷ fields_of rest) (in_front byte (fields_of rest)) ≢ []
+some_by : (byte : ℕ) (rest : List ℕ) (b : Bool) → cond b ([] ∷ fields_of rest) (in_prefix byte (fields_of rest)) ≢ []
 some_by byte rest true e = cc e
 some_by byte rest false e = front_some byte (fields_of rest) e
 
@@ -32,14 +32,14 @@ fields_cut (byte ∷ rest) below = by (byte == 32) refl (fields_cut rest)
     by : (b : Bool) → (byte == 32) ≡ b
         → (position_or_len is_space rest < length rest
         → fields_of rest ≡ take (position_or_len is_space rest) rest ∷ fields_of (drop (position_or_len is_space rest + 1) rest))
-        → cond (byte == 32) ([] ∷ fields_of rest) (in_front byte (fields_of rest))
+        → cond (byte == 32) ([] ∷ fields_of rest) (in_prefix byte (fields_of rest))
         ≡ take (position_or_len is_space (byte ∷ rest)) (byte ∷ rest) ∷ fields_of (drop (position_or_len is_space (byte ∷ rest) + 1) (byte ∷ rest))
     by true e more = rw e refl
     by false e more =
         let inside : position_or_len is_space rest < length rest = omega (arith, rw e at below) in
         rw (e, more inside) (step (position_or_len is_space rest))
       where
-        step : (n : ℕ) → in_front byte (take n rest ∷ fields_of (drop (n + 1) rest)) ≡ take (1 + n) (byte ∷ rest) ∷ fields_of (drop (1 + n + 1) (byte ∷ rest))
+        step : (n : ℕ) → in_prefix byte (take n rest ∷ fields_of (drop (n + 1) rest)) ≡ take (1 + n) (byte ∷ rest) ∷ fields_of (drop (1 + n + 1) (byte ∷ rest))
         step n =
             let second : 1 + n + 1 ≡ suc (n + 1) = omega arith in
             let first : 1 + n ≡ suc n = omega arith in
@@ -52,7 +52,7 @@ fields_last [] all = refl
 fields_last (byte ∷ rest) all = by (byte == 32) refl (fields_last rest)
   where
     by : (b : Bool) → (byte == 32) ≡ b → (length rest ≤ position_or_len is_space rest → fields_of rest ≡ rest ∷ [])
-        → cond (byte == 32) ([] ∷ fields_of rest) (in_front byte (fields_of rest)) ≡ (byte ∷ rest) ∷ []
+        → cond (byte == 32) ([] ∷ fields_of rest) (in_prefix byte (fields_of rest)) ≡ (byte ∷ rest) ∷ []
     by true e more = absurd (omega (arith, rw e at all))
     by false e more =
         let inside : length rest ≤ position_or_len is_space rest = omega (arith, rw e at all) in

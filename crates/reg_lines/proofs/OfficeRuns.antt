@@ -7,7 +7,7 @@ use Rattle.reg_office_api.specs.declared.office.Office.{Ghosts as Office}
 use Rattle.reg_core.specs.declared.refusal.Fault.{Fault}
 use Rattle.reg_lines.specs.Accepted.{done_of}
 use Rattle.reg_lines.specs.Answer.{ComesTo}
-use Rattle.reg_lines.specs.declared.answered.Answered.{Answered as Came}
+use Rattle.reg_lines.specs.declared.answered.Answered.{Answered as LineOutcome}
 use Rattle.reg_lines.specs.ByCalls.{CountsFailure, LineCalls, Lines}
 use Rattle.reg_lines.specs.Import.{ImportEnds}
 use Rattle.reg_lines.specs.Script.{LinesEnd, ScriptEnds}
@@ -16,7 +16,7 @@ use Rattle.reg_lines.specs.declared.answered.Ended.{Ended}
 use Rattle.reg_lines.proofs.ScriptsAndImports.{comes_moves, import_moves, input_moves, lines_follow, strict_import_moves}
 
 -- a command line leads from records to records
-pub line_leads : {O : Type 0} (office : Office O) (s t : O) (now : ℕ) (line : List ℕ) (came : Came) → ComesTo (LineCalls office) now s line came t
+pub line_leads : {O : Type 0} (office : Office O) (s t : O) (now : ℕ) (line : List ℕ) (came : LineOutcome) → ComesTo (LineCalls office) now s line came t
     → Leads office.is_clean office.stands (λ who before after. ComesTo (Lines office.signs who) now before line came after) s t
 line_leads office s t now line came comes =
     comes_moves office.is_clean office.stands (LineCalls office) (Lines office.signs) (λ v moment call w called. called.0) now s line came t comes

@@ -11,7 +11,7 @@ use Rattle.reg_lines.specs.Import.{EndsBy, ImportEnds, ImportRan, Row, RowReplie
 use Rattle.reg_lines.specs.Meaning.{Meaning, tells, asks, asks_ocsp}
 use Rattle.reg_lines.specs.Script.{LinesEnd, RunEnds, line_of, longest_of, pieces}
 use Rattle.reg_lines.specs.Strict.{StrictEnds, StrictRan, ended_part}
-use Rattle.reg_lines.specs.declared.answered.Answered.{Answered as Came}
+use Rattle.reg_lines.specs.declared.answered.Answered.{Answered as LineOutcome}
 use Rattle.reg_lines.specs.declared.answered.Ended.{Ended}
 use Rattle.reg_lines.specs.declared.answered.Ended.TheVariants as ended
 use Rattle.reg_lines.specs.declared.answered.Passed.{Passed}
@@ -64,7 +64,7 @@ module _ {S I R : Type 0} (is_clean : S → Type 0) (stands : I → S → R → 
     (answers : S → ℕ → Call → S → Type 0) (kept : I → R → ℕ → Call → R → Type 0)
     (lifts : (s : S) (now : ℕ) (call : Call) (t : S) → answers s now call t
     → Leads is_clean stands (λ i before after. kept i before now call after) s t) where
-  asked_moves : (now : ℕ) (s : S) (meaning : Meaning) (came : Came) (t : S) → IsAsked answers now s meaning came t
+  asked_moves : (now : ℕ) (s : S) (meaning : Meaning) (came : LineOutcome) (t : S) → IsAsked answers now s meaning came t
       → Leads is_clean stands (λ i before after. IsAsked (kept i) now before meaning came after) s t
   asked_moves now s (tells command) came t (outcome, did, is) =
       follows is_clean stands _ _ (λ i before after made. (outcome, made, is)) s t (lifts s now (ran command outcome) t did)
@@ -74,7 +74,7 @@ module _ {S I R : Type 0} (is_clean : S → Type 0) (stands : I → S → R → 
       follows is_clean stands _ _ (λ i before after made. (given, made, told)) s t (lifts s now (responded request given) t did)
 
   -- a command line at a moment
-  pub comes_moves : (now : ℕ) (s : S) (line : List ℕ) (came : Came) (t : S) → ComesTo answers now s line came t
+  pub comes_moves : (now : ℕ) (s : S) (line : List ℕ) (came : LineOutcome) (t : S) → ComesTo answers now s line came t
       → Leads is_clean stands (λ i before after. ComesTo (kept i) now before line came after) s t
   comes_moves now s line came t (inl (meaning, means, did)) =
       follows is_clean stands _ _ (λ i before after made. inl (meaning, means, made)) s t (asked_moves now s meaning came t did)
@@ -82,7 +82,7 @@ module _ {S I R : Type 0} (is_clean : S → Type 0) (stands : I → S → R → 
       follows is_clean stands _ _ (λ i before after stayed. inr (unread, is, stayed)) s t (stays is_clean stands s t same)
 
   -- a line of an input, and with its reply
-  line_moves : (told : ℕ → Type 0) (is_clocked : Bool) (s : S) (line : List ℕ) (came : Came) (t : S) → LineComesTo answers told is_clocked s line came t
+  line_moves : (told : ℕ → Type 0) (is_clocked : Bool) (s : S) (line : List ℕ) (came : LineOutcome) (t : S) → LineComesTo answers told is_clocked s line came t
       → Leads is_clean stands (λ i before after. LineComesTo (kept i) told is_clocked before line came after) s t
   line_moves told true s line came t (now, at, comes) =
       follows is_clean stands _ _ (λ i before after made. (now, at, made)) s t (comes_moves now s line came t comes)

@@ -11,7 +11,7 @@ use Rattle.reg_io.specs.RunsOfAnswers.{Answered}
 use Rattle.reg_lines.specs.Accepted.{EndsRefused, GoesOn, IsAccepted, TellsWhy, done_of}
 use Rattle.reg_lines.specs.Answer.{LineReplies}
 use Rattle.reg_lines.specs.ByCalls.{Call}
-use Rattle.reg_lines.specs.Fields.{in_front}
+use Rattle.reg_lines.specs.Fields.{in_prefix}
 use Rattle.reg_lines.specs.declared.answered.Ended.{Ended}
 use Rattle.reg_lines.specs.declared.answered.Ended.TheVariants.{Whole, Refused, NoLineEnd}
 use Rattle.reg_lines.specs.declared.answered.Passed.{Passed}
@@ -34,7 +34,7 @@ most_lines = 1000000
 -- the lines of an input, each with its LF (the byte 10), the last one perhaps without; an input of no bytes has no line
 unfoldable pub pieces : List ℕ → List (List ℕ)
 pieces [] = []
-pieces (byte ∷ input) = if byte == 10 then (byte ∷ []) ∷ pieces input else in_front byte (pieces input)
+pieces (byte ∷ input) = if byte == 10 then (byte ∷ []) ∷ pieces input else in_prefix byte (pieces input)
 
 -- a line without its LF, and without one CR (the byte 13) before the LF
 abbrev pub line_of : List ℕ → List ℕ

@@ -122,7 +122,7 @@ fn run_next<R: Read, W: Write, O: Office, H: Host>(
     match fill_to_mark(reader, buffer, held, b"\n") {
         Ok(Reached::Mark { end, held }) => {
             let line = without_end(&buffer[..end]);
-            match tell_line(alloc, writer, office, host, is_strict, line) {
+            match answer_line(alloc, writer, office, host, is_strict, line) {
                 Ok(Passed::On) => {
                     buffer.rotate_left(end);
                     Ok(Next::Held(held - end))
@@ -136,7 +136,7 @@ fn run_next<R: Read, W: Write, O: Office, H: Host>(
             if is_strict {
                 return Ok(Next::End(Ended::NoLineEnd));
             }
-            match tell_line(alloc, writer, office, host, is_strict, &buffer[..held]) {
+            match answer_line(alloc, writer, office, host, is_strict, &buffer[..held]) {
                 Ok(_) => Ok(Next::End(Ended::Whole)),
                 Err(fault) => Err(fault),
             }
@@ -147,7 +147,7 @@ fn run_next<R: Read, W: Write, O: Office, H: Host>(
 }
 
 /// Runs a line, and writes its reply. Whether the run goes on behind it.
-fn tell_line<W: Write, O: Office, H: Host>(
+fn answer_line<W: Write, O: Office, H: Host>(
     alloc: Global,
     writer: &mut W,
     office: &mut O,

@@ -1,5 +1,5 @@
 -- Certificates: what is read is spelled so, and what is spelled so is read.
-use Rattle.std.proofs.Common.{◌≡◌, ℕ, suc, ◌≤◌, ◌&&◌, true, false, cond, eqb, leb, ltb, List, [], ◌∷◌, ◌++◌, length, Option, Some, None, refl, sym, ap, subst, ◌∙◌, arith}
+use Rattle.std.proofs.Common.{◌≡◌, ℕ, suc, ◌≤◌, ◌&&◌, true, false, eqb, leb, ltb, List, [], ◌∷◌, ◌++◌, length, Option, Some, None, refl, sym, ap, subst, ◌∙◌, arith}
 use Rattle.std.specs.Prelude.{IfSome, option_map}
 use Rattle.std.proofs.lemmas.Bool.{eqb-true, le-ltb, ltb-false}
 use Rattle.std.proofs.lemmas.Bool.Decides.{nat_tests}
@@ -7,12 +7,12 @@ use Rattle.std.proofs.lemmas.List.{length-append}
 use Rattle.reg_core.specs.Integer.{IsBytes}
 use Rattle.reg_der.specs.Authority.{IsKey}
 use Rattle.reg_der.specs.Der.{tlv}
-use Rattle.reg_der.specs.ValueReading.{Gives, Takes}
+use Rattle.reg_der.specs.ValueReading.{Gives}
 use Rattle.reg_der.specs.WrittenValues.{bits_value}
 use Rattle.reg_der.proofs.PublicLaws.{value_size, bind_then, kept, some_is}
 use Rattle.reg_ocsp.specs.declared.certificate.CertifiedKey.{CertifiedKey}
-use Rattle.reg_ocsp.specs.Certificate.{Form, IsCertificateOf, key_info, to_be_signed, certificate, no_unused, as_key, key_info_at, after_subject_at, signed_part_at, certificate_at}
-use Rattle.reg_ocsp.specs.RequestReading.{expect_at, whole_at, optional_at}
+use Rattle.reg_ocsp.specs.Certificate.{Form, IsCertificateOf, key_info, certificate, no_unused, as_key, key_info_at, after_subject_at, signed_part_at, certificate_at}
+use Rattle.reg_der.specs.TaggedValues.{expect_at, whole_at, optional_at}
 use Rattle.reg_ocsp.specs.Request.{optional}
 use Rattle.reg_ocsp.specs.Views.{key_seen}
 use Rattle.reg_ocsp.proofs.PartLaws.{chosen, expect_takes, expect_again, expect_next, whole_takes, whole_again, optional_takes, optional_next, begins_value}

@@ -11,7 +11,8 @@ use Rattle.reg_der.specs.Der.{tlv}
 use Rattle.reg_der.specs.ValueReading.{Takes}
 use Rattle.reg_der.proofs.PublicLaws.{value_size, bind_then, kept, some_is, or_false}
 use Rattle.reg_ocsp.specs.Request.{Extension, IsExtension, AreExtensions, nonce_identifier, first_nonce, optional, boolean, critical, request_extension, extensions}
-use Rattle.reg_ocsp.specs.RequestReading.{expect_at, whole_at, optional_at, last_at, all_at, flag_of, written_flag, critical_at, is_refused, fields_at, extension_at, nonce_at, written_nonce, last_nonce_at}
+use Rattle.reg_der.specs.TaggedValues.{expect_at, whole_at, optional_at, last_at, all_at}
+use Rattle.reg_ocsp.specs.RequestReading.{flag_of, written_flag, critical_at, is_refused, fields_at, extension_at, nonce_at, written_nonce, last_nonce_at}
 use Rattle.reg_ocsp.proofs.PartLaws.{expect_takes, expect_again, whole_takes, whole_again, optional_takes, optional_again, last_takes, last_again, IsSmall, BeginsElse, begins_last}
 use Rattle.reg_ocsp.proofs.ItemLaws.{Reads, TakesItem, items_take, items_again}
 

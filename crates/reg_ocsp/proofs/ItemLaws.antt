@@ -6,7 +6,7 @@ use Rattle.reg_core.specs.Integer.{IsBytes}
 use Rattle.reg_core.specs.Sequence.{◌>>=◌}
 use Rattle.reg_der.specs.ValueReading.{Takes}
 use Rattle.reg_der.proofs.PublicLaws.{bind_same, bind_then, some_is}
-use Rattle.reg_ocsp.specs.RequestReading.{items_at, all_at}
+use Rattle.reg_der.specs.TaggedValues.{items_at, all_at}
 
 -- an item was taken from the front: its tree, which is spelled and seen so
 pub record TakesItem {T V : Type 0} (spell : T → List ℕ) (view : T → V) (Fits : T → Type 0) (bytes : List ℕ) (seen : V) (rest : List ℕ) : Type 0 where

@@ -1,4 +1,3 @@
-pub mod Sizes
 pub mod PartLaws
 pub mod ItemLaws
 pub mod ExtensionLaws

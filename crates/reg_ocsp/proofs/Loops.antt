@@ -5,7 +5,8 @@ use Rattle.std.specs.Str.{bytes_eq}
 use Rattle.reg_core.specs.Integer.{IsBytes}
 use Rattle.reg_core.specs.Sequence.{◌>>=◌}
 use Rattle.reg_ocsp.specs.Request.{Extension, IsExtension, Id, id_asked, single, IsSingle, request_extension, first_nonce, nonce_identifier}
-use Rattle.reg_ocsp.specs.RequestReading.{whole_at, all_at, extension_at, single_at}
+use Rattle.reg_der.specs.TaggedValues.{whole_at, all_at}
+use Rattle.reg_ocsp.specs.RequestReading.{extension_at, single_at}
 use Rattle.reg_ocsp.proofs.PartLaws.{whole_takes}
 use Rattle.reg_ocsp.proofs.ItemLaws.{all_step}
 use Rattle.reg_ocsp.proofs.ExtensionLaws.{same_extension, extension_takes, extension_reads}

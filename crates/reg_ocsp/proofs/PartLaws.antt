@@ -9,7 +9,7 @@ use Rattle.reg_der.specs.Der.{tlv}
 use Rattle.reg_der.specs.ValueReading.{value_at, Takes}
 use Rattle.reg_der.proofs.PublicLaws.{value_size, value_takes, value_again, bind_then, some_is}
 use Rattle.reg_ocsp.specs.Request.{optional}
-use Rattle.reg_ocsp.specs.RequestReading.{expect_at, whole_at, optional_at, last_at}
+use Rattle.reg_der.specs.TaggedValues.{expect_at, whole_at, optional_at, last_at}
 
 -- ---- steps
 

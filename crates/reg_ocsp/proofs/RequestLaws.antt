@@ -15,7 +15,8 @@ use Rattle.reg_ocsp.specs.declared.asked.Asked.{Asked}
 use Rattle.reg_ocsp.specs.declared.fault.AskFault.{AskFault}
 use Rattle.reg_ocsp.specs.declared.fault.AskFault.TheVariants.{Malformed, Memory}
 use Rattle.reg_ocsp.specs.Views.{id_seen, ids_seen, GivesUnlessMemory}
-use Rattle.reg_ocsp.specs.RequestReading.{expect_at, whole_at, optional_at, last_at, all_at, ids_at, single_at, is_version, version_at, last_nonce_at, list_at, signed_at, tbs_at, parts_at, request_at}
+use Rattle.reg_der.specs.TaggedValues.{expect_at, whole_at, optional_at, last_at, all_at}
+use Rattle.reg_ocsp.specs.RequestReading.{ids_at, single_at, is_version, version_at, last_nonce_at, list_at, signed_at, tbs_at, parts_at, request_at}
 use Rattle.reg_ocsp.proofs.PartLaws.{chosen, expect_takes, expect_again, expect_next, whole_takes, whole_again, optional_takes, optional_again, optional_next, last_takes, last_again, IsSmall, BeginsElse, begins_value, begins_optional}
 use Rattle.reg_ocsp.proofs.ItemLaws.{TakesAll, items_take, items_again}
 use Rattle.reg_ocsp.proofs.ExtensionLaws.{nonce_in, contents_small, last_nonce_takes, last_nonce_again}

@@ -9,7 +9,8 @@ use Rattle.reg_der.specs.Der.{tlv}
 use Rattle.reg_der.specs.ValueReading.{Parts, value_at, Takes}
 use Rattle.reg_der.proofs.PublicLaws.{value_takes, value_again, value_size, bind_then, kept, some_is, or_false}
 use Rattle.reg_ocsp.specs.Request.{Target, IsTarget, Single, IsSingle, Id, id_of, id_asked, parameters, algorithm, cert_id, single, extensions}
-use Rattle.reg_ocsp.specs.RequestReading.{expect_at, whole_at, last_nonce_at, read_all, algorithm_at, is_shortest, serial_at, names_at, target_at, single_at}
+use Rattle.reg_der.specs.TaggedValues.{expect_at, whole_at}
+use Rattle.reg_ocsp.specs.RequestReading.{last_nonce_at, read_all, algorithm_at, is_shortest, serial_at, names_at, target_at, single_at}
 use Rattle.reg_ocsp.proofs.PartLaws.{chosen, expect_takes, expect_again, expect_next, whole_takes, whole_again}
 use Rattle.reg_ocsp.proofs.ItemLaws.{Reads, TakesItem}
 use Rattle.reg_ocsp.proofs.ExtensionLaws.{last_nonce_takes, last_nonce_again}

@@ -6,7 +6,7 @@ use Rattle.reg_der.specs.Authority.{IsKey}
 use Rattle.reg_der.specs.Der.{tlv}
 use Rattle.reg_der.specs.WrittenValues.{bits_value}
 use Rattle.reg_ocsp.specs.Request.{optional}
-use Rattle.reg_ocsp.specs.RequestReading.{expect_at, whole_at, optional_at}
+use Rattle.reg_der.specs.TaggedValues.{expect_at, whole_at, optional_at}
 
 -- ---- the tree
 

@@ -6,8 +6,8 @@ ghost use Rattle.reg_ocsp.specs.Certificate.{IsCertificateOf, after_subject_at, 
 ghost use Rattle.reg_ocsp.specs.Views.{key_seen};
 ghost use Rattle.reg_ocsp.specs.declared.certificate.CertificateFault.TheVariants.{Memory};
 
-use crate::der_values::{expect, optional, whole};
-use crate::tags::{BIT_STRING, INTEGER, SEQUENCE, TAGGED_0};
+use reg_der::tags::{BIT_STRING, INTEGER, SEQUENCE, TAGGED_0};
+use reg_der::values::{expect, optional, whole};
 use std::alloc::{AllocError, Global};
 use std::marker::Model;
 

@@ -4,8 +4,8 @@ ghost use Rattle.reg_ocsp.specs.RequestReading.{critical_at, extension_at, field
 ghost use Rattle.reg_ocsp.specs.RequestReading as spec;
 ghost use Rattle.reg_ocsp.specs.Views.{extension_seen};
 
-use crate::der_values::{expect, last, optional, whole};
-use crate::tags::{BOOLEAN, OBJECT_IDENTIFIER, OCTET_STRING, SEQUENCE};
+use reg_der::tags::{BOOLEAN, OBJECT_IDENTIFIER, OCTET_STRING, SEQUENCE};
+use reg_der::values::{expect, last, optional, whole};
 
 /// id-pkix-ocsp-nonce, 1.3.6.1.5.5.7.48.1.2 (RFC 6960 4.4.1).
 pub(crate) const NONCE: [u8; 9] = [0x2B, 0x06, 0x01, 0x05, 0x05, 0x07, 0x30, 0x01, 0x02];

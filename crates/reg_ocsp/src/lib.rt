@@ -3,7 +3,6 @@
 
 mod asked;
 mod certificate;
-mod der_values;
 mod draft;
 mod extensions;
 mod fault;
@@ -11,7 +10,6 @@ pub mod laws;
 mod matching;
 mod ocsp_request;
 mod response;
-mod tags;
 
 pub use asked::{Asked, CertId};
 pub use certificate::{Certificate, CertificateFault, CertifiedKey, certified_key};

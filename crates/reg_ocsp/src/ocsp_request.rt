@@ -9,13 +9,13 @@ ghost use Rattle.reg_ocsp.specs.Request as grammar;
 ghost use Rattle.reg_ocsp.specs.Views.{ids_seen, id_seen, GivesUnlessMemory};
 
 use crate::asked::{Asked, CertId};
-use crate::der_values::{expect, last, optional, whole};
 use crate::extensions::last_nonce;
 use crate::fault::AskFault;
-use crate::tags::{
+use reg_der::tags::{
     INTEGER, OBJECT_IDENTIFIER, OCTET_STRING, SEQUENCE, TAGGED_0, TAGGED_1, TAGGED_2,
 };
 use reg_der::take;
+use reg_der::values::{expect, last, optional, whole};
 use std::alloc::Global;
 
 const LONGEST_REQUEST: usize = 65_536;

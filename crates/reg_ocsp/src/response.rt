@@ -11,11 +11,11 @@ ghost use Rattle.reg_ocsp.specs.Views.{answer_seen, answers_seen, answered, answ
 
 use crate::asked::CertId;
 use crate::extensions::NONCE;
-use crate::tags::{
+use reg_core::{Memory, Moment, Status};
+use reg_der::tags::{
     ENUMERATED, OBJECT_IDENTIFIER, OCTET_STRING, PRIMITIVE_0, PRIMITIVE_2, SEQUENCE, TAGGED_0,
     TAGGED_1, TAGGED_2,
 };
-use reg_core::{Memory, Moment, Status};
 use reg_der::{Issuer, put, put_bits, put_general, put_raw};
 use sha1::Sha1;
 use std::alloc::Global;

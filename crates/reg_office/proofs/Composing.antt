@@ -14,8 +14,8 @@ of_failure P lacked failed NoMemory = lacked
 of_failure P lacked failed Failed = failed
 
 -- so a fault of the database is one of these
-pub told_fault : (failure : DatabaseFault) (fault : Fault) → fault ≡ fault_of failure → IsOfStore fault
-told_fault failure fault is = subst IsOfStore (sym is) (of_failure IsOfStore tt tt failure)
+pub answer_of_fault : (failure : DatabaseFault) (fault : Fault) → fault ≡ fault_of failure → IsOfStore fault
+answer_of_fault failure fault is = subst IsOfStore (sym is) (of_failure IsOfStore tt tt failure)
 
 -- a fault that is passed on is of its kind
 pub passed_on : {T : Type 0} (P : Fault → Type 0) (outcome : Result T Fault) (fault : Fault) → IsErrAnd outcome (λ told. told ≡ fault) → P fault → IfErr outcome P

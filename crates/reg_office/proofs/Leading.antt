@@ -26,7 +26,7 @@ use Rattle.reg_io.specs.declared.begun.Begun.TheVariants.{Ready, Unsigned}
 use Rattle.reg_store_tables.specs.Stays.{Changed, LeavesNothing, Looked}
 use Rattle.reg_store_tables.proofs.PublicLaws.{was_clean, ok_then}
 use Rattle.reg_office.proofs.Beginning.{draft_replied}
-use Rattle.reg_office.specs.AfterStoppedCommand.{Does, LeavesTold}
+use Rattle.reg_office.specs.AfterStoppedCommand.{Does, LeavesReported}
 use Rattle.reg_office.specs.Calls.{LeadsOver, OfficeLeads, OfficeLooks, RanIn, StandsFor, seen}
 use Rattle.reg_office.specs.Beginning.{IsBegun, IsSignedBy}
 use Rattle.reg_office.specs.Faults.{IsTableFault}
@@ -76,7 +76,7 @@ module _ {C : Type 0} (g : Ghosts C) (signs : Signs) (old new : Held C) (who who
 module _ {C : Type 0} (g : Ghosts C) (signs : Signs) (old new : Held C) (who who' : Signatory)
     (survives : LeavesNothing (state g old) (state g new)) (same : who' ≡ who) where
   -- what a stop leaves stays
-  left_by : (those : Signatory) (before : Records) → StandsFor g signs (old, who) those before → LeavesTold g signs new those.crls before
+  left_by : (those : Signatory) (before : Records) → StandsFor g signs (old, who) those before → LeavesReported g signs new those.crls before
   left_by those before stood = leaves_looked g signs those.crls old new before survives stood.2
 
   stood_by : (those : Signatory) (before : Records) → StandsFor g signs (old, who) those before → Stands g signs old who.crls before

@@ -24,7 +24,7 @@ use Rattle.reg_store_tables.specs.Shows.{Shows}
 use Rattle.reg_store_tables.specs.Stays.{Changed, LeavesNothing}
 use Rattle.reg_store_tables.specs.AfterStop.{IsAtRest}
 use Rattle.reg_store_tables.proofs.PublicLaws.{kept_shows, was_clean as clean_first}
-use Rattle.reg_office.specs.AfterStoppedCommand.{Does, IsOneMore, LeavesThese, LeavesTold}
+use Rattle.reg_office.specs.AfterStoppedCommand.{Does, IsOneMore, LeavesThese, LeavesReported}
 use Rattle.reg_office.specs.Stands.{Stands}
 use Rattle.reg_office.proofs.Stopping.{Settles}
 
@@ -39,7 +39,7 @@ told_no signed records now command fault after happens = elim (outcome_of signed
 module _ {C : Type 0} (g : Ghosts C) (signs : Identity → List ℕ → List ℕ → Type 0) (identity : Identity) where
   -- a call that commits nothing
   pub leaves_looked : (old new : Held C) (records : Records) → LeavesNothing (state g old) (state g new)
-      → LeavesTold g signs old identity records → LeavesTold g signs new identity records
+      → LeavesReported g signs old identity records → LeavesReported g signs new identity records
   leaves_looked old new records survives leaves clean trees may register = elim (survives.crash clean trees may) [
     | inl before ↦ leaves (clean_first (state g old) (state g new) survives.clean clean) trees before register
     | inr none ↦ absurd none
@@ -48,7 +48,7 @@ module _ {C : Type 0} (g : Ghosts C) (signs : Identity → List ℕ → List ℕ
   -- a call that may have made one change more
   pub leaves_more : (old new : Held C) (records : Records) (Made : Trees → Type 0) → Survives (state g old) (state g new) Made
       → ((trees : Trees) → Made trees → IsOneMore signs identity records trees)
-      → LeavesTold g signs old identity records → LeavesTold g signs new identity records
+      → LeavesReported g signs old identity records → LeavesReported g signs new identity records
   leaves_more old new records Made survives more leaves clean trees may register = elim (survives.crash clean trees may) [
     | inl before ↦ leaves (clean_first (state g old) (state g new) survives.clean clean) trees before register
     | inr made ↦ inr (more trees made)
@@ -56,7 +56,7 @@ module _ {C : Type 0} (g : Ghosts C) (signs : Identity → List ℕ → List ℕ
 
   -- a call that left the connection open, over records that are shown
   pub leaves_settled : (held : Held C) (records : Records) → Settles g → (HasCleanDisk (state g held) → IsTrue (state g held).is_open)
-      → ShowsKept g held records → LeavesTold g signs held identity records
+      → ShowsKept g held records → LeavesReported g signs held identity records
   leaves_settled held records settles up shown clean trees may register =
       inl (at_rest g held records trees clean (up clean) shown register (settles held trees (up clean) may))
 
@@ -64,10 +64,10 @@ module _ {C : Type 0} (g : Ghosts C) (signs : Identity → List ℕ → List ℕ
   pub leaves_done : (old new : Held C) (before after : Records) (now : ℕ) (command : Command) (outcome : Result Reply Fault) → Settles g
       → Changed g old new (Does g signs old identity now command) outcome → Stands g signs old identity before
       → Happens (signed_by signs identity) before now command outcome after → Stands g signs new identity after
-      → LeavesTold g signs old identity before → LeavesTold g signs new identity after
+      → LeavesReported g signs old identity before → LeavesReported g signs new identity after
   leaves_done old new before after now command (Ok reply) settles changed stood happens stands leaves = leaves_settled new after settles changed.live stands.shown
   leaves_done old new before after now command (Err fault) settles changed stood happens stands leaves =
-      subst (λ (r : Records). LeavesTold g signs new identity r) (sym (told_no (signed_by signs identity) before now command fault after happens))
+      subst (λ (r : Records). LeavesReported g signs new identity r) (sym (told_no (signed_by signs identity) before now command fault after happens))
       (leaves_more old new before (Does g signs old identity now command) changed.survives (λ trees does. inl (now, command, does before stood)) leaves)
 
 -- ---- what was there before the first call
@@ -103,7 +103,7 @@ module _ {C : Type 0} (g : Ghosts C) (connection held : Held C) (records : Recor
 
   -- a register that was made where there was no table
   pub leaves_made : (signs : Identity → List ℕ → List ℕ → Type 0) (identity : Identity) → connection.schema ≡ no_schema
-      → ((trees : Trees) → Made trees → IsAtRest records trees) → LeavesTold g signs held identity records
+      → ((trees : Trees) → Made trees → IsAtRest records trees) → LeavesReported g signs held identity records
   leaves_made signs identity empty makes clean trees may register = elim (survives.crash clean trees may) [
     | inl before ↦ (
         let (opens, live) = whole (was_clean clean) in

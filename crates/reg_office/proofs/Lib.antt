@@ -1,5 +1,5 @@
 pub mod Agreeing
-pub mod Asking
+pub mod SignatureRequest
 pub mod Beginning
 pub mod Composing
 pub mod CommandsRun

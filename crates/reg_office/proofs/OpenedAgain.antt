@@ -16,8 +16,8 @@ use Rattle.sqlite_schema.specs.declared.schema.Schema.{Schema}
 use Rattle.reg_store.proofs.PublicLaws.{shows_again}
 use Rattle.reg_store_tables.specs.Schema.{register_schema}
 use Rattle.reg_store_tables.specs.AfterStop.{AreARegisters, IsAtRest}
-use Rattle.reg_office.specs.AfterStoppedCommand.{IsDone, IsNext, IsOneMore, IsPartlyRun, LeavesTold}
-use Rattle.reg_office.specs.OpenedAgain.{OpensTold, StandsDone, StandsOneMore, StandsPartlyRun}
+use Rattle.reg_office.specs.AfterStoppedCommand.{IsDone, IsNext, IsOneMore, IsPartlyRun, LeavesReported}
+use Rattle.reg_office.specs.OpenedAgain.{OpensReported, StandsDone, StandsOneMore, StandsPartlyRun}
 use Rattle.reg_office.specs.Stands.{SoundFor, Stands}
 
 module _ {C : Type 0} (g : Ghosts C) (signs : Identity → List ℕ → List ℕ → Type 0) (again : Held C) (identity : Identity) (opens : Opens (state g again)) (live : IsLive (state g again)) where
@@ -73,7 +73,7 @@ module _ {C : Type 0} (g : Ghosts C) (signs : Identity → List ℕ → List ℕ
 
 -- what a stop leaves stands
 pub opens_told : {C : Type 0} (g : Ghosts C) (signs : Identity → List ℕ → List ℕ → Type 0) (held : Held C) (identity : Identity) (records : Records)
-    → SoundFor signs identity records → LeavesTold g signs held identity records → OpensTold g signs held identity records
+    → SoundFor signs identity records → LeavesReported g signs held identity records → OpensReported g signs held identity records
 opens_told g signs held identity records sound leaves again opened same = ∥∥₁_map opened.found (λ may.
     let told : Stands g signs again identity records ⊎ StandsOneMore g signs again identity records =
     stands_told g signs again identity opened.opens opened.live records sound

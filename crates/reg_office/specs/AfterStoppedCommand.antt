@@ -96,7 +96,7 @@ IsOneMore signs identity records trees =
     ⊎ ((octets : List ℕ) × IsAtRest (with_key_identifier records octets) trees))
 
 -- where a stop after a call, or in the middle of it, leaves a register, its rows are those of these records, or of one change more
-abbrev pub LeavesTold : {C : Type 0} → Ghosts C → Signs → Held C → Identity → Records → Type 0
-LeavesTold g signs held identity records =
+abbrev pub LeavesReported : {C : Type 0} → Ghosts C → Signs → Held C → Identity → Records → Type 0
+LeavesReported g signs held identity records =
     HasCleanDisk (state g held) → (trees : Trees) → (state g held).may_leave trees → AreARegisters trees
     → IsAtRest records trees ⊎ IsOneMore signs identity records trees

@@ -12,7 +12,7 @@ use Rattle.reg_core.specs.declared.command.Reply.{Reply}
 use Rattle.reg_core.specs.declared.refusal.Fault.{Fault}
 use Rattle.reg_crl.specs.declared.signer.Signer.{Ghosts as Signer}
 use Rattle.reg_store_tables.specs.Stays.{Looked}
-use Rattle.reg_office.specs.AfterStoppedCommand.{LeavesTold}
+use Rattle.reg_office.specs.AfterStoppedCommand.{LeavesReported}
 use Rattle.reg_office.specs.Answering.{failures_of, signatory_of}
 use Rattle.reg_office.specs.Commands.{RunsCommand}
 use Rattle.reg_office.specs.Stands.{Stands}
@@ -21,7 +21,7 @@ use Rattle.reg_office.specs.declared.office.Office.{Office}
 -- the records stand in a store for those who sign, and a stop leaves them, or one change more
 abbrev pub StandsFor : {C : Type 0} → Ghosts C → Signs → Held C × Signatory → Signatory → Records → Type 0
 StandsFor g signs office who records =
-    (office.1 ≡ who) × Stands g signs office.0 who.crls records × LeavesTold g signs office.0 who.crls records
+    (office.1 ≡ who) × Stands g signs office.0 who.crls records × LeavesReported g signs office.0 who.crls records
 
 -- a call of an office over a store leads from its store, and who signs for it, to those after it by a step of the records
 abbrev pub LeadsOver : {C : Type 0} → Ghosts C → Signs → (Signatory → Records → Records → Type 0) → Held C × Signatory → Held C × Signatory → Type 0

@@ -57,7 +57,7 @@ StandsOneMore g signs held identity records =
     ⊎ ((octets : List ℕ) × ShowsKept g held (with_key_identifier records octets)))
 
 -- the machine stops, and a register is opened again from what the disk left: these records stand, or those after one change more
-abbrev pub OpensTold : {C : Type 0} → Ghosts C → Signs → Held C → Identity → Records → Type 0
-OpensTold {C = C} g signs held identity records =
+abbrev pub OpensReported : {C : Type 0} → Ghosts C → Signs → Held C → Identity → Records → Type 0
+OpensReported {C = C} g signs held identity records =
     (again : Held C) → IsOpenedAgain g held again → (state g again).committed.schema ≡ register_schema
     → ∥ Stands g signs again identity records ⊎ StandsOneMore g signs again identity records ∥₁

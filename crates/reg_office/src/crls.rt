@@ -72,7 +72,7 @@ fn signature_of<S: Signer>(
     ensures same_identity { S.identity signer.new ≡ S.identity signer.old }
     ensures device { IsErrOf result SignFault.Device → SignerHasFailed S.Signer signer.old signer.new }
 {
-    signer.rouse();
+    signer.reset_backoff();
     signer.sign(alloc, message)
 }
 

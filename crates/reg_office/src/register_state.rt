@@ -9,7 +9,7 @@ use reg_office_api::Standing;
 use reg_store::Tables;
 use sqlite::Alter;
 
-#[tactic(auto, using(crate::proofs::Composing::told_fault))]
+#[tactic(auto, using(crate::proofs::Composing::answer_of_fault))]
 pub(crate) fn standing_in<C: Alter>(tables: &mut Tables<C>) -> Result<Standing, Fault>
     ensures looks { LooksUp C.Store tables.old tables.new (λ records. HasStanding records result) }
     ensures faults { IfErr result IsOfStore }
@@ -24,7 +24,7 @@ pub(crate) fn standing_in<C: Alter>(tables: &mut Tables<C>) -> Result<Standing, 
     })
 }
 
-#[tactic(auto, using(crate::proofs::Composing::told_fault))]
+#[tactic(auto, using(crate::proofs::Composing::answer_of_fault))]
 pub(crate) fn open_count_in<C: Alter>(tables: &mut Tables<C>, now: Moment) -> Result<u64, Fault>
     ensures looks { LooksUp C.Store tables.old tables.new (λ records. HasOpen records now result) }
     ensures faults { IfErr result IsOfStore }

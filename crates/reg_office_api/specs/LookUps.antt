@@ -10,7 +10,7 @@ use Rattle.reg_core_lists.specs.Pages.{Pages}
 use Rattle.reg_core_lists.specs.declared.cursor.Cursor.{Cursor}
 use Rattle.reg_core_lists.specs.declared.rows.Page.{Page}
 use Rattle.reg_office_api.specs.Signatories.{Signatory}
-use Rattle.reg_office_api.specs.declared.standing.Standing.{Standing}
+use Rattle.reg_office_api.specs.declared.register_summary.Standing.{Standing}
 
 -- want of memory, or a failure of the store
 abbrev pub IsOfStore : Fault → Type 0

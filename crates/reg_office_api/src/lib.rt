@@ -3,10 +3,10 @@
 
 mod effects;
 mod office;
+mod register_summary;
 mod response;
-mod standing;
 
 pub use effects::{LineEffects, LineReply, SignatureFate, StoreEffect};
 pub use office::Office;
+pub use register_summary::Standing;
 pub use response::{OcspResponse, ResponseKind};
-pub use standing::Standing;

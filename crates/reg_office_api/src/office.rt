@@ -1,7 +1,7 @@
 //! An office that keeps the records of a register.
 
+use crate::register_summary::Standing;
 use crate::response::OcspResponse;
-use crate::standing::Standing;
 use reg_core::{Command, Fault, Label, Memory, Moment, Outcome, Query, Schedule};
 use reg_core_lists::{Cursor, Page};
 use reg_io::Begun;

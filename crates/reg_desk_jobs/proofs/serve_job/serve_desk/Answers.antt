@@ -16,7 +16,7 @@ returns-in-Err g c = (
 
 pub returns : goal.returns
 returns g c =
-    let ran = c.serve_hub-ending.ensures in (
+    let ran = c.run_event_loop-ending.ensures in (
       ran.0,
       ran.1,
       desk_moves
@@ -29,7 +29,7 @@ returns g c =
           g.M.Machine.told
           (is_some c.args.counter)
           _
-          c.serve_hub-ending.new.handler
+          c.run_event_loop-ending.new.handler
           ran.0
           ran.1
           c.is_some.ensures

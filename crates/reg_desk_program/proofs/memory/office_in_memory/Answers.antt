@@ -3,7 +3,7 @@ use Rattle.sqlite.specs.Steps.{over_memory}
 use Rattle.reg_core.specs.Records.{Records}
 use Rattle.reg_crl_signer.specs.Both.{digest}
 use Rattle.reg_desk_jobs.specs.Digest.{digests}
-use Rattle.reg_office.specs.AfterStoppedCommand.{LeavesTold}
+use Rattle.reg_office.specs.AfterStoppedCommand.{LeavesReported}
 use Rattle.reg_office.specs.Stands.{Stands}
 use Rattle.reg_desk_program.proofs.Clean.{sample_made}
 use Rattle.reg_desk_program.proofs.memory.office_in_memory.Goals as goal
@@ -15,6 +15,6 @@ returns-in-Ok-made_over-clause-ok c =
 
 pub returns-in-Ok-made_over-clause-leaves : goal.returns-in-Ok-made_over-clause-leaves
 returns-in-Ok-made_over-clause-leaves c =
-    subst (λ (records : Records). LeavesTold over_memory digests c.in-Ok-made_over.office.store digest records)
+    subst (λ (records : Records). LeavesReported over_memory digests c.in-Ok-made_over.office.store digest records)
     (sample_made c.in-Ok.issuer c.usual.result (search rules) (search rules) c.usual.ensures)
     (c.in-Ok-made_over.ensures.made.leaves (λ clean. let empty = c.in-Ok-open_in_memory.ensures.empty in (empty.0, empty.1)))

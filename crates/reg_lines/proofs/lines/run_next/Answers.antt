@@ -19,11 +19,11 @@ returns-in-Ok-Refused g c =
     c.in-Ok-Mark.end c.in-Ok-Mark.held (rw c.in-Ok-Mark.field-0-is at c.in-Ok-Mark.ensures.ok) c.without_end-line.result.now c.fill_to_mark.new.buf c.in-Ok-Refused.refused c.without_end-line.ensures
     (rw c.in-Ok-Refused.field-0-is at c.in-Ok-Refused.ensures)
 
-pub returns-in-Err-tell_line : goal.returns-in-Err-tell_line
-returns-in-Err-tell_line g c =
+pub returns-in-Err-answer_line : goal.returns-in-Err-answer_line
+returns-in-Err-answer_line g c =
     failed_at (HostLines g.O.Office g.H.Host c.args.host.now) (longest_of (g.H.Host.clocked c.args.host.now)) (g.H.Host.clocked c.args.host.now) c.args.is_strict
     _ _ _ _ _ _ c.args.buffer.now c.fill_to_mark.new.buf c.args.held (c.fill_to_mark.auto.buf ∙ c.requires.room)
-    c.in-Ok-Mark.end c.in-Ok-Mark.held (rw c.in-Ok-Mark.field-0-is at c.in-Ok-Mark.ensures.ok) c.without_end-line.result.now c.fill_to_mark.new.buf c.in-Err-tell_line.fault c.without_end-line.ensures c.in-Err-tell_line.ensures
+    c.in-Ok-Mark.end c.in-Ok-Mark.held (rw c.in-Ok-Mark.field-0-is at c.in-Ok-Mark.ensures.ok) c.without_end-line.result.now c.fill_to_mark.new.buf c.in-Err-answer_line.fault c.without_end-line.ensures c.in-Err-answer_line.ensures
 
 pub returns-in-Ok-End-eq0 : goal.returns-in-Ok-End-eq0
 returns-in-Ok-End-eq0 g c =
@@ -46,12 +46,12 @@ returns-in-Ok g c =
     c.in-Ok-End.held (rw c.in-Ok-End.field-0-is at c.in-Ok-End.ensures.ok) c.fill_to_mark.new.buf
     c.in-Ok.field-0 c.in-Ok-End.held-test.1 c.if-is_strict.false c.in-Ok.ensures
 
-pub returns-in-Err-tell_line-2 : goal.returns-in-Err-tell_line-2
-returns-in-Err-tell_line-2 g c =
+pub returns-in-Err-answer_line-2 : goal.returns-in-Err-answer_line-2
+returns-in-Err-answer_line-2 g c =
     failed_last (HostLines g.O.Office g.H.Host c.args.host.now) (longest_of (g.H.Host.clocked c.args.host.now)) (g.H.Host.clocked c.args.host.now) c.args.is_strict
     _ _ _ _ _ _ c.args.buffer.now c.fill_to_mark.new.buf c.args.held (c.fill_to_mark.auto.buf ∙ c.requires.room)
     c.in-Ok-End.held (rw c.in-Ok-End.field-0-is at c.in-Ok-End.ensures.ok) c.fill_to_mark.new.buf
-    c.in-Err-tell_line-2.fault c.in-Ok-End.held-test.1 c.in-Err-tell_line-2.ensures
+    c.in-Err-answer_line-2.fault c.in-Ok-End.held-test.1 c.in-Err-answer_line-2.ensures
 
 pub returns-in-Ok-Full : goal.returns-in-Ok-Full
 returns-in-Ok-Full g c =

@@ -1,4 +1,4 @@
-use Rattle.reg_crl_signer.specs.Asking.{IsAsking}
+use Rattle.reg_crl_signer.specs.SignatureRequest.{IsSignatureRequest}
 use Rattle.reg_desk_jobs.proofs.Finishing.{asked_at}
 use Rattle.reg_desk_jobs.proofs.desks.DeskHandler.ask.Goals as goal
 
@@ -6,5 +6,5 @@ pub returns-in-Some : goal.returns-in-Some
 returns-in-Some g c =
     let message = c.args.ticket.now.draft.message in
     let told = rw c.in-Some.is at c.socket_of.ensures in
-    asked_at _ c.in-Some.socket.now (λ path. g.M.Machine.asked path message) (λ path. IsAsking path message) c.ask.result told
+    asked_at _ c.in-Some.socket.now (λ path. g.M.Machine.asked path message) (λ path. IsSignatureRequest path message) c.ask.result told
     (rw c.message.ensures at c.ask.ensures.asked) (rw c.message.ensures at c.ask.ensures.kept)

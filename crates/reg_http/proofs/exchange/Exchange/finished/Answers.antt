@@ -1,9 +1,9 @@
 use Rattle.std.proofs.Common.{subst}
 use Rattle.reg_http_head.specs.Response.{Response}
-use Rattle.reg_http.specs.Exchanges.{TellsText}
+use Rattle.reg_http.specs.Exchanges.{AnswersText}
 use Rattle.reg_http.proofs.exchange.Exchange.finished.Goals as goal
 
 pub returns-clause-tells : goal.returns-clause-tells
 returns-clause-tells c =
-    let P : Response → Type 0 = λ it. TellsText c.args.now it c.of.result in
+    let P : Response → Type 0 = λ it. AnswersText c.args.now it c.of.result in
     subst P c.ocsp_answer.ensures c.of.ensures.tells.3

@@ -1,4 +1,4 @@
-use Rattle.std.proofs.Common.{◌≡◌, ℕ, List, Option, Some, None}
+use Rattle.std.proofs.Common.{◌≡◌, ℕ, List, Some, None}
 use Rattle.reg_ocsp.proofs.certificate.Certificate.new.Goals as goal
 
 none_given : (x : List ℕ × List ℕ) → None ≡ Some x → ⊥

@@ -1,0 +1,51 @@
+//! The whole check of rows that were read.
+
+ghost use Rattle.std.specs.Prelude.{◌≡◌, OnOk};
+ghost use Rattle.reg_core.specs.Records.{Records};
+ghost use Rattle.reg_core.specs.Sound.{SoundRows};
+ghost use Rattle.reg_store_tables.specs.Columns.{Columns};
+ghost use Rattle.reg_store_tables.specs.Kept.{Kept};
+ghost use Rattle.reg_audit_rows.specs.KeptAsRead.{AreColumnsOf};
+ghost use Rattle.reg_audit_rows.specs.Read.{AreOf, IsIndexOf};
+ghost use Rattle.reg_audit_rows.specs.Faults.{NotBrokenIf};
+
+use crate::RegisterTable;
+use crate::fault::CheckFault;
+use crate::kept::{KeptRows, check_counts, listings, same_rows, standings};
+use crate::rows::{Found, Rows, check_rows};
+use std::alloc::Global;
+
+fn check_kept(
+    alloc: Global,
+    rows: &Rows<'_>,
+    found: &Found,
+    beside: &KeptRows<'_>,
+) -> Result<(), CheckFault>
+    ensures ok { IsIndexOf rows.now found.now → (records : Records) → AreOf rows.now records
+        → SoundRows records → (columns : Columns) → AreColumnsOf beside.now columns
+        → OnOk result (Kept columns records) }
+    ensures broken { IsIndexOf rows.now found.now → (records : Records) → AreOf rows.now records
+        → SoundRows records → (columns : Columns) → AreColumnsOf beside.now columns
+        → NotBrokenIf (Kept columns records) result }
+{
+    let letters = standings(alloc, rows.certificates, &found.revocations, rows.last)?;
+    check_counts(&letters, beside.counts)?;
+    same_rows(alloc, RegisterTable::Standing, beside.letters, letters)?;
+    let listed = listings(alloc, rows.revocations, &found.certificates, rows.crls)?;
+    same_rows(alloc, RegisterTable::Listed, beside.listed, listed)
+}
+
+/// Whether the rows are those of sound records, and what is kept beside these follows from them: the letters, their
+/// counts, and what CRLs list. The CRLs' bytes are not looked at. `Broken` with a row that breaks a rule.
+/// It takes as many steps as there are rows, with a look-up by halves for some, and one step for each revocation and CRL.
+pub fn check(alloc: Global, rows: &Rows<'_>, beside: &KeptRows<'_>) -> Result<(), CheckFault>
+    ensures sound { (records : Records) → AreOf rows.now records → OnOk result (SoundRows records) }
+    ensures kept { (records : Records) → AreOf rows.now records → (columns : Columns)
+        → AreColumnsOf beside.now columns → OnOk result (Kept columns records) }
+    ensures broken { (records : Records) → AreOf rows.now records → (columns : Columns)
+        → AreColumnsOf beside.now columns
+        → NotBrokenIf (SoundRows records × Kept columns records) result }
+{
+    let found = check_rows(alloc, rows)?;
+    check_kept(alloc, rows, &found, beside)
+}

@@ -1,0 +1,148 @@
+//! A CRL read, as far as it is compared with a register (RFC 5280 5.1).
+
+ghost use Rattle.std.specs.Prelude.{◌≡◌, ◌<◌, ℕ, List, length, IfSome, MatchOption};
+ghost use Rattle.reg_crl.specs.Reading.{IsEntryAt, after_next_update, certificate_list_at, crl_extension_at, header_at, numbered_at, number_among, crl_number_of, revoked_entry_at, tbs_cert_list_at, time_at};
+ghost use Rattle.reg_der.specs.ValueReading.{Gives};
+
+use crate::crl::CRL_NUMBER;
+use reg_core::Serial;
+use reg_der::tags::{
+    BIT_STRING, BOOLEAN, GENERALIZED_TIME, INTEGER, OBJECT_IDENTIFIER, OCTET_STRING, SEQUENCE,
+    TAGGED_0, UTC_TIME,
+};
+use reg_der::take;
+use reg_der::values::{expect, number, optional, whole};
+
+/// What a CRL lists, and its number.
+#[derive(Clone, Copy)]
+pub struct PublishedCrl<'a> {
+    /// The CRL number (RFC 5280 5.2.3).
+    pub number: u64,
+    /// The contents of revokedCertificates, of no bytes where it is absent ([`next_entry`]).
+    pub revoked: &'a [u8],
+}
+
+/// Reads the DER of a CRL. `None` for other bytes, for a CRL without a number, and for a number of 2^63 or more. Its signature is not
+/// verified.
+#[tactic(auto, unfolding(crate::specs::Reading::certificate_list_at))]
+pub fn read_crl(bytes: &[u8]) -> Option<PublishedCrl<'_>>
+    ensures { Gives (λ crl. (crl.number, crl.revoked.now)) result (certificate_list_at bytes.now) }
+{
+    let (tbs, rest) = expect(SEQUENCE, whole(SEQUENCE, bytes)?)?;
+    let (_, rest) = expect(SEQUENCE, rest)?;
+    whole(BIT_STRING, rest)?;
+    parts(tbs.contents)
+}
+
+/// The serial number of the entry at the front of revokedCertificates, and the entries behind it. `None` where no entry is there.
+pub fn next_entry(entries: &[u8]) -> Option<(Serial, &[u8])>
+    ensures exact { MatchOption result
+        ((serial : ℕ) (rest : List ℕ) → ¬ IsEntryAt entries.now serial rest)
+        (λ x. IsEntryAt entries.now x.0 x.1.now) }
+    ensures shorter { IfSome result (λ x. length x.1.now < length entries.now) }
+{
+    let (octets, rest) = serial_octets(entries)?;
+    Some((Serial::from_der(octets)?, rest))
+}
+
+/// The contents octets of that serial number, and the entries behind it.
+#[tactic(auto, unfolding(crate::specs::Reading::revoked_entry_at))]
+fn serial_octets(entries: &[u8]) -> Option<(&[u8], &[u8])>
+    ensures exact { Gives (λ x. (x.0.now, x.1.now)) result (revoked_entry_at entries.now) }
+    ensures shorter { IfSome result (λ x. length x.1.now < length entries.now) }
+{
+    let (entry, rest) = expect(SEQUENCE, entries)?;
+    let (serial, _) = expect(INTEGER, entry.contents)?;
+    Some((serial.contents, rest))
+}
+
+#[tactic(auto, unfolding(crate::specs::Reading::tbs_cert_list_at))]
+fn parts(bytes: &[u8]) -> Option<PublishedCrl<'_>>
+    ensures { Gives (λ crl. (crl.number, crl.revoked.now)) result (tbs_cert_list_at bytes.now) }
+{
+    let (revoked, rest) = optional(SEQUENCE, behind_header(bytes)?)?;
+    let number = crl_number(rest)?;
+    Some(PublishedCrl {
+        number,
+        revoked: revoked.unwrap_or(&[]),
+    })
+}
+
+/// What follows version, signature, issuer, thisUpdate and nextUpdate.
+#[tactic(auto, unfolding(crate::specs::Reading::header_at))]
+fn behind_header(bytes: &[u8]) -> Option<&[u8]>
+    ensures { Gives (λ x. x.now) result (header_at bytes.now) }
+{
+    let (_, rest) = optional(INTEGER, bytes)?;
+    let (_, rest) = expect(SEQUENCE, rest)?;
+    let (_, rest) = expect(SEQUENCE, rest)?;
+    behind_next_update(behind_time(rest)?)
+}
+
+/// What follows a Time (RFC 5280 5.1.2.4).
+#[tactic(auto, unfolding(crate::specs::Reading::time_at))]
+fn behind_time(bytes: &[u8]) -> Option<&[u8]>
+    ensures { Gives (λ x. x.now) result (time_at bytes.now) }
+{
+    let (time, rest) = take(bytes)?;
+    if time.tag == UTC_TIME || time.tag == GENERALIZED_TIME {
+        Some(rest)
+    } else {
+        None
+    }
+}
+
+#[tactic(auto, unfolding(crate::specs::Reading::after_next_update))]
+fn behind_next_update(bytes: &[u8]) -> Option<&[u8]>
+    ensures { Gives (λ x. x.now) result (after_next_update bytes.now) }
+{
+    match bytes {
+        [first, ..] if *first == UTC_TIME || *first == GENERALIZED_TIME => behind_time(bytes),
+        _ => Some(bytes),
+    }
+}
+
+/// The CRL number in crlExtensions that nothing follows.
+#[tactic(auto, unfolding(crate::specs::Reading::numbered_at))]
+fn crl_number(bytes: &[u8]) -> Option<u64>
+    ensures { result ≡ numbered_at bytes.now }
+{
+    let extensions = whole(SEQUENCE, whole(TAGGED_0, bytes)?)?;
+    number_among(extensions)
+}
+
+fn number_among(extensions: &[u8]) -> Option<u64>
+    ensures { result ≡ number_among (length extensions.now) extensions.now }
+{
+    let mut rest = extensions;
+    while !rest.is_empty() {
+        let (identifier, value, after) = next_extension(rest)?;
+        if identifier == CRL_NUMBER.as_slice() {
+            return number_of(whole(INTEGER, value)?);
+        }
+        rest = after;
+    }
+    None
+}
+
+#[tactic(auto, unfolding(crate::specs::Reading::crl_extension_at))]
+fn next_extension(bytes: &[u8]) -> Option<(&[u8], &[u8], &[u8])>
+    ensures exact { Gives (λ x. ((x.0.now, x.1.now), x.2.now)) result (crl_extension_at bytes.now) }
+    ensures shorter { IfSome result (λ x. length x.2.now < length bytes.now) }
+{
+    let (extension, rest) = expect(SEQUENCE, bytes)?;
+    let (identifier, after_identifier) = expect(OBJECT_IDENTIFIER, extension.contents)?;
+    let (_, after_critical) = optional(BOOLEAN, after_identifier)?;
+    let value = whole(OCTET_STRING, after_critical)?;
+    Some((identifier.contents, value, rest))
+}
+
+/// The number with the contents octets of an INTEGER that is not negative (X.690 8.3), of eight octets at most.
+fn number_of(octets: &[u8]) -> Option<u64>
+    ensures { result ≡ crl_number_of octets.now }
+{
+    if octets.is_empty() || octets[0] >= 0x80 || octets.len() > 8 {
+        return None;
+    }
+    Some(number(octets))
+}

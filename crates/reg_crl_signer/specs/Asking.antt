@@ -1,7 +1,0 @@
--- A connection on which a signature is on its way.
-use Rattle.std.specs.Prelude.{◌≡◌, ℕ, List, string_bytes}
-use Rattle.reg_crl_signer.specs.declared.asking.Asking.{Asking}
-
--- what listens at this path is asked on it for the answer to this message
-abbrev pub IsAsking : List ℕ → List ℕ → Asking → Type 0
-IsAsking path message asking = (string_bytes asking.path ≡ path) × (asking.message.items ≡ message)

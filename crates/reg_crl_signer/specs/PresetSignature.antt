@@ -1,0 +1,8 @@
+-- A preset signature.
+use Rattle.std.specs.Prelude.{ℕ, List, Option}
+use Rattle.std.specs.Option.{ForSome}
+use Rattle.reg_crl_signer.specs.declared.preset_signature.PresetSignature.{PresetSignature}
+
+-- it is what others were given for the message, by this relation; or there is none
+abbrev pub IsPreset : (List ℕ → List ℕ → Type 0) → Option PresetSignature → Type 0
+IsPreset gave preset_signature = ForSome preset_signature (λ known. ForSome known.answer (λ answer. ∥ gave known.message.items answer.items ∥₁))

@@ -1,0 +1,149 @@
+//! A connection on which a signature is on its way.
+
+ghost use Rattle.std.specs.Prelude.{◌≡◌, ◌≤◌, [], IfOk, IfSome, IsTrue, OnSome, length};
+ghost use Rattle.std.specs.Io.KnownBytes.{Consumes, IsAtEnd};
+ghost use Rattle.reg_crl_signer.specs.SignatureRequest.{IsSignatureRequest};
+
+use crate::exchange::DeviceConnection;
+use crate::signer::LONGEST_ANSWER;
+use mio::event::Source;
+use mio::net::UnixStream;
+use mio::{Interest, Registry, Token};
+use reg_io::{fill_to_end, write_whole};
+use std::alloc::Global;
+use std::io;
+use std::io::{ErrorKind, Read, Write};
+use std::net::Shutdown;
+
+/// A connection to a signer at a path, on which it is asked to sign a message, and which never waits. It keeps both: so an answer on it is
+/// taken only for the one who asked, and only for this message.
+#[derive(Drop)]
+pub struct SignatureRequest {
+    stream: UnixStream,
+    path: String,
+    message: Vec<u8>,
+}
+
+impl SignatureRequest {
+    /// Asks the signer at a path to sign a message. An error is one of [`SignatureRequest::connect`], or `BrokenPipe` where the message is not taken
+    /// at once, as one of some hundred thousand bytes may be.
+    pub fn ask(rt: &HostRuntime, path: &str, message: &[u8]) -> io::Result<SignatureRequest>
+        ensures { IfOk result (IsSignatureRequest path.now message.now) }
+    {
+        let mut asking = SignatureRequest::connect(rt, path)?;
+        asking.message.extend_from_slice(message)?;
+        write_whole(&mut asking.stream, message).map_err(|_| io::Error::from(
+            ErrorKind::BrokenPipe,
+        ))?;
+        asking.finish()?;
+        Ok(asking)
+    }
+
+    /// Whether the signer at this path is asked on it, and to sign this message.
+    pub fn is_for(&self, path: &str, message: &[u8]) -> bool
+        ensures { IsTrue result → IsSignatureRequest path.now message.now self.now }
+    {
+        self.path.as_str() == path && self.message.as_slice() == message
+    }
+}
+
+/// The answer that a connection gives up to its end. `None` where it fails, has not come to its end, or gives more than 4,096 bytes, and
+/// where memory is out.
+pub fn read_answer<R: Read>(alloc: Global, reader: &mut R) -> Option<Vec<u8>>
+    ensures came { IfSome result (λ answer.
+        Consumes (R.remaining reader.old) (R.remaining reader.new) answer.items) }
+    ensures ended { OnSome result (IsAtEnd (R.remaining reader.new)) }
+    ensures short { IfSome result (λ answer. length answer.items ≤ 4096) }
+{
+    let mut answer = vec![in alloc; 0; LONGEST_ANSWER + 1].ok()?;
+    let count = fill_to_end(reader, &mut answer).ok()?;
+    answer.truncate(count);
+    Some(answer)
+}
+
+impl Read for SignatureRequest {
+    fn read(&mut self, buf: &mut [u8]) -> io::Result<usize> {
+        self.stream.read(buf)
+    }
+}
+
+/// Bytes that are written on it go behind the message.
+impl Write for SignatureRequest {
+    ghost use Rattle.std.specs.Prelude.{Some};
+
+    ghost contents = { λ it. Some it.message.items };
+
+    fn write(&mut self, buf: &[u8]) -> io::Result<usize> {
+        let before = self.message.len();
+        self.message.extend_from_slice(buf)?;
+        match self.stream.write(buf) {
+            Ok(count) => {
+                self.message.truncate(before + count);
+                Ok(count)
+            }
+            Err(error) => {
+                self.message.truncate(before);
+                Err(error)
+            }
+        }
+    }
+
+    fn flush(&mut self) -> io::Result<()> {
+        Ok(())
+    }
+}
+
+/// It is connected with no message yet, and stays as it was where no more is written.
+impl DeviceConnection for SignatureRequest {
+    ghost use Rattle.std.specs.Prelude.{◌≡◌, []};
+    ghost use Rattle.reg_crl_signer.specs.SignatureRequest.{IsSignatureRequest};
+
+    ghost connected = { λ path it. IsSignatureRequest path [] it };
+
+    ghost unconnected = { λ path. Unit {0} };
+
+    ghost finished = { λ it after. after ≡ it };
+
+    ghost gave = { λ path message answer. Unit {0} };
+
+    /// Waits for nothing: an error is `WouldBlock` where the socket has no room for one more connection.
+    fn connect(rt: &HostRuntime, path: &str) -> io::Result<SignatureRequest>
+        ensures ok { IfOk result (IsSignatureRequest path.now []) }
+        ensures err { Unit {0} }
+    {
+        let kept = String::from_str(rt.alloc(), path)?;
+        Ok(SignatureRequest {
+            stream: UnixStream::connect(rt, path)?,
+            path: kept,
+            message: Vec::new(rt.alloc()),
+        })
+    }
+
+    fn finish(&mut self) -> io::Result<()> {
+        self.stream.shutdown(Shutdown::Write)
+    }
+}
+
+impl Source for SignatureRequest {
+    fn register(
+        &mut self,
+        registry: &Registry,
+        token: Token,
+        interests: Interest,
+    ) -> io::Result<()> {
+        self.stream.register(registry, token, interests)
+    }
+
+    fn reregister(
+        &mut self,
+        registry: &Registry,
+        token: Token,
+        interests: Interest,
+    ) -> io::Result<()> {
+        self.stream.reregister(registry, token, interests)
+    }
+
+    fn deregister(&mut self, registry: &Registry) -> io::Result<()> {
+        self.stream.deregister(registry)
+    }
+}

@@ -1,0 +1,34 @@
+//! Tag octets (X.690 8.1.2).
+
+pub const BOOLEAN: u8 = 0x01;
+
+pub const INTEGER: u8 = 0x02;
+
+pub const BIT_STRING: u8 = 0x03;
+
+pub const OCTET_STRING: u8 = 0x04;
+
+pub const OBJECT_IDENTIFIER: u8 = 0x06;
+
+pub const ENUMERATED: u8 = 0x0A;
+
+pub const UTC_TIME: u8 = 0x17;
+
+pub const GENERALIZED_TIME: u8 = 0x18;
+
+pub const SEQUENCE: u8 = 0x30;
+
+/// [0], constructed.
+pub const TAGGED_0: u8 = 0xA0;
+
+/// [1], constructed.
+pub const TAGGED_1: u8 = 0xA1;
+
+/// [2], constructed.
+pub const TAGGED_2: u8 = 0xA2;
+
+/// [0], primitive.
+pub const PRIMITIVE_0: u8 = 0x80;
+
+/// [2], primitive.
+pub const PRIMITIVE_2: u8 = 0x82;

@@ -1,0 +1,74 @@
+//! Values of a known tag, taken from the front of bytes.
+
+ghost use Rattle.std.specs.Prelude.{◌≡◌, ◌<◌, ◌≤◌, length, IfSome, option_copied};
+ghost use Rattle.reg_core.specs.Integer.{value as number_written};
+ghost use Rattle.reg_der.specs.Der.{tlv};
+ghost use Rattle.reg_der.specs.ValueReading.{Gives};
+ghost use Rattle.reg_der.specs.TaggedValues.{expect_at, last_at, optional_at, whole_at};
+
+use crate::reading::{Tlv, take};
+
+/// The value of the tag at the front, and what follows.
+#[tactic(auto, using(crate::proofs::ValueLemmas::tlv_some), unfolding(crate::specs::TaggedValues::expect_at))]
+pub fn expect(tag: u8, bytes: &[u8]) -> Option<(Tlv<'_>, &[u8])>
+    ensures exact { Gives (λ x. (x.0.contents.now, x.1.now)) result (expect_at tag bytes.now) }
+    ensures raw { IfSome result (λ x. x.0.raw.now ≡ tlv tag x.0.contents.now) }
+    ensures shorter { IfSome result (λ x. length x.1.now < length bytes.now) }
+{
+    let (value, rest) = take(bytes)?;
+    if value.tag == tag {
+        Some((value, rest))
+    } else {
+        None
+    }
+}
+
+/// The contents of the value of the tag that all the bytes are.
+#[tactic(auto, unfolding(crate::specs::TaggedValues::whole_at))]
+pub fn whole(tag: u8, bytes: &[u8]) -> Option<&[u8]>
+    ensures exact { Gives (λ x. x.now) result (whole_at tag bytes.now) }
+{
+    let (value, rest) = expect(tag, bytes)?;
+    if rest.is_empty() {
+        Some(value.contents)
+    } else {
+        None
+    }
+}
+
+/// The contents of the value of the tag, if one is at the front, and what follows.
+#[tactic(auto, unfolding(crate::specs::TaggedValues::optional_at))]
+pub fn optional(tag: u8, bytes: &[u8]) -> Option<(Option<&[u8]>, &[u8])>
+    ensures exact { Gives (λ x. (option_copied x.0, x.1.now)) result (optional_at tag bytes.now) }
+{
+    match bytes {
+        [first, ..] if *first == tag => {
+            let (value, rest) = expect(tag, bytes)?;
+            Some((Some(value.contents), rest))
+        }
+        _ => Some((None, bytes)),
+    }
+}
+
+/// The contents of the value of the tag that all the bytes are, if there are bytes.
+#[tactic(auto, unfolding(crate::specs::TaggedValues::last_at))]
+pub fn last(tag: u8, bytes: &[u8]) -> Option<Option<&[u8]>>
+    ensures exact { Gives (λ x. option_copied x) result (last_at tag bytes.now) }
+{
+    if bytes.is_empty() {
+        return Some(None);
+    }
+    Some(Some(whole(tag, bytes)?))
+}
+
+/// The number that octets write, the highest first, of which there are eight at most.
+pub fn number(octets: &[u8]) -> u64
+    requires { length octets.now ≤ 8 }
+    ensures { result ≡ number_written octets.now }
+{
+    let mut number = 0;
+    for octet in octets {
+        number = number * 256 + u64::from(*octet);
+    }
+    number
+}

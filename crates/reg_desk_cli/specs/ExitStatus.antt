@@ -1,0 +1,54 @@
+-- How a job of the program ends.
+use Rattle.std.specs.Prelude.{ℕ, List, codes, Result, Ok, Err}
+use Rattle.reg_core.specs.Lines.{fault_line}
+use Rattle.reg_desk_cli.specs.declared.failure.Failure.{Failure}
+use Rattle.reg_desk_cli.specs.declared.failure.Failure.TheVariants as failure
+use Rattle.reg_store_tables.specs.declared.fault.StoreFault.{StoreFault}
+use Rattle.reg_store_tables.specs.declared.fault.StoreFault.TheVariants as stored
+use Rattle.reg_core.specs.declared.refusal.Fault.TheVariants as fault
+
+-- the line of standard error that tells a failure, without its LF; where two things are told, the lines of both with an LF between them
+unfoldable pub failure_line : Failure → List ℕ
+failure_line (failure.Fault fault) = fault_line fault
+failure_line failure.NotEmpty = codes "not-empty"
+failure_line failure.NotARegister = codes "not-a-register"
+failure_line failure.NewVersion = codes "new-version"
+failure_line failure.OldVersion = codes "old-version"
+failure_line failure.BadIssuer = codes "bad-issuer"
+failure_line failure.BadPolicy = codes "bad-policy"
+failure_line failure.BadSigner = codes "bad-signer"
+failure_line failure.BadResponder = codes "bad-responder"
+failure_line failure.Refused = codes "refused"
+failure_line failure.NoLineEnd = codes "no-line-end"
+failure_line failure.RefusedNoLineEnd = codes "refused\nno-line-end"
+failure_line failure.Broken = codes "broken"
+failure_line failure.NotACrl = codes "not-a-crl"
+failure_line failure.LacksPublished = codes "behind-crl"
+
+-- the exit status: 0 if the job is done; 3 if a reply at a control socket, in a strict script or in a strict import was a refusal or a
+-- fault, or the last line there has no end; 1 if the job is not done
+abbrev pub exit_status : {T : Type 0} → Result T Failure → ℕ
+exit_status (Ok done) = 0
+exit_status (Err failure.Refused) = 3
+exit_status (Err failure.NoLineEnd) = 3
+exit_status (Err failure.RefusedNoLineEnd) = 3
+exit_status (Err (failure.Fault fault)) = 1
+exit_status (Err failure.NotEmpty) = 1
+exit_status (Err failure.NotARegister) = 1
+exit_status (Err failure.NewVersion) = 1
+exit_status (Err failure.OldVersion) = 1
+exit_status (Err failure.BadIssuer) = 1
+exit_status (Err failure.BadPolicy) = 1
+exit_status (Err failure.BadSigner) = 1
+exit_status (Err failure.BadResponder) = 1
+exit_status (Err failure.Broken) = 1
+exit_status (Err failure.NotACrl) = 1
+exit_status (Err failure.LacksPublished) = 1
+
+-- a register that can't be made, opened or changed, as the end of a job
+abbrev pub store_failure : StoreFault → Failure
+store_failure stored.Memory = failure.Fault fault.Memory
+store_failure stored.Store = failure.Fault fault.Store
+store_failure stored.NotEmpty = failure.NotEmpty
+store_failure stored.NotARegister = failure.NotARegister
+store_failure stored.NewVersion = failure.NewVersion

@@ -1,0 +1,26 @@
+use Rattle.std.proofs.Common.{◌≡◌}
+use Rattle.reg_core.specs.Records.{Records}
+use Rattle.reg_office_api.proofs.PublicLaws.{follows}
+use Rattle.reg_office_api.specs.Signatories.{Signatory}
+use Rattle.reg_desk_jobs.specs.ControlWords.{WordAt}
+use Rattle.reg_desk_jobs.proofs.LookedAt.{still_then, then_still}
+use Rattle.reg_desk_jobs.proofs.control_lines.answer_counted.Goals as goal
+
+pub returns-clause-moves : goal.returns-clause-moves
+returns-clause-moves g c =
+    let step : Signatory → Records → Records → Type 0 = λ who before after.
+    WordAt g.M.Office.Office.signs c.args.now who before c.args.line.now c.answer_word-reply.result.text.items after in
+    still_then g.M.Office.Office.is_clean g.M.Office.Office.stands step _ _ _
+    (follows g.M.Office.Office.is_clean g.M.Office.Office.stands _ (λ who before after. after ≡ before) (λ who before after looked. looked.1) _ _
+    c.named_before-named.ensures)
+    (then_still g.M.Office.Office.is_clean g.M.Office.Office.stands step _ _ _ c.answer_word-reply.ensures.moves c.note_due.ensures)
+
+pub returns-clause-counted : goal.returns-clause-counted
+returns-clause-counted g c = (
+  c.saturating_sub-micros.result,
+  c.answer_word-reply.result.came,
+  c.has_failed-is_unsigned.result,
+  c.answer_word-reply.ensures.came,
+  rw (c.failure_counts-failures.ensures.crls, c.failure_counts-failures.ensures.answers) at c.has_failed-is_unsigned.ensures,
+  rw c.effects.ensures at c.count_line.ensures,
+)

@@ -1,6 +1,0 @@
-use Rattle.std.proofs.Common.{inr}
-use Rattle.reg_desk_jobs.proofs.copying.copy.Goals as goal
-
-pub returns : goal.returns
-returns g c =
-    inr (c.in_ok-bytes.bytes, c.millis_since-millis.result, c.in_ok-bytes.ensures.ok, c.say_line.ensures _ c.copied_line.ensures)

@@ -1,6 +1,0 @@
-use Rattle.std.proofs.Common.{[], refl}
-use Rattle.reg_desk_jobs.proofs.Fates.{untold}
-use Rattle.reg_desk_jobs.proofs.serve_job.serve_hub.Goals as goal
-
-pub returns-in-Err : goal.returns-in-Err
-returns-in-Err g c = ([], [], refl, untold c.args.port c.args.requests _ _ c.in-Err.why c.in-Err.ensures)

@@ -1,0 +1,13 @@
+use Rattle.std.proofs.Common.{◌∷◌, ◌++◌, []}
+use Rattle.reg_desk_jobs.specs.Showings.{help_text}
+use Rattle.reg_desk_jobs.specs.declared.control_reply.LineOutcome.TheVariants.{Done}
+use Rattle.reg_desk_jobs.proofs.ControlLines.{came_told, help_accepted, said_of}
+use Rattle.reg_desk_jobs.proofs.show.answer_help.Goals as goal
+
+pub returns-clause-told : goal.returns-clause-told
+unfolding help_text
+returns-clause-told c = said_of (help_text ++ 10 ∷ []) Done _ _ c.line.ensures
+
+pub returns-clause-came : goal.returns-clause-came
+unfolding help_text
+returns-clause-came c = came_told (help_text ++ 10 ∷ []) Done _ _ c.line.ensures help_accepted

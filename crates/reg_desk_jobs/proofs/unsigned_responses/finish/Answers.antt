@@ -1,0 +1,13 @@
+use Rattle.std.proofs.Common.{◌∙◌}
+use Rattle.reg_office_api.specs.Items.{items_of}
+use Rattle.reg_desk_jobs.proofs.Finishing.{items_made}
+use Rattle.reg_desk_jobs.proofs.unsigned_responses.finish.Goals as goal
+
+pub returns-clause-finished : goal.returns-clause-finished
+returns-clause-finished c = record {
+  given = items_of c.response-response.result;
+  made = items_made c.args.unsigned.now.draft c.response-response.result _ _ c.slice_of.ensures c.response-response.ensures;
+  tells = c.finished.ensures.tells;
+  fate = c.finished.ensures.effects.0 ∙ c.fate_by-fate.ensures;
+  store = c.finished.ensures.effects.1;
+}

@@ -1,0 +1,128 @@
+-- What a line at the control socket says: a word of its own, or a command line.
+use Rattle.std.specs.Prelude.{◌≡◌, ◌⊎◌, ℕ, List, [], ◌∷◌, ◌++◌, codes, bytes_eq, if◌then◌else◌, MatchOption, Option, Some, None, option_map}
+use Rattle.std.specs.Option.{option_map_or}
+use Rattle.reg_core.specs.Number.{number_of}
+use Rattle.reg_core.specs.Sequence.{◌>>=◌}
+use Rattle.reg_core.specs.Serial.{serial_of}
+use Rattle.reg_core.specs.declared.command.Command.TheVariants.{Decline, Revoke}
+use Rattle.reg_core_lists.specs.Asked.{label_of}
+use Rattle.reg_core.specs.Records.{Records}
+use Rattle.reg_core.specs.declared.refusal.Fault.TheVariants as fault
+use Rattle.reg_office_api.specs.Signatories.{Signatory}
+use Rattle.reg_office_api.specs.CallSteps.{Signs}
+use Rattle.reg_lines.specs.Answer.{ComesTo, Replied}
+use Rattle.reg_lines.specs.ByCalls.{Lines}
+use Rattle.reg_lines.specs.Fields.{fields_of}
+use Rattle.reg_lines.specs.Script.{IsShortCommand, line_of}
+use Rattle.reg_desk_cli.specs.WordValues.{steps_of}
+use Rattle.reg_desk_jobs.specs.ControlReplies.{IsSaid, ReportsFault}
+use Rattle.reg_desk_jobs.specs.Copies.{AnswersCopy, asks_copy}
+use Rattle.reg_desk_jobs.specs.Schedules.{SetAt}
+use Rattle.reg_desk_jobs.specs.Settlings.{SettlesAt}
+use Rattle.reg_desk_jobs.specs.Showings.{AnswersShown, help_text}
+use Rattle.reg_desk_jobs.specs.declared.words.ControlWord.{ControlWord}
+use Rattle.reg_desk_jobs.specs.declared.words.ControlWord.TheVariants.{Help, Why, Copy, Show, Settle, Schedule, Line}
+use Rattle.reg_desk_jobs.specs.declared.words.Settling.{Settling}
+use Rattle.reg_desk_jobs.specs.declared.words.Shown.{Shown}
+use Rattle.reg_desk_jobs.specs.declared.words.Shown.TheVariants.{Request, Certificate, Subscriber}
+
+-- the words of the control socket: its words, why the last refused line was refused, a copy, a row that is shown, a decision of a request that is
+-- for a serial number, a schedule of steps; any other line is a command line
+pub data Saying : Type 0 where
+  helps : Saying
+  why : Saying
+  copies : Saying
+  shows : Shown → Saying
+  settles : Settling → Saying
+  schedules : List (ℕ × ℕ) → Saying
+  commands : Saying
+
+-- what fields ask to be shown: `SERIAL`, `request N` or `subscriber NAME`
+abbrev pub shown_by : List (List ℕ) → Option Shown
+shown_by [] = None
+shown_by (serial ∷ []) = option_map Certificate (serial_of serial)
+shown_by (kind ∷ named ∷ []) =
+    if bytes_eq kind (codes "request") then option_map Request (number_of named)
+    else if bytes_eq kind (codes "subscriber") then option_map Subscriber (label_of named)
+    else None
+shown_by (kind ∷ named ∷ more ∷ rest) = None
+
+-- the same behind the word `show`
+abbrev pub shown_in : List (List ℕ) → Option Shown
+shown_in [] = None
+shown_in (word ∷ rest) = if bytes_eq word (codes "show") then shown_by rest else None
+
+-- the decision of a request, by its word
+abbrev pub settling_by : List ℕ → ℕ → ℕ → Option Settling
+settling_by word request serial =
+    if bytes_eq word (codes "revoke") then Some (record { command = Revoke request; request = request; serial = serial })
+    else if bytes_eq word (codes "decline") then Some (record { command = Decline request; request = request; serial = serial })
+    else None
+
+-- `revoke N SERIAL` or `decline N SERIAL`
+abbrev pub settling_in : List (List ℕ) → Option Settling
+settling_in (word ∷ request ∷ serial ∷ []) = do
+  request ← number_of request
+  serial ← serial_of serial
+  settling_by word request serial
+settling_in other = None
+
+-- the steps of a schedule that fields set: one at least, each `MOMENT=DAYS`, behind the word
+abbrev pub steps_set : List (List ℕ) → Option (List (ℕ × ℕ))
+steps_set [] = None
+steps_set (word ∷ []) = None
+steps_set (word ∷ step ∷ rest) = if bytes_eq word (codes "schedule") then steps_of (step ∷ rest) else None
+
+-- what the fields of a line say
+abbrev pub said_by_fields : List (List ℕ) → Saying
+said_by_fields fields = option_map_or shows (shown_in fields) (option_map_or settles (settling_in fields) (option_map_or schedules (steps_set fields) commands))
+
+-- what a line says
+abbrev pub said_in : List ℕ → Saying
+said_in line =
+    if bytes_eq (line_of line) (codes "help") then helps
+    else if bytes_eq (line_of line) (codes "why") then why
+    else if asks_copy line then copies
+    else said_by_fields (fields_of (line_of line))
+
+-- a line is this word; a command line has no end, and is none where it has too many bytes
+abbrev pub IsWord : List ℕ → ControlWord → Type 0
+IsWord line Help = said_in line ≡ helps
+IsWord line Why = said_in line ≡ why
+IsWord line (Copy path) = said_in line ≡ copies
+IsWord line (Show shown) = said_in line ≡ shows shown
+IsWord line (Settle settling) = said_in line ≡ settles settling
+IsWord line (Schedule steps) = said_in line ≡ schedules steps
+IsWord line (Line command) = (said_in line ≡ commands)
+    × MatchOption command (¬ IsShortCommand line) (λ text. (text.now ≡ line_of line) × IsShortCommand line)
+
+-- a command line at a moment, without its end, and its reply; or there was no memory for that, and nothing ran
+abbrev pub CommandAt : Signs → ℕ → Signatory → Records → List ℕ → List ℕ → Records → Type 0
+CommandAt signs now identity before line text after =
+    Replied (ComesTo (Lines signs identity) now) before line text after ⊎ (ReportsFault fault.Memory text × (after ≡ before))
+
+-- a command line with its end; or it has too many bytes, and nothing ran
+abbrev pub EntryAt : Signs → ℕ → Signatory → Records → List ℕ → List ℕ → Records → Type 0
+EntryAt signs now identity before line text after =
+    (IsShortCommand line × CommandAt signs now identity before (line_of line) text after)
+    ⊎ ((¬ IsShortCommand line) × ReportsFault fault.Read text × (after ≡ before))
+
+-- what each word is told: the words, why a line was refused, of a copy, and a row, and the records stay; of a decision; of a schedule that is
+-- set; and a command line's reply
+abbrev pub AnswersWord : Signs → ℕ → Signatory → Records → List ℕ → Saying → List ℕ → Records → Type 0
+AnswersWord signs now identity before line helps text after = IsSaid (help_text ++ 10 ∷ []) text × (after ≡ before)
+AnswersWord signs now identity before line why text after = after ≡ before
+AnswersWord signs now identity before line copies text after = AnswersCopy (λ bytes. Unit {0}) text × (after ≡ before)
+AnswersWord signs now identity before line (shows shown) text after = AnswersShown before now shown text × (after ≡ before)
+AnswersWord signs now identity before line (settles settling) text after = SettlesAt signs now identity before settling text after
+AnswersWord signs now identity before line (schedules steps) text after = SetAt steps before text after
+AnswersWord signs now identity before line commands text after = EntryAt signs now identity before line text after
+
+-- a line of an open register at a moment; or there was no memory to read it, which is told, and the records stay
+abbrev pub WordAt : Signs → ℕ → Signatory → Records → List ℕ → List ℕ → Records → Type 0
+WordAt signs now identity before line text after =
+    AnswersWord signs now identity before line (said_in line) text after ⊎ (ReportsFault fault.Memory text × (after ≡ before))
+
+-- the same at a moment that a clock told
+abbrev pub Word : Signs → (ℕ → Type 0) → Signatory → Records → List ℕ → List ℕ → Records → Type 0
+Word signs told identity before line text after = (now : ℕ) × told now × WordAt signs now identity before line text after

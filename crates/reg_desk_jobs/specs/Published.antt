@@ -1,0 +1,79 @@
+-- A published CRL compared with a register: what the CRL has and the register lacks.
+use Rattle.std.specs.Prelude.{◌≡◌, ◌≤◌, ◌⊎◌, ℕ, Bool, IsTrue, List, [], ◌∷◌, ◌++◌, codes, decimal, cond, nat_lt, Option, Some, None, option_map, Result, Ok, Err}
+use Rattle.std.specs.List.{AllByRecursion, flat_map}
+use Rattle.std.specs.Io.KnownBytes.{Appends}
+use Rattle.reg_core.specs.Crls.{latest, row_of}
+use Rattle.reg_core.specs.Records.{Records}
+use Rattle.reg_core.specs.Serial.{serial_text}
+use Rattle.reg_core.specs.Status.{is_revoked, status}
+use Rattle.reg_core.specs.declared.refusal.Fault.TheVariants as fault
+use Rattle.reg_core.specs.declared.rows.CrlRow.{CrlRow}
+use Rattle.reg_crl.specs.Reading.{AreEntries, IsPublished}
+use Rattle.reg_desk_cli.specs.declared.failure.Failure.{Failure}
+use Rattle.reg_desk_cli.specs.declared.failure.Failure.TheVariants as failure
+use Rattle.reg_desk_jobs.specs.SignatureRequest.{IsInput}
+use Rattle.reg_io.specs.Put.{AppendsFront}
+
+-- the number of the latest CRL, 0 before the first
+abbrev pub latest_number : Option CrlRow → ℕ
+latest_number None = 0
+latest_number (Some crl) = crl.number
+
+-- the line of a published CRL with a higher number
+abbrev pub missing_crl : Option CrlRow → ℕ → List ℕ
+missing_crl latest number = cond (nat_lt (latest_number latest) number) (codes "missing crl " ++ decimal number ++ 10 ∷ []) []
+
+-- the line of a listed serial number that is not revoked
+abbrev pub missing_revocation : Bool → ℕ → List ℕ
+missing_revocation is_revoked serial = cond is_revoked [] (codes "missing revocation " ++ serial_text serial ++ 10 ∷ [])
+
+-- the same by the records at a moment
+abbrev pub missing_at : Records → ℕ → ℕ → List ℕ
+missing_at records moment serial = missing_revocation (is_revoked (status records serial moment)) serial
+
+-- what a published CRL has and the records lack at their last moment, a line each
+abbrev pub missing_text : Records → ℕ → List ℕ → List ℕ
+missing_text records number serials =
+    missing_crl (option_map row_of (latest records.crls)) number ++ flat_map (missing_at records records.last) serials
+
+-- nothing is found, as this is no CRL, or as there was a fault
+abbrev pub FindsNothing : Type 0 → Failure → Type 0
+FindsNothing NoCrl failure.NotACrl = NoCrl
+FindsNothing NoCrl (failure.Fault why) = Unit {0}
+FindsNothing NoCrl other = ⊥
+
+-- the lines of the serial numbers of entries were added to others
+abbrev pub AppendsMissing : Records → ℕ → List ℕ → List ℕ → List ℕ → Result (Unit {0}) Failure → Type 0
+AppendsMissing records moment entries old new (Ok done) =
+    (serials : List ℕ) × AreEntries entries serials [] × (new ≡ old ++ flat_map (missing_at records moment) serials)
+AppendsMissing records moment entries old new (Err why) = FindsNothing ((serials : List ℕ) → ¬ AreEntries entries serials []) why
+
+-- the lines of what the CRL in these bytes has and the records lack
+abbrev pub FindsMissing : Records → List ℕ → Result (List ℕ) Failure → Type 0
+FindsMissing records bytes (Ok lines) =
+    (number : ℕ) × (serials : List ℕ) × IsPublished bytes number serials × (lines ≡ missing_text records number serials)
+FindsMissing records bytes (Err why) = FindsNothing ((number : ℕ) → (serials : List ℕ) → ¬ IsPublished bytes number serials) why
+
+-- the same of the bytes of an input
+abbrev pub FindsIn : Records → Option (List ℕ) → Result (List ℕ) Failure → Type 0
+FindsIn records input found = (bytes : List ℕ) × IsInput input bytes × FindsMissing records bytes found
+
+-- the records have all of the CRL in an input: a latest CRL with its number or a higher one, and each serial number that it lists is revoked
+abbrev pub HasAll : Records → Option (List ℕ) → Type 0
+HasAll records input =
+    (bytes : List ℕ) × (number : ℕ) × (serials : List ℕ) × IsInput input bytes × IsPublished bytes number serials
+    × (number ≤ latest_number (option_map row_of (latest records.crls)))
+    × AllByRecursion (λ serial. IsTrue (is_revoked (status records serial records.last))) serials
+
+-- nothing is missing, and nothing is written; or what is missing is written, and the register is behind the CRL; or a front of it, where the
+-- writer fails; or nothing was found
+abbrev pub TellsMissing : Option (List ℕ) → Option (List ℕ) → Result (List ℕ) Failure → Result (Unit {0}) Failure → Type 0
+TellsMissing out out' (Ok []) result = (result ≡ Ok tt) × (out' ≡ out)
+TellsMissing out out' (Ok (first ∷ rest)) result =
+    ((result ≡ Err failure.LacksPublished) × Appends out out' (first ∷ rest))
+    ⊎ ((result ≡ Err (failure.Fault fault.Write)) × AppendsFront out out' (first ∷ rest))
+TellsMissing out out' (Err why) result = (result ≡ Err why) × (out' ≡ out)
+
+-- the CRL in an input is compared with the records, and what they lack of it is told
+abbrev pub Compares : Records → Option (List ℕ) → Option (List ℕ) → Option (List ℕ) → Result (Unit {0}) Failure → Type 0
+Compares records input out out' result = (found : Result (List ℕ) Failure) × FindsIn records input found × TellsMissing out out' found result

@@ -1,0 +1,102 @@
+-- Lines sent to a control socket, or rows as lines, and its replies.
+use Rattle.std.specs.Prelude.{◌≡◌, ◌↔◌, ◌⊎◌, ◌<◌, ℕ, List, [], ◌∷◌, ◌++◌, length, IsTrue, IfSome, Option, Some, Result, Ok, Err}
+use Rattle.std.specs.Io.KnownBytes.{Appends, Consumes}
+use Rattle.std.specs.List.{AllByRecursion, concat}
+use Rattle.reg_core.specs.declared.refusal.Fault.{Fault}
+use Rattle.reg_core.specs.declared.refusal.Fault.TheVariants as fault
+use Rattle.reg_desk_cli.specs.declared.failure.Failure.{Failure}
+use Rattle.reg_desk_cli.specs.declared.failure.Failure.TheVariants as failure
+use Rattle.reg_lines.specs.Accepted.{IsAccepted}
+use Rattle.reg_lines.specs.Script.{HasNoLf, IsWholeLine}
+use Rattle.reg_lines.specs.Told.{ToldEnds}
+use Rattle.reg_desk_jobs.specs.declared.at_job.Next.{Next}
+use Rattle.reg_desk_jobs.specs.declared.at_job.Next.TheVariants as next
+use Rattle.reg_desk_jobs.specs.declared.at_job.Step.{Step}
+use Rattle.reg_desk_jobs.specs.declared.at_job.Step.TheVariants as step
+
+-- each of the lines ends with its LF
+abbrev pub AreWhole : List (List ℕ) → Type 0
+AreWhole [] = Unit {0}
+AreWhole (line ∷ rest) = IsWholeLine line × AreWhole rest
+
+-- a last line without its end
+abbrev pub IsCutOff : List ℕ → Type 0
+IsCutOff line = HasNoLf line × (0 < length line)
+
+-- an input has these bytes and no others, where they are known
+abbrev pub IsInput : Option (List ℕ) → List ℕ → Type 0
+IsInput input bytes = IfSome input (λ all. all ≡ bytes)
+
+-- what ends a talk early: a reading or a writing that fails, or want of memory
+abbrev pub IsOfTalk : Failure → Type 0
+IsOfTalk why = (why ≡ failure.Fault fault.Read) ⊎ ((why ≡ failure.Fault fault.Write) ⊎ (why ≡ failure.Fault fault.Memory))
+
+-- what bytes are that were read up to and with the first LF, or to the end
+abbrev pub IsReadAs : List ℕ → Next → Type 0
+IsReadAs bytes (next.Line line) = (line.items ≡ bytes) × IsWholeLine bytes
+IsReadAs bytes next.Cut = IsCutOff bytes
+IsReadAs bytes next.End = bytes ≡ []
+
+-- what an input has next, before and after it was read: a line, or nothing but a last line without its end, or nothing
+abbrev pub NextIs : Option (List ℕ) → Option (List ℕ) → Next → Type 0
+NextIs input input' (next.Line line) = IsWholeLine line.items × Consumes input input' line.items
+NextIs input input' next.Cut = (left : List ℕ) × IsCutOff left × IsInput input left
+NextIs input input' next.End = IsInput input []
+
+-- these lines were told, one after the other; to each one reply was heard, and that was said
+pub record Talked (sent sent' came came' out out' : Option (List ℕ)) (lines replies : List (List ℕ)) : Type 0 where
+  pub whole : AreWhole lines
+  pub told : Appends sent sent' (concat lines)
+  pub heard : Consumes came came' (concat replies)
+  pub said : Appends out out' (concat replies)
+  pub each : length replies ≡ length lines
+
+-- why a talk ends that was not done, by its replies and what is left of the input: a reply was none of these, a last line has no end and was not
+-- told, or both
+abbrev pub IsWhyBy : (List ℕ → Type 0) → List (List ℕ) → List ℕ → Failure → Type 0
+IsWhyBy IsGood replies left why =
+    ((why ≡ failure.Refused) × (left ≡ []) × (¬ AllByRecursion IsGood replies))
+    ⊎ (((why ≡ failure.NoLineEnd) × IsCutOff left × AllByRecursion IsGood replies)
+    ⊎ ((why ≡ failure.RefusedNoLineEnd) × IsCutOff left × (¬ AllByRecursion IsGood replies)))
+
+-- What went out to the control socket, what came from it, and what was written: before and after.
+module _ (sent sent' came came' out out' : Option (List ℕ)) where
+  -- a line was told, and its reply heard and said
+  abbrev pub TalksLine : List ℕ → List ℕ → Type 0
+  TalksLine line reply = Appends sent sent' line × Consumes came came' reply × Appends out out' reply
+
+  -- one line of an input: it was told, and its reply was accepted or not; or nothing was told, since it has no end, or none is left
+  abbrev pub TalksOnce : Option (List ℕ) → Option (List ℕ) → Result Step Failure → Type 0
+  TalksOnce input input' (Ok (step.Told accepted)) =
+      (line reply : List ℕ) × IsWholeLine line × Consumes input input' line × TalksLine line reply
+      × (IsTrue accepted ↔ IsAccepted reply)
+  TalksOnce input input' (Ok step.Cut) = (left : List ℕ) × IsCutOff left × IsInput input left × (sent' ≡ sent) × (came' ≡ came) × (out' ≡ out)
+  TalksOnce input input' (Ok step.End) = IsInput input [] × (sent' ≡ sent) × (came' ≡ came) × (out' ≡ out)
+  TalksOnce input input' (Err why) = IsOfTalk why
+
+  -- all lines of an input: each reply was accepted; or one was not, or a last line without its end is left, which was not told; where a talk
+  -- ended early, how far it came is not said
+  abbrev pub Talks : Option (List ℕ) → Result (Unit {0}) Failure → Type 0
+  Talks input (Ok done) =
+      (lines replies : List (List ℕ)) × Talked sent sent' came came' out out' lines replies × IsInput input (concat lines) × AllByRecursion IsAccepted replies
+  Talks input (Err why) = IsOfTalk why
+      ⊎ ((lines replies : List (List ℕ)) × (left : List ℕ) × Talked sent sent' came came' out out' lines replies
+      × IsInput input (concat lines ++ left) × IsWhyBy IsAccepted replies left why)
+
+-- a talk over a connection, of which nothing more is known: it ended early with nothing written, or as it says
+abbrev pub TalksOver : Option (List ℕ) → Option (List ℕ) → Option (List ℕ) → Result (Unit {0}) Failure → Type 0
+TalksOver input out out' result =
+    ((why : Failure) × (result ≡ Err why) × IsOfTalk why × (out' ≡ out))
+    ⊎ ((sent sent' came came' : Option (List ℕ)) × Talks sent sent' came came' out out' input result)
+
+-- lines at the control socket at a path: no program listened there, or the one that did was talked with
+abbrev pub AtControlSocket : Type 0 → Option (List ℕ) → Option (List ℕ) → Option (List ℕ) → Result (Unit {0}) Failure → Type 0
+AtControlSocket met input out out' result =
+    ((result ≡ Err (failure.Fault fault.Read)) × (out' ≡ out))
+    ⊎ (met × TalksOver input out out' result)
+
+-- rows at the control socket at a path: the input was not read whole, and nothing is sent; or it was, and the lines of its rows are sent there
+abbrev pub RowsAtControlSocket : Type 0 → Option (List ℕ) → Option (List ℕ) → Option (List ℕ) → Option (List ℕ) → Result (Unit {0}) Failure → Type 0
+RowsAtControlSocket met input input' out out' result =
+    ((why : Fault) × (result ≡ Err (failure.Fault why)) × ToldEnds input input' (Err why) × (out' ≡ out))
+    ⊎ ((lines : List ℕ) × ToldEnds input input' (Ok lines) × AtControlSocket met (Some lines) out out' result)

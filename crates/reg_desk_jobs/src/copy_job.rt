@@ -1,0 +1,125 @@
+//! A copy of a register: the job `copy`, and the word at the control socket by which the register that is open is copied.
+
+ghost use Rattle.std.specs.Prelude.{◌≡◌, ◌++◌, ◌∷◌, [], IfErr, IfOk};
+ghost use Rattle.reg_core.specs.Lines.{fault_line};
+ghost use Rattle.reg_desk_jobs.specs.ControlReplies.{IsOf, ReportsLineOutcome};
+ghost use Rattle.reg_desk_jobs.specs.Copies.{AnswersCopy, asks_copy as asks, copied_text};
+ghost use Rattle.reg_desk_jobs.specs.Ends.{CopyAt};
+ghost use Rattle.reg_office_api.specs.LookUps.{IsOfStore};
+
+use crate::control_reply::{ControlReply, LineOutcome};
+use crate::machine::Machine;
+use crate::output_lines::say_line;
+use crate::reasons::{keep_reason_text, prefix_and_end};
+use reg_core::{Cause, Decimal, Fault};
+use reg_desk_cli::Failure;
+use std::alloc::{AllocError, Global};
+use std::io::Write;
+
+/// Why no copy was created: the fault, and its cause where that is known.
+#[derive(Clone, Copy, PartialEq, Eq)]
+pub struct Uncopied {
+    /// The fault.
+    pub fault: Fault,
+    /// The cause that the call told which failed.
+    pub cause: Option<Cause>,
+}
+
+pub(crate) fn asks_copy(line: &[u8]) -> bool
+    ensures { result ≡ asks line.now }
+{
+    line.starts_with(b"copy ")
+}
+
+/// Copies the register that is open, whose file lies at a path, to another path, and tells that; who comes meanwhile waits. Where none is
+/// created, why is noted for the connection. No record changes.
+pub(crate) fn answer_copy<M: Machine>(
+    alloc: Global,
+    machine: &M,
+    file: &str,
+    path: Option<&str>,
+    noted: &mut Vec<u8>,
+) -> ControlReply
+    ensures copied { AnswersCopy (M.copied_open file.now) result.text.items }
+    ensures told { AnswersCopy (λ bytes. Unit {0}) result.text.items }
+    ensures came { ReportsLineOutcome result.came result.text.items }
+{
+    let began = machine.micros();
+    match copy_to(machine, file, path) {
+        Ok(bytes) => told_copied(alloc, bytes, millis_since(machine, began)),
+        Err(why) => told_uncopied(alloc, why, noted),
+    }
+}
+
+fn copy_to<M: Machine>(machine: &M, file: &str, path: Option<&str>) -> Result<u64, Uncopied>
+    ensures ok { IfOk result (M.copied_open file.now) }
+    ensures err { IfErr result (λ why. IsOfStore why.fault) }
+{
+    match path {
+        Some(path) => machine.copy_open(file, path),
+        None => Err(Uncopied {
+            fault: Fault::Store,
+            cause: None,
+        }),
+    }
+}
+
+/// The path behind the word of a line: all that is left of it, without its end. `None` where that is no text of UTF-8.
+pub(crate) fn path_in(line: &[u8]) -> Option<&str> {
+    let path = line.strip_prefix(b"copy ")?;
+    let path = path.strip_suffix(b"\n").unwrap_or(path);
+    let path = path.strip_suffix(b"\r").unwrap_or(path);
+    str::from_utf8(path).ok()
+}
+
+fn millis_since<M: Machine>(machine: &M, began: u64) -> u64 {
+    machine.micros().saturating_sub(began) / 1_000
+}
+
+fn told_copied(alloc: Global, bytes: u64, millis: u64) -> ControlReply
+    ensures { IsOf (copied_text bytes millis) LineOutcome.Done result.text.items result.came }
+{
+    ControlReply::made(alloc, copied_line(alloc, bytes, millis), LineOutcome::Done)
+}
+
+#[tactic(auto, unfolding(crate::specs::Copies::copied_text))]
+fn copied_line(alloc: Global, bytes: u64, millis: u64) -> Result<Vec<u8>, AllocError>
+    ensures { IfOk result (λ text. text.items ≡ copied_text bytes millis) }
+{
+    let mut text = Vec::from_slice(alloc, b"copied ")?;
+    text.extend_from_slice(Decimal::of(bytes).as_bytes())?;
+    text.extend_from_slice(b" bytes in ")?;
+    text.extend_from_slice(Decimal::of(millis).as_bytes())?;
+    text.extend_from_slice(b" ms\n")?;
+    Ok(text)
+}
+
+fn told_uncopied(alloc: Global, why: Uncopied, noted: &mut Vec<u8>) -> ControlReply
+    ensures { IsOf (fault_line why.fault ++ 10 ∷ []) (LineOutcome.Uncopied why.fault) result.text.items result.came }
+{
+    let reply = ControlReply::uncopied(alloc, why.fault);
+    keep_reason_text(cause_text(alloc, why.cause), &reply.text, noted);
+    reply
+}
+
+fn cause_text(alloc: Global, cause: Option<Cause>) -> Option<Vec<u8>> {
+    let line = cause?.line();
+    prefix_and_end(alloc, b"", line.as_bytes().strip_prefix(b"  ")?).ok()
+}
+
+/// Copies the register at a path, which no program has open, to another path, and tells it. It only reads what lies at the first.
+pub fn copy<M: Machine, W: Write>(
+    alloc: Global,
+    machine: &mut M,
+    file: &str,
+    to: &str,
+    writer: &mut W,
+) -> Result<(), Failure>
+    ensures { CopyAt M.Machine M.Office.Office W.contents machine.old machine.new writer.old writer.new file.now to.now
+        result }
+{
+    let began = machine.micros();
+    let bytes = machine.copy(file, to)?;
+    let millis = millis_since(machine, began);
+    say_line(writer, copied_line(alloc, bytes, millis))
+}

@@ -1,0 +1,162 @@
+//! Requests that are revoked or declined by number, with the serial number that each is for, and what the log names of them.
+
+ghost use Rattle.std.specs.Prelude.{◌≡◌, IfSome};
+ghost use Rattle.reg_core.specs.Records.{request_in};
+ghost use Rattle.reg_office_api.specs.Leads.{Leads};
+ghost use Rattle.reg_desk_jobs.specs.ControlReplies.{ReportsLineOutcome, ReportsFault};
+ghost use Rattle.reg_desk_jobs.specs.LogNames.{Decides, NamesRequest, NamesAccepted, NamesDecided};
+ghost use Rattle.reg_desk_jobs.specs.Settlings.{RunsAt, SettlesAt, request_of_row};
+ghost use Rattle.reg_desk_jobs.specs.Showings.{IsLookedUp};
+
+use crate::control_lines::answer_command;
+use crate::control_reply::{ControlReply, LineOutcome};
+use crate::machine::Machine;
+use crate::reasons::{Reason, keep_reason_text, reason_line};
+use crate::show::{find, report_fault};
+use crate::words::{Settling, Shown, settling_in};
+use reg_core::{Command, Fault, Moment, Refusal, Reply, RequestRow};
+use reg_core_lists::Row;
+use reg_http::NamedRequest;
+use reg_lines::{Answered, Asked, CommandLine, LONGEST_REPLY, command_in, read_line, without_end};
+use reg_office_api::Office;
+use std::alloc::Global;
+
+/// Revokes or declines a request, which is refused as [`Refusal::NoRequest`] where it is for another serial number.
+pub(crate) fn answer_settling<M: Machine>(
+    alloc: Global,
+    office: &mut M::Office,
+    now: Moment,
+    settling: Settling,
+    noted: &mut Vec<u8>,
+) -> ControlReply
+    ensures moves { Leads M.Office.is_clean M.Office.stands
+        (λ identity before after. SettlesAt M.Office.signs now identity before settling result.text.items after)
+        office.old office.new }
+    ensures came { ReportsLineOutcome result.came result.text.items }
+{
+    match find_request(alloc, office, now, settling.request) {
+        Ok(Some(request)) if request.serial != settling.serial => tell_other(alloc, request, noted),
+        Ok(_) => tell_run::<M>(alloc, office, now, settling.command, noted),
+        Err(fault) => report_fault(alloc, fault, noted),
+    }
+}
+
+fn tell_run<M: Machine>(
+    alloc: Global,
+    office: &mut M::Office,
+    now: Moment,
+    command: Command,
+    noted: &mut Vec<u8>,
+) -> ControlReply
+    ensures moves { Leads M.Office.is_clean M.Office.stands
+        (λ identity before after. RunsAt M.Office.signs now identity before command result.text.items after)
+        office.old office.new }
+    ensures came { ReportsLineOutcome result.came result.text.items }
+{
+    let Ok(room) = Vec::with_capacity(alloc, LONGEST_REPLY) else {
+        return ControlReply::fault(alloc, Fault::Memory);
+    };
+    let outcome = office.run_one(alloc, now, &command);
+    let answered = Answered::CameTo(Asked::Command(command), outcome);
+    answer_command::<M>(alloc, office, answered, room, noted)
+}
+
+/// Refuses a request that is for another serial number, which `why` tells.
+fn tell_other(alloc: Global, request: RequestRow, noted: &mut Vec<u8>) -> ControlReply
+    ensures told { ReportsFault (Fault.Refused Refusal.NoRequest) result.text.items }
+    ensures came { ReportsLineOutcome result.came result.text.items }
+{
+    let reply = ControlReply::fault(alloc, Fault::Refused(Refusal::NoRequest));
+    let reason = Reason::OtherSerial(request.id, request.serial);
+    keep_reason_text(reason_line(alloc, b"", Some(reason)), &reply.text, noted);
+    reply
+}
+
+/// The request of a number. Errors: those of [`Office::page`].
+fn find_request<O: Office>(
+    alloc: Global,
+    office: &mut O,
+    now: Moment,
+    id: u64,
+) -> Result<Option<RequestRow>, Fault>
+    ensures { Leads O.is_clean O.stands
+        (λ identity before after. IsLookedUp before now (request_in before.requests id) result × (after ≡ before))
+        office.old office.new }
+{
+    let found = find(alloc, office, now, &Shown::Request(id))?;
+    Ok(request_of_row(found))
+}
+
+fn request_of_row(found: Option<Row>) -> Option<RequestRow>
+    ensures { result ≡ request_of_row found }
+{
+    match found {
+        Some(Row::History(history)) => Some(history.request.request),
+        _ => None,
+    }
+}
+
+/// What the log will name of a request that a line is to decide, where there is a log.
+pub(crate) fn named_before<M: Machine>(
+    alloc: Global,
+    office: &mut M::Office,
+    machine: &M,
+    now: Moment,
+    line: &[u8],
+) -> Option<NamedRequest>
+    ensures { Leads M.Office.is_clean M.Office.stands
+        (λ identity before after. IfSome result (NamesDecided before line.now) × (after ≡ before))
+        office.old office.new }
+{
+    if !machine.has_log() {
+        return None;
+    }
+    let id = decided_by(line)?;
+    match find_request(alloc, office, now, id) {
+        Ok(Some(request)) => Some(NamedRequest {
+            id,
+            serial: request.serial,
+            ground: None,
+        }),
+        _ => None,
+    }
+}
+
+/// The number of the request that a line revokes or declines.
+fn decided_by(line: &[u8]) -> Option<u64>
+    ensures { IfSome result (Decides line.now) }
+{
+    if let Some(settling) = settling_in(without_end(line)) {
+        return Some(settling.request);
+    }
+    match read_line(command_in(line)?) {
+        Some(CommandLine::Command(Command::Revoke { request })) => Some(request),
+        Some(CommandLine::Command(Command::Decline { request })) => Some(request),
+        _ => None,
+    }
+}
+
+/// What the log names of the request that a line entered or decided: of one that it decided, what was looked up before.
+pub(crate) fn named_by(came: &LineOutcome, before: Option<NamedRequest>) -> Option<NamedRequest>
+    ensures { NamesRequest came.now before result }
+{
+    match came {
+        LineOutcome::CameTo(Asked::Command(command), Ok(reply)) => named_of(command, reply, before),
+        _ => None,
+    }
+}
+
+fn named_of(command: &Command, reply: &Reply, before: Option<NamedRequest>) -> Option<NamedRequest>
+    ensures { NamesAccepted command.now reply.now before result }
+{
+    match (command, reply) {
+        (Command::Request { serial, ground }, Reply::Request { id, .. }) => Some(NamedRequest {
+            id: *id,
+            serial: *serial,
+            ground: Some(*ground),
+        }),
+        (Command::Revoke { .. }, _) => before,
+        (Command::Decline { .. }, _) => before,
+        _ => None,
+    }
+}

@@ -1,0 +1,119 @@
+//! What is put into the log, where there is one.
+
+use crate::log_lines::{exchange_line, lost_line};
+use crate::machine::Machine;
+use reg_core::Moment;
+use reg_desk_server::ConnectionFault;
+use reg_http::{Exchange, NamedRequest};
+use reg_office_api::SignatureFate;
+use std::alloc::{AllocError, Global};
+use std::net::SocketAddr;
+
+/// Who sends lines to the control socket: it has no address.
+const CONTROL_SOCKET: &str = "counter";
+
+pub(crate) fn log_exchange<M: Machine>(
+    alloc: Global,
+    machine: &M,
+    micros: u64,
+    now: Moment,
+    peer: SocketAddr,
+    request: &[u8],
+    exchange: &Exchange,
+) {
+    if !machine.has_log() {
+        return;
+    }
+    // What there is no memory for is left out.
+    let Ok(who) = name_of(alloc, Some(peer)) else {
+        return;
+    };
+    let is_unsigned = exchange.signature == SignatureFate::Failed;
+    put(
+        machine,
+        exchange_line(
+            alloc,
+            now,
+            who.as_bytes(),
+            request,
+            &exchange.text,
+            micros,
+            exchange.named,
+            is_unsigned,
+        ),
+    );
+}
+
+/// Logs what a line at the control socket was answered at a moment, in how many microseconds, the request that it entered or decided, and
+/// whether a signature did not come for it.
+pub(crate) fn log_line<M: Machine>(
+    alloc: Global,
+    machine: &M,
+    micros: u64,
+    now: Moment,
+    line: &[u8],
+    reply: &[u8],
+    named: Option<NamedRequest>,
+    is_unsigned: bool,
+) {
+    if !machine.has_log() {
+        return;
+    }
+    put(
+        machine,
+        exchange_line(
+            alloc,
+            now,
+            CONTROL_SOCKET.as_bytes(),
+            line,
+            reply,
+            micros,
+            named,
+            is_unsigned,
+        ),
+    );
+}
+
+pub(crate) fn log_lost<M: Machine>(
+    alloc: Global,
+    machine: &M,
+    peer: Option<SocketAddr>,
+    why: ConnectionFault,
+) {
+    if !machine.has_log() {
+        return;
+    }
+    let Ok(who) = name_of(alloc, peer) else {
+        return;
+    };
+    let Ok(now) = machine.moment() else {
+        return;
+    };
+    put(machine, lost_line(alloc, now, who.as_bytes(), word_of(why)));
+}
+
+fn put<M: Machine>(machine: &M, line: Result<Vec<u8>, AllocError>) {
+    let Ok(mut line) = line else {
+        return;
+    };
+    if line.push(b'\n').is_ok() {
+        machine.log(&line);
+    }
+}
+
+fn word_of(why: ConnectionFault) -> &'static [u8] {
+    match why {
+        ConnectionFault::Broken => b"broken",
+        ConnectionFault::Late => b"late",
+        ConnectionFault::Evicted => b"crowded",
+        ConnectionFault::Memory => b"memory",
+    }
+}
+
+/// The address of a client and its port, as `127.0.0.1:50000` or `[::1]:50000`.
+fn name_of(alloc: Global, peer: Option<SocketAddr>) -> Result<String, AllocError> {
+    match peer {
+        Some(peer) => format!(in alloc; "{peer}"),
+        None => String::from_str(alloc, CONTROL_SOCKET),
+    }
+}

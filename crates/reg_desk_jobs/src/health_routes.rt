@@ -1,0 +1,389 @@
+//! What an open desk tells of itself, at two routes of its own: `/health` and `/metrics`.
+
+ghost use Rattle.std.specs.Prelude.{◌≡◌, ◌↔◌, ℕ, List, IsTrue, IfErr, IfOk, option_map};
+ghost use Rattle.reg_core.specs.Crls.{latest as latest_in, row_of};
+ghost use Rattle.reg_core.specs.Records.{Records};
+ghost use Rattle.reg_core.specs.declared.command.Query.TheVariants.{Counts as AskCounts, NextCrl as AskNextCrl, Overdue as AskOverdue};
+ghost use Rattle.reg_core.specs.declared.command.Reply.TheVariants.{Counts as CountsAre, NextCrl as NextCrlIs};
+ghost use Rattle.reg_office_api.specs.Answered.{IsAnswered};
+ghost use Rattle.reg_office_api.specs.Leads.{Leads, Looks};
+ghost use Rattle.reg_office_api.specs.LookUps.{IsOfStore};
+ghost use Rattle.reg_http.specs.Told.{plain, told};
+ghost use Rattle.reg_crl.specs.Signing.{sha1_algorithm};
+ghost use Rattle.reg_crl_signer.specs.Signed.{IsCrlUnder};
+ghost use Rattle.reg_desk_jobs.specs.Watched.{ByGet, Has, HasDue, HasFound, HasOverdue, HasRequests, IsCounted, IsLatestRead, IsCrlRead, IsReadAt, IsRecounted, IsUnsigned, NotesRead, Recounts, SaysHealth, SaysMetrics, SaysUnsigned};
+ghost use Rattle.reg_desk_jobs.specs.Watched.{due_after, health_response, health_status as status_told, many_in, metrics_response, signing_by};
+ghost use Rattle.reg_desk_cli.specs.declared.desk.TheConstants.{VERSION};
+ghost use Rattle.reg_desk_metrics.specs.Metrics.{metrics_text};
+
+use crate::control_reply::LineOutcome;
+use crate::crl_signer::CrlSigner;
+use crate::machine::Machine;
+use crate::reasons::{Reason, reason_line};
+use crate::validity::not_after;
+use http::Method;
+use reg_core::{Counts, CrlRow, Fault, Memory, Moment, Outcome, Overdue, Query, Reply};
+use reg_crl::{DigestSeal, Signer};
+use reg_crl_signer::crl_algorithm;
+use reg_desk_cli::{Answerer, VERSION};
+use reg_desk_metrics::{
+    ConnectionTotals, CrlSigning, Found, Health, Numbers, ReadCrl, Requests, Tally, metrics,
+};
+use reg_http::{Answered, json, only_get};
+use reg_http_head::{Answer, status};
+use reg_lines::Asked;
+use reg_office_api::Office;
+use std::alloc::Global;
+
+const PROMETHEUS: &str = "text/plain; version=0.0.4; charset=utf-8";
+
+/// Tells whether all is well, at a moment.
+pub(crate) fn answer_health<M: Machine>(
+    alloc: Global,
+    office: &mut M::Office,
+    method: &Method,
+    now: Moment,
+    tally: &mut Tally,
+) -> Result<Answered, Memory>
+    ensures moves { Looks M.Office.is_clean M.Office.stands
+        (λ records. IfOk result (λ answered. ByGet method.now (SaysHealth now records) (told answered))) office.old office.new }
+    ensures recounted { IsRecounted tally.old tally.new }
+{
+    if method.as_str() != "GET" {
+        return only_get(alloc);
+    }
+    health_at::<M>(alloc, office, now, tally)
+}
+
+fn health_at<M: Machine>(
+    alloc: Global,
+    office: &mut M::Office,
+    now: Moment,
+    tally: &mut Tally,
+) -> Result<Answered, Memory>
+    ensures moves { Looks M.Office.is_clean M.Office.stands
+        (λ records. IfOk result (λ answered. SaysHealth now records (told answered))) office.old office.new }
+    ensures recounted { IsRecounted tally.old tally.new }
+{
+    let found = found_at::<M>(alloc, office, now, tally);
+    health_answer(alloc, &Health::of(now, &found, tally))
+}
+
+/// Tells the metrics, at a moment. Requests for revocation that were not counted for a minute are counted for them.
+pub(crate) fn answer_metrics<M: Machine>(
+    alloc: Global,
+    office: &mut M::Office,
+    method: &Method,
+    now: Moment,
+    tally: &mut Tally,
+    heard: ConnectionTotals,
+) -> Result<Answered, Memory>
+    ensures moves { Looks M.Office.is_clean M.Office.stands
+        (λ records. IfOk result (λ answered. ByGet method.now (SaysMetrics now records) (told answered))) office.old office.new }
+    ensures recounted { IsRecounted tally.old tally.new }
+{
+    if method.as_str() != "GET" {
+        return only_get(alloc);
+    }
+    metrics_at::<M>(alloc, office, now, tally, heard)
+}
+
+fn metrics_at<M: Machine>(
+    alloc: Global,
+    office: &mut M::Office,
+    now: Moment,
+    tally: &mut Tally,
+    heard: ConnectionTotals,
+) -> Result<Answered, Memory>
+    ensures moves { Looks M.Office.is_clean M.Office.stands
+        (λ records. IfOk result (λ answered. SaysMetrics now records (told answered))) office.old office.new }
+    ensures recounted { IsRecounted tally.old tally.new }
+{
+    recount::<M>(alloc, office, now, tally);
+    let found = found_at::<M>(alloc, office, now, tally);
+    metrics_answer(alloc, now, &found, tally, heard)
+}
+
+fn found_at<M: Machine>(
+    alloc: Global,
+    office: &mut M::Office,
+    now: Moment,
+    tally: &mut Tally,
+) -> Found
+    ensures moves { Looks M.Office.is_clean M.Office.stands (λ records. HasFound tally.old records now result) office.old office.new }
+    ensures read { IsCrlRead tally.old tally.new }
+{
+    let counted = office.ask(alloc, now, &Query::Counts);
+    let counts = match counts_of(counted) {
+        Ok(counts) => counts,
+        Err(fault) => return Err(fault),
+    };
+    let standing = match office.standing() {
+        Ok(standing) => standing,
+        Err(fault) => return Err(fault),
+    };
+    match due_at::<M>(alloc, office, now, standing.latest, tally) {
+        Ok(due) => Ok(Numbers {
+            counts,
+            due,
+            standing,
+        }),
+        Err(fault) => Err(fault),
+    }
+}
+
+/// When the next CRL is due, behind the latest one; `None`: at once.
+fn due_at<M: Machine>(
+    alloc: Global,
+    office: &mut M::Office,
+    now: Moment,
+    latest: Option<CrlRow>,
+    tally: &mut Tally,
+) -> Result<Option<Moment>, Fault>
+    ensures moves { Looks M.Office.is_clean M.Office.stands
+        (λ records. latest ≡ option_map row_of (latest_in records.crls) → (HasDue tally.old records now result × NotesRead tally.old records tally.new))
+        office.old office.new }
+    ensures read { IsCrlRead tally.old tally.new }
+{
+    let asked = office.ask(alloc, now, &Query::NextCrl);
+    let due = match due_of(asked) {
+        Ok(due) => due,
+        Err(fault) => return Err(fault),
+    };
+    match latest_read::<M>(alloc, office, latest, tally) {
+        Ok(Some(read)) => {
+            tally.note_crl(read);
+            Ok(due_behind(read, due))
+        }
+        Ok(None) => Ok(due),
+        Err(fault) => Err(fault),
+    }
+}
+
+fn due_behind(read: ReadCrl, due: Option<Moment>) -> Option<Moment>
+    ensures { result ≡ due_after read due }
+{
+    if read.is_unsigned { None } else { due }
+}
+
+/// What was read in the latest CRL, where a key signs the next one; `None` before the first.
+fn latest_read<M: Machine>(
+    alloc: Global,
+    office: &mut M::Office,
+    latest: Option<CrlRow>,
+    tally: &Tally,
+) -> Result<Option<ReadCrl>, Fault>
+    ensures looks { Looks M.Office.is_clean M.Office.stands
+        (λ records. latest ≡ option_map row_of (latest_in records.crls) → IfOk result (IsLatestRead tally.now records)) office.old office.new }
+    ensures faults { IfErr result IsOfStore }
+{
+    let Some(crl) = latest else {
+        return Ok(None);
+    };
+    if !tally.has_crl_key() {
+        return Ok(None);
+    }
+    match tally.read_crl(crl.number) {
+        Some(read) => Ok(Some(read)),
+        None => Ok(Some(read_latest::<M>(alloc, office, crl.number)?)),
+    }
+}
+
+fn read_latest<M: Machine>(
+    alloc: Global,
+    office: &mut M::Office,
+    number: u64,
+) -> Result<ReadCrl, Fault>
+    ensures looks { Looks M.Office.is_clean M.Office.stands (λ records. IfOk result (IsReadAt records number)) office.old office.new }
+    ensures faults { IfErr result IsOfStore }
+{
+    match office.crl_bytes(alloc, None) {
+        Ok(bytes) => Ok(ReadCrl {
+            number,
+            is_unsigned: is_unsigned(&bytes),
+        }),
+        Err(Fault::Memory) => Err(Fault::Memory),
+        Err(_) => Err(Fault::Store),
+    }
+}
+
+/// Whether a placeholder digest stands in place of a CRL's signature.
+fn is_unsigned(crl: &[u8]) -> bool
+    ensures { IsUnsigned crl.now result }
+{
+    match crl_algorithm(crl) {
+        Some(algorithm) => is_digest(algorithm),
+        None => false,
+    }
+}
+
+fn is_digest(algorithm: &[u8]) -> bool
+    ensures { IsTrue result ↔ (algorithm.now ≡ sha1_algorithm) }
+{
+    let digest = DigestSeal;
+    algorithm == digest.algorithm()
+}
+
+/// Notes for the word `why`, where a line told when the next CRL is due, that it is due at once for want of a signature.
+pub(crate) fn note_due<M: Machine>(
+    alloc: Global,
+    office: &mut M::Office,
+    tally: &Tally,
+    came: &LineOutcome,
+    noted: &mut Vec<u8>,
+)
+    ensures { Leads M.Office.is_clean M.Office.stands (λ identity before after. after ≡ before) office.old office.new }
+{
+    match came {
+        LineOutcome::CameTo(Asked::Query(Query::NextCrl), Ok(_)) => {
+            let why = why_at_once::<M>(alloc, office, tally);
+            if let Some(text) = reason_line(alloc, b"", why.unwrap_or(None)) {
+                *noted = text;
+            }
+        }
+        _ => {}
+    }
+}
+
+/// Why the next CRL is due at once, where the latest has no signature.
+fn why_at_once<M: Machine>(
+    alloc: Global,
+    office: &mut M::Office,
+    tally: &Tally,
+) -> Result<Option<Reason>, Fault>
+    ensures { Looks M.Office.is_clean M.Office.stands (λ records. IfOk result (SaysUnsigned tally.now records)) office.old office.new }
+{
+    let standing = office.standing()?;
+    match latest_read::<M>(alloc, office, standing.latest, tally)? {
+        Some(read) if read.is_unsigned => Ok(Some(Reason::Unsigned(read.number))),
+        _ => Ok(None),
+    }
+}
+
+/// Who signs the CRLs, as it is counted.
+pub(crate) fn signing_of(crls: &CrlSigner<'_>) -> CrlSigning
+    ensures { result ≡ signing_by crls.now }
+{
+    match crls {
+        CrlSigner::Holder(_) => CrlSigning::Key,
+        CrlSigner::Digest => CrlSigning::Digest,
+        CrlSigner::Nobody => CrlSigning::Nobody,
+    }
+}
+
+fn counts_of(outcome: Outcome) -> Result<Counts, Fault>
+    ensures { (records : Records) (now : ℕ) → IsAnswered records now AskCounts outcome → Has AskCounts CountsAre records now result }
+{
+    match outcome {
+        Ok(Reply::Counts(counts)) => Ok(counts),
+        Ok(_) => Err(Fault::Store),
+        Err(fault) => Err(fault),
+    }
+}
+
+fn due_of(outcome: Outcome) -> Result<Option<Moment>, Fault>
+    ensures { (records : Records) (now : ℕ) → IsAnswered records now AskNextCrl outcome → Has AskNextCrl NextCrlIs records now result }
+{
+    match outcome {
+        Ok(Reply::NextCrl(due)) => Ok(due),
+        Ok(_) => Err(Fault::Store),
+        Err(fault) => Err(fault),
+    }
+}
+
+fn overdue_of(outcome: Outcome) -> Result<u64, Fault>
+    ensures { (records : Records) (now : ℕ) → IsAnswered records now AskOverdue outcome → HasOverdue records now result }
+{
+    match outcome {
+        Ok(Reply::Overdue(overdue)) => Ok(many_of(overdue)),
+        Ok(_) => Err(Fault::Store),
+        Err(fault) => Err(fault),
+    }
+}
+
+fn many_of(overdue: Option<Overdue>) -> u64
+    ensures { result ≡ many_in overdue }
+{
+    match overdue {
+        Some(overdue) => overdue.count,
+        None => 0,
+    }
+}
+
+/// Counts the requests for revocation anew, where they were not counted within a minute.
+fn recount<M: Machine>(alloc: Global, office: &mut M::Office, now: Moment, tally: &mut Tally)
+    ensures moves { Looks M.Office.is_clean M.Office.stands (λ records. Recounts records now tally.old tally.new) office.old office.new }
+    ensures recounted { IsCounted tally.old tally.new }
+{
+    if !tally.wants_requests(now) {
+        return;
+    }
+    match requests_at::<M>(alloc, office, now) {
+        Ok(requests) => tally.set_requests(requests),
+        Err(_) => {}
+    }
+}
+
+fn requests_at<M: Machine>(
+    alloc: Global,
+    office: &mut M::Office,
+    now: Moment,
+) -> Result<Requests, Fault>
+    ensures { Looks M.Office.is_clean M.Office.stands (λ records. HasRequests records now result) office.old office.new }
+{
+    let asked = office.ask(alloc, now, &Query::Overdue);
+    let overdue = overdue_of(asked)?;
+    let waiting = office.open_count(now)?;
+    Ok(Requests {
+        at: now,
+        waiting,
+        overdue,
+    })
+}
+
+fn health_answer(alloc: Global, health: &Health) -> Result<Answered, Memory>
+    ensures { IfOk result (λ answered. told answered ≡ plain (health_response health.now)) }
+{
+    match health.text(alloc) {
+        Ok(body) => Ok(Answered::plain(json(status_of(health.is_well()), body))),
+        Err(_) => Err(Memory),
+    }
+}
+
+fn status_of(is_well: bool) -> u16
+    ensures { result ≡ status_told is_well }
+{
+    if is_well {
+        status::OK
+    } else {
+        status::SERVICE_UNAVAILABLE
+    }
+}
+
+fn metrics_answer(
+    alloc: Global,
+    now: Moment,
+    found: &Found,
+    tally: &Tally,
+    heard: ConnectionTotals,
+) -> Result<Answered, Memory>
+    ensures { IfOk result (λ answered. told answered ≡ plain (metrics_response (metrics_text VERSION.now now found.now tally.now heard))) }
+{
+    match metrics(alloc, VERSION, now, found, tally, heard) {
+        Ok(body) => Ok(Answered::plain(Answer {
+            status: status::OK,
+            kind: PROMETHEUS,
+            allow: None,
+            body,
+        })),
+        Err(_) => Err(Memory),
+    }
+}
+
+/// notAfter of the responder's certificate, where that can be read.
+pub(crate) fn responder_end<M: Machine>(machine: &M, answerer: &Answerer<'_>) -> Option<Moment> {
+    match answerer {
+        Answerer::Delegate { certificate, .. } => not_after(&machine.file(certificate.as_str())?),
+        Answerer::Issuer { .. } => None,
+    }
+}

@@ -1,0 +1,196 @@
+//! What came on a connection, as a desk answers it: an HTTP exchange of its register, or of an open desk itself.
+
+ghost use Rattle.std.specs.Prelude.{◌≡◌};
+ghost use Rattle.reg_office_api.specs.Leads.{Leads};
+ghost use Rattle.reg_http_head.specs.Bytes.{collected_bytes};
+ghost use Rattle.reg_http.specs.Asked.{path_of};
+ghost use Rattle.reg_http.specs.Exchanges.{IsEmpty, SaysNothing};
+ghost use Rattle.reg_http.specs.RouteNames.{named_route, route_at};
+ghost use Rattle.reg_http.specs.declared.exchange.Exchange.{Exchange as HttpExchange};
+ghost use Rattle.reg_http.specs.declared.exchange.Left.{Left as LeftOf};
+ghost use Rattle.reg_desk_server.specs.Outcomes.{outcome_of};
+ghost use Rattle.reg_desk_jobs.specs.Beginning.{AnswersBegun, BeginsAt, IsBegunRoute, ready_of};
+ghost use Rattle.reg_desk_jobs.specs.Counted.{CountsBegun};
+ghost use Rattle.reg_desk_jobs.specs.Exchanges.{dispatch};
+ghost use Rattle.reg_desk_jobs.specs.Given.{WasGiven};
+ghost use Rattle.reg_desk_jobs.specs.Watched.{IsRecounted};
+ghost use Rattle.reg_desk_metrics.specs.declared.tally.Tally.{Tally as Tallies};
+ghost use Rattle.reg_io.specs.declared.begun.Begun.{Begun as BegunOf};
+
+use crate::exchange_log::log_exchange;
+use crate::health_routes::{answer_health, answer_metrics};
+use crate::machine::Machine;
+use crate::unsigned_responses::{Unsigned, unsigned_of};
+use http::Method;
+use reg_core::{Fault, Memory, Moment};
+use reg_desk_metrics::{ConnectionTotals, Tally};
+use reg_http::{
+    Answered, Exchange, Left, Route, answer_list, begin, begun_exchange, refuse, text_room,
+};
+use reg_http_head::{Collected, RequestRef};
+use reg_io::Begun;
+use reg_ocsp::Draft;
+use reg_office_api::{Office, SignatureFate};
+use std::alloc::Global;
+use std::net::SocketAddr;
+
+/// What answers a request.
+#[derive(Clone, Copy, PartialEq, Eq)]
+pub(crate) enum Dispatch {
+    /// The register.
+    ToRegister,
+    /// An open desk, with a page of a list.
+    ToList,
+    /// An open desk, with its health.
+    ToHealth,
+    /// An open desk, with its metrics.
+    ToMetrics,
+}
+
+/// What answers a request at a route: a desk that is not open has the register alone.
+fn dispatch_of(is_open: bool, route: Route) -> Dispatch
+    ensures { result ≡ dispatch is_open route }
+{
+    if !is_open {
+        return Dispatch::ToRegister;
+    }
+    match route {
+        Route::List => Dispatch::ToList,
+        Route::Health => Dispatch::ToHealth,
+        Route::Metrics => Dispatch::ToMetrics,
+        _ => Dispatch::ToRegister,
+    }
+}
+
+/// Answers what came on a connection, at a moment, counts it, and puts it into the log, where there is one; or leaves what is to be signed
+/// for it, which is counted where it is finished.
+pub(crate) fn visit<M: Machine>(
+    alloc: Global,
+    office: &mut M::Office,
+    machine: &M,
+    is_open: bool,
+    tally: &mut Tally,
+    heard: ConnectionTotals,
+    now: Moment,
+    peer: SocketAddr,
+    request: &Collected,
+) -> Begun<Vec<u8>, Unsigned>
+    ensures { (begun : BegunOf HttpExchange LeftOf) × (asked : Tallies) × IsRecounted tally.old asked
+        × Leads M.Office.is_clean M.Office.stands
+        (λ who before after. AnswersBegun (WasGiven M.gave) is_open M.Office.signs now who before (collected_bytes request.now) begun after)
+        office.old office.new
+        × CountsBegun now (collected_bytes request.now) begun (outcome_of result) asked tally.new }
+{
+    let began = machine.micros();
+    match exchange_at::<M>(alloc, office, is_open, tally, heard, now, request) {
+        Begun::Ready(exchange) => {
+            let micros = machine.micros().saturating_sub(began);
+            tally.count_exchange(now, &exchange, micros);
+            log_exchange(
+                alloc,
+                machine,
+                micros,
+                now,
+                peer,
+                request.as_slice(),
+                &exchange,
+            );
+            Begun::Ready(exchange.text)
+        }
+        Begun::Unsigned(left) => {
+            Begun::Unsigned(unsigned_of(alloc, machine, left, now, began, peer, request))
+        }
+    }
+}
+
+/// Answers what came on a connection, at a moment, or leaves what is to be signed for it. Room for the text is made before anything is asked.
+fn exchange_at<M: Machine>(
+    alloc: Global,
+    office: &mut M::Office,
+    is_open: bool,
+    tally: &mut Tally,
+    heard: ConnectionTotals,
+    now: Moment,
+    request: &Collected,
+) -> Begun<Exchange, Left>
+    ensures moves { Leads M.Office.is_clean M.Office.stands
+        (λ who before after. AnswersBegun (WasGiven M.gave) is_open M.Office.signs now who before (collected_bytes request.now) result after)
+        office.old office.new }
+    ensures route { IsBegunRoute (collected_bytes request.now) result }
+    ensures recounted { IsRecounted tally.old tally.new }
+{
+    let Ok(room) = text_room(alloc) else {
+        return Begun::Ready(empty(alloc, request));
+    };
+    match request.request(alloc) {
+        Ok(
+            RequestRef::Asked {
+                method,
+                target,
+                body,
+            },
+        ) => {
+            let route = Route::of(target);
+            let begun = begin_at::<M>(
+                alloc, office, is_open, tally, heard, now, route, &method, target, body,
+            );
+            begun_exchange(route, room, begun, now)
+        }
+        Ok(RequestRef::Refused(status)) => {
+            let route = Route::named_in(request.as_slice());
+            begun_exchange(route, room, ready(refuse(alloc, status)), now)
+        }
+        Err(Fault::Read) => Begun::Ready(empty(alloc, request)),
+        Err(_) => {
+            let route = Route::named_in(request.as_slice());
+            Begun::Ready(Exchange::out_of_memory(route, room))
+        }
+    }
+}
+
+fn empty(alloc: Global, request: &Collected) -> Exchange
+    ensures empty { IsEmpty result }
+    ensures nothing { SaysNothing result }
+    ensures route { result.route ≡ named_route (collected_bytes request.now) }
+{
+    let route = Route::named_in(request.as_slice());
+    Exchange::empty(alloc, route, SignatureFate::NotAsked)
+}
+
+fn ready(answered: Result<Answered, Memory>) -> Result<Begun<Answered, Draft>, Memory>
+    ensures { result ≡ ready_of answered }
+{
+    match answered {
+        Ok(answered) => Ok(Begun::Ready(answered)),
+        Err(memory) => Err(memory),
+    }
+}
+
+/// Answers what is asked at a route, at a moment, or leaves what is to be signed for it.
+fn begin_at<M: Machine>(
+    alloc: Global,
+    office: &mut M::Office,
+    is_open: bool,
+    tally: &mut Tally,
+    heard: ConnectionTotals,
+    now: Moment,
+    route: Route,
+    method: &Method,
+    target: &str,
+    body: &[u8],
+) -> Result<Begun<Answered, Draft>, Memory>
+    requires { route ≡ route_at (path_of target.now) }
+    ensures moves { Leads M.Office.is_clean M.Office.stands
+        (λ who before after. BeginsAt is_open M.Office.signs now who before method.now target.now body.now result after)
+        office.old office.new }
+    ensures recounted { IsRecounted tally.old tally.new }
+{
+    match dispatch_of(is_open, route) {
+        Dispatch::ToRegister => begin(alloc, method, target, body, now, office),
+        Dispatch::ToList => ready(answer_list(alloc, method, target, now, office)),
+        Dispatch::ToHealth => ready(answer_health::<M>(alloc, office, method, now, tally)),
+        Dispatch::ToMetrics => {
+            ready(answer_metrics::<M>(alloc, office, method, now, tally, heard))
+        }
+    }
+}

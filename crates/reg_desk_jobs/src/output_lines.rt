@@ -1,0 +1,112 @@
+//! What a job says.
+
+ghost use Rattle.std.specs.Prelude.{◌≡◌, ◌∷◌, [], ℕ, List, IfOk};
+ghost use Rattle.reg_desk_jobs.specs.Ends.{SaysText, PrintsLine};
+ghost use Rattle.reg_desk_jobs.specs.Told.{Adds, Explains, IsAnsweredLine, IsWritten, ReportsExit, AnswersReason};
+
+use crate::reasons::{Reason, reason_line};
+use reg_core::{Cause, Fault};
+use reg_desk_cli::{Failure, status_of};
+use reg_io::write_whole;
+use std::alloc::{AllocError, Global};
+use std::io::Write;
+
+/// Says a text of the job; `Write` where the writer fails, or takes no byte of what is left.
+pub(crate) fn say<W: Write>(writer: &mut W, text: &[u8]) -> Result<(), Failure>
+    ensures { SaysText text.now (W.contents writer.old) (W.contents writer.new) result }
+{
+    match write_whole(writer, text) {
+        Ok(()) => Ok(()),
+        Err(_) => Err(Failure::Fault(Fault::Write)),
+    }
+}
+
+/// Says a line, or that there was no memory for it.
+pub(crate) fn say_line<W: Write>(
+    writer: &mut W,
+    line: Result<Vec<u8>, AllocError>,
+) -> Result<(), Failure>
+    ensures { (text : List ℕ) → IfOk line (λ made. made.items ≡ text) → PrintsLine text W.contents writer.old writer.new result }
+{
+    match line {
+        Ok(line) => say(writer, &line),
+        Err(_) => Err(Failure::Fault(Fault::Memory)),
+    }
+}
+
+/// Tells on standard error why a job is not done, in one line; and where that is asked for and known, in one line more, the cause of a fault,
+/// or why a registration was refused at which the job ended. A device that fails is told nothing more.
+pub fn report_exit<W: Write>(
+    alloc: Global,
+    errors: &mut W,
+    ending: &Result<(), Failure>,
+    is_asked: bool,
+    cause: Option<Cause>,
+    reason: Option<Reason>,
+)
+    ensures { Explains is_asked ending.now (W.contents errors.old) (W.contents errors.new) }
+{
+    report_failure(errors, ending);
+    explain(alloc, errors, is_asked, status_of(ending), cause, reason);
+}
+
+fn report_failure<W: Write>(errors: &mut W, ending: &Result<(), Failure>)
+    ensures { ReportsExit ending.now (W.contents errors.old) (W.contents errors.new) }
+{
+    match ending {
+        Ok(()) => {}
+        Err(failure) => answer_line(errors, failure.line().as_bytes()),
+    }
+}
+
+fn answer_line<W: Write>(errors: &mut W, line: &[u8])
+    ensures { IsAnsweredLine (W.contents errors.old) (W.contents errors.new) line.now }
+{
+    match write_whole(errors, line) {
+        Ok(()) => put(errors, b"\n"),
+        Err(_) => {}
+    }
+}
+
+fn put<W: Write>(errors: &mut W, text: &[u8])
+    ensures { IsWritten (W.contents errors.old) (W.contents errors.new) text.now }
+{
+    match write_whole(errors, text) {
+        Ok(()) => {}
+        Err(_) => {}
+    }
+}
+
+/// Tells in one line, where that is asked for and known, the cause of a fault by its exit status, or why a registration was refused by that
+/// of a refusal.
+fn explain<W: Write>(
+    alloc: Global,
+    errors: &mut W,
+    is_asked: bool,
+    status: u8,
+    cause: Option<Cause>,
+    reason: Option<Reason>,
+)
+    ensures { Adds is_asked status (W.contents errors.old) (W.contents errors.new) }
+{
+    if !is_asked {
+        return;
+    }
+    match (status, cause) {
+        (1, Some(cause)) => {
+            let line = cause.line();
+            answer_line(errors, line.as_bytes());
+        }
+        (3, _) => answer_reason(alloc, errors, reason),
+        _ => {}
+    }
+}
+
+fn answer_reason<W: Write>(alloc: Global, errors: &mut W, reason: Option<Reason>)
+    ensures { AnswersReason (W.contents errors.old) (W.contents errors.new) }
+{
+    match reason_line(alloc, b"  ", reason) {
+        Some(line) => put(errors, &line),
+        None => {}
+    }
+}

@@ -1,0 +1,202 @@
+//! Rows that are looked up and shown at the control socket, and its words.
+
+ghost use Rattle.std.specs.Prelude.{◌≡◌, ◌++◌, ◌∷◌, ◌-◌, ◌≤◌, [], IfOk, find as first_passing};
+ghost use Rattle.reg_core_lists.specs.Lists.{key_of, page};
+ghost use Rattle.reg_core_lists.specs.Texts.{row_text};
+ghost use Rattle.reg_core_lists.specs.declared.texts.Form.TheVariants.{Json};
+ghost use Rattle.reg_office_api.specs.Leads.{Leads};
+ghost use Rattle.reg_desk_jobs.specs.ControlReplies.{IsSaid, ReportsLineOutcome, ReportsFault};
+ghost use Rattle.reg_desk_jobs.specs.Showings.{IsSeen, AnswersShown, found_text, help_text, is_shown, refusal_of, row_shown};
+
+use crate::control_reply::{ControlReply, LineOutcome};
+use crate::machine::Machine;
+use crate::reasons::keep_reply_reason;
+use crate::words::Shown;
+use reg_core::{Fault, Label, Moment, Refusal, Serial};
+use reg_core_lists::{Cursor, Form, Row, put_rows};
+use reg_office_api::Office;
+use std::alloc::{AllocError, Global};
+
+/// How many subscribers are looked at in one call.
+const SUBSCRIBERS: u64 = 250;
+
+const SERIAL_BYTES: usize = 20;
+
+const WORDS: &[u8] =
+    b"help: subscriber NAME | order SUBSCRIBER DAYS | register ORDER SERIAL NOTBEFORE NOTAFTER | request SERIAL GROUND | decline REQUEST [SERIAL] | revoke REQUEST [SERIAL] | crl | status SERIAL | counts | listing SERIAL | overdue | next-crl | ocsp HEX | show request REQUEST | show SERIAL | show subscriber NAME | why | schedule MOMENT=DAYS .. | copy PATH | help";
+
+pub(crate) fn answer_help(alloc: Global) -> ControlReply
+    ensures told { IsSaid (help_text ++ 10 ∷ []) result.text.items }
+    ensures came { ReportsLineOutcome result.came result.text.items }
+{
+    ControlReply::line(alloc, WORDS, LineOutcome::Done)
+}
+
+/// Shows a row as `list --json` has it, at a moment. No record changes.
+pub(crate) fn answer_shown<M: Machine>(
+    alloc: Global,
+    office: &mut M::Office,
+    now: Moment,
+    shown: Shown,
+    noted: &mut Vec<u8>,
+) -> ControlReply
+    ensures moves { Leads M.Office.is_clean M.Office.stands
+        (λ identity before after. AnswersShown before now shown result.text.items × (after ≡ before))
+        office.old office.new }
+    ensures came { ReportsLineOutcome result.came result.text.items }
+{
+    let found = find(alloc, office, now, &shown);
+    tell_found(alloc, &shown, found, noted)
+}
+
+fn tell_found(
+    alloc: Global,
+    shown: &Shown,
+    found: Result<Option<Row>, Fault>,
+    noted: &mut Vec<u8>,
+) -> ControlReply
+    ensures told { IsSaid (found_text shown.now found) result.text.items }
+    ensures came { ReportsLineOutcome result.came result.text.items }
+{
+    match found {
+        Ok(Some(row)) => ControlReply::made(alloc, row_line(alloc, row), LineOutcome::Done),
+        Ok(None) => report_fault(alloc, Fault::Refused(refusal_of(shown)), noted),
+        Err(fault) => report_fault(alloc, fault, noted),
+    }
+}
+
+/// Tells a fault, which is noted for `why`.
+pub(crate) fn report_fault(alloc: Global, fault: Fault, noted: &mut Vec<u8>) -> ControlReply
+    ensures told { ReportsFault fault result.text.items }
+    ensures came { ReportsLineOutcome result.came result.text.items }
+{
+    let reply = ControlReply::fault(alloc, fault);
+    keep_reply_reason(&reply.text, noted);
+    reply
+}
+
+fn refusal_of(shown: &Shown) -> Refusal
+    ensures { result ≡ refusal_of shown.now }
+{
+    match shown {
+        Shown::Request(_) => Refusal::NoRequest,
+        Shown::Certificate(_) => Refusal::UnknownSerial,
+        Shown::Subscriber(_) => Refusal::NoSubscriber,
+    }
+}
+
+fn row_line(alloc: Global, row: Row) -> Result<Vec<u8>, AllocError>
+    ensures { IfOk result (λ text. text.items ≡ row_text Json row) }
+{
+    let mut text = Vec::new(alloc);
+    put_rows(alloc, &mut text, Form::Json, &[row])?;
+    Ok(text)
+}
+
+/// The row that is asked for, at a moment; `None` where there is none. Errors: those of [`Office::page`].
+pub(crate) fn find<O: Office>(
+    alloc: Global,
+    office: &mut O,
+    now: Moment,
+    shown: &Shown,
+) -> Result<Option<Row>, Fault>
+    ensures { Leads O.is_clean O.stands
+        (λ identity before after. IsSeen before now (row_shown before now shown.now) result × (after ≡ before))
+        office.old office.new }
+{
+    match shown {
+        Shown::Request(id) => {
+            let from = Cursor::Requests(id.saturating_sub(1));
+            find_at(alloc, office, now, from, shown)
+        }
+        Shown::Certificate(serial) => {
+            let from = Cursor::Certificates(serial_before(*serial));
+            find_at(alloc, office, now, from, shown)
+        }
+        Shown::Subscriber(name) => find_subscriber(alloc, office, now, *name),
+    }
+}
+
+/// Looks whether the first row behind a key is the one that is asked for.
+fn find_at<O: Office>(
+    alloc: Global,
+    office: &mut O,
+    now: Moment,
+    from: Cursor,
+    shown: &Shown,
+) -> Result<Option<Row>, Fault>
+    ensures { Leads O.is_clean O.stands
+        (λ identity before after. IsSeen before now (first_passing (is_shown shown.now) (page before now 1 from).rows) result × (after ≡ before))
+        office.old office.new }
+{
+    let page = office.page(alloc, now, from, 1)?;
+    Ok(shown_among(&page.rows, shown))
+}
+
+/// Looks at all subscribers up to the one of a name.
+fn find_subscriber<O: Office>(
+    alloc: Global,
+    office: &mut O,
+    now: Moment,
+    name: Label,
+) -> Result<Option<Row>, Fault>
+    ensures { Leads O.is_clean O.stands
+        (λ identity before after. IsSeen before now (row_shown before now (Shown.Subscriber name)) result × (after ≡ before))
+        office.old office.new }
+{
+    let shown = Shown::Subscriber(name);
+    let mut from = Cursor::Subscribers(0);
+    for _ in 0..u64::MAX {
+        let page = office.page(alloc, now, from, SUBSCRIBERS)?;
+        match shown_among(&page.rows, &shown) {
+            Some(row) => return Ok(Some(row)),
+            None => {}
+        }
+        let next = page.next;
+        match next {
+            Some(next) => from = next,
+            None => return Ok(None),
+        }
+    }
+    // No register has so many pages.
+    Err(Fault::Store)
+}
+
+fn shown_among(rows: &[Row], shown: &Shown) -> Option<Row>
+    ensures { result ≡ first_passing (is_shown shown.now) rows.now }
+{
+    for row in rows {
+        if is_shown(row, shown) {
+            return Some(*row);
+        }
+    }
+    None
+}
+
+fn is_shown(row: &Row, shown: &Shown) -> bool
+    ensures { result ≡ is_shown shown.now row.now }
+{
+    match (shown, row) {
+        (Shown::Request(id), Row::History(history)) => history.request.request.id == *id,
+        (Shown::Certificate(serial), Row::Certificate(line)) => line.certificate.serial == *serial,
+        (Shown::Subscriber(name), Row::Subscriber(subscriber)) => subscriber.name == *name,
+        _ => false,
+    }
+}
+
+/// The serial number before one; `None` before the first.
+fn serial_before(serial: Serial) -> Option<Serial>
+    ensures before { key_of result ≡ serial - 1 }
+    ensures above_0 { 1 ≤ serial }
+{
+    let mut bytes = serial.bytes20();
+    for place in 0..SERIAL_BYTES {
+        let at = SERIAL_BYTES - 1 - place;
+        if bytes[at] > 0 {
+            bytes[at] -= 1;
+            return Serial::from_bytes20(&bytes);
+        }
+        bytes[at] = 255;
+    }
+    None
+}

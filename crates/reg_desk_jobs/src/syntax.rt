@@ -1,0 +1,181 @@
+//! What is wrong with a line that can't be read: the field of its command that is missing or has another form, as `why` tells it.
+
+ghost use Rattle.std.specs.Prelude.{◌≡◌, ◌++◌, [], IfOk, is_some, option_map};
+ghost use Rattle.reg_core.specs.Calendar.{moment_of};
+ghost use Rattle.reg_core_lists.specs.Asked.{label_of};
+ghost use Rattle.reg_desk_jobs.specs.Syntax.{fields_wanted, first_wrong, form_text, is_written, name_text, wrong_in, wrong_text};
+ghost use Rattle.reg_lines.specs.Fields.{fields_of};
+
+use reg_core::{Label, Moment, Serial, read_number};
+use reg_lines::Fields;
+use std::alloc::{AllocError, Global};
+
+/// A field of a command, by its name in `help`.
+#[derive(Clone, Copy, PartialEq, Eq)]
+pub enum Field {
+    Name,
+    Subscriber,
+    Days,
+    Order,
+    Serial,
+    NotBefore,
+    NotAfter,
+    Ground,
+    Request,
+}
+
+/// What is wrong with the fields of a command.
+#[derive(Clone, Copy, PartialEq, Eq)]
+pub enum WrongField {
+    /// This field has another form.
+    Form(Field),
+    Missing(Field),
+    /// A field stands after the last one.
+    TooMany,
+}
+
+const SUBSCRIBER: &[Field] = &[Field::Name];
+
+const ORDER: &[Field] = &[Field::Subscriber, Field::Days];
+
+const REGISTER: &[Field] = &[
+    Field::Order,
+    Field::Serial,
+    Field::NotBefore,
+    Field::NotAfter,
+];
+
+const REQUEST: &[Field] = &[Field::Serial, Field::Ground];
+
+/// Of `revoke` and `decline`, which may be without the serial number.
+const DECISION: &[Field] = &[Field::Request, Field::Serial];
+
+const STATUS: &[Field] = &[Field::Serial];
+
+/// What is wrong with the fields of a line that can't be read; `None` where its word is no command with fields.
+pub(crate) fn wrong_field(line: &[u8]) -> Option<WrongField>
+    ensures { result ≡ wrong_in (fields_of line.now) }
+{
+    let mut fields = Fields::of(line);
+    let word = fields.next()?;
+    first_wrong(wanted_by(word)?, fields)
+}
+
+/// The fields of a command, by its word.
+fn wanted_by(word: &[u8]) -> Option<&'static [Field]>
+    ensures { option_map (λ wanted. wanted.now) result ≡ fields_wanted word.now }
+{
+    if word == b"subscriber".as_slice() {
+        Some(SUBSCRIBER)
+    } else if word == b"order".as_slice() {
+        Some(ORDER)
+    } else if word == b"register".as_slice() {
+        Some(REGISTER)
+    } else if word == b"request".as_slice() {
+        Some(REQUEST)
+    } else if word == b"decline".as_slice() || word == b"revoke".as_slice() {
+        Some(DECISION)
+    } else if word == b"status".as_slice() || word == b"listing".as_slice() {
+        Some(STATUS)
+    } else {
+        None
+    }
+}
+
+fn first_wrong(wanted: &[Field], mut fields: Fields<'_>) -> Option<WrongField>
+    ensures { result ≡ first_wrong wanted.now fields.entry }
+{
+    for field in wanted {
+        match fields.next() {
+            Some(text) => {
+                if !is_written(*field, text) {
+                    return Some(WrongField::Form(*field));
+                }
+            }
+            None => return Some(WrongField::Missing(*field)),
+        }
+    }
+    if fields.is_empty() {
+        None
+    } else {
+        Some(WrongField::TooMany)
+    }
+}
+
+fn is_written(field: Field, text: &[u8]) -> bool
+    ensures { result ≡ is_written field text.now }
+{
+    match field {
+        Field::Name | Field::Ground => is_label(text),
+        Field::Subscriber | Field::Days | Field::Order | Field::Request => {
+            read_number(text).is_some()
+        }
+        Field::Serial => Serial::read(text).is_some(),
+        Field::NotBefore | Field::NotAfter => is_moment(text),
+    }
+}
+
+fn is_label(text: &[u8]) -> bool
+    ensures { result ≡ is_some (label_of text.now) }
+{
+    Label::of(text).is_some()
+}
+
+fn is_moment(text: &[u8]) -> bool
+    ensures { result ≡ is_some (moment_of text.now) }
+{
+    read_moment(text).is_some()
+}
+
+fn read_moment(text: &[u8]) -> Option<Moment>
+    ensures { result ≡ moment_of text.now }
+{
+    Moment::read(text)
+}
+
+pub(crate) fn wrong_words(alloc: Global, wrong: WrongField) -> Result<Vec<u8>, AllocError>
+    ensures { IfOk result (λ text. text.items ≡ wrong_text wrong) }
+{
+    match wrong {
+        WrongField::Form(field) => field_words(alloc, field, form_of(field)),
+        WrongField::Missing(field) => field_words(alloc, field, b" is missing"),
+        WrongField::TooMany => Vec::from_slice(alloc, b"one field too many"),
+    }
+}
+
+fn field_words(alloc: Global, field: Field, end: &[u8]) -> Result<Vec<u8>, AllocError>
+    ensures { IfOk result (λ text. text.items ≡ name_text field ++ end.now) }
+{
+    let mut text = Vec::from_slice(alloc, name_of(field))?;
+    text.extend_from_slice(end)?;
+    Ok(text)
+}
+
+fn name_of(field: Field) -> &'static [u8]
+    ensures { result.now ≡ name_text field }
+{
+    match field {
+        Field::Name => b"NAME",
+        Field::Subscriber => b"SUBSCRIBER",
+        Field::Days => b"DAYS",
+        Field::Order => b"ORDER",
+        Field::Serial => b"SERIAL",
+        Field::NotBefore => b"NOTBEFORE",
+        Field::NotAfter => b"NOTAFTER",
+        Field::Ground => b"GROUND",
+        Field::Request => b"REQUEST",
+    }
+}
+
+fn form_of(field: Field) -> &'static [u8]
+    ensures { result.now ≡ form_text field }
+{
+    match field {
+        Field::Name | Field::Ground => b" is not 1 to 64 bytes",
+        Field::Subscriber | Field::Days | Field::Order | Field::Request => {
+            b" is not 1 to 18 digits"
+        }
+        Field::Serial => b" is not 1 to 40 hexadecimal digits",
+        Field::NotBefore | Field::NotAfter => b" is not a moment as 2026-01-01T00:00:00Z",
+    }
+}

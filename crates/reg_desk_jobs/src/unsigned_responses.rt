@@ -1,0 +1,175 @@
+//! An OCSP response that is left to be signed, and how it is finished.
+
+ghost use Rattle.std.specs.Prelude.{◌≡◌, ◌≤◌, IfSome, length, option_map};
+ghost use Rattle.reg_desk_jobs.specs.Counted.{CountsFinished};
+ghost use Rattle.reg_desk_jobs.specs.Deferring.{socket_for};
+ghost use Rattle.reg_desk_jobs.specs.Given.{GaveAt};
+ghost use Rattle.reg_desk_jobs.specs.Leaving.{IsFinished, IsSignatureOf, fate_of};
+ghost use Rattle.reg_desk_jobs.specs.WhoSigns.{answer_socket};
+
+use crate::deferred_commands::{Wanted, socket_of};
+use crate::exchange_log::log_exchange;
+use crate::machine::Machine;
+use reg_core::Moment;
+use reg_crl_signer::{SignatureRequest, has_form};
+use reg_desk_cli::{Answerer, KeyHolder};
+use reg_desk_metrics::Tally;
+use reg_http::{Exchange, Left, Route};
+use reg_http_head::Collected;
+use reg_ocsp::{Draft, slice_of};
+use reg_office_api::SignatureFate;
+use std::alloc::Global;
+use std::net::SocketAddr;
+
+/// How many bytes of what was asked are kept for the log: as many as it tells of a text.
+const MOST_KEPT: usize = 256;
+
+/// An OCSP answer that is left to be signed.
+#[derive(Drop)]
+pub struct Unsigned {
+    /// What is to be signed, and what the answer has beside that.
+    pub(crate) draft: Draft,
+    /// The moment of the answer.
+    pub(crate) moment: Moment,
+    /// The route that was asked, by which it is counted.
+    pub(crate) route: Route,
+    /// When it was begun, in microseconds.
+    pub(crate) began: u64,
+    /// Who asked.
+    pub(crate) peer: SocketAddr,
+    /// The front of what was asked, where there is a log.
+    pub(crate) asked: Vec<u8>,
+}
+
+/// What is to be signed for an answer of this moment, with that by which it is counted, and what the log will tell of it.
+pub(crate) fn unsigned_of<M: Machine>(
+    alloc: Global,
+    machine: &M,
+    left: Left,
+    moment: Moment,
+    began: u64,
+    peer: SocketAddr,
+    request: &Collected,
+) -> Unsigned
+    ensures draft { result.draft ≡ left.draft }
+    ensures moment { result.moment ≡ moment }
+    ensures route { result.route ≡ left.route }
+{
+    let Left { route, draft } = left;
+    Unsigned {
+        draft,
+        moment,
+        route,
+        began,
+        peer,
+        asked: kept_of(alloc, machine, request.as_slice()),
+    }
+}
+
+/// The front of what was asked, where there is a log. What there is no memory for is left out.
+fn kept_of<M: Machine>(alloc: Global, machine: &M, request: &[u8]) -> Vec<u8> {
+    if !machine.has_log() {
+        return Vec::new(alloc);
+    }
+    let front = &request[..request.len().min(MOST_KEPT)];
+    match Vec::from_slice(alloc, front) {
+        Ok(kept) => kept,
+        Err(_) => Vec::new(alloc),
+    }
+}
+
+/// The text that finishes an answer, with what came on a connection, or without a signature. It is counted by the moment and the route of the
+/// answer, and put into the log, where there is one.
+pub(crate) fn finish_visit<M: Machine>(
+    alloc: Global,
+    machine: &M,
+    tally: &mut Tally,
+    signer: &Option<KeyHolder<'_>>,
+    answerer: &Answerer<'_>,
+    unsigned: Unsigned,
+    link: Option<SignatureRequest>,
+) -> Vec<u8>
+    ensures { CountsFinished (GaveAt M.gave (answer_socket signer.now answerer.now)) unsigned result.items tally.old tally.new }
+{
+    let signature = signature_of::<M>(alloc, signer, answerer, &unsigned.draft, link);
+    let exchange = finish(alloc, &unsigned, &signature);
+    let micros = machine.micros().saturating_sub(unsigned.began);
+    tally.count_exchange(unsigned.moment, &exchange, micros);
+    log_exchange(
+        alloc,
+        machine,
+        micros,
+        unsigned.moment,
+        unsigned.peer,
+        &unsigned.asked,
+        &exchange,
+    );
+    exchange.text
+}
+
+fn signature_of<M: Machine>(
+    alloc: Global,
+    signer: &Option<KeyHolder<'_>>,
+    answerer: &Answerer<'_>,
+    draft: &Draft,
+    link: Option<SignatureRequest>,
+) -> Option<Vec<u8>>
+    ensures signed { IsSignatureOf (GaveAt M.gave (answer_socket signer.now answerer.now)) draft.now (option_map (λ signature. signature.items) result) }
+    ensures short { IfSome result (λ signature. length signature.items ≤ 4096) }
+{
+    let answer = received_answer::<M>(
+        alloc,
+        signer,
+        answerer,
+        Wanted::Answer,
+        draft.message(),
+        link,
+    )?;
+    if has_form(draft.algorithm(), draft.key(), &answer) {
+        Some(answer)
+    } else {
+        None
+    }
+}
+
+/// What came on a connection, where what signs was asked on it, and for the answer to this message.
+pub(crate) fn received_answer<M: Machine>(
+    alloc: Global,
+    signer: &Option<KeyHolder<'_>>,
+    answerer: &Answerer<'_>,
+    wanted: Wanted,
+    message: &[u8],
+    link: Option<SignatureRequest>,
+) -> Option<Vec<u8>>
+    ensures given { IfSome result (λ answer. GaveAt M.gave (socket_for signer.now answerer.now wanted) message.now answer.items) }
+    ensures short { IfSome result (λ answer. length answer.items ≤ 4096) }
+{
+    let socket = socket_of(signer, answerer, wanted)?;
+    let mut link = link?;
+    if !link.is_for(socket, message) {
+        return None;
+    }
+    match M::hear(alloc, &mut link) {
+        Some(answer) => Some(answer),
+        None => None,
+    }
+}
+
+fn finish(alloc: Global, unsigned: &Unsigned, signature: &Option<Vec<u8>>) -> Exchange
+    requires { IfSome signature.now (λ signature. length signature.items ≤ 4096) }
+    ensures finished { IsFinished unsigned.now.draft unsigned.now.moment (option_map (λ signature. signature.items) signature.now) result }
+    ensures route { result.route ≡ unsigned.now.route }
+{
+    let response = unsigned.draft.response(alloc, slice_of(signature));
+    let fate = fate_by(signature);
+    Exchange::finished(alloc, unsigned.route, unsigned.moment, response, fate)
+}
+
+fn fate_by(signature: &Option<Vec<u8>>) -> SignatureFate
+    ensures { result ≡ fate_of (option_map (λ signature. signature.items) signature.now) }
+{
+    match signature {
+        Some(_) => SignatureFate::Made,
+        None => SignatureFate::Failed,
+    }
+}

@@ -1,6 +1,0 @@
-use Rattle.std.proofs.Common.{refl}
-use Rattle.reg_desk_program.proofs.Priming.{same_stands}
-use Rattle.reg_desk_program.proofs.host.HostMachine.prime.Goals as goal
-
-pub returns : goal.returns
-returns c = same_stands _ _ _ _ _ _ refl c.prime_wanted.ensures

@@ -1,0 +1,243 @@
+//! Who signs for a register in a file.
+
+ghost use Rattle.std.specs.Prelude.{◌≡◌, ◌↔◌, ◌⊎◌, List, ℕ, Some, Option, option_copied, option_map, IsTrue, IfOk, IfErr, MatchOption};
+ghost use Rattle.sqlite.specs.Held.{state};
+ghost use Rattle.sqlite.specs.State.{HasCleanDisk};
+ghost use Rattle.reg_core.specs.Crls.{latest};
+ghost use Rattle.reg_core.specs.Records.{Records};
+ghost use Rattle.reg_core.specs.Sound.{SoundRows};
+ghost use Rattle.reg_desk_jobs.specs.RegisterFailures.{IsOpening};
+ghost use Rattle.reg_desk_jobs.specs.WhoSigns.{MayFollow, identity_told};
+ghost use Rattle.reg_office.specs.Answering.{answers_by};
+ghost use Rattle.reg_crl_signer.specs.Forms.{identity_of};
+ghost use Rattle.reg_crl_signer.specs.KeysOrDigests.{either_path};
+ghost use Rattle.reg_crl_signer.specs.Signed.{IsCrlUnder};
+ghost use Rattle.reg_desk_program.specs.Misfits.{Differs, IsKnownAlgorithm, IsMisfit, IsMisfitAfter};
+ghost use Rattle.reg_desk_program.specs.StoreSigners.{IsAskedAt, SignsAfter, SignsFor};
+ghost use Rattle.reg_store_tables.specs.Shows.{Shows};
+ghost use Rattle.reg_desk_cli.specs.declared.job.KeyHolder.{KeyHolder};
+ghost use Rattle.reg_store_tables.specs.Stays.{Looked};
+
+use crate::file_office::{FileDevice, FileSigner};
+use crate::host::Host;
+use crate::ocsp_answerer::embeds_own;
+use reg_core::{Cause, Fault};
+use reg_crl::{DigestSeal, Signer};
+use reg_crl_signer::{
+    Algorithm, BackoffDevice, Device, DeviceSigner, KeyFault, KeyOrDigest, SocketDevice,
+    crl_algorithm,
+};
+use reg_desk_cli::{Failure, KeyHolder, Word};
+use reg_desk_jobs::{CrlSigner, Machine};
+use reg_office::Responder;
+use reg_store::{DatabaseFault, Tables};
+use sqlite::Alter;
+
+/// The signer of CRLs for the register in these tables. Where nobody signs, it is as the latest CRL tells, and no process is asked: so a CRL comes
+/// to a fault of the signer.
+///
+/// # Errors
+///
+/// `BadResponder` where the issuer's certificate has another key; else `BadSigner` where the issuer's key is none of the algorithm, or the latest
+/// CRL is signed under another one, or under one that is not known here: the cause is noted; `Memory`, `Store`.
+#[tactic(auto, using(crate::proofs::Missing::opens_faulty))]
+pub(crate) fn signer_for<C: Alter>(
+    host: &Host<'_>,
+    tables: &mut Tables<C>,
+    crls: &CrlSigner<'_>,
+    responder: &Responder<FileSigner>,
+) -> Result<FileSigner, Failure>
+    ensures signs { IfOk result (λ signer. SignsFor C.Store tables.old tables.new
+        (λ who. answers_by ⟦<FileSigner as Signer>⟧.identity who responder.now) (⟦<FileSigner as Signer>⟧.identity signer) crls.now) }
+    ensures asks { IfOk result (λ signer. IsAskedAt crls.now (either_path ⟦<FileDevice as Device>⟧ signer)) }
+    ensures looked { Looked C.Store tables.old tables.new }
+    ensures faults { IfErr result IsOpening }
+{
+    let latest = latest_crl(tables)?;
+    match crls {
+        CrlSigner::Holder(holder) => signer_after(host, tables, &latest, Some(holder), responder),
+        CrlSigner::Digest => signer_after(host, tables, &latest, None, responder),
+        CrlSigner::Nobody => silent_after(host, tables, &latest, responder),
+    }
+}
+
+/// The signer as the latest CRL was signed, which asks nobody.
+fn silent_after<C: Alter>(
+    host: &Host<'_>,
+    tables: &mut Tables<C>,
+    latest: &Option<Vec<u8>>,
+    responder: &Responder<FileSigner>,
+) -> Result<FileSigner, Failure>
+    ensures signs { IfOk result (λ signer. (told : Option KeyHolder) × SignsAfter C.Store tables.old tables.new
+        (λ who. answers_by ⟦<FileSigner as Signer>⟧.identity who responder.now) (⟦<FileSigner as Signer>⟧.identity signer)
+        told (option_map (λ bytes. bytes.items) latest.now)) }
+    ensures looked { Looked C.Store tables.old tables.new }
+    ensures faults { IfErr result IsOpening }
+{
+    let told = holder_of(latest);
+    match signer_after(host, tables, latest, told.as_ref(), responder) {
+        Ok(signer) => Ok(signer.silent()),
+        Err(why) => Err(why),
+    }
+}
+
+/// Who would sign as the latest CRL was signed: at a path where no socket can be. `None` where a digest seals, and where the
+/// algorithm is not known.
+fn holder_of(latest: &Option<Vec<u8>>) -> Option<KeyHolder<'static>> {
+    let identifier = crl_algorithm(latest.as_ref()?)?;
+    let algorithm = Algorithm::identified(identifier)?;
+    Some(KeyHolder {
+        socket: Word::of(""),
+        algorithm,
+    })
+}
+
+#[tactic(auto, using(crate::proofs::Missing::opens_faulty))]
+fn signer_after<C: Alter>(
+    host: &Host<'_>,
+    tables: &mut Tables<C>,
+    latest: &Option<Vec<u8>>,
+    told: Option<&KeyHolder<'_>>,
+    responder: &Responder<FileSigner>,
+) -> Result<FileSigner, Failure>
+    ensures signs { IfOk result (λ signer. SignsAfter C.Store tables.old tables.new
+        (λ who. answers_by ⟦<FileSigner as Signer>⟧.identity who responder.now) (⟦<FileSigner as Signer>⟧.identity signer)
+        (option_copied told.entry) (option_map (λ bytes. bytes.items) latest.now)) }
+    ensures asks { IfOk result (λ signer.
+        either_path ⟦<FileDevice as Device>⟧ signer ≡ option_map (λ holder. holder.socket) (option_copied told.entry)) }
+    ensures looked { Looked C.Store tables.old tables.new }
+    ensures faults { IfErr result IsOpening }
+{
+    let issuer = tables.issuer()?;
+    if !embeds_own(responder, issuer.key()) {
+        return Err(Failure::BadResponder);
+    }
+    let signer = signer_told(host, told, issuer.key())?;
+    match misfit(latest, signer.algorithm()) {
+        None => Ok(signer),
+        Some(why) => {
+            host.note(Some(why));
+            Err(Failure::BadSigner)
+        }
+    }
+}
+
+/// Who signs over an issuer's key, as it is told. Where the key is none of the algorithm, that is noted.
+fn signer_told(
+    host: &Host<'_>,
+    told: Option<&KeyHolder<'_>>,
+    key: &[u8],
+) -> Result<FileSigner, Failure>
+    ensures ok { IfOk result (λ signer. ⟦<FileSigner as Signer>⟧.identity signer ≡ identity_told (option_copied told.entry) key.now) }
+    ensures asks { IfOk result (λ signer.
+        either_path ⟦<FileDevice as Device>⟧ signer ≡ option_map (λ holder. holder.socket) (option_copied told.entry)) }
+    ensures faults { IfErr result IsOpening }
+{
+    let Some(holder) = told else {
+        return Ok(KeyOrDigest::Digest(DigestSeal));
+    };
+    match key_signer(&host.rt, holder.socket.as_str(), holder.algorithm, key) {
+        Ok(signer) => Ok(signer),
+        Err(Failure::BadSigner) => {
+            host.note(Some(Cause::OtherKey));
+            Err(Failure::BadSigner)
+        }
+        Err(why) => Err(why),
+    }
+}
+
+pub(crate) fn key_signer(
+    rt: &HostRuntime,
+    socket: &str,
+    algorithm: Algorithm,
+    key: &[u8],
+) -> Result<FileSigner, Failure>
+    ensures ok { IfOk result (λ signer. ⟦<FileSigner as Signer>⟧.identity signer ≡ identity_of algorithm key.now) }
+    ensures asks { IfOk result (λ signer. either_path ⟦<FileDevice as Device>⟧ signer ≡ Some socket.now) }
+    ensures faults { IfErr result (λ why. (why ≡ Failure.Fault Fault.Memory) ⊎ (why ≡ Failure.BadSigner)) }
+{
+    let (Ok(path), Ok(key)) = (
+        String::from_str(rt.alloc(), socket),
+        Vec::from_slice(rt.alloc(), key),
+    ) else {
+        return Err(Failure::Fault(Fault::Memory));
+    };
+    let device = BackoffDevice::new(SocketDevice::new(*rt, path, key), *rt);
+    match DeviceSigner::new(device, algorithm) {
+        Ok(signer) => Ok(KeyOrDigest::Key(signer)),
+        Err(KeyFault) => Err(Failure::BadSigner),
+    }
+}
+
+fn latest_crl<C: Alter>(tables: &mut Tables<C>) -> Result<Option<Vec<u8>>, DatabaseFault>
+    ensures found { (records : Records) → Shows C.Store tables.old records → SoundRows records → HasCleanDisk (state C.Store tables.new)
+        → IfOk result (λ crl. option_map (λ bytes. bytes.items) crl ≡ option_map (λ crl. crl.bytes) (latest records.crls)) }
+    ensures looked { Looked C.Store tables.old tables.new }
+{
+    match tables.latest_crl()? {
+        Some(row) => tables.crl(row.number),
+        None => Ok(None),
+    }
+}
+
+/// Why no CRL under an algorithm follows the latest one, where there is one. `None` where it follows.
+fn misfit(latest: &Option<Vec<u8>>, algorithm: &[u8]) -> Option<Cause>
+    ensures { MatchOption result
+        ((crl : List ℕ) → option_map (λ bytes. bytes.items) latest.now ≡ Some crl
+        → (other : List ℕ) → IsCrlUnder crl other → MayFollow algorithm.now other)
+        (IsMisfitAfter (option_map (λ bytes. bytes.items) latest.now) algorithm.now) }
+{
+    match latest {
+        Some(crl) => misfit_of(crl, algorithm),
+        None => None,
+    }
+}
+
+fn misfit_of(crl: &[u8], algorithm: &[u8]) -> Option<Cause>
+    ensures { MatchOption result ((other : List ℕ) → IsCrlUnder crl.now other → MayFollow algorithm.now other)
+        (IsMisfit crl.now algorithm.now) }
+{
+    match crl_algorithm(crl) {
+        Some(found) => difference(found, algorithm),
+        None => Some(Cause::UnknownAlgorithm),
+    }
+}
+
+fn difference(found: &[u8], algorithm: &[u8]) -> Option<Cause>
+    ensures { MatchOption result (MayFollow algorithm.now found.now) (Differs found.now algorithm.now) }
+{
+    if may_follow(algorithm, found) {
+        None
+    } else if is_known(found) {
+        Some(Cause::OtherAlgorithm)
+    } else {
+        Some(Cause::UnknownAlgorithm)
+    }
+}
+
+/// Whether what is signed under an algorithm may stand behind a CRL under this one: it is the same, or that of the digest, which any
+/// key may follow.
+fn may_follow(algorithm: &[u8], earlier: &[u8]) -> bool
+    ensures { IsTrue result ↔ MayFollow algorithm.now earlier.now }
+{
+    let digest = DigestSeal;
+    if is_same(earlier, digest.algorithm()) {
+        return true;
+    }
+    is_same(earlier, algorithm)
+}
+
+fn is_known(algorithm: &[u8]) -> bool
+    ensures { IsTrue result ↔ IsKnownAlgorithm algorithm.now }
+{
+    match Algorithm::identified(algorithm) {
+        Some(_) => true,
+        None => false,
+    }
+}
+
+fn is_same(bytes: &[u8], other: &[u8]) -> bool
+    ensures { IsTrue result ↔ (bytes.now ≡ other.now) }
+{
+    bytes == other
+}

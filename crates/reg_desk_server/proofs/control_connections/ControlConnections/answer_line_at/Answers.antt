@@ -1,0 +1,11 @@
+use Rattle.reg_desk_server.proofs.Exchanges.{handled_deferring, handled_then, handled_told}
+use Rattle.reg_desk_server.proofs.control_connections.ControlConnections.answer_line_at.Goals as goal
+
+pub returns-in-Some-defer : goal.returns-in-Some-defer
+returns-in-Some-defer g c made = handled_deferring g.H.Handler _ _ made c.in-Some.connection c.defer.ensures.looked
+
+pub returns-in-None : goal.returns-in-None
+returns-in-None g c made =
+    handled_then g.H.Handler _ _ _ made made made
+    (handled_deferring g.H.Handler _ _ made c.in-Some.connection c.defer.ensures.looked)
+    (handled_told g.H.Handler _ c.tell-told.result _ _ made c.defer.new.self c.tell-told.new.self c.tell-told.ensures.ok c.tell-told.ensures.err)

@@ -1,7 +1,0 @@
-use Rattle.std.proofs.Common.{ℕ}
-use Rattle.reg_desk_server.specs.Handling.{Handled}
-use Rattle.reg_desk_server.proofs.control_connections.ControlConnections.tell_all.Given as goal
-
--- what was exchanged so far
-abbrev pub invariant-loop-slot : goal.invariant-loop-slot
-invariant-loop-slot g l = (made : ℕ) → Handled g.H.Handler l.initial.handler l.handler made made

@@ -1,8 +1,0 @@
-use Rattle.std.proofs.Common.{ap, ◌∙◌}
-use Rattle.reg_desk_server.specs.CounterLines.{ends_by}
-use Rattle.reg_desk_server.proofs.Gatherings.{gathers_taken}
-use Rattle.reg_desk_server.proofs.counter_peer.CounterPeer.receive_once.Goals as goal
-
-pub returns-clause-gathers : goal.returns-clause-gathers
-returns-clause-gathers g c =
-    gathers_taken _ _ _ _ c.gather-received.result _ (λ lost. c.is_end-self.ensures ∙ ap ends_by lost) c.gather-received.ensures.receives

@@ -1,8 +1,0 @@
-use Rattle.std.proofs.Common.{◌≤◌}
-use Rattle.reg_desk_server.specs.Handling.{Handled}
-use Rattle.reg_desk_server.proofs.hub.Hub.serve_all.Given as goal
-
--- what was exchanged so far
-abbrev pub invariant-loop : goal.invariant-loop
-invariant-loop g l =
-    Handled g.H.Handler l.initial.handler l.handler l.initial.made l.made × (l.made ≤ l.most)

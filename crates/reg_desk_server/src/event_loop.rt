@@ -1,0 +1,354 @@
+//! The event loop: the listeners, the slots of the connections, and their turns.
+
+ghost use Rattle.std.specs.Prelude.{◌≡◌, ◌≤◌, ◌+◌, OnOk};
+ghost use Rattle.reg_desk_server.specs.Handling.{Handled};
+
+use crate::acceptor::Acceptor;
+use crate::control_connections::ControlConnections;
+use crate::handler::{ConnectionCounts, EventLoopFault, Handler};
+use crate::http_connection::HttpConnection;
+use crate::http_connections::{HttpConnections, MOST_HTTP_CONNECTIONS, SWEEP};
+use crate::poller::{
+    CONTROL_LISTENER, FIRST_CONTROL, FIRST_HTTP, FIRST_SIGNATURE, HTTP_LISTENER, LINE, LINE_ENDED,
+    MOST_SIGNATURES,
+};
+use crate::shared::{LostConnection, Shared};
+use crate::signature_requests::{PATIENCE, Pending, Requester, SignatureRequests};
+use mio::net::{TcpListener, TcpStream, UnixListener};
+use std::alloc::AllocGlobal;
+use std::io;
+use std::io::ErrorKind;
+use std::net::Net;
+use std::time::{Clock, Duration};
+
+const IDLE: u64 = 3_600;
+
+/// The event loop of one thread: the connections that a handler answers.
+#[derive(Drop)]
+pub struct EventLoop<H: Handler> {
+    shared: Shared,
+    acceptor: Acceptor,
+    http: HttpConnections<H>,
+    control: ControlConnections<H>,
+    signatures: SignatureRequests,
+}
+
+fn now_of<C: Clock>(clock: &C) -> Result<u64, EventLoopFault> {
+    match clock.monotonic() {
+        Ok(passed) => Ok(
+            passed
+                .as_secs()
+                .saturating_mul(1_000)
+                .saturating_add(u64::from(passed.subsec_millis())),
+        ),
+        Err(_) => Err(EventLoopFault),
+    }
+}
+
+impl<H: Handler> EventLoop<H> {
+    /// An event loop over a listener for HTTP connections, and one for control connections, neither of which waits, with slots for so
+    /// many HTTP connections. An error is what the system says where the listeners can't be polled, or `OutOfMemory`.
+    pub fn new(
+        rt: &(impl Net + AllocGlobal),
+        listener: TcpListener,
+        control: Option<UnixListener>,
+        slots: usize,
+    ) -> io::Result<EventLoop<H>> {
+        let shared = Shared::new(rt, slots)?;
+        let acceptor = Acceptor::new(listener, &shared.poller)?;
+        let control = ControlConnections::new(shared.alloc, control, &shared.poller)?;
+        let http = HttpConnections::new(shared.alloc, slots)?;
+        let signatures = SignatureRequests::new(shared.alloc);
+        Ok(EventLoop {
+            shared,
+            acceptor,
+            http,
+            control,
+            signatures,
+        })
+    }
+
+    /// Answers so many requests, and lines of control connections meanwhile. Each HTTP connection that is accepted is one of them, and is
+    /// answered once: when its request is whole, when nothing more of it comes, when its time is over, or when it is evicted. What is
+    /// left to be signed for an answer is requested, and no other client waits for it: the answer is finished by [`EventLoop::finish`] at the
+    /// latest.
+    ///
+    /// In an iteration each connection gets on a little, each answer whose signature came is finished, each control connection has at most
+    /// one line answered, and each request that is whole is answered.
+    #[tactic(auto, using(crate::proofs::Exchanges::exchanged_none))]
+    pub fn serve_all<C: Clock>(
+        &mut self,
+        clock: &C,
+        handler: &mut H,
+        made: &mut u64,
+        most: u64,
+    ) -> Result<(), EventLoopFault>
+        requires { made.old ≤ most }
+        ensures exchanged { Handled H.Handler handler.old handler.new made.old made.new }
+        ensures all { OnOk result (made.new ≡ most) }
+    {
+        for _ in 0..u64::MAX {
+            if *made == most {
+                return Ok(());
+            }
+            let now = self.poll(clock, most)?;
+            self.shared.lost.report(handler);
+            handler.hold(self.connections());
+            self.finish_all(handler, now);
+            self.control
+                .answer_all_lines(&mut self.shared, handler, now)?;
+            let answered = self.answer_all(handler, made, most, now);
+            self.request_all(handler, now);
+            answered?;
+        }
+        Err(EventLoopFault)
+    }
+
+    /// Sends on what was answered, finishes what is left to be signed, and closes all connections, until none is left or the time of each
+    /// is over. Those that end by a fault are reported to the handler.
+    pub fn finish<C: Clock>(&mut self, clock: &C, handler: &H) -> Result<(), EventLoopFault> {
+        let most = self.acceptor.accepted;
+        self.http.close_all(&mut self.shared);
+        for _ in 0..u64::MAX {
+            self.shared.lost.report(handler);
+            if self.http.slots.reserved() == 0 {
+                return Ok(());
+            }
+            let now = self.poll(clock, most)?;
+            self.finish_all(handler, now);
+            self.request_all(handler, now);
+            self.http.close_due(&mut self.shared);
+            self.control.stop();
+        }
+        Ok(())
+    }
+
+    fn connections(&self) -> ConnectionCounts {
+        ConnectionCounts {
+            peers: self.http.slots.reserved(),
+            counters: self.control.slots.reserved(),
+            accepted: self.acceptor.accepted,
+        }
+    }
+
+    /// Waits until something is to be done, receives and sends on, accepts, and looks for connections whose time is over.
+    fn poll<C: Clock>(&mut self, clock: &C, most: u64) -> Result<u64, EventLoopFault> {
+        let longest = self.longest_wait(most);
+        self.shared.poller.poll(longest)?;
+        let now = now_of(clock)?;
+        for index in 0..self.shared.poller.tokens.len() {
+            if let Some(token) = self.shared.poller.tokens.get(index).copied() {
+                self.advance(token, now);
+            }
+        }
+        self.control.accept_all(&mut self.shared);
+        self.acceptor
+            .accept_all(most, &mut self.http, &mut self.shared, now)?;
+        self.http.sweep(&mut self.shared, now);
+        Ok(now)
+    }
+
+    fn longest_wait(&mut self, most: u64) -> Duration {
+        let for_signatures = self
+            .signatures
+            .longest_wait()
+            .min(self.control.longest_wait());
+        let has_work = !self.http.due.is_empty() || !self.shared.lost.unreported.is_empty();
+        if self.acceptor.is_ready(most) || self.control.is_ready() || has_work {
+            return Duration::ZERO;
+        }
+        let is_short = self.acceptor.is_short || self.control.is_short;
+        let idle = if self.http.slots.reserved() == 0 && !is_short {
+            Duration::from_secs(IDLE)
+        } else {
+            Duration::from_millis(SWEEP)
+        };
+        idle.min(for_signatures)
+    }
+
+    fn advance(&mut self, token: usize, now: u64) {
+        if token == HTTP_LISTENER {
+            self.acceptor.mark_ready();
+        } else if token == CONTROL_LISTENER {
+            self.control.may_accept = true;
+        } else if token < FIRST_SIGNATURE {
+            let slot = token.saturating_sub(FIRST_CONTROL);
+            self.control.advance(slot, &mut self.shared);
+        } else if token < LINE {
+            self.signatures
+                .mark_ended(token.saturating_sub(FIRST_SIGNATURE));
+        } else if token <= LINE_ENDED {
+            self.advance_line(token);
+        } else {
+            let slot = token.saturating_sub(FIRST_HTTP);
+            self.http.advance(slot, &mut self.shared, now);
+        }
+    }
+
+    /// Goes on with the line that waits for a signature: its connection to the signer is ready, or at its end.
+    fn advance_line(&mut self, token: usize) {
+        if let Some(waiting) = &mut self.control.waiting {
+            if token == LINE_ENDED {
+                waiting.mark_ended();
+            } else {
+                waiting.send_on(&self.shared.poller);
+            }
+        }
+    }
+
+    fn answer_all(
+        &mut self,
+        handler: &mut H,
+        made: &mut u64,
+        most: u64,
+        now: u64,
+    ) -> Result<(), EventLoopFault>
+        requires { made.old ≤ most }
+        ensures exchanged { Handled H.Handler handler.old handler.new made.old made.new }
+        ensures within { made.new ≤ most }
+    {
+        for index in 0..self.http.due.len() {
+            if *made == most {
+                return Ok(());
+            }
+            self.answer_due(index, handler, made, now)?;
+        }
+        self.http.due.clear();
+        Ok(())
+    }
+
+    /// Answers one of the connections that are due, if it still receives, and sends on its answer. What is left to be signed of it waits
+    /// for its turn.
+    #[tactic(auto, using(crate::proofs::Exchanges::exchanged_none))]
+    fn answer_due(
+        &mut self,
+        index: usize,
+        handler: &mut H,
+        made: &mut u64,
+        now: u64,
+    ) -> Result<(), EventLoopFault>
+        ensures exchanged { Handled H.Handler handler.old handler.new made.old made.new }
+        ensures one { made.new ≤ made.old + 1 }
+    {
+        let Some(slot) = self.http.due.get(index).copied() else {
+            return Ok(());
+        };
+        let Some(mut connection) = self.http.slots.take(slot) else {
+            return Ok(());
+        };
+        let before = connection.unsent();
+        if let Some(why) = connection.record_fault(now) {
+            let peer = Some(connection.peer);
+            self.shared.lost.note(LostConnection { peer, why });
+        }
+        match connection.answer(handler, made, now) {
+            Ok(true) => {
+                self.wait_for_signature(slot, connection, handler, now);
+                Ok(())
+            }
+            Ok(false) => {
+                self.send_on(slot, connection, before, now);
+                Ok(())
+            }
+            Err(stopped) => {
+                self.send_on(slot, connection, before, now);
+                Err(stopped)
+            }
+        }
+    }
+
+    /// Sends on the answer of a connection that was taken out of a slot, of whose answer so many bytes were not sent before.
+    fn send_on(
+        &mut self,
+        slot: usize,
+        connection: HttpConnection<TcpStream, H>,
+        before: usize,
+        now: u64,
+    ) {
+        self.http.count_unsent(before, connection.unsent());
+        self.http.drive(slot, connection, &mut self.shared, now);
+        self.http.limit_unsent(slot, &mut self.shared);
+    }
+
+    /// Has a connection that was taken out of a slot wait for the signature of its answer, which is requested once it is its turn.
+    fn wait_for_signature(
+        &mut self,
+        slot: usize,
+        connection: HttpConnection<TcpStream, H>,
+        handler: &H,
+        now: u64,
+    ) {
+        let number = connection.number;
+        let requester = Requester { slot, number };
+        self.http.slots.put(slot, connection);
+        // Where there is no memory for it, nobody signs.
+        if !self.signatures.add(requester, now) {
+            self.complete(requester, false, handler, now);
+        }
+    }
+
+    fn request_all(&mut self, handler: &H, now: u64) {
+        for _ in 0..MOST_HTTP_CONNECTIONS {
+            match self.signatures.next(now) {
+                Some((pending, index)) => self.request(pending, index, handler, now),
+                None => return,
+            }
+        }
+    }
+
+    /// Requests a signature at a free index, unless a requester that had to wait for its turn has gone.
+    fn request(&mut self, pending: Pending, index: usize, handler: &H, now: u64) {
+        let requester = pending.requester;
+        let has_waited = pending.until < now.saturating_add(PATIENCE);
+        if has_waited && self.http.has_gone(requester, &mut self.shared, now) {
+            return;
+        }
+        let token = index.saturating_add(FIRST_SIGNATURE);
+        match self
+            .http
+            .ask(requester, handler, &self.shared.poller, token)
+        {
+            Ok(()) => {
+                if !self.signatures.put(index, pending) {
+                    self.complete(requester, false, handler, now);
+                }
+            }
+            Err(error) if error.kind() == ErrorKind::WouldBlock => {
+                self.signatures.put_off(pending, now);
+            }
+            Err(_) => self.complete(requester, false, handler, now),
+        }
+    }
+
+    /// Finishes the answers whose signatures came, and those whose time is over; drops the signatures whose requesters wait no more.
+    fn finish_all(&mut self, handler: &H, now: u64) {
+        for index in 0..MOST_SIGNATURES {
+            self.finish_at(index, handler, now);
+        }
+        for _ in 0..MOST_HTTP_CONNECTIONS {
+            match self.signatures.take_late(now) {
+                Some(late) => self.complete(late.requester, false, handler, now),
+                None => return,
+            }
+        }
+    }
+
+    fn finish_at(&mut self, index: usize, handler: &H, now: u64) {
+        let Some(requested) = self.signatures.at(index) else {
+            return;
+        };
+        let Pending { requester, until } = requested.pending;
+        if requested.has_come || until <= now || !self.http.is_waiting(requester) {
+            self.signatures.drop_at(index);
+            self.complete(requester, requested.has_come, handler, now);
+        }
+    }
+
+    /// Finishes the answer for which a requester waits, with its signature where that has come, and sends it on.
+    fn complete(&mut self, requester: Requester, has_come: bool, handler: &H, now: u64) {
+        if let Some(mut connection) = self.http.take_waiting(requester) {
+            connection.complete(handler, has_come, now);
+            self.send_on(requester.slot, connection, 0, now);
+        }
+    }
+}

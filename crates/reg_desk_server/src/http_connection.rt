@@ -1,0 +1,344 @@
+//! One HTTP connection, whose request is answered once.
+
+ghost use Rattle.std.specs.Prelude.{◌≡◌, ◌≤◌, ◌+◌, [], OnOk, OnErr, is_some, IsSome, IfNone, false};
+ghost use Rattle.reg_desk_server.specs.Handling.{Handled};
+ghost use Rattle.reg_desk_server.specs.Stages.{Answering, Drops, Finishing, HasReceived, HoldsAnswer, IsDropped, KeepsSigning, ReceivesMore, SameLinkAndFault, Sends};
+
+use crate::handler::{ConnectionFault, EventLoopFault, Handler};
+use crate::link::Link;
+use crate::poller::Poller;
+use crate::request_bytes::{Received, receive};
+use crate::unsent::{Sent, Unsent};
+use mio::Interest;
+use reg_crl_signer::SignatureRequest;
+use reg_http_head::Collected;
+use reg_io::Begun;
+use std::alloc::Global;
+use std::io::{ErrorKind, Read};
+use std::net::SocketAddr;
+use std::{io, mem};
+
+/// How many milliseconds a client has to send its request, and as many to take its answer.
+const PATIENCE: u64 = 30_000;
+
+/// How many milliseconds what a client still sends is dropped, once it has its answer.
+const LINGER: u64 = 1_000;
+
+const MOST_DROPPED: usize = 32;
+
+/// How far a connection is.
+#[derive(Drop)]
+pub(crate) enum Stage<T> {
+    Receiving(Collected),
+    /// This is left to be signed for the answer; the connection on which the signature was requested; whether to close once it was sent.
+    Signing(T, Option<SignatureRequest>, bool),
+    /// The answer goes out; whether to close at once then.
+    Sending(Unsent, bool),
+    Draining,
+}
+
+/// What is to be done with a connection next: answer it, poll it, keep it unpolled, or close it.
+#[derive(Clone, Copy)]
+pub enum Next {
+    Due,
+    Poll(Interest),
+    Park,
+    Close,
+}
+
+/// Drops what has come, for so many reads.
+fn drop_all<R: Read>(reader: &mut R, room: &mut [u8]) -> Received
+    ensures { IsDropped (R.remaining reader.old) (R.remaining reader.new) }
+{
+    for _ in 0..MOST_DROPPED {
+        match drop_once(reader, room) {
+            Received::More => {}
+            received => return received,
+        }
+    }
+    Received::More
+}
+
+fn drop_once<R: Read>(reader: &mut R, room: &mut [u8]) -> Received
+    ensures { IsDropped (R.remaining reader.old) (R.remaining reader.new) }
+{
+    match reader.read(room) {
+        Ok(0) => Received::Ended,
+        Ok(_) => Received::More,
+        Err(error) if error.kind() == ErrorKind::WouldBlock => Received::Blocked,
+        Err(_) => Received::Broken,
+    }
+}
+
+/// A connection of a client whose request is answered once by a handler. What is left to be signed for the answer is kept here, so the
+/// signature goes to no other client.
+#[derive(Drop)]
+pub struct HttpConnection<S: Link, H: Handler> {
+    pub(crate) link: S,
+    pub(crate) peer: SocketAddr,
+    pub(crate) stage: Stage<H::Ticket>,
+    /// The fault by which no more of the request is waited for, if there is one.
+    pub(crate) fault: Option<ConnectionFault>,
+    /// Whether the client's side has ended while it waits for its answer.
+    pub(crate) has_ended: bool,
+    pub(crate) until: u64,
+    pub(crate) number: u64,
+    pub(crate) is_registered: bool,
+}
+
+impl<S: Link, H: Handler> HttpConnection<S, H> {
+    /// A connection from an address that was accepted at this moment, in milliseconds of a clock that never goes back.
+    pub fn new(
+        alloc: Global,
+        link: S,
+        peer: SocketAddr,
+        number: u64,
+        now: u64,
+    ) -> HttpConnection<S, H>
+        ensures link { result.link ≡ link }
+        ensures receives { HasReceived result.stage [] }
+        ensures open { is_some result.fault ≡ false }
+    {
+        HttpConnection {
+            link,
+            peer,
+            stage: Stage::Receiving(Collected::new(alloc)),
+            fault: None,
+            has_ended: false,
+            until: now.saturating_add(PATIENCE),
+            number,
+            is_registered: false,
+        }
+    }
+
+    pub fn is_receiving(&self) -> bool {
+        matches!(self.stage, Stage::Receiving(_))
+    }
+
+    pub fn is_signing(&self) -> bool {
+        matches!(self.stage, Stage::Signing(..))
+    }
+
+    pub fn has_answer(&self) -> bool {
+        !self.is_receiving() && !self.is_signing()
+    }
+
+    pub fn is_late(&self, now: u64) -> bool {
+        self.until <= now
+    }
+
+    /// Notes by what fault it is answered at this moment before its request is whole, if by one, and gives it.
+    pub fn record_fault(&mut self, now: u64) -> Option<ConnectionFault>
+        ensures same_link { self.new.link ≡ self.old.link }
+        ensures same_stage { self.new.stage ≡ self.old.stage }
+        ensures noted { IsSome self.old.fault → IsSome self.new.fault }
+    {
+        if !self.is_receiving() {
+            return None;
+        }
+        if self.fault.is_none() && self.is_late(now) {
+            self.fault = Some(ConnectionFault::Late);
+        }
+        self.fault
+    }
+
+    pub fn unsent(&self) -> usize {
+        match &self.stage {
+            Stage::Sending(unsent, _) => unsent.len(),
+            _ => 0,
+        }
+    }
+
+    /// Goes on as far as the connection does without waiting.
+    pub fn advance(&mut self, room: &mut [u8], now: u64) -> Next
+        ensures receives { ReceivesMore S.Read.remaining self.old self.new }
+        ensures sends { Sends S.Write.contents self.old self.new }
+        ensures drops { Drops S.Read.remaining self.old self.new }
+    {
+        match &self.stage {
+            Stage::Receiving(_) => self.receive(room),
+            Stage::Signing(..) => self.wait(room),
+            Stage::Sending(..) => self.send_on(now),
+            Stage::Draining => self.drain(room),
+        }
+    }
+
+    #[tactic(auto, using(crate::proofs::Gatherings::gathers_none))]
+    fn receive(&mut self, room: &mut [u8]) -> Next
+        ensures { ReceivesMore S.Read.remaining self.old self.new }
+    {
+        if self.fault.is_some() {
+            return Next::Due;
+        }
+        match &mut self.stage {
+            Stage::Receiving(collected) => match receive(&mut self.link, collected, room) {
+                Received::Blocked => Next::Poll(Interest::READABLE),
+                Received::More => Next::Poll(Interest::READABLE),
+                Received::Whole => Next::Due,
+                Received::Ended => Next::Due,
+                Received::Broken => {
+                    self.fault = Some(ConnectionFault::Broken);
+                    Next::Due
+                }
+                Received::OutOfMemory => {
+                    self.fault = Some(ConnectionFault::Memory);
+                    Next::Due
+                }
+            },
+            Stage::Signing(..) => Next::Close,
+            Stage::Sending(..) => Next::Close,
+            Stage::Draining => Next::Close,
+        }
+    }
+
+    /// Drops what the client still sends while it waits for its answer, and sees whether it is gone.
+    fn wait(&mut self, room: &mut [u8]) -> Next
+        ensures { Drops S.Read.remaining self.old self.new }
+    {
+        match drop_all(&mut self.link, room) {
+            Received::Broken => return Next::Close,
+            Received::Ended => self.has_ended = true,
+            _ => {}
+        }
+        Next::Park
+    }
+
+    /// Sends on the answer; once the client has all of it, it is told that no more is written.
+    fn send_on(&mut self, now: u64) -> Next
+        ensures { Sends S.Write.contents self.old self.new }
+    {
+        match self.send() {
+            Some(next) => next,
+            None => self.finish(now),
+        }
+    }
+
+    fn send(&mut self) -> Option<Next>
+        ensures sends { Sends S.Write.contents self.old self.new }
+        ensures all { IfNone result (HoldsAnswer self.new.stage []) }
+    {
+        match &mut self.stage {
+            Stage::Sending(unsent, is_last) => match unsent.send_on(&mut self.link) {
+                Sent::All if *is_last => Some(Next::Close),
+                Sent::All => None,
+                Sent::Blocked | Sent::More => Some(Next::Poll(Interest::WRITABLE)),
+                Sent::Broken => Some(Next::Close),
+            },
+            Stage::Receiving(_) => Some(Next::Close),
+            Stage::Signing(..) => Some(Next::Close),
+            Stage::Draining => Some(Next::Close),
+        }
+    }
+
+    /// Tells the client that no more is written. A connection that is closed over unread bytes may cost the client the answer that it
+    /// has not read yet: so what it still sends is received for a short time.
+    fn finish(&mut self, now: u64) -> Next
+        ensures link { self.new.link ≡ self.old.link }
+        ensures drains { self.new.stage ≡ Stage.Draining }
+    {
+        self.stage = Stage::Draining;
+        self.until = now.saturating_add(LINGER);
+        match self.link.finish() {
+            Ok(()) => Next::Poll(Interest::READABLE),
+            Err(_) => Next::Close,
+        }
+    }
+
+    fn drain(&mut self, room: &mut [u8]) -> Next
+        ensures { Drops S.Read.remaining self.old self.new }
+    {
+        match drop_all(&mut self.link, room) {
+            Received::Blocked | Received::More => Next::Poll(Interest::READABLE),
+            _ => Next::Close,
+        }
+    }
+
+    /// Answers what came of the request, whatever it is; whether something is left to be signed for the answer. A connection that has an
+    /// answer, or waits for one, is not answered again.
+    #[tactic(auto, using(crate::proofs::Exchanges::exchanged_none))]
+    pub fn answer(
+        &mut self,
+        handler: &mut H,
+        made: &mut u64,
+        now: u64,
+    ) -> Result<bool, EventLoopFault>
+        ensures exchanged { Handled H.Handler handler.old handler.new made.old made.new }
+        ensures one { made.new ≤ made.old + 1 }
+        ensures answered { OnOk result (
+            Answering H.answers handler.old handler.new self.old.stage self.new.stage) }
+        ensures kept { SameLinkAndFault self.old self.new }
+        ensures err { OnErr result ((self.new ≡ self.old) × (handler.new ≡ handler.old)) }
+    {
+        let (begun, is_exact) = match &self.stage {
+            Stage::Receiving(collected) => {
+                let Some(count) = made.checked_add(1) else {
+                    return Err(EventLoopFault);
+                };
+                let begun = handler.answer(self.peer, collected)?;
+                *made = count;
+                (begun, collected.is_exact())
+            }
+            Stage::Signing(..) => return Ok(false),
+            Stage::Sending(..) => return Ok(false),
+            Stage::Draining => return Ok(false),
+        };
+        match begun {
+            Begun::Ready(text) => {
+                self.hold_answer(text, is_exact, now);
+                Ok(false)
+            }
+            Begun::Unsigned(ticket) => {
+                self.until = now.saturating_add(PATIENCE);
+                self.stage = Stage::Signing(ticket, None, is_exact);
+                Ok(true)
+            }
+        }
+    }
+
+    /// Holds the answer, which goes out from now on, to a request that was exact or was not.
+    fn hold_answer(&mut self, text: Vec<u8>, is_exact: bool, now: u64)
+        ensures holds { HoldsAnswer self.new.stage text.items }
+        ensures kept { SameLinkAndFault self.old self.new }
+    {
+        // Where nothing is sent, there is no answer that unread bytes could cost.
+        let is_last = is_exact || text.is_empty();
+        self.stage = Stage::Sending(Unsent::new(text), is_last);
+        self.until = now.saturating_add(PATIENCE);
+    }
+
+    /// Requests the signature of what is left of the answer, and waits for nothing: the connection on which it will come is polled under a
+    /// token. An error is one of [`Handler::ask`] or of the system; `NotConnected` where no answer is waited for.
+    pub(crate) fn ask(&mut self, handler: &H, poller: &Poller, token: usize) -> io::Result<()>
+        ensures waits { KeepsSigning self.old.stage self.new.stage }
+        ensures kept { SameLinkAndFault self.old self.new }
+    {
+        match &mut self.stage {
+            Stage::Signing(ticket, held, _) => {
+                let mut link = handler.ask(ticket)?;
+                poller.register(&mut link, token, Interest::READABLE, false)?;
+                *held = Some(link);
+                Ok(())
+            }
+            Stage::Receiving(_) => Err(io::Error::from(ErrorKind::NotConnected)),
+            Stage::Sending(..) => Err(io::Error::from(ErrorKind::NotConnected)),
+            Stage::Draining => Err(io::Error::from(ErrorKind::NotConnected)),
+        }
+    }
+
+    /// Finishes the answer that is waited for: with what came on the connection on which its signature was requested, where that is at its
+    /// end, or without a signature. A connection that does not wait is as it was.
+    pub fn complete(&mut self, handler: &H, has_come: bool, now: u64)
+        ensures finished { Finishing (H.finishes handler.now) self.old.stage self.new.stage }
+        ensures kept { SameLinkAndFault self.old self.new }
+    {
+        match mem::replace(&mut self.stage, Stage::Draining) {
+            Stage::Signing(ticket, link, is_exact) => {
+                let finished = handler.finish(ticket, if has_come { link } else { None });
+                self.hold_answer(finished, is_exact, now);
+            }
+            Stage::Receiving(collected) => self.stage = Stage::Receiving(collected),
+            Stage::Sending(unsent, is_last) => self.stage = Stage::Sending(unsent, is_last),
+            Stage::Draining => {}
+        }
+    }
+}

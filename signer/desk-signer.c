@@ -1,0 +1,533 @@
+/* desk-signer: the command line, privileges, and the connections. One thread serves all connections with poll(2). */
+#include <err.h>
+#include <errno.h>
+#include <fcntl.h>
+#include <getopt.h>
+#include <grp.h>
+#include <malloc.h>
+#include <poll.h>
+#include <pwd.h>
+#include <signal.h>
+#include <stdatomic.h>
+#include <stdio.h>
+#include <stdlib.h>
+#include <string.h>
+#include <sys/mman.h>
+#include <sys/prctl.h>
+#include <sys/resource.h>
+#include <sys/socket.h>
+#include <sys/stat.h>
+#include <sys/un.h>
+#include <sys/wait.h>
+#include <time.h>
+#include <unistd.h>
+
+#include <openssl/crypto.h>
+
+#include "signer.h"
+
+/* CONNECTIONS are open at once, each with room for a SMALL message; HANDED_OVER is the first descriptor that systemd passes (sd_listen_fds(3)). */
+enum { CONNECTIONS = 256, MOST_PROCESSES = 256, SMALL = 1024, HANDED_OVER = 3, HEAP = 1 << 17, STACK = 1 << 16 };
+/* All messages together have at most MOST_BUFFERED octets; of one at most ROUND are read before the others' turn. */
+static const size_t LONGEST_MESSAGE = (size_t)64 << 20, MOST_BUFFERED = (size_t)512 << 20, ROUND = (size_t)1 << 20;
+/* A client that has just connected is looked for during LOOK before the process sleeps: to be woken takes longer. */
+static const long long SECOND = 1000000000, PATIENCE = 10 * SECOND, LOOK = 50000;
+
+static const char usage[] =
+    "Usage: desk-signer [OPTION ..] KEY SOCKET        signs at a Unix socket, which it creates with mode 0600\n"
+    "       desk-signer [OPTION ..] KEY --inherited   signs at the socket that systemd passes (LISTEN_FDS)\n"
+    "       desk-signer [OPTION ..] KEY               prints the NAME of the key's algorithm\n"
+    "KEY is a PEM file (P-256, P-384, RSA, Ed25519), or the URI pkcs11:.. of a key in a token (PKCS11_MODULE_PATH names its module).\n"
+    "  --only-ours CA.pem       sign only CRLs and OCSP answers of this CA, and verify each signature\n"
+    "  --responder OCSP.pem     the key is that of this responder of the CA: sign only its OCSP answers\n"
+    "  --passphrase-file FILE   the key's passphrase, or the token's PIN: the first line\n"
+    "  --processes N            so many processes serve the socket\n"
+    "  --rate N                 at most N signatures a second, evenly spaced; further connections wait\n"
+    "  --user NAME              become this user, when the key is read and the socket is there\n"
+    "  --allow-swap             go on if the memory can't be locked\n";
+
+struct connection {
+    int socket;
+    bool is_complete;
+    long long arrived;
+    size_t length, room;
+    unsigned char *message, small[SMALL];
+};
+
+/* What the command line says: of each option its value, "" if it takes none. The number of a flag is FLAGS at least. */
+enum { ONLY_OURS, RESPONDER, PASSPHRASE_FILE, USER, PROCESSES, RATE, FLAGS, INHERITED = FLAGS, ALLOW_SWAP, OPTIONS };
+static const char *const names[OPTIONS] = {"only-ours", "responder", "passphrase-file", "user", "processes", "rate", "inherited", "allow-swap"};
+static const char *options[OPTIONS], *key_name, *path;
+static long processes = 1, rate;
+
+static struct signer signer;
+static struct issuer issuer, responder;
+static char passphrase[1024];
+static int listener = -1;
+static pid_t first, others[MOST_PROCESSES];
+static bool is_first = true;
+/* The socket at `path`, if it was created: its descriptor (O_PATH), and what it is. */
+static int created = -1;
+static struct stat socket_file;
+/* The first `count` of `open_ones` are open. */
+static struct connection connections[CONNECTIONS], *open_ones[CONNECTIONS];
+static size_t count, buffered;
+static long long last_arrival;
+/* When the next signature may be made, for all processes. */
+static _Atomic long long *next_signature;
+static volatile sig_atomic_t ended;
+
+/* Another signer may have its socket there by now. */
+static void remove_socket(void) {
+    struct stat found;
+    if (created >= 0 && is_first && lstat(path, &found) == 0 && found.st_dev == socket_file.st_dev && found.st_ino == socket_file.st_ino)
+        (void)unlink(path);
+}
+
+static long long nanoseconds(void) {
+    struct timespec now;
+    (void)clock_gettime(CLOCK_MONOTONIC, &now);
+    return now.tv_sec * SECOND + now.tv_nsec;
+}
+
+/* The connections */
+
+static void end_connection(struct connection *it) {
+    size_t at = 0;
+    while (open_ones[at] != it)
+        at++;
+    (void)close(it->socket);
+    if (it->message != it->small) {
+        (void)munmap(it->message, it->room);
+        buffered -= it->room;
+    }
+    open_ones[at] = open_ones[--count];
+    open_ones[count] = it;
+}
+
+static void fail(struct connection *it, const char *why) {
+    warnx("a connection failed: %s", why);
+    end_connection(it);
+}
+
+/* Four times the room. A large message has a mapping of its own: it is no secret, and isn't locked. */
+static bool grow(struct connection *it) {
+    bool is_small = it->message == it->small;
+    size_t room = it->room * 4 > LONGEST_MESSAGE ? LONGEST_MESSAGE + SMALL : it->room * 4, more = room - (is_small ? 0 : it->room);
+    if (more > MOST_BUFFERED - buffered)
+        return false;
+    void *to = is_small ? mmap(NULL, room, PROT_READ | PROT_WRITE, MAP_PRIVATE | MAP_ANONYMOUS, -1, 0) : mremap(it->message, it->room, room, MREMAP_MAYMOVE);
+    if (to == MAP_FAILED)
+        return false;
+    if (is_small)
+        memcpy(to, it->small, it->length);
+    buffered += more;
+    it->message = to;
+    it->room = room;
+    return true;
+}
+
+/* The client has shut down its sending side. */
+static void complete(struct connection *it) {
+    char why[REASON];
+    it->is_complete = true;
+    if (options[ONLY_OURS] == NULL || is_ours((struct octets){it->message, it->length}, &issuer, options[RESPONDER] ? &responder : NULL, why))
+        return;
+    warnx("refused to sign %zu bytes: %s", it->length, why);
+    end_connection(it);
+}
+
+static void receive(struct connection *it) {
+    for (size_t got = 0; got < ROUND;) {
+        if (it->length == it->room && !grow(it))
+            return fail(it, "out of memory for its message");
+        ssize_t read = recv(it->socket, it->message + it->length, it->room - it->length, 0);
+        if (read == 0)
+            return complete(it);
+        if (read < 0 && (errno == EAGAIN || errno == EINTR))
+            return;
+        if (read < 0)
+            return fail(it, strerror(errno));
+        it->length += (size_t)read;
+        got += (size_t)read;
+        if (it->length > LONGEST_MESSAGE)
+            return fail(it, "its message is longer than 64 MiB");
+    }
+}
+
+static struct connection *oldest(bool is_complete) {
+    struct connection *found = NULL;
+    for (size_t i = 0; i < count; i++)
+        if (open_ones[i]->is_complete == is_complete && (!found || open_ones[i]->arrived < found->arrived))
+            found = open_ones[i];
+    return found;
+}
+
+static void open_connection(int socket) {
+    struct connection *it = open_ones[count++];
+    it->socket = socket;
+    it->is_complete = false;
+    it->arrived = last_arrival = nanoseconds();
+    it->message = it->small;
+    it->length = 0;
+    it->room = SMALL;
+    receive(it);
+}
+
+/* Accepts one connection: the next one may be another process's. If all places are taken, the slowest client makes room. */
+static void accept_connection(void) {
+    struct connection *slowest = oldest(false);
+    if (count == CONNECTIONS && slowest == NULL)
+        return;
+    int socket = accept4(listener, NULL, NULL, SOCK_NONBLOCK | SOCK_CLOEXEC);
+    if (socket < 0 && (errno == EAGAIN || errno == EINTR || errno == ECONNABORTED))
+        return;
+    if (socket < 0) {
+        warn("a connection failed");
+        (void)poll(NULL, 0, 100);
+        return;
+    }
+    if (count == CONNECTIONS)
+        fail(slowest, "it is the slowest of 256, and another one waits");
+    open_connection(socket);
+}
+
+/* Whether a signature may be made now. */
+static bool take_turn(long long now) {
+    if (rate == 0)
+        return true;
+    long long next = atomic_load(next_signature);
+    return next <= now && atomic_compare_exchange_strong(next_signature, &next, now + SECOND / rate);
+}
+
+static void answer(struct connection *it) {
+    unsigned char signature[LONGEST_SIGNATURE];
+    char why[REASON];
+    size_t length = sign_message(&signer, (struct octets){it->message, it->length}, signature, why);
+    if (length == 0)
+        warnx("refused to sign %zu bytes: %s", it->length, why);
+    else if (send(it->socket, signature, length, MSG_NOSIGNAL | MSG_DONTWAIT) != (ssize_t)length)
+        warn("a connection failed");
+    end_connection(it);
+    /* A session with a token that was away doesn't come back. */
+    if (length == 0 && is_token(key_name))
+        errx(1, "the token gives no more signatures");
+}
+
+/* How long to wait for clients: up to the next signature, or to the end of a client's time. */
+static long long wait_time(void) {
+    const struct connection *waiting = oldest(true), *slow = oldest(false);
+    long long now = nanoseconds(), at = slow ? slow->arrived + PATIENCE : now + PATIENCE, turn = waiting ? atomic_load(next_signature) : at;
+    if (slow && now - last_arrival < LOOK)
+        return 0;
+    at = turn < at ? turn : at;
+    return at > now ? at - now : 0;
+}
+
+/* Waits for clients; of one whose signature must wait, only that it disconnects. */
+static void wait_for_clients(const sigset_t *signals) {
+    struct pollfd polled[CONNECTIONS + 1];
+    long long wait = wait_time();
+    struct timespec timeout = {wait / SECOND, wait % SECOND};
+    size_t polled_count = count;
+    polled[count] = (struct pollfd){count < CONNECTIONS || oldest(false) ? listener : -1, POLLIN, 0};
+    for (size_t i = 0; i < count; i++)
+        polled[i] = (struct pollfd){open_ones[i]->socket, open_ones[i]->is_complete ? 0 : POLLIN, 0};
+    if (ppoll(polled, polled_count + 1, &timeout, signals) <= 0)
+        return;
+    for (size_t i = polled_count; i-- > 0;) {
+        if (polled[i].revents && open_ones[i]->is_complete)
+            end_connection(open_ones[i]);
+        else if (polled[i].revents)
+            receive(open_ones[i]);
+    }
+    if (polled[polled_count].revents)
+        accept_connection();
+}
+
+/* Whether one of the processes of this signer has ended. A program that ran before exec(3) may have left other children. */
+static bool has_other_ended(void) {
+    pid_t child;
+    while ((child = waitpid(-1, NULL, WNOHANG)) > 0)
+        for (long i = 1; i < processes; i++)
+            if (others[i] == child)
+                return true;
+    return false;
+}
+
+static void serve(const sigset_t *signals) {
+    struct connection *it;
+    for (size_t i = 0; i < CONNECTIONS; i++)
+        open_ones[i] = &connections[i];
+    while (!ended) {
+        while ((it = oldest(true)) != NULL && take_turn(nanoseconds()))
+            answer(it);
+        while ((it = oldest(false)) != NULL && it->arrived + PATIENCE <= nanoseconds())
+            fail(it, "its message took longer than ten seconds");
+        wait_for_clients(signals);
+        if (ended == SIGCHLD && !has_other_ended())
+            ended = 0;
+    }
+}
+
+/* The socket */
+
+/* Removes a socket at which nobody listens. */
+static void remove_stale(const struct sockaddr_un *address) {
+    struct stat found;
+    if (lstat(address->sun_path, &found) != 0 || !S_ISSOCK(found.st_mode))
+        return;
+    int probe = socket(AF_UNIX, SOCK_STREAM | SOCK_CLOEXEC | SOCK_NONBLOCK, 0);
+    if (probe < 0)
+        err(1, "%s", address->sun_path);
+    if (connect(probe, (const struct sockaddr *)address, sizeof *address) == 0 || errno == EAGAIN)
+        errx(1, "something listens at %s already", address->sun_path);
+    if (errno != ECONNREFUSED)
+        err(1, "%s", address->sun_path);
+    (void)close(probe);
+    (void)unlink(address->sun_path);
+}
+
+static void listen_at_path(void) {
+    struct sockaddr_un address = {.sun_family = AF_UNIX};
+    if (strlen(path) >= sizeof address.sun_path)
+        errx(1, "%s: a socket's path has at most %zu characters", path, sizeof address.sun_path - 1);
+    memcpy(address.sun_path, path, strlen(path));
+    remove_stale(&address);
+    (void)umask(0177);
+    listener = socket(AF_UNIX, SOCK_STREAM | SOCK_CLOEXEC | SOCK_NONBLOCK, 0);
+    if (listener < 0 || bind(listener, (const struct sockaddr *)&address, sizeof address) != 0)
+        err(1, "%s", path);
+    created = open(path, O_PATH | O_NOFOLLOW | O_CLOEXEC);
+    if (created < 0 || fstat(created, &socket_file) != 0 || !S_ISSOCK(socket_file.st_mode) || listen(listener, SOMAXCONN) != 0)
+        err(1, "%s", path);
+}
+
+static void inherit_listener(void) {
+    const char *process = getenv("LISTEN_PID"), *descriptors = getenv("LISTEN_FDS");
+    if (!process || !descriptors || strtol(process, NULL, 10) != getpid() || strcmp(descriptors, "1") != 0)
+        errx(1, "no socket was handed over: --inherited is for a unit of systemd with a socket");
+    int listens = 0;
+    socklen_t length = sizeof listens;
+    listener = HANDED_OVER;
+    if (getsockopt(listener, SOL_SOCKET, SO_ACCEPTCONN, &listens, &length) != 0 || !listens)
+        errx(1, "no socket that listens was handed over (with Accept=no in systemd)");
+    if (fcntl(listener, F_SETFL, O_NONBLOCK) != 0 || fcntl(listener, F_SETFD, FD_CLOEXEC) != 0)
+        err(1, "descriptor %d", listener);
+}
+
+/* Privileges */
+
+static void forbid_dumps(void) {
+    if (prctl(PR_SET_DUMPABLE, 0) != 0 || setrlimit(RLIMIT_CORE, &(struct rlimit){0, 0}) != 0)
+        err(1, "core dumps can't be forbidden");
+}
+
+/* Locks all that is mapped, with heap and stack for what the signatures need. Until the key is read (MCL_FUTURE) this includes what is mapped later;
+ * then messages come into mappings that are not locked. */
+static void lock_memory(int which) {
+    struct rlimit limit;
+    volatile char stack[STACK];
+    void *volatile heap = malloc(HEAP);
+    free(heap);
+    for (size_t i = 0; i < sizeof stack; i += SMALL)
+        stack[i] = 0;
+    if (getrlimit(RLIMIT_MEMLOCK, &limit) == 0 && setrlimit(RLIMIT_MEMLOCK, &(struct rlimit){RLIM_INFINITY, RLIM_INFINITY}) != 0)
+        (void)setrlimit(RLIMIT_MEMLOCK, &(struct rlimit){limit.rlim_max, limit.rlim_max});
+    if (mlockall(which) != 0 && !options[ALLOW_SWAP])
+        err(1, "the memory can't be locked (LimitMEMLOCK= in systemd, ulimit -l; or --allow-swap)");
+}
+
+static void become(const char *name) {
+    const struct passwd *user = getpwnam(name);
+    if (user == NULL)
+        errx(1, "no user %s", name);
+    if (created >= 0 && is_first && fchownat(created, "", user->pw_uid, user->pw_gid, AT_EMPTY_PATH) != 0)
+        err(1, "%s", path);
+    if (initgroups(name, user->pw_gid) != 0 || setgid(user->pw_gid) != 0 || setuid(user->pw_uid) != 0)
+        err(1, "can't become %s", name);
+    if (user->pw_uid != 0 && setuid(0) == 0)
+        errx(1, "can't drop the privileges of root");
+    /* setuid(2) has allowed dumps again. */
+    forbid_dumps();
+}
+
+/* This is done last, since setuid(2) undoes it. */
+static void end_with_first(void) {
+    if (!is_first && (prctl(PR_SET_PDEATHSIG, SIGTERM) != 0 || getppid() != first))
+        exit(1);
+}
+
+static void handle(int number) {
+    if (number != SIGCHLD || !ended)
+        ended = number;
+}
+
+/* SIGTERM, SIGINT, and the end of another process come only while clients are waited for. */
+static void block_signals(sigset_t *while_waiting) {
+    const int numbers[] = {SIGTERM, SIGINT, SIGCHLD};
+    sigset_t blocked;
+    (void)sigemptyset(&blocked);
+    for (size_t i = 0; i < 3; i++)
+        if (sigaction(numbers[i], &(struct sigaction){.sa_handler = handle, .sa_flags = SA_NOCLDSTOP}, NULL) != 0 || sigaddset(&blocked, numbers[i]) != 0)
+            err(1, "signal %d", numbers[i]);
+    (void)sigprocmask(SIG_BLOCK, &blocked, while_waiting);
+    for (size_t i = 0; i < 3; i++)
+        (void)sigdelset(while_waiting, numbers[i]);
+    /* The reader of standard error may end before the signer. */
+    (void)signal(SIGPIPE, SIG_IGN);
+}
+
+/* The key */
+
+static void read_passphrase(void) {
+    char why[REASON];
+    size_t length;
+    if (options[PASSPHRASE_FILE] && !read_file(options[PASSPHRASE_FILE], passphrase, sizeof passphrase, &length, why))
+        errx(1, "%s: %s", options[PASSPHRASE_FILE], why);
+    passphrase[strcspn(passphrase, "\r\n")] = 0;
+}
+
+static void load_issuer(struct issuer *to, const char *from, const char *whose) {
+    char why[REASON];
+    X509 *certificate = from ? read_certificate(from, why) : NULL;
+    if (from && (certificate == NULL || !make_issuer(to, certificate, why)))
+        errx(1, "%s: no certificate of a %s: %s", from, whose, why);
+}
+
+/* Signs a text for nobody: a key that can't sign is noticed at the start. */
+static void try_key(void) {
+    static const unsigned char text[] = "desk-signer";
+    unsigned char signature[LONGEST_SIGNATURE];
+    char why[REASON];
+    if (sign_message(&signer, (struct octets){text, sizeof text}, signature, why) == 0)
+        errx(1, "%s: %s", key_name, why);
+}
+
+static void load_key(void) {
+    char why[REASON];
+    EVP_PKEY *key = read_key(key_name, options[PASSPHRASE_FILE] ? passphrase : NULL, why);
+    OPENSSL_cleanse(passphrase, sizeof passphrase);
+    if (key == NULL || !use_key(&signer, key, why))
+        errx(1, "%s: %s", key_name, why);
+    if (options[ONLY_OURS] && !verify_by(&signer, options[RESPONDER] ? &responder : &issuer, why))
+        errx(1, "%s: %s", options[options[RESPONDER] ? RESPONDER : ONLY_OURS], why);
+    try_key();
+}
+
+/* Starts the other processes, which end with the first. If each of them reads the key, one does after the other: SoftHSM fails otherwise. */
+static void start_processes(bool reads_each) {
+    first = getpid();
+    for (long i = 1; i < processes && is_first; i++) {
+        int ready[2];
+        char octet = 0;
+        pid_t child = pipe2(ready, O_CLOEXEC) == 0 ? fork() : -1;
+        if (child < 0)
+            err(1, "no more processes");
+        is_first = child > 0;
+        others[i] = child;
+        if (!is_first && reads_each) {
+            lock_memory(MCL_CURRENT | MCL_FUTURE);
+            load_key();
+        }
+        if (!is_first && write(ready[1], &octet, 1) != 1)
+            exit(1);
+        (void)close(ready[1]);
+        if (is_first && read(ready[0], &octet, 1) != 1)
+            errx(1, "another process doesn't start");
+        (void)close(ready[0]);
+    }
+    if (is_first && reads_each)
+        load_key();
+}
+
+/* The command line */
+
+static _Noreturn void misuse(const char *why) {
+    (void)fprintf(stderr, "desk-signer: %s\n%s", why, usage);
+    exit(2);
+}
+
+static long number_of(const char *text, long otherwise, long most) {
+    char *end = NULL;
+    long number = text ? strtol(text, &end, 10) : otherwise;
+    if (text && (*end || number < 1 || number > most))
+        misuse("--processes has 1 to 256, --rate 1 to 1000000");
+    return number;
+}
+
+static void read_command_line(int argc, char **argv) {
+    struct option known[OPTIONS + 1] = {{0}};
+    int option;
+    for (int i = 0; i < OPTIONS; i++)
+        known[i] = (struct option){names[i], i < FLAGS, NULL, i};
+    while ((option = getopt_long(argc, argv, "", known, NULL)) != -1)
+        if (option < OPTIONS)
+            options[option] = optarg ? optarg : "";
+        else
+            misuse("an option can't be read");
+    processes = number_of(options[PROCESSES], 1, MOST_PROCESSES);
+    rate = number_of(options[RATE], 0, 1000000);
+    if (argc - optind < 1 || argc - optind > (options[INHERITED] ? 1 : 2) || (options[RESPONDER] && !options[ONLY_OURS]))
+        misuse("it takes KEY, SOCKET or --inherited; and --responder takes --only-ours");
+    key_name = argv[optind];
+    path = argv[optind + 1];
+    if (path && !*path)
+        misuse("SOCKET is empty");
+}
+
+/* No connection gets the number of a standard stream that was closed: the client would read the warnings. */
+static void fill_standard_streams(void) {
+    int file;
+    do
+        file = open("/dev/null", O_RDWR);
+    while (file >= 0 && file <= STDERR_FILENO);
+    if (file < 0)
+        err(1, "/dev/null");
+    (void)close(file);
+}
+
+static void prepare(bool serves, bool reads_each) {
+    fill_standard_streams();
+    forbid_dumps();
+    (void)setvbuf(stderr, NULL, _IOLBF, BUFSIZ);
+    /* The heap keeps its room when it is locked. */
+    (void)mallopt(M_TRIM_THRESHOLD, 1 << 30);
+    (void)mallopt(M_MMAP_THRESHOLD, 1 << 25);
+    if (serves)
+        lock_memory(MCL_CURRENT | MCL_FUTURE);
+    read_passphrase();
+    load_issuer(&issuer, options[ONLY_OURS], "CA");
+    load_issuer(&responder, options[RESPONDER], "responder");
+    if (!serves || !reads_each)
+        load_key();
+}
+
+int main(int argc, char **argv) {
+    sigset_t signals;
+    read_command_line(argc, argv);
+    /* Sessions with a token don't outlive fork(2), nor do locks of memory. */
+    bool serves = path || options[INHERITED], reads_each = is_token(key_name) && processes > 1;
+    prepare(serves, reads_each);
+    if (!serves)
+        return puts(signer.algorithm) < 0;
+    block_signals(&signals);
+    next_signature = mmap(NULL, sizeof *next_signature, PROT_READ | PROT_WRITE, MAP_SHARED | MAP_ANONYMOUS, -1, 0);
+    if (next_signature == MAP_FAILED || atexit(remove_socket) != 0)
+        err(1, "out of memory");
+    path ? listen_at_path() : inherit_listener();
+    start_processes(reads_each);
+    lock_memory(MCL_CURRENT);
+    if (options[USER]) {
+        become(options[USER]);
+        try_key();
+    }
+    end_with_first();
+    if (is_first)
+        (void)printf("%s at %s\n", signer.algorithm, path ? path : "a socket that was handed over");
+    (void)fflush(stdout);
+    serve(&signals);
+    if (ended == SIGCHLD)
+        errx(1, "another process ended");
+    return 0;
+}

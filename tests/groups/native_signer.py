@@ -1,0 +1,785 @@
+"""The native signer, signer/desk-signer: signatures that openssl verifies, keys in files and tokens, the messages that it refuses (the same as
+examples/only_ours.py), clients of any manner, and how it is confined. The last tests have it sign for the desk."""
+
+import copy
+import os
+import random
+import shutil
+import signal
+import socket
+import struct
+import subprocess
+import sys
+import time
+from pathlib import Path
+
+from groups.only_ours import forms_of_answer, handed, other_crls, to_be_signed
+from lib import authority, native, program
+from lib.authority import EXAMPLES, KEYS, Authority, values_of
+from lib.native import NAME, connected, ended, seconds_of, signature, started
+from lib.program import TESTS
+from lib.registers import tlv
+from lib.trial import Skipped, each, need, test
+
+ALGORITHMS = {it: it for it in KEYS}
+INTEGER, OCTETS, SEQUENCE, UTC, GENERAL = 0x02, 0x04, 0x30, 0x17, 0x18
+# What it answers at once takes less than this on a machine that is busy.
+AT_ONCE = 4 * program.PATIENCE
+
+
+def filter_module():
+    """The module examples/only_ours.py."""
+    sys.path.insert(0, str(EXAMPLES))
+    try:
+        import only_ours
+    finally:
+        sys.path.remove(str(EXAMPLES))
+    return only_ours
+
+
+def verifies(t, it, message, signed, what=""):
+    filter_ = filter_module()
+    t.true(filter_.is_verified(signed, message, filter_.issuer_of(it.pem)), f"openssl verifies the signature of {what or message[:40]!r}: {signed.hex()}")
+
+
+# Messages as the desk writes them, by hand
+
+
+def crl_by_hand(issuer, serials=(b"\x05", b"\0\x80", b"\x7f" + bytes(19)), identifier=None):
+    """A TBSCertList with these serial numbers; every second one has a reason, and every third one is of 2050."""
+    rows = b"".join(
+        tlv(SEQUENCE, tlv(INTEGER, it), tlv(GENERAL, b"20500101000000Z") if at % 3 == 2 else tlv(UTC, b"260101000000Z"),
+            bytes.fromhex("300C300A0603551D150403") + b"\x0A\x01\x01" if at % 2 else b"")
+        for at, it in enumerate(serials))
+    extensions = tlv(SEQUENCE, identifier or issuer.key_identifiers[0], tlv(SEQUENCE, bytes.fromhex("0603551D14"), tlv(OCTETS, b"\x02\x01\x07")))
+    moments = tlv(UTC, b"260101000000Z") + tlv(GENERAL, b"20500101000000Z")
+    return tlv(SEQUENCE, b"\x02\x01\x01", issuer.algorithm, issuer.name, moments, tlv(SEQUENCE, rows) if rows else b"", tlv(0xA0, extensions))
+
+
+def answer_by_hand(issuer, responder=None, statuses=None, nonce=True):
+    """A ResponseData with a certificate of each status."""
+    moment = tlv(GENERAL, b"20260101000000Z")
+    if statuses is None:
+        statuses = [tlv(0xA1, moment, tlv(0xA0, b"\x0A\x01\x04")), tlv(0xA1, moment), b"\x80\0", b"\x82\0"]
+    singles = [tlv(SEQUENCE, tlv(SEQUENCE, issuer.cert_ids[at % 4], tlv(INTEGER, bytes([at + 1]))), status, moment, tlv(0xA0, moment))
+               for at, status in enumerate(statuses)]
+    extension = tlv(0xA1, tlv(SEQUENCE, tlv(SEQUENCE, bytes.fromhex("06092B0601050507300102"), tlv(OCTETS, b"\x04\x08nonce of")))) if nonce else b""
+    return tlv(SEQUENCE, tlv(0xA2, tlv(OCTETS, (responder or issuer).key_hash)), moment, tlv(SEQUENCE, *singles), extension)
+
+
+def ours(issuer):
+    return [crl_by_hand(issuer), crl_by_hand(issuer, ()), *(crl_by_hand(issuer, identifier=it) for it in issuer.key_identifiers[1:]),
+            answer_by_hand(issuer), answer_by_hand(issuer, statuses=[b"\x80\0"], nonce=False)]
+
+
+def named_messages(issuer):
+    """Messages by what they are: of the desk's forms, and of many others."""
+    messages = {f"ours {at}": it for at, it in enumerate(ours(issuer))}
+    answers, others = forms_of_answer(answer_by_hand(issuer), issuer.name)
+    return {**messages, **other_crls(crl_by_hand(issuer)), **answers, **others, "nothing": b"", "one octet": b"0", "a text": b"hello"}
+
+
+# Signatures
+
+
+@each(ALGORITHMS, seconds=4)
+def openssl_verifies_what_it_signs(t, algorithm):
+    it = Authority(t, algorithm)
+    t.same(t.tool(native.signer(), it.key), f"{algorithm}\n".encode(), "the name of the key's algorithm")
+    process = started(t, it.key)
+    t.same((t.room / "ca.sign").stat().st_mode & 0o777, 0o600, "the socket's mode")
+    for message in (b"", b"a", bytes(150), random.Random(1).randbytes(4095), bytes(4096), random.Random(2).randbytes(5_000_000)):
+        signed = signature(t.room / "ca.sign", message)
+        t.true(0 < len(signed) <= 4096, f"{len(message)} bytes are signed")
+        # openssl verifies no Ed25519 signature of an empty file.
+        if message or algorithm != "ed25519":
+            verifies(t, it, message, signed)
+    t.same((ended(process), (t.room / "ca.sign").exists()), ((0, []), False), "status, standard error, and whether its socket stays")
+
+
+NO_KEYS = {
+    "a key of P-521": ("ec", "-pkeyopt", "ec_paramgen_curve:P-521"), "an RSA key of 1,024 bits": ("rsa:1024",), "a key of RSA-PSS": ("rsa-pss",),
+    "a key of Ed448": ("ed448",),
+}
+
+
+@each(NO_KEYS, seconds=2)
+def a_key_of_another_algorithm(t, *key):
+    authority.certificate(t, "ca", "/CN=T", key)
+    ran = t.tried(native.signer(), "ca.key", "ca.sign")
+    t.same((ran.returncode, ran.stdout, (t.room / "ca.sign").exists()), (1, b"", False), "status, output, whether it listens")
+    t.same(ran.stderr.startswith(b"desk-signer: ca.key: the key is none of P-256, P-384, RSA of 2,048 bits or more, and Ed25519"), True, ran.stderr)
+
+
+@test(seconds=2)
+def a_key_that_can_t_be_read(t):
+    it = Authority(t)
+    (t.room / "text").write_text("hello\n")
+    for path, told in (("nowhere", b"nowhere: it can't be read: No such file"), ("text", b"text: no key in PEM"), (it.pem, b"no key in PEM"), (".", b"can't be read: Is a")):
+        ran = t.tried(native.signer(), path, "ca.sign")
+        t.same((ran.returncode, (t.room / "ca.sign").exists(), ran.stderr.count(b"\n")), (1, False, 1), f"{path}: status, whether it listens, lines")
+        t.has(ran.stderr, told)
+
+
+@test(seconds=2)
+def a_command_line_that_can_t_be_read(t):
+    it = Authority(t)
+    for words in ([], [it.key, "a", "b"], ["--bad", it.key], ["--rate", "0", it.key, "a"], ["--rate", "x", it.key, "a"], ["--processes", "257", it.key, "a"],
+                  [it.key, "a", "--inherited"], ["--responder", it.pem, it.key, "a"], ["--only-ours"], [it.key, ""]):
+        ran = t.tried(native.signer(), *words)
+        t.same((ran.returncode, ran.stdout, b"Usage: desk-signer" in ran.stderr), (2, b"", True), f"{words}: status, output, usage")
+    t.same(list(t.room.glob("a*")), [], "no socket")
+
+
+@test(seconds=3)
+def files_that_are_pipes_or_too_long(t):
+    """A key and a passphrase that come in parts through pipes are read whole; of longer files nothing is used."""
+    it = Authority(t)
+    t.tool("openssl", "pkcs8", "-topk8", "-in", it.key, "-passout", "pass:a word", "-out", "locked.key")
+    key = (t.room / "locked.key").read_bytes()
+    for name in ("key", "word"):
+        os.mkfifo(t.room / name)
+    process = subprocess.Popen([native.signer(), "--passphrase-file", "word", "key"], cwd=t.room, stdout=subprocess.PIPE, stderr=subprocess.PIPE)
+    t.callback(authority.end, process)
+    for name, parts in (("word", (b"a w", b"ord\n")), ("key", (key[:70], key[70:]))):
+        with open(t.room / name, "wb", buffering=0) as pipe:
+            for part in parts:
+                pipe.write(part)
+                time.sleep(0.2)
+    t.same(process.communicate(timeout=AT_ONCE), (b"ecdsa-sha256\n", b""), "standard output and standard error")
+    (t.room / "long.key").write_bytes(key + bytes(65536))
+    (t.room / "long").write_text("a word" + 1100 * "x")
+    (t.room / "right").write_text("a word\n")
+    for words, told in ((("--passphrase-file", "long", "locked.key"), "long: it has more than 1023 bytes"),
+                        (("--passphrase-file", "right", "long.key"), "long.key: it has more than 65536 bytes")):
+        ran = t.tried(native.signer(), *words)
+        t.same((ran.returncode, ran.stdout, ran.stderr.decode()), (1, b"", f"{NAME}{told}\n"), f"{words}: status, output, standard error")
+
+
+# Passphrases
+
+
+@each({**ALGORITHMS, "of the older form": "older"}, seconds=3)
+def a_key_with_a_passphrase(t, algorithm):
+    it = Authority(t, "ecdsa-sha256" if algorithm == "older" else algorithm)
+    words = ("ec", "-aes256") if algorithm == "older" else ("pkcs8", "-topk8", "-v2", "aes-256-cbc")
+    t.tool("openssl", *words, "-in", it.key, "-passout", "pass:a word", "-out", "locked.key")
+    for name, text in (("right", "a word\r\nmore\n"), ("wrong", "another\n"), ("empty", "")):
+        (t.room / name).write_text(text)
+    t.same(t.tool(native.signer(), "--passphrase-file", "right", "locked.key"), f"{it.algorithm}\n".encode())
+    for words, told in ((("--passphrase-file", "wrong"), b"no key in PEM that the passphrase opens"), ((), b"no key in PEM without a passphrase"),
+                        (("--passphrase-file", "empty"), b"no key in PEM that the passphrase opens"), (("--passphrase-file", "nowhere"), b"nowhere: it can't be read: No such file")):
+        ran = t.tried(native.signer(), *words, "locked.key", "ca.sign")
+        t.same((ran.returncode, (t.room / "ca.sign").exists()), (1, False), f"{words}: status, whether it listens")
+        t.has(ran.stderr, told)
+    process = started(t, "--passphrase-file", "right", "locked.key")
+    verifies(t, it, b"a message", signature(t.room / "ca.sign", b"a message"))
+    t.same(occurrences(process, b"a word"), 0, "the passphrase in its memory")
+
+
+def occurrences(process, octets):
+    """How often octets stand in what a process may write; skips the test where that can't be read."""
+    try:
+        with open(f"/proc/{process.pid}/mem", "rb", buffering=0) as memory:
+            found = 0
+            for line in Path(f"/proc/{process.pid}/maps").read_text().splitlines():
+                if line.split()[1].startswith("rw"):
+                    begin, end = (int(it, 16) for it in line.split()[0].split("-"))
+                    memory.seek(begin)
+                    found += memory.read(end - begin).count(octets)
+            return found
+    except PermissionError as why:
+        raise Skipped("the memory of another process can't be read here") from why
+
+
+# The messages that it signs
+
+
+@each(ALGORITHMS, seconds=12)
+def it_refuses_what_only_ours_py_refuses(t, algorithm):
+    """Each message by its name, at the socket: signed if examples/only_ours.py accepts it, and else refused with a reason."""
+    filter_, it = filter_module(), Authority(t, algorithm)
+    issuer = filter_.issuer_of(it.pem)
+    process = started(t, "--only-ours", it.pem, it.key)
+    refused = 0
+    for what, message in named_messages(issuer).items():
+        accepted = is_accepted(filter_, message, issuer)
+        signed = signature(t.room / "ca.sign", message)
+        t.same(signed != b"", accepted, f"whether it signs {what}, {message.hex()}")
+        refused += not accepted
+        if accepted:
+            verifies(t, it, message, signed, what)
+    status, told = ended(process)
+    t.same((status, [line for line in told if not line.startswith(f"{NAME}refused to sign ")], len(told)), (0, [], refused), "a line for each refusal")
+    t.true(refused > 50, f"{refused} are refused")
+
+
+def is_accepted(filter_, message, issuer, responder=None):
+    try:
+        filter_.check(message, issuer, responder)
+    except filter_.Refused:
+        return False
+    return True
+
+
+def checker(name="only-ours", *words):
+    """What calls signer/only_ours.c without a signer."""
+    native.need_libcrypto()
+    sources = [TESTS / "only_ours.c", native.SOURCES / "only_ours.c", native.SOURCES / "key.c"]
+    return native.made(name, *(words or ("cc", "-O2")), "-g", "-std=gnu17", "-D_GNU_SOURCE", *sources, "-lcrypto", "-o")
+
+
+def accepted(t, messages, it, responder=None):
+    """Of each message, whether signer/only_ours.c accepts it."""
+    given = b"".join(struct.pack(">I", len(message)) + message for message in messages)
+    more = {"RESPONDER": str(responder.pem)} if responder else {}
+    told = t.tool(checker(), given=given, env={"CA": str(it.pem), **more}).decode()
+    t.same(len(told), len(messages), "results")
+    return [it == "1" for it in told]
+
+
+def compared(t, messages, it, responder=None):
+    """Compares what signer/only_ours.c and examples/only_ours.py accept; how many they do."""
+    filter_ = filter_module()
+    issuer, theirs = filter_.issuer_of(it.pem), filter_.issuer_of(responder.pem) if responder else None
+    wanted = [is_accepted(filter_, message, issuer, theirs) for message in messages]
+    for message, want, got in zip(messages, wanted, accepted(t, messages, it, responder)):
+        t.same(got, want, f"whether {message.hex()} is accepted")
+    return sum(wanted)
+
+
+def changed(message, dice):
+    """A message with one to three small changes."""
+    message = bytearray(message)
+    for _ in range(dice.choice((1, 1, 2, 3))):
+        at = dice.randrange(len(message))
+        how = dice.randrange(5)
+        if how == 0:
+            message[at] = dice.choice((0, 1, 0x7F, 0x80, 0xFF, dice.randrange(256)))
+        elif how == 1:
+            message[at] ^= 1 << dice.randrange(8)
+        elif how == 2:
+            message[at:at] = dice.randbytes(1)
+        elif how == 3 and len(message) > 1:
+            del message[at]
+        else:
+            message[at] = (message[at] + dice.choice((1, 255))) % 256
+    return bytes(message)
+
+
+@each(ALGORITHMS, seconds=6)
+def each_octet_is_changed(t, algorithm):
+    """All changes of one bit, all shortenings, and some thousand changes: the program accepts what examples/only_ours.py accepts."""
+    it = Authority(t, algorithm)
+    issuer = filter_module().issuer_of(it.pem)
+    messages, dice = list(named_messages(issuer).values()), random.Random(59)
+    for message in ours(issuer):
+        messages += [message[:at] + bytes([message[at] ^ 1 << bit]) + message[at + 1 :] for at in range(len(message)) for bit in range(8)]
+        messages += [message[:at] for at in range(len(message))]
+        messages += [changed(message, dice) for _ in range(1000)]
+    count = compared(t, messages, it)
+    t.true(100 < count < len(messages) / 2, f"{count} of {len(messages)} are accepted")
+
+
+def tree_of(octets):
+    """DER as a tree: of each value its tag and its contents, which are octets or values."""
+    return [[tag, tree_of(contents) if tag & 0x20 and contents else contents] for tag, contents, _ in values_of(octets)]
+
+
+def octets_of(values):
+    return b"".join(tlv(tag, contents if isinstance(contents, bytes) else octets_of(contents)) for tag, contents in values)
+
+
+def lists_in(values):
+    """All lists of values in a tree."""
+    yield values
+    for _, contents in values:
+        if isinstance(contents, list):
+            yield from lists_in(contents)
+
+
+def with_other_values(message, dice):
+    """A message in which values are absent, doubled, exchanged, empty, or have another tag or other contents; all lengths are right."""
+    tree = tree_of(message)
+    for _ in range(dice.choice((1, 1, 2))):
+        values = dice.choice([it for it in lists_in(tree) if it] or [tree])
+        if not values:
+            break
+        at, how = dice.randrange(len(values)), dice.randrange(6)
+        tag, contents = values[at]
+        if how == 0:
+            del values[at]
+        elif how == 1:
+            values.insert(dice.randrange(len(values) + 1), copy.deepcopy(values[at]))
+        elif how == 2:
+            other = dice.randrange(len(values))
+            values[at], values[other] = values[other], values[at]
+        elif how == 3:
+            values[at] = [dice.choice((0x01, 0x02, 0x04, 0x05, 0x06, 0x0A, 0x17, 0x18, 0x30, 0x80, 0x81, 0x82, 0xA0, 0xA1, 0xA2, 0x1F)), contents]
+        elif how == 4:
+            values[at] = [tag, b""]
+        else:
+            octets = contents if isinstance(contents, bytes) else octets_of(contents)
+            values[at] = [tag, changed(octets, dice) if octets else dice.randbytes(2)]
+    return octets_of(tree)
+
+
+@each(ALGORITHMS, seconds=8)
+def each_value_is_changed(t, algorithm):
+    """As each_octet_is_changed, with lengths that fit: changes reach all checks."""
+    it = Authority(t, algorithm)
+    issuer, dice = filter_module().issuer_of(it.pem), random.Random(62)
+    messages = [with_other_values(message, dice) for message in ours(issuer) for _ in range(1500)]
+    count = compared(t, messages, it)
+    t.true(100 < count < len(messages) / 2, f"{count} of {len(messages)} are accepted")
+
+
+@test(seconds=6)
+def certificates_of_other_forms(t):
+    """The key identifier of the certificate is another one than the SHA-1, too long, or absent; the subject is long, and the keyUsage is no BIT STRING;
+    the certificate is in DER."""
+    identifiers = {"another": "01:02:03", "of 64": ":".join(["AB"] * 64), "too long": ":".join(["AB"] * 65), "absent": "none"}
+    for name, identifier in identifiers.items():
+        it = Authority(t, name=name.replace(" ", "-"))
+        authority.with_key_identifier(it, identifier)
+        issuer = filter_module().issuer_of(it.pem)
+        t.same(len(issuer.key_identifiers), 2 if name in ("another", "of 64") else 1, f"{name}: key identifiers")
+        wanted = len(ours(issuer))
+        t.same(compared(t, ours(issuer) + [crl_by_hand(issuer, identifier=authority_key_identifier(65))], it), wanted, f"{name}: accepted")
+    (t.room / "odd.conf").write_text("[req]\ndistinguished_name=d\nx509_extensions=v\n[d]\n[v]\nsubjectKeyIdentifier=DER:0403010203\nkeyUsage=DER:0500\n")
+    t.tool("openssl", "req", "-x509", "-config", "odd.conf", "-key", it.key, "-out", it.pem, "-subj", "/O=" + "x" * 60 + "/CN=T", "-days", "3650")
+    issuer = filter_module().issuer_of(it.pem)
+    t.same((len(issuer.key_identifiers), compared(t, ours(issuer), it)), (2, 5), "a long subject and an odd extension: key identifiers, accepted")
+    (t.room / "ca.der").write_bytes(t.tool("openssl", "x509", "-in", it.pem, "-outform", "DER"))
+    t.same(t.tool(native.signer(), "--only-ours", "ca.der", it.key), b"ecdsa-sha256\n", "the certificate in DER")
+
+
+def authority_key_identifier(count):
+    value = tlv(OCTETS, tlv(SEQUENCE, tlv(0x80, b"\xAB" * count)))
+    return tlv(SEQUENCE, bytes.fromhex("0603551D23"), value)
+
+
+@test(seconds=6)
+def a_responder_signs_its_answers_alone(t):
+    """The same as examples/only_ours.py --responder: no CRL, no answer of the CA's key, and of another issuer's certificates `unknown` alone."""
+    filter_, it, responder = filter_module(), Authority(t), Authority(t, name="ocsp", subject="/CN=R")
+    issuer, theirs = filter_.issuer_of(it.pem), filter_.issuer_of(responder.pem)
+    process = started(t, "--only-ours", it.pem, "--responder", responder.pem, responder.key)
+    path, message = t.room / "ca.sign", answer_by_hand(issuer, theirs)
+    verifies(t, responder, message, signature(path, message))
+    for refused in (crl_by_hand(issuer), answer_by_hand(issuer), crl_by_hand(theirs), answer_by_hand(theirs)):
+        t.same(signature(path, refused), b"", f"{refused.hex()} is refused")
+    dice = random.Random(60)
+    t.true(compared(t, [message, *ours(issuer), *ours(theirs), *(changed(message, dice) for _ in range(3000))], it, responder) > 1, "some are accepted")
+    t.has("\n".join(ended(process)[1]), "refused to sign ")
+
+
+@test(seconds=3)
+def a_certificate_of_another_key_is_not_taken(t):
+    it, other, curve = Authority(t), Authority(t, name="other"), Authority(t, "ecdsa-sha384", name="curve")
+    rows = [(["--only-ours", other.pem], b"other.pem: it is the certificate of another key"), (["--only-ours", curve.pem], b"the certificate of another key"),
+            (["--only-ours", it.key], b"no certificate of a CA"), (["--only-ours", "nowhere.pem"], b"no certificate of a CA"),
+            (["--only-ours", it.pem, "--responder", other.pem], b"other.pem: it is the certificate of another key"),
+            (["--only-ours", it.pem, "--responder", it.key], b"no certificate of a responder")]
+    for words, told in rows:
+        ran = t.tried(native.signer(), *words, it.key, "ca.sign")
+        t.same((ran.returncode, (t.room / "ca.sign").exists(), ran.stderr.count(b"\n")), (1, False, 1), f"{words}: status, whether it listens, lines")
+        t.has(ran.stderr, told)
+
+
+@test(seconds=3)
+def a_crl_of_many_entries(t):
+    """Some megabytes, signed whole and in time; with its last entry cut short it is refused."""
+    it = Authority(t)
+    issuer = filter_module().issuer_of(it.pem)
+    started(t, "--only-ours", it.pem, it.key)
+    message = crl_by_hand(issuer, [(2**150 + 7919 * at).to_bytes(19, "big") for at in range(100_000)])
+    signed, seconds = seconds_of(lambda: signature(t.room / "ca.sign", message))
+    verifies(t, it, message, signed, "a long CRL")
+    t.true(seconds < AT_ONCE, f"it took {seconds:.1f} s")
+    t.same(signature(t.room / "ca.sign", message.replace(b"\x0A\x01\x01\x30", b"\x0A\x01\x00\x30", 1)), b"", "one with reason 0")
+
+
+# Clients
+
+
+@test(seconds=14)
+def a_slow_client_blocks_nobody(t):
+    """One client sends a byte from time to time, another one nothing. The signer serves others at once, and closes both after ten seconds."""
+    it = Authority(t)
+    process = started(t, it.key)
+    path = t.room / "ca.sign"
+    silent, slow = connected(path), connected(path)
+    began = time.monotonic()
+    open_ones = {silent, slow}
+    while open_ones and time.monotonic() < began + 30:
+        if slow in open_ones:
+            try:
+                slow.send(b"x")
+            except BrokenPipeError:
+                open_ones.discard(slow)
+        signed, seconds = seconds_of(lambda: signature(path, b"a message"))
+        t.true(signed != b"" and seconds < AT_ONCE, f"another client waited {seconds:.1f} s")
+        silent.settimeout(0.3)
+        try:
+            t.same(silent.recv(1), b"", "the bytes that a slow client gets")
+            open_ones.discard(silent)
+        except socket.timeout:
+            pass
+    waited = time.monotonic() - began
+    t.true(9.9 <= waited < 10 + AT_ONCE, f"they were closed after {waited:.1f} s")
+    t.same(ended(process), (0, [f"{NAME}a connection failed: its message took longer than ten seconds"] * 2), "standard error")
+
+
+@test(seconds=3)
+def clients_that_end_early(t):
+    """A client that sends nothing, ends in the middle, reads nothing, or closes before its signature comes loses its own connection only."""
+    it = Authority(t)
+    process = started(t, "--only-ours", it.pem, it.key)
+    message = answer_by_hand(filter_module().issuer_of(it.pem))
+    path = t.room / "ca.sign"
+    keeps = []
+    for octets, ends in ((b"", "close"), (message[:9], "close"), (message, "close"), (message, "half"), (b"", "half"), (bytes(100_000), "close"), (message, "reads not")):
+        client = connected(path)
+        client.sendall(octets)
+        if ends != "close":
+            client.shutdown(socket.SHUT_WR)
+            keeps.append(client)
+        if ends == "close" or ends == "half" and not octets:
+            client.close()
+        verifies(t, it, message, signature(path, message), f"a message beside a client with {len(octets)} bytes that {ends}s")
+    t.true(all(line.startswith((f"{NAME}refused to sign ", f"{NAME}a connection failed: ")) for line in ended(process)[1]), "standard error")
+
+
+@test(seconds=6)
+def a_message_of_64_mib_and_one_that_is_longer(t):
+    it = Authority(t)
+    process = started(t, it.key)
+    path, message = t.room / "ca.sign", bytes(64 << 20)
+    signed = signature(path, message)
+    verifies(t, it, message, signed, "64 MiB")
+    t.same(signature(path, message + b"\0"), b"", "a byte more")
+    with connected(path) as client:
+        try:
+            while client.send(bytes(1 << 20)):
+                pass
+        except (BrokenPipeError, ConnectionResetError):
+            pass
+    t.true(signature(path, b"a message") != b"", "it goes on")
+    t.same(ended(process), (0, [f"{NAME}a connection failed: its message is longer than 64 MiB"] * 2), "standard error")
+
+
+@each({"one process": 1, "four processes": 4}, seconds=4)
+def two_hundred_clients_at_once(t, count):
+    """All clients have connected and sent a part before the first one ends its message."""
+    it = Authority(t)
+    process = started(t, "--processes", count, it.key)
+    clients = [connected(t.room / "ca.sign") for _ in range(200)]
+    for at, client in enumerate(clients):
+        client.sendall(b"message ")
+    for at, client in enumerate(clients):
+        client.sendall(b"%d" % at)
+        client.shutdown(socket.SHUT_WR)
+    signed = [program.read_all(client) for client in clients]
+    t.same([at for at, it in enumerate(signed) if not it], [], "clients without a signature")
+    for at in (0, 99, 199):
+        verifies(t, it, b"message %d" % at, signed[at])
+    t.same((len(native.children(process)), ended(process)), (count - 1, (0, [])), "its other processes, status, standard error")
+
+
+@test(seconds=3)
+def the_slowest_of_256_makes_room(t):
+    """The signer closes a slow connection only if another client comes, and the oldest one first."""
+    it = Authority(t)
+    process = started(t, it.key)
+    clients = [connected(t.room / "ca.sign") for _ in range(256)]
+    for client in clients:
+        client.sendall(b"a")
+    for client in clients[1:]:
+        client.sendall(b"b")
+    t.true(signature(t.room / "ca.sign", b"a message") != b"", "the 257th is served")
+    gone = []
+    for at, client in enumerate(clients):
+        try:
+            client.shutdown(socket.SHUT_WR)
+        except OSError:
+            pass
+        if not program.read_all(client):
+            gone.append(at)
+    t.same(gone, [0], "closed connections")
+    t.same(ended(process), (0, [f"{NAME}a connection failed: it is the slowest of 256, and another one waits"]), "standard error")
+
+
+@test(seconds=4)
+def a_rate(t):
+    """Twenty a second, in two processes: 30 signatures take at least 1.45 s. Refused messages don't count, and the signer doesn't sign for a client that has disconnected."""
+    it = Authority(t)
+    message = answer_by_hand(filter_module().issuer_of(it.pem))
+    process = started(t, "--rate", 20, "--processes", 2, "--only-ours", it.pem, it.key)
+    path = t.room / "ca.sign"
+    clients = [connected(path) for _ in range(60)]
+    began = time.monotonic()
+    for at, client in enumerate(clients):
+        client.sendall(message)
+        client.shutdown(socket.SHUT_WR)
+        if at >= 30:
+            client.close()
+    signed, seconds = seconds_of(lambda: signature(path, b"refused"))
+    t.true(signed == b"" and seconds < AT_ONCE, f"a message that is refused took {seconds:.1f} s")
+    t.same([it for it in map(program.read_all, clients[:30]) if not it], [], "clients without a signature")
+    waited = time.monotonic() - began
+    t.true(1.45 <= waited < 3 + AT_ONCE, f"30 signatures took {waited:.2f} s")
+    t.same(len(ended(process)[1]), 1, "lines that are told")
+
+
+# Processes and sockets
+
+
+@test(seconds=4)
+def its_processes_end_together(t):
+    it = Authority(t)
+    process = started(t, "--processes", 3, it.key)
+    authority.until(lambda: len(native.children(process)) == 2, "its processes")
+    others = native.children(process)
+    t.same(ended(process)[0], 0, "ended by SIGTERM")
+    authority.until(lambda: not any(map(native.is_there, others)), "the end of its other processes")
+    process = started(t, "--processes", 3, it.key)
+    others = native.children(process)
+    os.kill(others[0], signal.SIGKILL)
+    t.same((process.wait(20), process.stderr.read()), (1, b"desk-signer: another process ended\n"), "one that is killed")
+    authority.until(lambda: not any(map(native.is_there, others)), "the end of its other processes")
+    t.true(not (t.room / "ca.sign").exists(), "its socket is removed")
+    process = started(t, "--processes", 3, it.key)
+    others = native.children(process)
+    process.kill()
+    authority.until(lambda: not any(map(native.is_there, others)), "the end of the others, where the first is killed")
+
+
+@test(seconds=3)
+def what_is_at_its_path(t):
+    """Another signer that listens, a socket that nobody listens at, a file, no folder; a path that is too long."""
+    it = Authority(t)
+    started(t, it.key)
+    (t.room / "file").write_text("precious")
+    for path, told in (("ca.sign", b"something listens at ca.sign already"), ("file", b"file: Address already in use"),
+                       ("none/ca.sign", b"none/ca.sign: No such file or directory"), ("x" * 108, b"a socket's path has at most 107 characters")):
+        ran = t.tried(native.signer(), it.key, path)
+        t.same(ran.returncode, 1, f"{path}: status")
+        t.has(ran.stderr, told)
+    t.true(signature(t.room / "ca.sign", b"a message") != b"", "the first one goes on")
+    t.same((t.room / "file").read_text(), "precious", "the file stays")
+    with socket.socket(socket.AF_UNIX) as stale:
+        stale.bind(str(t.room / "stale.sign"))
+    process = subprocess.Popen([native.signer(), it.key, "stale.sign"], cwd=t.room, stdout=subprocess.PIPE, stderr=subprocess.PIPE)
+    t.callback(authority.end, process)
+    t.same(process.stdout.readline(), b"ecdsa-sha256 at stale.sign\n", "where a socket was left")
+    t.true(signature(t.room / "stale.sign", b"a message") != b"", "it signs there")
+    process.stdout.close()
+
+
+@test(seconds=3)
+def another_signer_at_its_path(t):
+    """A signer that ends leaves the socket of one that was started after its own was removed."""
+    it = Authority(t)
+    earlier = started(t, it.key)
+    (t.room / "ca.sign").unlink()
+    started(t, it.key)
+    t.same(ended(earlier), (0, []), "the earlier one")
+    t.true(signature(t.room / "ca.sign", b"a message") != b"", "the later one goes on")
+
+
+@test(seconds=3)
+def its_standard_streams(t):
+    """Closed from the start, no client gets a warning as its signature; and if their reader ends, the signer goes on."""
+    it = Authority(t)
+    message = answer_by_hand(filter_module().issuer_of(it.pem))
+    words = [native.signer(), "--only-ours", it.pem, it.key]
+    for closed in ("<&- >&- 2>&-", ">&- 2>&-", "2>&-"):
+        process = authority.started(t, ["bash", "-c", f'exec "$@" {closed}', "-", *words, "closed.sign"], t.room / "closed.sign")
+        t.same(signature(t.room / "closed.sign", b"hello"), b"", f"{closed}: what is refused")
+        verifies(t, it, message, signature(t.room / "closed.sign", message))
+        process.terminate()
+        t.same(process.wait(AT_ONCE), 0, f"{closed}: status")
+    process = started(t, *words[1:])
+    process.stderr.close()
+    t.same(signature(t.room / "ca.sign", b"hello"), b"", "what is refused while nobody reads standard error")
+    verifies(t, it, message, signature(t.room / "ca.sign", message))
+
+
+@test(seconds=4)
+def what_it_was_started_with(t):
+    """A child that was there before exec(3) ends, and SIGTERM is blocked: neither matters."""
+    it = Authority(t)
+    before = [sys.executable, "-c", "import os, signal, subprocess, sys; subprocess.Popen(['sleep', '0.5']); "
+              "signal.pthread_sigmask(signal.SIG_BLOCK, [signal.SIGTERM]); os.execv(sys.argv[1], sys.argv[1:])"]
+    process = started(t, "--processes", 2, it.key, before=before)
+    time.sleep(1)
+    t.true(signature(t.room / "ca.sign", b"a message") != b"", "it goes on")
+    t.same(ended(process), (0, []), "ended by SIGTERM")
+
+
+@test(seconds=3)
+def a_socket_that_is_handed_over(t):
+    """As systemd hands it over: descriptor 3, with its number and that of the process in the environment."""
+    it = Authority(t)
+    message = answer_by_hand(filter_module().issuer_of(it.pem))
+    words = [str(native.signer()), "--only-ours", str(it.pem), str(it.key), "--inherited"]
+    with socket.socket(socket.AF_UNIX) as listener:
+        listener.bind(str(t.room / "handed.sign"))
+        listener.listen(8)
+        process = handed(words, listener)
+        t.callback(authority.end, process)
+        verifies(t, it, message, signature(t.room / "handed.sign", message))
+        t.same(signature(t.room / "handed.sign", b"hello"), b"", "a text")
+    t.same(ended(process)[0], 0, "ended by SIGTERM")
+    t.true((t.room / "handed.sign").exists(), "the socket stays, which is not its own")
+    ran = t.tried(*words)
+    t.same((ran.returncode, b"no socket was handed over" in ran.stderr), (1, True), "with none")
+    with socket.socketpair()[0] as connection:
+        process = handed(words, connection)
+        told = process.communicate(timeout=AT_ONCE)[1]
+        t.same((process.returncode, b"no socket that listens was handed over" in told), (1, True), "with a connection, as by Accept=yes")
+
+
+# How it is confined
+
+
+def status_of(number):
+    return dict(line.split(":", 1) for line in Path(f"/proc/{number}/status").read_text().splitlines())
+
+
+@test(seconds=3)
+def its_memory_is_locked_and_never_dumped(t):
+    it = Authority(t)
+    process = started(t, "--processes", 2, it.key)
+    for number in (process.pid, *native.children(process)):
+        status = {name: int(status_of(number)[name].split()[0]) for name in ("VmLck", "VmSize", "VmSwap")}
+        t.true(status["VmLck"] > 0.9 * status["VmSize"] > 0 and status["VmSwap"] == 0, f"its memory is locked: {status}")
+        core = next(line.split() for line in Path(f"/proc/{number}/limits").read_text().splitlines() if line.startswith("Max core"))
+        t.same(core[4:6], ["0", "0"], "the limits of a core dump")
+        if os.geteuid():
+            t.same(Path(f"/proc/{number}/mem").stat().st_uid, 0, "the owner of /proc/NUMBER/mem, which is root if dumps are forbidden (proc(5))")
+
+
+@test(seconds=3)
+def another_user(t):
+    """By --user it is read as root and serves as another user, in all processes; the socket is that user's."""
+    if os.geteuid():
+        raise Skipped("only root can start a signer that becomes another user")
+    it = Authority(t)
+    t.room.chmod(0o755)
+    it.key.chmod(0o400)
+    process = started(t, "--user", "nobody", "--processes", 2, it.key)
+    path = t.room / "ca.sign"
+    verifies(t, it, b"a message", signature(path, b"a message"))
+    nobody = path.stat().st_uid
+    t.same((nobody != 0, path.stat().st_mode & 0o777), (True, 0o600), "the socket's owner and mode")
+    for number in (process.pid, *native.children(process)):
+        status = status_of(number)
+        t.same((set(status["Uid"].split()), status["Groups"].split()[1:]), ({str(nobody)}, []), "its user, and further groups")
+        t.same((int(status["CapEff"], 16), int(status["CapPrm"], 16)), (0, 0), "its capabilities")
+        t.same(Path(f"/proc/{number}/mem").stat().st_uid, 0, "the owner of /proc/NUMBER/mem, which is root if dumps are forbidden (proc(5))")
+        t.true(int(status["VmLck"].split()[0]) > 0, "its memory is locked")
+    t.same(status_of(process.pid)["Uid"].split()[0], str(nobody))
+    ran = t.tried(native.signer(), "--user", "no-such-user", it.key, "other.sign")
+    t.same((ran.returncode, ran.stderr, (t.room / "other.sign").exists()), (1, b"desk-signer: no user no-such-user\n", False), "a name that no user has")
+
+
+@test(seconds=3)
+def memory_that_can_t_be_locked(t):
+    need("setpriv")
+    it = Authority(t)
+    t.room.chmod(0o777)
+    it.key.chmod(0o444)
+    copy = shutil.copy(native.signer(), t.room / "desk-signer")
+    as_nobody = ["setpriv", "--reuid", "65534", "--regid", "65534", "--clear-groups", "--inh-caps=-all", "--bounding-set=-all"] if os.geteuid() == 0 else []
+    limited = ["bash", "-c", 'ulimit -l 64; exec "$@"', "-", *as_nobody, copy]
+    ran = t.tried(*limited, it.key, "ca.sign")
+    t.same((ran.returncode, (t.room / "ca.sign").exists()), (1, False), "status, whether it listens")
+    t.has(ran.stderr, b"desk-signer: the memory can't be locked (LimitMEMLOCK= in systemd, ulimit -l; or --allow-swap): Cannot allocate memory")
+    authority.started(t, [*limited, "--allow-swap", it.key, "ca.sign"], t.room / "ca.sign")
+    t.true(signature(t.room / "ca.sign", b"a message") != b"", "with --allow-swap it signs")
+    # The limit of systemd and of Debian's kernel.
+    usual = ["bash", "-c", 'ulimit -l 8192; exec "$@"', "-", *as_nobody, copy]
+    authority.started(t, [*usual, "--only-ours", it.pem, it.key, "usual.sign"], t.room / "usual.sign")
+
+
+# Tokens
+
+
+@each({"P-256": ("ecdsa-sha256", 1), "P-384": ("ecdsa-sha384", 1), "RSA": ("rsa-sha256", 1), "P-256 in three processes": ("ecdsa-sha256", 3)}, seconds=5)
+def a_key_in_a_token(t, algorithm, count):
+    """By libp11's engine and SoftHSM, with the token's PIN from a file."""
+    need("softhsm2-util")
+    module = next((it for it in map(Path, ("/usr/lib/softhsm/libsofthsm2.so", "/usr/lib64/softhsm/libsofthsm2.so")) if it.exists()), None)
+    if not module:
+        raise Skipped("no libsofthsm2.so here: apt install softhsm2")
+    it, other = Authority(t, algorithm), Authority(t, algorithm, name="other")
+    (t.room / "tokens").mkdir()
+    (t.room / "softhsm2.conf").write_text(f"directories.tokendir = {t.room}/tokens\nlog.level = ERROR\n")
+    (t.room / "pin").write_text("4711\n")
+    (t.room / "wrong").write_text("4712\n")
+    token = {**os.environ, "SOFTHSM2_CONF": str(t.room / "softhsm2.conf"), "PKCS11_MODULE_PATH": str(module)}
+    t.tool("softhsm2-util", "--init-token", "--free", "--label", "ca", "--pin", "4711", "--so-pin", "47114711", env=token)
+    t.tool("openssl", "pkcs8", "-topk8", "-nocrypt", "-in", it.key, "-out", "p8")
+    t.tool("softhsm2-util", "--import", "p8", "--token", "ca", "--pin", "4711", "--label", "key", "--id", "01", env=token)
+    named, key = (str(native.signer()), "--passphrase-file", "pin"), "pkcs11:token=ca;object=key"
+    ran = t.tried(*named, key, env=token)
+    if b"no engine pkcs11" in ran.stderr:
+        raise Skipped("no engine pkcs11 of OpenSSL here: apt install libengine-pkcs11-openssl")
+    t.same((ran.returncode, ran.stdout), (0, f"{algorithm}\n".encode()), f"status and output; told {ran.stderr!r}")
+    for words, told in (((*named, "pkcs11:token=ca;object=none"), b"the token gives no such key"), ((named[0], "--passphrase-file", "wrong", key), b"the token gives no such key"),
+                        ((*named, "--only-ours", other.pem, key), b"it is the certificate of another key")):
+        ran = t.tried(*words, "ca.sign", env=token)
+        t.same((ran.returncode, (t.room / "ca.sign").exists()), (1, False), f"{words}: status, whether it listens")
+        t.has(ran.stderr, told)
+    before = ["env", f"SOFTHSM2_CONF={token['SOFTHSM2_CONF']}", f"PKCS11_MODULE_PATH={module}"]
+    process = started(t, *named[1:], "--processes", count, "--only-ours", it.pem, key, before=before)
+    message = answer_by_hand(filter_module().issuer_of(it.pem))
+    for _ in range(9):
+        verifies(t, it, message, signature(t.room / "ca.sign", message))
+    t.same(signature(t.room / "ca.sign", b"hello"), b"", "a text")
+    t.same(occurrences(process, b"4711\n"), 0, "the PIN's line in its memory")
+    t.same(ended(process)[0], 0, "ended by SIGTERM")
+    if os.geteuid() == 0:
+        ran = t.tried(*named, "--user", "nobody", key, "ca.sign", env=token)
+        t.same((ran.returncode, b"libcrypto gives no signature" in ran.stderr), (1, True), "for a user who can't read the token's files: status, standard error")
+    process = started(t, *named[1:], "--processes", count, key, path="away.sign", before=before)
+    (t.room / "tokens").rename(t.room / "away")
+    t.same((signature(t.room / "away.sign", b"a message"), process.wait(AT_ONCE)), (b"", 1), "without the token: signature, status")
+    (t.room / "away").rename(t.room / "tokens")
+    started(t, *named[1:], "--processes", count, key, path="away.sign", before=before)
+    verifies(t, it, b"a message", signature(t.room / "away.sign", b"a message"))
+
+
+# The desk's signatures
+
+
+@each(ALGORITHMS, seconds=8)
+def what_the_desk_has_signed_is_signed(t, algorithm):
+    """CRLs and OCSP answers of the desk, which openssl verifies; and both programs accept all that the desk has signed."""
+    it = Authority(t, algorithm)
+    started(t, "--only-ours", it.pem, "--processes", 2, it.key)
+    it.register()
+    begun = authority.now()
+    t.same(t.done("script", "ca.db", *it.signing(), given=authority.first_day(begun)).splitlines(), authority.first_day_replies(begun))
+    it.verifies(t.done("crl", "ca.db").encode("latin-1"))
+    desk = t.open("ca.db", *it.signing())
+    for serial, told in (("05", "revoked"), ("06", "good"), ("07", "unknown")):
+        t.same(it.asked_by_openssl(serial, f"http://127.0.0.1:{desk.port}/ocsp", verify=True), told, serial)
+    desk.end()
+    t.same(t.tool(sys.executable, EXAMPLES / "check-signer.py", it.pem, *it.signing()), b"", "the test message")
+    it.name = "asked"
+    messages = to_be_signed(t, it)
+    dice = random.Random(61)
+    count = compared(t, [*messages, *(changed(message, dice) for message in messages for _ in range(300))], it)
+    t.same([signature(t.room / "ca.sign", message) != b"" for message in messages], [True] * 6, f"all that the desk has signed is signed ({count})")
+
+
+@test(seconds=8)
+def a_desk_with_another_key_gets_no_signature(t):
+    """F3 to the desk whose CRL it is, as from signer.py."""
+    it, other = Authority(t), Authority(t, name="other", subject="/CN=Other")
+    started(t, "--only-ours", it.pem, it.key)
+    other.register("other.db")
+    t.same(t.done("script", "other.db", *it.signing(), "--clock", given="crl\n"), "F3 signer\n", "a CRL of another issuer")

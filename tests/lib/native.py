@@ -1,0 +1,102 @@
+"""The native signer (signer/), built once for all tests, and connections to it."""
+
+import fcntl
+import os
+import select
+import socket
+import subprocess
+import time
+from pathlib import Path
+
+from . import authority, program
+from .program import TOP
+from .trial import Failed, Skipped, need
+
+SOURCES = TOP / "signer"
+# What stands before each of its lines on standard error.
+NAME = "desk-signer: "
+
+
+def has_libcrypto():
+    return subprocess.run(["cc", "-E", "-x", "c", "-"], input=b"#include <openssl/evp.h>\n", capture_output=True).returncode == 0
+
+
+def need_libcrypto():
+    """Skips the test where a C program can't be built on libcrypto."""
+    need("cc", "make")
+    if not has_libcrypto():
+        raise Skipped("no openssl/evp.h here: apt install libssl-dev")
+
+
+def made(name, *words):
+    """A program that a command makes at a path, which becomes its last word, once for all tests."""
+    path = Path(os.environ["DESK_TESTS_FOLDER"]) / name
+    with open(f"{path}.lock", "w", encoding="utf-8") as lock:
+        fcntl.flock(lock, fcntl.LOCK_EX)
+        if not path.exists():
+            ran = subprocess.run([*map(str, words[:-1]), f"{words[-1]}{path}"], capture_output=True)
+            if ran.returncode:
+                raise AssertionError(f"{name} can't be built: {ran.stderr.decode()}")
+    return path
+
+
+def signer():
+    need_libcrypto()
+    return made("desk-signer", "make", "-s", "-C", SOURCES, "OUT=")
+
+
+def started(t, *words, path="ca.sign", before=()):
+    """The signer at a socket, until the test ends; it prints a line once it serves."""
+    words = [*map(str, before), str(signer()), *map(str, words), path]
+    t.note(" ".join(words))
+    process = subprocess.Popen(words, cwd=t.room, stdin=subprocess.DEVNULL, stdout=subprocess.PIPE, stderr=subprocess.PIPE)
+    t.callback(authority.end, process)
+    with process.stdout:
+        is_told = select.select([process.stdout], [], [], 60 * program.PATIENCE)[0]
+        line = process.stdout.readline() if is_told else b""
+    if not line.endswith(f" at {path}\n".encode()):
+        process.kill()
+        raise Failed(f"{words[0]} does not serve: {line!r}, {process.stderr.read()!r}")
+    return process
+
+
+def connected(path):
+    it = socket.socket(socket.AF_UNIX)
+    it.settimeout(20 * program.PATIENCE)
+    it.connect(str(path))
+    return it
+
+
+def signature(path, message):
+    """What comes back for a message: nothing where it is refused, or where the signer closes before it has read all."""
+    with connected(path) as it:
+        try:
+            it.sendall(message)
+            it.shutdown(socket.SHUT_WR)
+        except (BrokenPipeError, ConnectionResetError):
+            return b""
+        return program.read_all(it)
+
+
+def ended(process, seconds=20):
+    """Ends a signer; its status, and what it has told."""
+    process.terminate()
+    status = process.wait(seconds * program.PATIENCE)
+    return status, process.stderr.read().decode().splitlines()
+
+
+def children(process):
+    return [int(it) for it in Path(f"/proc/{process.pid}/task/{process.pid}/children").read_text().split()]
+
+
+def is_there(number):
+    """Whether a process runs."""
+    try:
+        return Path(f"/proc/{number}/stat").read_text().rpartition(")")[2].split()[0] != "Z"
+    except FileNotFoundError:
+        return False
+
+
+def seconds_of(work):
+    began = time.monotonic()
+    return work(), time.monotonic() - began
