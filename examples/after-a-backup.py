@@ -40,7 +40,7 @@ GROUNDS = {
 # The other grounds, each with the one above that has its reason.
 LIKE = {"control-lost": "superseded", "nonconforming": "superseded", "name-not-permitted": "cessation", "misuse": "unauthorized", "inaccurate": "unauthorized"}
 
-# A line of the log: the moment, who asked, what was asked and answered, and the request that it names.
+# A line of the log: the moment, the client, the request and its answer, and the request for revocation that the line names.
 LINE = re.compile(
     r'(\d{4}-\d\d-\d\dT\d\d:\d\d:\d\dZ) (\S+) "([^"]*)" "([^"]*)" \d+ \d+(?: request (\d+) ([0-9a-f]{40})(?: ([a-z-]+))?)?(?: signer)?'
 )
@@ -57,8 +57,8 @@ COMMANDS = {
     "schedule": re.compile(r"schedule set"),
 }
 
-# A command: its moment, its place among those of the same moment, the line that has it, its words, and the number that its reply gave or it decides.
-Event = namedtuple("Event", "moment place told words number")
+# A command: its moment, its position among those of the same moment, the line of the log, its words, and the number that its reply gave or that it decides.
+Event = namedtuple("Event", "moment place source words number")
 Entry = namedtuple("Entry", "serial moment ground")
 Crl = namedtuple("Crl", "path number moment entries")
 
@@ -67,12 +67,12 @@ class Unreadable(Exception):
     """A file that can't be read, or a register that `desk list` can't read."""
 
 
-def tell(text):
+def report(text):
     print(text, file=sys.stderr)
 
 
 class Register:
-    """What the restored register has."""
+    """The rows of the restored register."""
 
     def __init__(self, desk, path):
         self.desk, self.path = desk, path
@@ -98,8 +98,8 @@ class Register:
 
     def last_moment(self):
         """The moment of the register's last command, before which nothing is accepted."""
-        told = re.match(r"E01 clock-back (\S+)", self.listed("subscribers", "--now", "1970-01-01T00:00:00Z").stderr)
-        return told[1] if told else "1970-01-01T00:00:00Z"
+        refusal = re.match(r"E01 clock-back (\S+)", self.listed("subscribers", "--now", "1970-01-01T00:00:00Z").stderr)
+        return refusal[1] if refusal else "1970-01-01T00:00:00Z"
 
 
 def read_logs(paths):
@@ -114,31 +114,31 @@ def read_logs(paths):
     return events
 
 
-def read_line(place, told, text):
+def read_line(place, source, text):
     found = LINE.fullmatch(text)
     if not found:
         if not LOST.fullmatch(text):
-            tell(f"{told}: no line of a log")
+            report(f"{source}: no line of a log")
         return None
     moment, who, asked, answered, request, serial, ground = found.groups()
     if who != "counter" and not ground:
         if asked.startswith("POST /requests") and answered.startswith("HTTP/1.1 200 "):
-            tell(f"{told}: left out: the log does not name the request")
+            report(f"{source}: left out: the log does not name the request")
         return None
     words = asked.split(" ")
     if ground:
-        return Event(moment, place, told, ["request", serial, ground], int(request))
+        return Event(moment, place, source, ["request", serial, ground], int(request))
     accepted = COMMANDS[words[0]].fullmatch(answered) if words[0] in COMMANDS else None
     if not accepted:
         if words[0] in COMMANDS and answered == "F2 store":
-            tell(f"{told}: left out: the reply to '{asked}' was F2 store, and it may stand or not")
+            report(f"{source}: left out: the reply to '{asked}' was F2 store, and it may stand or not")
         return None
     if words[0] in ("decline", "revoke"):
-        return Event(moment, place, told, [words[0], serial], int(words[1]))
+        return Event(moment, place, source, [words[0], serial], int(words[1]))
     if words[0] == "schedule":
-        tell(f"{told}: not in the script: set the schedule first, by desk schedule REGISTER {' '.join(words[1:])}")
+        report(f"{source}: not in the script: set the schedule first, by desk schedule REGISTER {' '.join(words[1:])}")
         return None
-    return Event(moment, place, told, words, int(accepted[1]) if accepted.groups() else None)
+    return Event(moment, place, source, words, int(accepted[1]) if accepted.groups() else None)
 
 
 def openssl_moment(text):
@@ -168,7 +168,7 @@ def read_crl(path):
 
 def ground_of(serial, reason):
     if reason not in GROUNDS:
-        tell(f"serial number {serial:X}: no ground has the reason '{reason}': asked, if the script requests it")
+        report(f"serial number {serial:X}: no ground has the reason '{reason}': asked, if the script requests it")
     return GROUNDS.get(reason, "asked")
 
 
@@ -207,7 +207,7 @@ class Script:
             if row["state"] == "declined":
                 self.declined.add(number)
         self.filled = {int(event.words[1]): int(event.words[2], 16) for event in events if event.words[0] == "register"}
-        # By its place in the log, the register's number of each entry that the register has.
+        # For each entry of the log that the register has, by its position in the log, the register's number.
         self.had = self.matches(events)
         self.subscribers, self.orders, self.requests = (Numbers(*it) for it in self.numbers_in_both(events))
         commands = {
@@ -218,7 +218,7 @@ class Script:
             commands[event.words[0]](event)
 
     def matches(self, events):
-        """Subscribers by their names, orders by their certificates, requests by their moments, serial numbers and grounds."""
+        """Matches subscribers by their names, orders by their certificates, and requests by their moments, serial numbers and grounds."""
         order_of = {int(row["serial"], 16): number for number, row in self.register.orders.items() if row["serial"]}
         requests, found = defaultdict(list), {}
         for number, row in sorted(self.register.requests.items()):
@@ -234,7 +234,7 @@ class Script:
         return found
 
     def numbers_in_both(self, events):
-        """For subscribers, orders and requests: how many the register has, and the pairs of numbers, in the log and in the register, of those that both have."""
+        """For subscribers, orders and requests: how many the register has, and for each that the log has too, its number in the log and in the register."""
         for word, rows in ("subscriber", self.register.subscribers), ("order", self.register.orders), ("request", self.register.requests):
             yield len(rows), [(event.number, self.had[event.place]) for event in events if event.words[0] == word and self.had[event.place]]
 
@@ -265,17 +265,17 @@ class Script:
         """A line of the script."""
         moment = max(event.moment, self.register.last)
         if moment != event.moment:
-            tell(f"{event.told}: '{' '.join(map(str, words))}' is of {event.moment}, and gets {moment}, the moment of the register's last command")
+            report(f"{event.source}: '{' '.join(map(str, words))}' is of {event.moment}, and gets {moment}, the moment of the register's last command")
         self.lines.append(" ".join(map(str, (moment, *words))))
 
     def leave_out(self, event, why):
-        tell(f"{event.told}: left out: {why}")
+        report(f"{event.source}: left out: {why}")
 
     def lacks(self, event, serial):
-        """Whether neither the register nor the log has a certificate. Then there is no script."""
+        """Returns whether neither the register nor the log has a certificate. If so, no script is printed."""
         if serial not in self.certificates:
             why = f"neither the register nor the log has its certificate: register it first, as of {self.register.last}"
-            self.problems.append(f"{event.told}: serial number {serial:X}, {event.moment}: {why}")
+            self.problems.append(f"{event.source}: serial number {serial:X}, {event.moment}: {why}")
         return serial not in self.certificates
 
     def subscriber(self, event):
@@ -320,14 +320,14 @@ class Script:
             self.requests[event.number] = self.ask(event, *asked)
 
     def ask(self, event, serial, ground):
-        """Enters a request; its number."""
+        """Enters a request, and returns its number."""
         number = len(self.asked) + 1
         self.keep(number, serial, ground)
         self.say(event, "request", f"{serial:X}", ground)
         return number
 
     def number_of(self, event):
-        """The register's number of the request that a line of the log decides, or None, and its serial number."""
+        """The register's number of the request that a line of the log decides (or None), and its serial number."""
         number = self.requests.get(event.number)
         asked = self.asked[number][0] if number else None
         serial = int(event.words[1], 16) if event.words[1] else asked
@@ -348,7 +348,7 @@ class Script:
         elif serial not in self.revoked and not self.lacks(event, serial):
             if number is None:
                 ground = self.reasons.get(serial, "asked")
-                tell(f"{event.told}: neither the register nor the log has request {event.number}: requested as {ground}")
+                report(f"{event.source}: neither the register nor the log has request {event.number}: requested as {ground}")
                 number = self.ask(event, serial, ground)
             self.revoked.add(serial)
             self.say(event, "revoke", number)
@@ -378,7 +378,7 @@ def read_words():
     parser.add_argument("register", metavar="REGISTER", help="the restored register; no program may have it open")
     parser.add_argument("--published", metavar="CRL", help="the latest CRL that was published, in DER or PEM")
     parser.add_argument("--log", metavar="LOG", action="append", default=[], help="the log of `desk open`; repeat it for several logs, the oldest first")
-    parser.add_argument("--desk", metavar="PROGRAM", default=os.environ.get("DESK", "desk"), help="the program, where it is not the `desk` of PATH")
+    parser.add_argument("--desk", metavar="PROGRAM", default=os.environ.get("DESK", "desk"), help="the program, if it is not the `desk` of PATH")
     words = parser.parse_args()
     if not words.published and not words.log:
         parser.error("--published or --log is needed")
@@ -391,15 +391,15 @@ def main():
         crl = read_crl(words.published) if words.published else None
         script = Script(Register(words.desk, words.register), read_logs(words.log), crl)
     except (Unreadable, OSError) as fault:
-        tell(f"after-a-backup: {fault}")
+        report(f"after-a-backup: {fault}")
         return 1
     if script.problems:
-        tell("\n".join(script.problems))
+        report("\n".join(script.problems))
         return 1
     for line in script.lines:
         print(line)
     counts = Counter(line.split(" ")[1] for line in script.lines)
-    tell(f"{len(script.lines)} lines" + "".join(f", {count} {word}" for word, count in counts.items()))
+    report(f"{len(script.lines)} lines" + "".join(f", {count} {word}" for word, count in counts.items()))
     return 0
 
 

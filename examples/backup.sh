@@ -1,9 +1,9 @@
 #!/usr/bin/env bash
-# Copies a register into a folder of copies, for cron, and keeps the newest seven: each is a folder REGISTER-MOMENT with the register in one file. It copies
-# a closed register, or one in a snapshot of the file system, with `desk copy`. An open desk copies its register itself, at the given control socket: it
-# writes the copy beside the register, and this script moves it from there (docs/OPERATIONS.md, "Backups"). The script audits each copy, prints the result,
-# and keeps the copy only if it is `sound`. Only then it deletes a copy that is older than the newest seven. If anything fails, it deletes no older copy,
-# prints one line with the reason on standard error, and exits with status 1.
+# Copies a register into a folder of copies, and keeps the newest seven. Run it by cron. Each copy is a folder REGISTER-MOMENT with the register in one file.
+# `desk copy` copies a closed register, or one in a snapshot of the file system. An open desk copies its register itself, by a line at the given control
+# socket: it writes the copy beside the register, and this script moves it from there (docs/OPERATIONS.md, "Backups"). The script audits each copy, prints
+# the result, and keeps the copy only if it is `sound`. Only then it deletes a copy that is older than the newest seven. If anything fails, the script
+# deletes no older copy, prints one line with the reason on standard error, and exits with status 1.
 #
 # Usage: backup.sh REGISTER FOLDER [CONTROL]
 #     as: backup.sh /var/lib/durshavon/ca.db /var/backups/ca /run/durshavon/ca/control
@@ -39,7 +39,7 @@ copy_at_control() {
 
 copy() {
     if told=$("$desk" copy --why "$register" "$new/$name" 2>&1); then
-        # A copy that root made gets the register's owner, who has to restore it.
+        # root makes the copy, and the register's owner has to restore it.
         chown --reference="$register" "$new/$name" 2>/dev/null || :
         return
     fi

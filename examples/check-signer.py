@@ -55,7 +55,7 @@ def signature_of(message, path):
 
 
 def check(path, signer, certificate):
-    """What is wrong with the signer at a socket, and whether it returned a signature."""
+    """The fault of the signer at a socket (or None), and whether it returned a signature."""
     message = test_message(signer.key_hash)
     try:
         signature = signature_of(message, path)

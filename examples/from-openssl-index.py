@@ -105,7 +105,7 @@ def read_index(path):
 
 
 def started(folder, serial):
-    """notBefore of the certificate that `openssl ca` left in the folder."""
+    """notBefore of the certificate that `openssl ca` wrote into the folder."""
     path = os.path.join(folder, f"{serial}.pem")
     got = subprocess.run(["openssl", "x509", "-in", path, "-noout", "-startdate"], capture_output=True, text=True, check=False)
     if got.returncode != 0 or not got.stdout.startswith("notBefore="):
@@ -146,14 +146,14 @@ class Mover:
 
     def __init__(self, words):
         self.words = words
-        self.told = []
+        self.messages = []
 
-    def tell(self, line, text):
-        self.told.append((line.number, f"line {line.number}, serial number {line.serial}: {text}"))
+    def report(self, line, text):
+        self.messages.append((line.number, f"line {line.number}, serial number {line.serial}: {text}"))
 
     def leave_out(self, line, why):
         """Reports why a certificate is not registered, and that its revocation would be lost with it."""
-        self.tell(line, f"left out: {why}" + ("" if line.revoked is None else "; its revocation would be lost"))
+        self.report(line, f"left out: {why}" + ("" if line.revoked is None else "; its revocation would be lost"))
 
     def cert_of(self, line, seen):
         """The certificate of a line, or None and a message with the reason."""
@@ -190,19 +190,19 @@ class Mover:
         word = line.reason.partition(",")[0].lower()
         at, ground = max(line.revoked, 0), GROUNDS.get(word)
         if min(at, self.words.now) > line.not_after:
-            return self.tell(line, "not revoked: it had ended before, and what has ended is revoked no more")
+            return self.report(line, "not revoked: it had ended before, and what has ended is revoked no more")
         if is_hold(line):
             if self.words.hold == "good":
-                return self.tell(line, "it was on hold, and is good in the register")
-            self.tell(line, "it was on hold, and is revoked for good in the register, with no reason")
+                return self.report(line, "it was on hold, and is good in the register")
+            self.report(line, "it was on hold, and is revoked for good in the register, with no reason")
             ground = "asked"
         elif ground is None:
-            self.tell(line, f"revoked with reason 1, keyCompromise: no ground has the reason '{line.reason}'")
+            self.report(line, f"revoked with reason 1, keyCompromise: no ground has the reason '{line.reason}'")
             ground = "key-compromise"
         elif word == "keytime":
-            self.tell(line, "revoked without the time at which its key was compromised: a register has no invalidity dates")
+            self.report(line, "revoked without the time at which its key was compromised: a register has no invalidity dates")
         if at > self.words.now:
-            self.tell(line, f"revoked at {moment(self.words.now)}: the index has {moment(at)}, which is still to come")
+            self.report(line, f"revoked at {moment(self.words.now)}: the index has {moment(at)}, which is still to come")
             at = self.words.now
         return at, ground
 
@@ -342,7 +342,7 @@ def read_all(words):
     return lines, crls, *(read_crl(words.old_crl) if words.old_crl else (None, []))
 
 
-def tell(texts):
+def report(texts):
     for text in texts:
         print(text, file=sys.stderr)
 
@@ -355,11 +355,11 @@ def main():
         events = mover.events(lines)
     except (OSError, ValueError, Unreadable) as fault:
         sys.exit(f"from-openssl-index: {fault}; nothing was written")
-    tell(text for _, text in sorted(mover.told))
+    report(text for _, text in sorted(mover.messages))
     if number is not None and number > crls:
-        tell([f"the old CRL has number {number}, and the first new one would have {crls + 1}: say --crlnumber"])
+        report([f"the old CRL has number {number}, and the first new one would have {crls + 1}: say --crlnumber"])
     revocations = Revocations(lines, events, entries, words)
-    tell(revocations.lines())
+    report(revocations.lines())
     if lost := revocations.lost():
         serials = "".join(f"\n{serial:X}" for serial in lost)
         sys.exit(f"from-openssl-index: {len(lost)} revocations would be lost; nothing was written. To lose them, list them in a file of --leave-out:{serials}")
@@ -368,9 +368,9 @@ def main():
         print(text)
         written += 1
     carried = sum(1 for event in events if event[1] == 0)
-    tell([f"{len(lines)} lines of the index, {carried} certificates, {len(events) - carried} revocations, {written} lines of the script"])
+    report([f"{len(lines)} lines of the index, {carried} certificates, {len(events) - carried} revocations, {written} lines of the script"])
     if written > MOST_ROWS:
-        tell(["a script has 1,000,000 lines at most: split it, and run its parts one after the other"])
+        report(["a script has 1,000,000 lines at most: split it, and run its parts one after the other"])
 
 
 main()

@@ -1,16 +1,16 @@
 #!/usr/bin/env bash
-# Issues a CRL of an open register where one is due, at its control socket, for cron or a timer: prints the desk's reply where one is issued, and nothing
-# where none is due. A reply that is a refusal or a fault, as `F3 signer`, is printed on standard error, and the exit status is that of `desk at`: 3 then,
-# and 1 where nobody answers at the control socket.
+# Issues a CRL of an open register at its control socket if one is due. Run it by cron or a timer. The script prints the desk's reply if it issues a CRL, and
+# nothing if none is due. If the desk refuses or fails (as with `F3 signer`), standard error has its reply, and the exit status is that of `desk at`: 3 then,
+# and 1 if no desk answers at the control socket.
 #
-# A CRL is also due at once if the latest one has a placeholder digest and a signer was added since: the desk's reply to `why` behind `next-crl` says so.
+# A CRL is also due at once if the latest one has a placeholder digest and a signer was added since: the desk's reply to `why` after `next-crl` says so.
 #
-# With --at-once a CRL is due at once if a certificate was revoked on one of these grounds (docs/RULES.md) and no CRL lists it yet; without it such a CRL
-# may wait for a day. The script reads the list of revocations at the desk's port, 8080 where --port is left out, and only if a revocation may wait for its
-# CRL. It needs curl. Where the desk does not answer at the port, the exit status is 1.
+# With --at-once a CRL is due at once if a certificate was revoked on one of these grounds (docs/RULES.md) and no CRL lists it yet. Without it such a CRL
+# may wait for a day. The script reads the list of revocations at the desk's port (8080 without --port), and only if a revocation may wait for its CRL.
+# It needs curl. If the desk does not answer at the port, the exit status is 1.
 #
 # Usage: issue-due-crl.sh [--at-once GROUND,..] [--port PORT] SOCKET
-# DESK names the program, where it is not the `desk` of PATH.
+# DESK names the program, if it is not the `desk` of PATH.
 set -euo pipefail
 export LC_ALL=C
 desk=${DESK:-desk}
@@ -44,7 +44,7 @@ socket=$1
 
 fail() { echo "$socket: $1" >&2; exit "${2:-1}"; }
 
-# The desk's replies to lines on one connection to its control socket, where it accepts them.
+# Sends lines on one connection to the control socket, and prints the desk's replies. Fails if the desk refuses a line.
 reply_to() {
     local reply status=0
     reply=$(printf '%s\n' "$@" | "$desk" at "$socket") || status=$?
@@ -61,8 +61,8 @@ waits_for_a_crl() {
     metrics=$(get /metrics) || exit 1
     latest=$(sed -n 's/^desk_crl_number //p' <<<"$metrics")
     [ -n "$latest" ] || fail "the register can't be read"
-    # Where no revocation waits, the next CRL is due a week after the latest one, or at its nextUpdate. One that waits makes it due earlier, except in the
-    # last day before that.
+    # If no revocation waits, the next CRL is due a week after the latest one, or at its nextUpdate. A revocation that waits makes it due earlier, except in
+    # the last day before that.
     awk '{ value[$1] = $2 } END {
         due = value["desk_crl_due_timestamp_seconds"]; regular = value["desk_crl_this_update_timestamp_seconds"] + 604800
         if (value["desk_crl_next_update_timestamp_seconds"] < regular) regular = value["desk_crl_next_update_timestamp_seconds"]

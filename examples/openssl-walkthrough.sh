@@ -17,8 +17,8 @@ now() { date -u +%Y-%m-%dT%H:%M:%SZ; }
 signing="--signer ca.sign --algorithm ecdsa-sha256"
 # shellcheck disable=SC2086 # the words are meant to be split
 say() { echo "> $1"; echo "$1" | "$desk" script ca.db $signing; }
-holder=
-trap '[ -z "$holder" ] || kill "$holder" 2>/dev/null || true' EXIT
+signer_process=
+trap '[ -z "$signer_process" ] || kill "$signer_process" 2>/dev/null || true' EXIT
 moment() { date -u -d "$1" +%Y-%m-%dT%H:%M:%SZ; }
 
 step "A CA, and a certificate of serial number 05 for acme"
@@ -33,7 +33,7 @@ if command -v socat >/dev/null; then
 else
     "$signer" --only-ours ca.pem ca.key ca.sign &
 fi
-holder=$!
+signer_process=$!
 for _ in 1 2 3 4 5 6 7 8 9 10; do [ -S ca.sign ] || sleep 0.3; done
 
 step "The register of that CA"

@@ -1,6 +1,6 @@
 #!/bin/sh
 # Signs standard input with a key in a PKCS #11 token, and prints the signature in the form that `desk` accepts. socat runs it for each
-# connection of the desk:
+# connection from the desk:
 #
 #     socat -t 10 UNIX-LISTEN:ca.sign,fork,mode=600 EXEC:'examples/pkcs11-signer.sh ecdsa-sha256 MODULE.so TOKEN ID PIN-FILE'
 #

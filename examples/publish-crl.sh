@@ -1,5 +1,5 @@
 #!/bin/sh
-# Publishes the latest CRL of an open desk in a folder of a web server, for cron or a timer: ca.crl in DER, and ca.crl.pem. Each replaces the old file
+# Publishes the latest CRL of an open desk in a folder of a web server: ca.crl in DER, and ca.crl.pem. Run it by cron or a timer. Each replaces the old file
 # by a rename, so a reader gets the whole old one or the whole new one. The script replaces them only if openssl verifies the CRL with the CA's
 # certificate, the CRL has not expired, and its number is not below that of the old one. It prints a line if it published another CRL, and nothing if
 # the CRL is the same. If anything fails, the old files stay, one line on standard error has the reason, and the exit status is 1.

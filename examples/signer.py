@@ -1,35 +1,36 @@
 #!/usr/bin/env python3
-"""Signs for `desk` with a key in a file: what `--signer SOCKET --algorithm NAME` wants at the other end.
+"""Signs for `desk` with a key in a file: the signer at the other end of `--signer SOCKET --algorithm NAME`.
 
-For each signature the desk connects to the socket, writes the bytes to be signed and says that no more comes; the signature goes
-back, and the connection ends. One line of socat does the same, and starts openssl anew for each signature:
+For each signature the desk connects to the socket, writes the bytes to be signed and shuts down its side for writing. The signer writes the
+signature and closes the connection. One line of socat does the same, and starts openssl anew for each signature:
 
     socat -t 10 UNIX-LISTEN:ca.sign,fork,mode=600 EXEC:'openssl dgst -sha256 -sign ca.key'
 
-This program keeps the key in memory: a key that matters belongs into hardware (examples/pkcs11-signer.sh).
-Whoever can connect to the socket can have anything signed: it is made with mode 600, and belongs into a folder that the desk's user
-alone can enter. With --only-ours it signs CRLs and answers of OCSP of the CA whose certificate is given, and nothing else: what is refused
-is told on standard error, and its connection ends with no signature (examples/only_ours.py has what is looked at). It also checks at its start
-that the key is that of the certificate, and verifies each signature by the certificate before it gives it away. With --responder beside it
-it has a responder's key, and signs that responder's answers about the CA's certificates alone.
+This program keeps the key in memory. A key that matters belongs in hardware (examples/pkcs11-signer.sh).
+Every process that can connect to the socket can have anything signed. The socket has mode 600; put it into a folder that only the desk's user
+can enter. With --only-ours the program signs only CRLs and OCSP answers of the CA whose certificate is given. It refuses any other message: it
+closes the connection without a signature, and standard error has the reason (examples/only_ours.py has the checks). It also checks at its start
+that the key is that of the certificate, and verifies each signature with the certificate before it sends it. With --responder it has a
+responder's key, and signs only that responder's answers about the CA's certificates.
 
-With P-256 it draws nonces before their messages come, by the system's libcrypto (OpenSSL), since nearly all of a signature's work
-depends on the nonce alone. Some are in memory at any time, and so is the key: never copy a machine, nor set it back, with its memory
-while this runs, for then one nonce may sign two messages, which gives the key away.
+With P-256 it computes nonces before the messages come, by the system's libcrypto (OpenSSL), because nearly all of a signature's work depends
+only on the nonce. Some nonces are in memory at any time, and so is the key. So never copy or restore a machine together with its memory while
+this program runs: one nonce could then sign two messages, which gives the key away.
 
-With --processes N so many processes take connections at the one socket, each with the key in its memory: the desk has up to 32 signatures of
-OCSP answers made at once.
+With --processes N, N processes accept connections at the one socket, each with the key in its memory. The desk requests up to 32 signatures of
+OCSP answers at once.
 
 Usage: examples/signer.py [--only-ours CA.pem [--responder RESPONDER.pem]] [--processes N] KEY.pem SOCKET
        examples/signer.py [--only-ours CA.pem ..] KEY.pem --inherited  at the socket that systemd made for it (sd_listen_fds(3))
        examples/signer.py KEY.pem                                      prints the NAME of the key's algorithm, and ends
 
 The key is one of P-256, P-384, RSA of 2,048 bits or more, or Ed25519, in PEM and without a passphrase.
-It wants the package `cryptography` (Debian: python3-cryptography).
+It needs the package `cryptography` (Debian: python3-cryptography).
 """
 import argparse
 import ctypes
 import ctypes.util
+import fcntl
 import hashlib
 import os
 import select
@@ -44,7 +45,7 @@ from cryptography.hazmat.primitives.serialization import (
     Encoding, NoEncryption, PrivateFormat, PublicFormat, load_der_public_key, load_pem_private_key,
 )
 
-# Nothing is written beside the module that is read.
+# Python writes no compiled module beside the imported one.
 sys.dont_write_bytecode = True
 from only_ours import LONGEST, Refused, check, read_certificate  # noqa: E402
 
@@ -52,15 +53,15 @@ from only_ours import LONGEST, Refused, check, read_certificate  # noqa: E402
 PATIENCE = 10
 # The first descriptor that systemd hands over (sd_listen_fds(3)).
 HANDED_OVER = 3
-# How many nonces are drawn at most.
+# The most nonces that are kept.
 POOL = 8
-# How often a peer is looked for before it is waited for, a hundred microseconds or two: who wants many signatures is back by then, and to be
-# woken takes longer than to sign.
-LOOKS = 100
+# The signer polls so many times before it sleeps, for a hundred microseconds or two. A client of many signatures is back by then, and waking up
+# takes longer than signing.
+POLLS = 100
 
 
 def libcrypto():
-    """OpenSSL's library, with the calls that divide an ECDSA signature into what needs the message and what does not; None where they can't be had."""
+    """OpenSSL's library, with the calls that split an ECDSA signature into a part before and a part after the message; None if it lacks them."""
     pointer, number = ctypes.c_void_p, ctypes.c_int
     try:
         library = ctypes.CDLL(ctypes.util.find_library("crypto"))
@@ -74,16 +75,16 @@ def libcrypto():
 
 
 class Ecdsa:
-    """Signs by ECDSA, with nonces that were drawn while nobody waited (k^-1, and r out of kG: FIPS 186-5 6.4.1), which OpenSSL's own code
-    alone works with; where none is left, or none can be drawn, by the package. The digest is hashlib's: the package's own takes thrice as long.
+    """Signs by ECDSA with nonces that were computed while no client waited (k^-1, and r of kG: FIPS 186-5 6.4.1). Only OpenSSL's own code uses
+    them. If none is left, or none can be computed, the package signs. The digest is hashlib's: the package's takes three times as long.
 
-    A nonce signs one message and never another, since two signatures by one nonce give the key away. So it leaves the list before it is
-    used and is freed after it, whatever comes of it, and a forked process begins with none."""
+    A nonce signs one message only, because two signatures with one nonce give the key away. So it leaves the list before it is used, and is
+    freed afterwards even if signing fails. A forked process begins with no nonces."""
 
     def __init__(self, key, digest, kind):
         self.key, self.digest, self.algorithm = key, digest, ec.ECDSA(utils.Prehashed(kind))
         self.room, self.length, self.drawn = ctypes.create_string_buffer(256), ctypes.c_uint(), []
-        # For P-384 OpenSSL 3.0 takes five times as long to draw a nonce as the package takes to sign.
+        # For P-384 OpenSSL 3.0 takes five times as long to compute a nonce as the package takes to sign.
         self.library, self.theirs = libcrypto() if key.curve.name == "secp256r1" else None, None
         if self.library:
             der = key.private_bytes(Encoding.DER, PrivateFormat.TraditionalOpenSSL, NoEncryption())
@@ -91,7 +92,7 @@ class Ecdsa:
             os.register_at_fork(after_in_child=self.drawn.clear)
 
     def draw(self):
-        """Draws one more nonce, and tells whether it did."""
+        """Computes one more nonce; returns whether it did."""
         if len(self.drawn) == POOL:
             return False
         inverse, r = ctypes.c_void_p(), ctypes.c_void_p()
@@ -115,11 +116,11 @@ class Ecdsa:
 
 
 def nothing():
-    """What a signer draws ahead that draws nothing."""
+    """Computes nothing before a message comes."""
 
 
 def signer_of(key):
-    """The name of a key's algorithm, what signs with it, and what draws ahead for it."""
+    """The name of a key's algorithm, the function that signs with it, and the one that computes nonces for it."""
     if isinstance(key, ec.EllipticCurvePrivateKey):
         kinds = {"secp256r1": ("ecdsa-sha256", hashlib.sha256, hashes.SHA256()), "secp384r1": ("ecdsa-sha384", hashlib.sha384, hashes.SHA384())}
         if key.curve.name not in kinds:
@@ -136,7 +137,7 @@ def signer_of(key):
 
 
 def verifier_of(public):
-    """Verifies a signature of a message by a public key, or raises InvalidSignature. The package's OpenSSL digests the message anew."""
+    """A function that verifies a signature of a message with a public key, or raises InvalidSignature. OpenSSL digests the message again."""
     if isinstance(public, ec.EllipticCurvePublicKey):
         how = ec.ECDSA(hashes.SHA256() if public.curve.name == "secp256r1" else hashes.SHA384())
         return lambda signature, message: public.verify(signature, message, how)
@@ -147,7 +148,7 @@ def verifier_of(public):
 
 
 def guarded(sign, words, key):
-    """Signs for the CA of a certificate alone, or as its responder, and verifies each signature. The key has to be that of who signs."""
+    """A function that signs only for the CA of a certificate, or as its responder, and verifies each signature. The key must be that of the CA or responder."""
     issuer = read_certificate(words.only_ours)
     responder = read_certificate(words.responder, "responder") if words.responder else None
     path, theirs = words.responder or words.only_ours, load_der_public_key((responder or issuer).public)
@@ -170,22 +171,22 @@ def guarded(sign, words, key):
 
 
 def soon(call, at, patience, meanwhile):
-    """What a call gives that never waits. While it has nothing, what is to be done meanwhile is done; then it is called some times more,
-    and then waited for."""
-    looks = 0
+    """The result of a non-blocking call. While the call would block, `meanwhile` runs as long as it has work. Then the call is polled some times
+    more, and then the process sleeps."""
+    polls = 0
     while True:
         try:
             return call()
         except BlockingIOError:
             if meanwhile():
                 continue
-        looks += 1
-        if looks > LOOKS and not select.select([at], [], [], patience)[0]:
+        polls += 1
+        if polls > POLLS and not select.select([at], [], [], patience)[0]:
             raise TimeoutError("nothing came in time")
 
 
 def message_of(connection):
-    """All that the peer writes, up to its end; None where that is too long."""
+    """The message that the client writes, up to its end; None if it is too long."""
     parts, length = [], 0
     while part := soon(lambda: os.read(connection, 65536), connection, PATIENCE, nothing):
         parts.append(part)
@@ -196,8 +197,8 @@ def message_of(connection):
 
 
 def answer(connection, sign):
-    """One message, and its signature, over a bare descriptor: to make a socket of it takes as long as to sign. A peer that fails costs no
-    more than its own connection."""
+    """Reads one message and writes its signature, over a bare descriptor: a socket object takes as long to make as a signature. A client that
+    fails loses only its own connection."""
     try:
         os.set_blocking(connection, False)
         message = message_of(connection)
@@ -213,8 +214,10 @@ def answer(connection, sign):
 
 
 def listen(path):
-    """A socket at a path that nobody listens at, for its owner alone."""
+    """Listens at a path where no process listens, for its owner only. It locks the folder meanwhile, so that of several signers only one starts."""
     listener = socket.socket(socket.AF_UNIX)
+    folder = os.open(os.path.dirname(path) or ".", os.O_RDONLY | os.O_DIRECTORY)
+    fcntl.flock(folder, fcntl.LOCK_EX)
     if os.path.exists(path):
         probe = socket.socket(socket.AF_UNIX)
         if probe.connect_ex(path) == 0:
@@ -224,12 +227,13 @@ def listen(path):
     listener.bind(path)
     os.umask(mask)
     listener.listen(128)
+    os.close(folder)
     listener.setblocking(False)
     return listener
 
 
 def handed_over():
-    """The socket that systemd made, and listens at until somebody comes."""
+    """The socket that systemd made, and listened at until a client connected."""
     if (os.environ.get("LISTEN_PID"), os.environ.get("LISTEN_FDS")) != (str(os.getpid()), "1"):
         sys.exit("no socket was handed over: --inherited is for a unit of systemd with a socket")
     listener = socket.socket(fileno=HANDED_OVER)
@@ -246,7 +250,7 @@ def serve(listener, sign, draw):
 
 
 def share(count):
-    """Starts so many processes in all, each of which ends where the first does. Whether this is the first."""
+    """Forks until there are so many processes, which all end with the first; returns whether this is the first."""
     for _ in range(count - 1):
         if os.fork() == 0:
             # PR_SET_PDEATHSIG (prctl(2)).

@@ -1,9 +1,9 @@
-# Completion of the command `desk` in bash. Which commands and options there are is asked of the installed program, by its --help.
+# Completion of the command `desk` in bash. The commands and options come from --help of the installed program.
 
 _desk() {
     local cur=${COMP_WORDS[COMP_CWORD]} previous=${COMP_WORDS[COMP_CWORD - 1]} at=1 program help value
     program=$(type -P desk) || return
-    # The command stands behind --why, where that comes first.
+    # The command may follow --why.
     [ "${COMP_WORDS[1]}" != --why ] || at=2
     if [ "$COMP_CWORD" -le "$at" ]; then
         help=$("$program" --help)
@@ -11,7 +11,7 @@ _desk() {
         return
     fi
     help=$("$program" "${COMP_WORDS[at]}" --help 2>/dev/null) || return
-    # What the option before wants: a moment is the machine's, a file or a socket is looked for, an algorithm is one that the help names, a number is the caller's.
+    # The value of the option before: the current moment, a path, or an algorithm that the help names. Numbers are not completed.
     value=$(sed -n "s/^ *\(-., \)\?$previous <\([A-Z=]*\)>.*/\2/p" <<<"$help")
     case $previous:$value in
     --*:MOMENT) mapfile -t COMPREPLY < <(compgen -W "$(date -u +%Y-%m-%dT%H:%M:%SZ)" -- "$cur") ;;

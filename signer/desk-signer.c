@@ -4,14 +4,17 @@
 #include <fcntl.h>
 #include <getopt.h>
 #include <grp.h>
+#include <libgen.h>
 #include <malloc.h>
 #include <poll.h>
 #include <pwd.h>
+#include <sched.h>
 #include <signal.h>
 #include <stdatomic.h>
 #include <stdio.h>
 #include <stdlib.h>
 #include <string.h>
+#include <sys/file.h>
 #include <sys/mman.h>
 #include <sys/prctl.h>
 #include <sys/resource.h>
@@ -30,8 +33,10 @@
 enum { CONNECTIONS = 256, MOST_PROCESSES = 256, SMALL = 1024, HANDED_OVER = 3, HEAP = 1 << 17, STACK = 1 << 16 };
 /* All messages together have at most MOST_BUFFERED octets; of one at most ROUND are read before the others' turn. */
 static const size_t LONGEST_MESSAGE = (size_t)64 << 20, MOST_BUFFERED = (size_t)512 << 20, ROUND = (size_t)1 << 20;
-/* A client that has just connected is looked for during LOOK before the process sleeps: to be woken takes longer. */
-static const long long SECOND = 1000000000, PATIENCE = 10 * SECOND, LOOK = 50000;
+static const long long SECOND = 1000000000, PATIENCE = 10 * SECOND;
+/* For so long a process polls for the message of a new client, or for the next client, before it sleeps: to be woken takes longer. */
+static const long long MESSAGE_DUE = 50000;
+static long long client_due = 300000;
 
 static const char usage[] =
     "Usage: desk-signer [OPTION ..] KEY SOCKET        signs at a Unix socket, which it creates with mode 0600\n"
@@ -44,7 +49,8 @@ static const char usage[] =
     "  --processes N            so many processes serve the socket\n"
     "  --rate N                 at most N signatures a second, evenly spaced; further connections wait\n"
     "  --user NAME              become this user, when the key is read and the socket is there\n"
-    "  --allow-swap             go on if the memory can't be locked\n";
+    "  --allow-swap             go on if the memory can't be locked\n"
+    "  --fresh-nonces           draw no nonces ahead, since this machine's memory may be copied\n";
 
 struct connection {
     int socket;
@@ -55,8 +61,8 @@ struct connection {
 };
 
 /* What the command line says: of each option its value, "" if it takes none. The number of a flag is FLAGS at least. */
-enum { ONLY_OURS, RESPONDER, PASSPHRASE_FILE, USER, PROCESSES, RATE, FLAGS, INHERITED = FLAGS, ALLOW_SWAP, OPTIONS };
-static const char *const names[OPTIONS] = {"only-ours", "responder", "passphrase-file", "user", "processes", "rate", "inherited", "allow-swap"};
+enum { ONLY_OURS, RESPONDER, PASSPHRASE_FILE, USER, PROCESSES, RATE, FLAGS, INHERITED = FLAGS, ALLOW_SWAP, FRESH_NONCES, OPTIONS };
+static const char *const names[OPTIONS] = {"only-ours", "responder", "passphrase-file", "user", "processes", "rate", "inherited", "allow-swap", "fresh-nonces"};
 static const char *options[OPTIONS], *key_name, *path;
 static long processes = 1, rate;
 
@@ -72,9 +78,12 @@ static struct stat socket_file;
 /* The first `count` of `open_ones` are open. */
 static struct connection connections[CONNECTIONS], *open_ones[CONNECTIONS];
 static size_t count, buffered;
-static long long last_arrival;
-/* When the next signature may be made, for all processes. */
-static _Atomic long long *next_signature;
+/* When this process accepted a connection and ended one, and how long before the last arrival any of the processes had ended one. */
+static long long last_arrival, last_end, last_gap = PATIENCE;
+/* For all processes: when the next signature may be made, and when a connection ended. */
+static struct shared {
+    _Atomic long long next_signature, last_end;
+} *shared;
 static volatile sig_atomic_t ended;
 
 /* Another signer may have its socket there by now. */
@@ -103,6 +112,8 @@ static void end_connection(struct connection *it) {
     }
     open_ones[at] = open_ones[--count];
     open_ones[count] = it;
+    last_end = nanoseconds();
+    atomic_store(&shared->last_end, last_end);
 }
 
 static void fail(struct connection *it, const char *why) {
@@ -168,6 +179,7 @@ static void open_connection(int socket) {
     it->socket = socket;
     it->is_complete = false;
     it->arrived = last_arrival = nanoseconds();
+    last_gap = last_arrival - atomic_load(&shared->last_end);
     it->message = it->small;
     it->length = 0;
     it->room = SMALL;
@@ -196,8 +208,8 @@ static void accept_connection(void) {
 static bool take_turn(long long now) {
     if (rate == 0)
         return true;
-    long long next = atomic_load(next_signature);
-    return next <= now && atomic_compare_exchange_strong(next_signature, &next, now + SECOND / rate);
+    long long next = atomic_load(&shared->next_signature);
+    return next <= now && atomic_compare_exchange_strong(&shared->next_signature, &next, now + SECOND / rate);
 }
 
 static void answer(struct connection *it) {
@@ -214,26 +226,35 @@ static void answer(struct connection *it) {
         errx(1, "the token gives no more signatures");
 }
 
-/* How long to wait for clients: up to the next signature, or to the end of a client's time. */
-static long long wait_time(void) {
-    const struct connection *waiting = oldest(true), *slow = oldest(false);
-    long long now = nanoseconds(), at = slow ? slow->arrived + PATIENCE : now + PATIENCE, turn = waiting ? atomic_load(next_signature) : at;
-    if (slow && now - last_arrival < LOOK)
-        return 0;
-    at = turn < at ? turn : at;
+/* How long to wait for clients: up to the next signature, or to the end of a client's time, or until nonces are forgotten. */
+static long long wait_time(long long now, const struct connection *slow) {
+    long long at = slow ? slow->arrived + PATIENCE : now + PATIENCE, forgets = last_end + SECOND;
+    if (oldest(true) && atomic_load(&shared->next_signature) < at)
+        at = atomic_load(&shared->next_signature);
+    if (signer.drawn > 0 && forgets < at)
+        at = forgets;
     return at > now ? at - now : 0;
 }
 
 /* Waits for clients; of one whose signature must wait, only that it disconnects. */
 static void wait_for_clients(const sigset_t *signals) {
     struct pollfd polled[CONNECTIONS + 1];
-    long long wait = wait_time();
+    const struct connection *slow = oldest(false);
+    long long now = nanoseconds();
+    bool is_message_due = slow && now - last_arrival < MESSAGE_DUE, is_client_due = last_gap < client_due && now - last_end < client_due;
+    bool draws = !is_message_due && wants_nonce(&signer) && now - last_end < SECOND;
+    long long wait = is_message_due || is_client_due || draws ? 0 : wait_time(now, slow);
     struct timespec timeout = {wait / SECOND, wait % SECOND};
     size_t polled_count = count;
-    polled[count] = (struct pollfd){count < CONNECTIONS || oldest(false) ? listener : -1, POLLIN, 0};
+    polled[count] = (struct pollfd){count < CONNECTIONS || slow ? listener : -1, POLLIN, 0};
     for (size_t i = 0; i < count; i++)
         polled[i] = (struct pollfd){open_ones[i]->socket, open_ones[i]->is_complete ? 0 : POLLIN, 0};
-    if (ppoll(polled, polled_count + 1, &timeout, signals) <= 0)
+    int ready = ppoll(polled, polled_count + 1, &timeout, signals);
+    if (ready == 0 && draws)
+        draw_nonce(&signer);
+    else if (ready == 0 && now - last_end >= SECOND)
+        forget_nonces(&signer);
+    if (ready <= 0)
         return;
     for (size_t i = polled_count; i-- > 0;) {
         if (polled[i].revents && open_ones[i]->is_complete)
@@ -257,6 +278,10 @@ static bool has_other_ended(void) {
 
 static void serve(const sigset_t *signals) {
     struct connection *it;
+    cpu_set_t processors;
+    /* On the only processor, polling would keep the client from running. */
+    if (sched_getaffinity(0, sizeof processors, &processors) == 0 && CPU_COUNT(&processors) == 1)
+        client_due = 0;
     for (size_t i = 0; i < CONNECTIONS; i++)
         open_ones[i] = &connections[i];
     while (!ended) {
@@ -271,6 +296,20 @@ static void serve(const sigset_t *signals) {
 }
 
 /* The socket */
+
+/* Locks the socket's folder, so that of signers that start at one path only one finds that nobody listens there. */
+static int lock_folder(struct sockaddr_un address) {
+    int folder = open(dirname(address.sun_path), O_RDONLY | O_DIRECTORY | O_CLOEXEC);
+    long long until = nanoseconds() + PATIENCE;
+    if (folder < 0)
+        err(1, "%s", path);
+    while (flock(folder, LOCK_EX | LOCK_NB) != 0) {
+        if (errno != EWOULDBLOCK || nanoseconds() > until)
+            err(1, "%s: its folder can't be locked", path);
+        (void)poll(NULL, 0, 5);
+    }
+    return folder;
+}
 
 /* Removes a socket at which nobody listens. */
 static void remove_stale(const struct sockaddr_un *address) {
@@ -293,6 +332,7 @@ static void listen_at_path(void) {
     if (strlen(path) >= sizeof address.sun_path)
         errx(1, "%s: a socket's path has at most %zu characters", path, sizeof address.sun_path - 1);
     memcpy(address.sun_path, path, strlen(path));
+    int folder = lock_folder(address);
     remove_stale(&address);
     (void)umask(0177);
     listener = socket(AF_UNIX, SOCK_STREAM | SOCK_CLOEXEC | SOCK_NONBLOCK, 0);
@@ -301,6 +341,7 @@ static void listen_at_path(void) {
     created = open(path, O_PATH | O_NOFOLLOW | O_CLOEXEC);
     if (created < 0 || fstat(created, &socket_file) != 0 || !S_ISSOCK(socket_file.st_mode) || listen(listener, SOMAXCONN) != 0)
         err(1, "%s", path);
+    (void)close(folder);
 }
 
 static void inherit_listener(void) {
@@ -408,7 +449,7 @@ static void load_key(void) {
     char why[REASON];
     EVP_PKEY *key = read_key(key_name, options[PASSPHRASE_FILE] ? passphrase : NULL, why);
     OPENSSL_cleanse(passphrase, sizeof passphrase);
-    if (key == NULL || !use_key(&signer, key, why))
+    if (key == NULL || !use_key(&signer, key, !options[FRESH_NONCES], why))
         errx(1, "%s: %s", key_name, why);
     if (options[ONLY_OURS] && !verify_by(&signer, options[RESPONDER] ? &responder : &issuer, why))
         errx(1, "%s: %s", options[options[RESPONDER] ? RESPONDER : ONLY_OURS], why);
@@ -512,8 +553,8 @@ int main(int argc, char **argv) {
     if (!serves)
         return puts(signer.algorithm) < 0;
     block_signals(&signals);
-    next_signature = mmap(NULL, sizeof *next_signature, PROT_READ | PROT_WRITE, MAP_SHARED | MAP_ANONYMOUS, -1, 0);
-    if (next_signature == MAP_FAILED || atexit(remove_socket) != 0)
+    shared = mmap(NULL, sizeof *shared, PROT_READ | PROT_WRITE, MAP_SHARED | MAP_ANONYMOUS, -1, 0);
+    if (shared == MAP_FAILED || atexit(remove_socket) != 0)
         err(1, "out of memory");
     path ? listen_at_path() : inherit_listener();
     start_processes(reads_each);

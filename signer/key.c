@@ -123,7 +123,16 @@ static EVP_PKEY_CTX *context_of(EVP_PKEY *key, int (*begin)(EVP_PKEY_CTX *), con
     return NULL;
 }
 
-bool use_key(struct signer *signer, EVP_PKEY *key, char *why) {
+/* For nonces to be drawn ahead; none for a key in a token. */
+static EC_KEY *drawing_key(EVP_PKEY *key) {
+    EC_KEY *it = EVP_PKEY_get_base_id(key) == EVP_PKEY_EC ? EVP_PKEY_get1_EC_KEY(key) : NULL;
+    if (it == NULL || EC_KEY_get_method(it) == EC_KEY_OpenSSL())
+        return it;
+    EC_KEY_free(it);
+    return NULL;
+}
+
+bool use_key(struct signer *signer, EVP_PKEY *key, bool draws_ahead, char *why) {
     const char *digest;
     *signer = (struct signer){.key = key, .algorithm = algorithm_of(key, &digest)};
     if (signer->algorithm == NULL) {
@@ -133,6 +142,7 @@ bool use_key(struct signer *signer, EVP_PKEY *key, char *why) {
     signer->digest = digest ? EVP_MD_fetch(NULL, digest, NULL) : NULL;
     signer->digesting = EVP_MD_CTX_new();
     signer->signing = signer->digest ? context_of(key, EVP_PKEY_sign_init, signer->digest) : NULL;
+    signer->drawing = draws_ahead ? drawing_key(key) : NULL;
     if (signer->digesting && (signer->signing || !digest))
         return true;
     explain(why, "libcrypto doesn't sign with this key");
@@ -152,14 +162,53 @@ bool verify_by(struct signer *signer, const struct issuer *issuer, char *why) {
     return false;
 }
 
+bool wants_nonce(const struct signer *signer) {
+    return signer->drawing && signer->drawn < NONCES;
+}
+
+static void forget(struct nonce *nonce) {
+    BN_clear_free(nonce->inverse);
+    BN_clear_free(nonce->r);
+    *nonce = (struct nonce){NULL, NULL};
+}
+
+void forget_nonces(struct signer *signer) {
+    while (signer->drawn > 0)
+        forget(&signer->nonces[--signer->drawn]);
+}
+
+/* If one can't be drawn, the key draws no more. */
+void draw_nonce(struct signer *signer) {
+    struct nonce *next = &signer->nonces[signer->drawn];
+    if (ECDSA_sign_setup(signer->drawing, NULL, &next->inverse, &next->r) == 1) {
+        signer->drawn++;
+        return;
+    }
+    ERR_clear_error();
+    forget_nonces(signer);
+    signer->drawing = NULL;
+}
+
+/* With a nonce that was drawn ahead. */
+static bool sign_with_nonce(struct signer *signer, struct octets digest, unsigned char *signature, size_t *length) {
+    struct nonce *nonce = &signer->nonces[--signer->drawn];
+    unsigned got = 0;
+    bool is_signed = ECDSA_sign_ex(0, digest.begin, (int)digest.length, signature, &got, nonce->inverse, nonce->r, signer->drawing) == 1;
+    forget(nonce);
+    *length = got;
+    return is_signed;
+}
+
 /* By ECDSA and RSA: the message is digested once. */
 static size_t sign_digest(struct signer *signer, struct octets message, unsigned char *signature, bool *is_verified) {
     unsigned char digest[EVP_MAX_MD_SIZE];
     unsigned digest_length = 0;
     size_t length = LONGEST_SIGNATURE;
     if (EVP_DigestInit_ex2(signer->digesting, signer->digest, NULL) != 1 || EVP_DigestUpdate(signer->digesting, message.begin, message.length) != 1 ||
-        EVP_DigestFinal_ex(signer->digesting, digest, &digest_length) != 1 ||
-        EVP_PKEY_sign(signer->signing, signature, &length, digest, digest_length) != 1)
+        EVP_DigestFinal_ex(signer->digesting, digest, &digest_length) != 1)
+        return 0;
+    if (signer->drawn > 0 ? !sign_with_nonce(signer, (struct octets){digest, digest_length}, signature, &length)
+                          : EVP_PKEY_sign(signer->signing, signature, &length, digest, digest_length) != 1)
         return 0;
     *is_verified = !signer->verifying || EVP_PKEY_verify(signer->verifying, signature, length, digest, digest_length) == 1;
     return length;

@@ -12,7 +12,7 @@
    FAULTS_LOSE_FILES=1     so are files that were made since their folder was last synced.
    FAULTS_ONLY=WHAT ..     limits all this, but the clock and allocations, to descriptors and paths: `stdin`, `stdout`, `stderr`, `socket`,
                            `file`, or how the path ends (`ca.db-wal`), parted by commas.
-   FAULTS_SLOW_CHMOD=N     a change of a path's mode is done N milliseconds after it is called.
+   FAULTS_SLOW_CHMOD=PATH  chmod(2) waits until the file PATH is there, for a minute at most.
    FAULTS_SAME=1           what the system draws at random is the same at each run, and so are the bytes of files.
    FAULTS_QUICK=1          a sync is told as done without waiting for the disk.
    FAULTS_COUNT=PATH       keeps in PATH how many calls of each kind there were, in the order of `names`, the steps that FAULTS_STOP counts,
@@ -55,9 +55,9 @@ void *__libc_memalign(size_t, size_t);
 static int ready, begun;
 static uint64_t counted_here[COUNTS], *counts = counted_here, *passed;
 static struct { uint64_t from; int after, error; } fails[KINDS];
-static uint64_t stop_at, most, lose, slow_chmod;
+static uint64_t stop_at, most, lose;
 static int torn, lose_files, same, quick;
-static const char *only;
+static const char *only, *slow_chmod;
 
 /* What is told. */
 
@@ -120,7 +120,7 @@ __attribute__((constructor)) static void at_first(void) {
     const char *path = getenv("FAULTS_COUNT");
     read_fails(getenv("FAULTS_FAIL"));
     stop_at = number("FAULTS_STOP"), most = number("FAULTS_SHORT"), lose = number("FAULTS_LOSE");
-    slow_chmod = number("FAULTS_SLOW_CHMOD");
+    slow_chmod = getenv("FAULTS_SLOW_CHMOD");
     torn = number("FAULTS_TORN") != 0, lose_files = number("FAULTS_LOSE_FILES") != 0, same = number("FAULTS_SAME") != 0;
     quick = number("FAULTS_QUICK") != 0;
     only = getenv("FAULTS_ONLY");
@@ -477,8 +477,8 @@ static int stays(enum kind kind, const char *path) {
 }
 
 int chmod(const char *path, mode_t mode) {
-    if (slow_chmod)
-        usleep(slow_chmod * 1000);
+    for (int at = 0; slow_chmod && at < 6000 && syscall(SYS_faccessat, AT_FDCWD, slow_chmod, F_OK); at++)
+        usleep(10000);
     return syscall(SYS_fchmodat, AT_FDCWD, path, mode);
 }
 

@@ -1,12 +1,12 @@
 #!/usr/bin/env python3
-"""Draws docs/architecture.svg: the crates as boxes in their layers, which crate uses which, and what flows between the layers.
+"""Draws docs/architecture.svg: the crates as boxes in their layers, the uses between crates, and the data that flows between the layers.
 
 Usage: tools/architecture.py           writes the file
        tools/architecture.py --check   exits with 1 if the file is not what this would draw (tools/pages.py checks the same)
 
 The uses are those of crates.txt, the layers those of the table "The crates" in docs/ARCHITECTURE.md, in its order. A use is drawn if it stays within a row or
-leads to the next one, does not follow from other uses, and would not pass behind another box. ROWS says which layers stand side by side; FLOWS and OUTSIDE,
-what flows."""
+leads to the next one, does not follow from other uses, and would not pass behind another box. ROWS has the layers of each row; FLOWS and OUTSIDE have the
+data flows."""
 import re
 import sys
 from pathlib import Path
@@ -43,7 +43,7 @@ STYLES = (
 
 
 def uses():
-    """What each crate uses, of this repository, without what follows from other uses."""
+    """For each crate the crates of this repository that it uses, without those that follow from other uses."""
     lines = (line.split(":") for line in (TOP / "crates.txt").read_text(encoding="utf-8").splitlines() if line and not line.startswith("#"))
     direct = {name: [it for it in rest.split() if it.startswith("reg_")] for name, rest in lines}
     below = {}

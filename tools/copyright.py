@@ -17,7 +17,7 @@ def text_of(path):
 
 
 def linked(kit):
-    """The kit's crates that the program uses: by crates.txt, and by what the kit says of each."""
+    """The kit's crates that the program uses, from crates.txt and the kit's own descriptions."""
     ours = dict(line.split(":", 1) for line in text_of("crates.txt").splitlines() if re.match(r"\w+:", line))
     found, left = [], ["reg_desk", "std"]
     while left:

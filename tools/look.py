@@ -37,7 +37,7 @@ COMPILE = """
 
 
 class Lacks(Exception):
-    """This toolchain lacks something; the text says what."""
+    """The toolchain lacks something, which the text names."""
 
 
 class Refused(Exception):
@@ -49,7 +49,7 @@ def tell(text):
 
 
 def stamp():
-    """Identifies what an unproved program is made of: the toolchain, this tool and the sources, but no definitions or proofs."""
+    """Identifies the inputs of an unproved program: the toolchain, this tool and the sources, but no definitions or proofs."""
     digest = hashlib.sha256()
     for path in [TOP / "tools/look.py", TOP / "crates.txt", *sorted(TOP.glob("crates/*/src/**/*.rt"))]:
         digest.update(f"{path.relative_to(TOP)} {hashlib.sha256(path.read_bytes()).hexdigest()}\n".encode())

@@ -1,8 +1,8 @@
 #!/usr/bin/env bash
-# Makes a Debian package of the program, in the folder that is given (out/package): the program with its launcher, the manual pages desk(1) and
+# Makes a Debian package of the program, in the given folder (out/package by default): the program with its launcher, the manual pages desk(1) and
 # desk-script(5), units of systemd that serve a register, sign for it, issue and publish its CRLs, completion for bash, the board, the office view, documents and examples;
 # and the native signer, if libcrypto can be linked here (Debian: libssl-dev).
-# The program is built first, where it is not built yet or is older than its sources. Prints the package's path.
+# Builds the program first if it is not built yet or is older than its sources. Prints the package's path.
 #
 # Usage, from the repository's root: tools/package.sh [FOLDER]
 set -euo pipefail
@@ -36,14 +36,14 @@ native=$root/usr/lib/durshavon/desk-signer libcrypto=
 if echo '#include <openssl/evp.h>' | cc -E -x c - >/dev/null 2>&1; then
     make -s -C signer CFLAGS=-O2 OUT="$native"
     chmod 0755 "$native"
-    put 0644 packaging/native-signer.conf usr/lib/durshavon/native-signer.conf
-    put 0644 packaging/native-responder.conf usr/lib/durshavon/native-responder.conf
+    put 0644 packaging/native-signer.conf lib/systemd/system/desk-signer@.service.d/native.conf
+    put 0644 packaging/native-responder.conf lib/systemd/system/desk-responder@.service.d/native.conf
     libcrypto=", $(dpkg-query -S '*/libcrypto.so.3' | sed 's/:.*//' | head -n 1)"
 else
     echo "tools/package.sh: the package is without desk-signer: apt install libssl-dev" >&2
     native=$program
 fi
-# The newest version of glibc that a function of the programs is of.
+# The newest version of glibc that the programs need.
 glibc=$(grep -aohE 'GLIBC_[0-9]+\.[0-9]+' "$program" "$native" | sed 's/GLIBC_//' | sort -uV | tail -n 1)
 put 0755 packaging/desk usr/bin/desk
 tools/version.sh >"$root/usr/lib/durshavon/version"
@@ -83,7 +83,7 @@ for name in first-day.txt first-day.replies.txt certificates.csv nginx.conf aler
     put 0644 "examples/$name" "$documents/examples/$name"
 done
 
-# The program is packed byte for byte as it was built and run, with its symbols.
+# The package has the program byte for byte as it was built and run, with its symbols.
 mkdir -p "$root/usr/share/lintian/overrides"
 echo 'durshavon: unstripped-binary-or-object' >"$root/usr/share/lintian/overrides/durshavon"
 

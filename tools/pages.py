@@ -25,7 +25,7 @@ def miss(page, what):
 
 
 def uses():
-    """What each crate uses, of this repository, as crates.txt has it."""
+    """For each crate the crates of this repository that it uses, from crates.txt."""
     rows = (line.split(":") for line in text("crates.txt").splitlines() if line and not line.startswith("#"))
     return {name: {it for it in rest.split() if it.startswith("reg_")} for name, rest in rows}
 

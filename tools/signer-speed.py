@@ -1,5 +1,5 @@
 #!/usr/bin/env python3
-"""Measures signers as the desk asks them: a connection for each signature, over a message as long as an OCSP answer's, one after the other or N at once.
+"""Measures signers with requests like the desk's: a connection for each signature, a message as long as that of an OCSP answer, one by one or N at once.
 
     tools/signer-speed.py 'signer/desk-signer ca.key' 'examples/signer.py ca.key'
 
@@ -53,7 +53,7 @@ def asked(path, message):
 
 
 def signatures(path, message, count):
-    """So many signatures, all of which are asked for before the first is read."""
+    """Requests so many signatures, and only then reads the first."""
     for peer in [asked(path, message) for _ in range(count)]:
         with peer:
             answer = b""

@@ -1,5 +1,5 @@
 #!/usr/bin/env python3
-"""Removes what a build leaves in crates/*/out, except the program and as many of its libraries as fit into 2 GB. `./desk build` runs it, unless --keep is given.
+"""Removes the files of builds in crates/*/out, except the program and as many of its libraries as fit into 2 GB. `./desk build` runs it, unless --keep is given.
 
     What is in out/                  What needs it
     reg_desk, reg_desk.stamp         ./desk WORD, tests/run --proved, tools/package.sh: only the program

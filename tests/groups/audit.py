@@ -1,5 +1,5 @@
-"""`desk audit`: a sound register is found sound; a copy that is broken by one statement is told by its table and row, with status 1; an audit leaves
-each file as it was, whatever lies there, and makes none."""
+"""`desk audit` reports a sound register as sound. It reports a copy that one statement of SQL broke by its table and row, with status 1. An audit
+changes and creates no file."""
 
 import os
 import shutil
@@ -17,10 +17,10 @@ FIRST_DAY = (program.TOP / "examples/first-day.txt").read_text()
 TABLES = ("cert", "request", "revocation", "standing", "listed")
 # A serial number of one byte, in each table that has it.
 RENAMED = "; ".join(f"UPDATE {table} SET serial = x'05'" for table in TABLES)
-# What is told of a row that its rowid does not count.
+# The report about a row whose rowid is wrong.
 MOVED = "its number is not one more than that before it"
 
-# What is done to the register of a first day, and what is told of the file.
+# A change of the register of a first day, and the report about the file.
 BROKEN = {
     "a letter": ("UPDATE standing SET state = 'G' WHERE rowid = 1", "standing 1"),
     "a letter that is none": ("UPDATE standing SET state = 'Q' WHERE rowid = 1", "standing 1"),
@@ -63,7 +63,7 @@ BROKEN = {
     "a column besides": ("ALTER TABLE crl ADD COLUMN note TEXT", "schema: "),
     "a column of another name": ("ALTER TABLE subscriber RENAME COLUMN name TO label", "schema: "),
 }
-# Over two certificates of which one is revoked and on CRL 1: a statement, and the line that is told.
+# With two certificates, one of them revoked and on CRL 1: a statement, and the reported line.
 TOLD = [
     ("UPDATE subscriber SET name = ''", "subscriber 1: a value that no register writes, or no such row"),
     ("UPDATE orders SET days = -1 WHERE id = 2", "orders 2: a value that no register writes, or no such row"),
@@ -136,7 +136,7 @@ def asked(order, received):
     return f"INSERT INTO request SELECT 5, serial, 1, {received}, 0 FROM cert WHERE order_id = {order}"
 
 
-# What no run of commands leaves: the lines of the register, a statement, and what is told.
+# States that no run of commands leaves: the lines of the register, a statement, and the report.
 UNREACHED = [
     (AGREED, "UPDATE subscriber SET name = 'a b' WHERE id = 1", f"subscriber 1: {NAMED}"),
     (AGREED, "UPDATE subscriber SET name = 'globex!' WHERE id = 2", f"subscriber 2: {NAMED}"),
@@ -188,7 +188,7 @@ UNREACHED = [
     (A_CRL, "UPDATE office SET days = -1", f"office 1: {ALLOWED}"),
     ("", "UPDATE office SET days = 9223372036854775807", f"office 1: {ALLOWED}"),
 ]
-# What some run leaves, or no table tells: another schedule came after, a moment that has no column.
+# States that some run leaves, or that no table shows: a later schedule, a moment without a column.
 REACHED = [
     (AGREED, "UPDATE subscriber SET name = 'A-b_c.9' WHERE id = 1"),
     (AGREED, "UPDATE orders SET days = 398"),
@@ -204,7 +204,7 @@ REACHED = [
     (ONE_SECOND, "UPDATE orders SET days = 11"),
     ("", "UPDATE longest SET days = 2"),
 ]
-# What no command opens: a row that refers to none, or breaks a CHECK.
+# Registers that no command opens: a row with a broken reference or a broken CHECK.
 DAMAGED = {
     "a certificate whose order is missing": "DELETE FROM orders",
     "an order whose subscriber is missing": "DELETE FROM subscriber",
@@ -213,7 +213,7 @@ DAMAGED = {
     "a revocation on another request": "UPDATE revocation SET request = 2",
     "a second row of counts": "PRAGMA ignore_check_constraints = 1; UPDATE kept SET one = 2",
 }
-# What a command that opens a file tells of the office and the schedule.
+# The report of a command that opens the file, about the office and the schedule.
 NO_OFFICE = {
     "a cap of 0": "UPDATE office SET cap = 0",
     "an empty key": "UPDATE office SET pubkey = x''",
@@ -260,7 +260,7 @@ def alter(t, statements, file="ca.db"):
 
 
 def audited(t, file="ca.db", *words):
-    """The exit status, what was printed and what was told; no file is another afterwards, and none is more."""
+    """The exit status, standard output and standard error of an audit, which must change and create no file."""
     with t.untouched("the audit"):
         ran = t.desk("audit", file, *words)
     return ran.status, ran.out.decode(), ran.err.decode()
@@ -278,7 +278,7 @@ def a_sound_register_is_found_sound(t, lines):
 
 
 @each(BROKEN)
-def a_broken_row_is_told(t, statements, row):
+def a_broken_row_is_reported(t, statements, row):
     made(t, FIRST_DAY)
     alter(t, statements)
     status, printed, told = audited(t)
@@ -304,7 +304,7 @@ def each_broken_row_has_its_line(t, statement, line):
 
 
 @each({f"{statement} of {len(lines.splitlines())} lines": (lines, statement, line) for lines, statement, line in UNREACHED})
-def what_no_run_leaves_is_told(t, lines, statement, line):
+def a_state_that_no_run_leaves_is_reported(t, lines, statement, line):
     made(t, lines)
     t.same(audited(t), (0, sound(t), ""))
     alter(t, statement)
@@ -312,7 +312,7 @@ def what_no_run_leaves_is_told(t, lines, statement, line):
 
 
 @each({f"{statement} of {len(lines.splitlines())} lines": (lines, statement) for lines, statement in REACHED})
-def what_some_run_leaves_is_sound(t, lines, statement):
+def a_state_that_a_run_can_leave_is_sound(t, lines, statement):
     made(t, lines)
     alter(t, statement)
     t.same(audited(t), (0, sound(t), ""))
@@ -330,7 +330,7 @@ def each_octet_before_the_signature_counts(t):
 
 
 @each(DAMAGED)
-def what_refers_to_none_or_breaks_a_check_is_damaged(t, statements):
+def a_broken_reference_or_check_is_damage(t, statements):
     made(t, FIRST_DAY)
     alter(t, statements)
     t.same(audited(t, "ca.db", "--why"), (1, "", "F2 store\n  damaged\n"))
@@ -344,7 +344,7 @@ def an_office_out_of_its_ranges_is_no_register(t, statements):
 
 
 def values(der, start, end):
-    """Where the values in DER stand (X.690 8.1): the tag's place, that of the contents, and the end of each."""
+    """The offsets of the values in DER (X.690 8.1): of each the tag, the contents, and the end."""
     while start < end:
         size, contents = der[start + 1], start + 2
         if size >= 128:
@@ -381,7 +381,7 @@ def parts(der):
 
 
 @each({"CRL 2 of a first day": (FIRST_DAY, 2), "CRL 5 of three months": (None, 5)}, seconds=3)
-def a_bit_of_a_crl_s_bytes_is_told(t, lines, number):
+def a_changed_bit_of_a_crl_is_reported(t, lines, number):
     made(t, lines or days())
     der, before = (t.sql("ca.db", "SELECT der FROM crl WHERE number = ?", it)[0][0] for it in (number, number - 1))
     breaks = {"no bytes": b"", "bytes of the CRL before": before, "bytes that end before": der[:-1], "a byte more": der + b"\0"}
@@ -397,7 +397,7 @@ def a_bit_of_a_crl_s_bytes_is_told(t, lines, number):
 
 
 @test(seconds=2)
-def bytes_of_a_crl_that_end_before(t):
+def a_crl_that_is_cut_short(t):
     made(t, FIRST_DAY)
     der = t.sql("ca.db", "SELECT der FROM crl WHERE number = 2")[0][0]
     for end in [*range(0, len(der), 7), len(der) - 21, len(der) - 20, len(der) - 1]:
@@ -406,7 +406,7 @@ def bytes_of_a_crl_that_end_before(t):
 
 
 @test
-def other_files_are_told(t):
+def other_files_are_reported(t):
     made(t, FIRST_DAY, "newer.db")
     alter(t, "UPDATE office SET version = 4", "newer.db")
     t.same(audited(t, "newer.db"), (1, "", "new-version\n"))
@@ -447,25 +447,25 @@ def a_file_of_more_than_50_mb_is_counted_and_found_sound(t):
 # An audit only reads
 
 def left_behind(t, file="ca.db"):
-    """A register whose last revocation lies in its log alone: the desk that had it open was killed. What an audit says of it."""
+    """Makes a register whose last revocation is only in its -wal, because the open desk was killed. Returns the expected audit result."""
     t.register(file, lines=FULL)
     t.clock("2026-01-03T00:00:00Z")
     opened = t.open(file)
-    t.same(t.counter().ask("revoke 2"), "revoked")
+    t.same(t.control().ask("revoke 2"), "revoked")
     opened.end(signal.SIGKILL)
     t.true((t.room / f"{file}-wal").stat().st_size > 4096, "there is a log")
     return "sound, 2 certificates, 2 revoked, 1 CRLs\n"
 
 
 @test
-def what_a_log_has_is_found_and_left_there(t):
+def rows_in_the_wal_are_found_and_stay_there(t):
     told = left_behind(t)
     for _ in range(2):
         t.same(audited(t), (0, told, ""))
     # The file alone is as it was before.
     shutil.copyfile(t.room / "ca.db", t.room / "alone.db")
     t.same(audited(t, "alone.db"), (0, "sound, 2 certificates, 1 revoked, 1 CRLs\n", ""), "the file without its log")
-    # And who opens them to write finds the same.
+    # A command that opens them for writing finds the same.
     t.same(t.done("script", "ca.db", given="2026-01-03T00:00:00Z counts\n"), "good 0 revoked 2 expired 0\n")
 
 
@@ -479,7 +479,7 @@ def no_call_writes(t):
     t.same(count["write"], 0, "writes into the register's files")
 
 
-# What lies at the path, and the line that tells of it.
+# The contents of the path, and the line that reports them.
 OTHERS = {
     "no byte": (b"", "not-a-register"),
     "one byte": (b"x", "not-a-register"),
@@ -493,24 +493,24 @@ OTHERS = {
 
 
 @each(OTHERS)
-def what_is_no_register_stays_as_it_is(t, contents, line):
+def a_file_that_is_no_register_stays_as_it_is(t, contents, line):
     (t.room / "ca.db").write_bytes(contents)
     t.same(audited(t), (1, "", f"{line}\n"))
-    # A log that lies beside it is left too.
+    # A -wal beside it stays too.
     (t.room / "ca.db-wal").write_bytes(bytes(40))
     t.same(audited(t), (1, "", f"{line}\n"), "with a log beside it")
 
 
 @test
-def where_no_file_is_none_is_made(t):
+def no_file_is_created_for_a_missing_register(t):
     t.same(audited(t, "none.db", "--why"), (1, "", "F2 store\n  no such file\n"))
     (t.room / "lost.db-wal").write_bytes(bytes(40))
     t.same(audited(t, "lost.db", "--why"), (1, "", "F2 store\n  no such file\n"), "a log alone")
 
 
 @test(seconds=2)
-def who_may_only_read_may_audit(t):
-    """Another user, of files and a folder that nobody may write."""
+def a_user_who_may_only_read_can_audit(t):
+    """By another user, of files and a folder without write permission."""
     told = left_behind(t)
     for name in ("ca.db", "ca.db-wal"):
         os.chmod(t.room / name, 0o444)
@@ -546,7 +546,7 @@ def eight_at_once_all_succeed(t):
     words = [program.program(), "audit", "ca.db"]
     with t.untouched("eight audits"):
         begun = [subprocess.Popen(words, cwd=t.room, stdout=subprocess.PIPE, stderr=subprocess.PIPE, env=program.environment()) for _ in range(8)]
-        ended = [(*it.communicate(timeout=60 * program.PATIENCE), it.returncode) for it in begun]
+        ended = [(*it.communicate(timeout=program.LONGEST), it.returncode) for it in begun]
     told = f"sound, 2000 certificates, {len(records.revocations)} revoked, {len(records.crls)} CRLs\n".encode()
     t.same(ended, [(told, b"", 0)] * 8)
 

@@ -41,7 +41,7 @@ class Made:
         for when in requests:
             told.append((when, f"request {draw.randrange(1, 161) * 65537:x} {draw.choice(GROUNDS)}"))
         told += [(300 * DAY - hours * HOUR, f"request {serial * 65537:x} misuse") for hours, serial in ((20, 161 - 1), (5, 159), (1, 158))]
-        # A CRL every few days, and twice none for a while; before each one the desk tells when it is due.
+        # A CRL every few days, and twice none for a while; before each one the desk replies when it is due.
         when = 30 * DAY
         while when < 299 * DAY:
             told += [(when, "next-crl"), (when, "crl")]
@@ -75,7 +75,7 @@ def listed(t, file, word):
 
 
 def report(t, *words, status=0):
-    """Runs the script, which is to end so; what it printed."""
+    """Runs the script, which must end with this status; returns its output."""
     ran = t.tried("python3", EXAMPLES / "audit-report.py", *words, env=dict(program.environment(), DESK=program.program()))
     t.same(ran.returncode, status, f"status; it printed {ran.stdout + ran.stderr!r}")
     return (ran.stdout + ran.stderr).decode()
@@ -161,8 +161,8 @@ def its_figures_are_those_of_the_desk(t):
             t.same((row["decided"], row["lateSeconds"]), ("", ""), "nobody knows when it was declined")
     overdue = [row["request"] for row in requests if row["state"] == "open" and row["lateSeconds"] != "0"]
     t.same(overdue, [str(row["request"]) for row in lists["overdue"]], "overdue requests beside their list")
-    t.same(t.counter().ask("overdue"), f"overdue {len(overdue)} first {overdue[0]}", "and beside the query")
-    # CRLs: entries as the desk counted them, bytes as it gives them, due as it told before each.
+    t.same(t.control().ask("overdue"), f"overdue {len(overdue)} first {overdue[0]}", "and beside the query")
+    # CRLs: entries as the desk counted them, bytes as it serves them, due as it replied before each.
     crls = table(t, "all", "crls")
     t.same(columns(crls, "crl", "thisUpdate"), columns(lists["crls"], "crl", "thisUpdate"), "CRLs")
     before = None
@@ -202,7 +202,7 @@ def the_page(t, told, certificates, revocations, requests, crls):
 
 
 def a_part_of_the_time(t, made, url, desk, crls):
-    """A quarter has what is in it, and a gap that began before it is told from its begin on; a closed register gives the same tables."""
+    """A quarter has the rows in it, and reports a gap that began before it from its own begin on. A closed register gives the same tables."""
     day = lambda at: moment_of(at)[:10]
     gap = next(row for row in crls if int(row["gapSeconds"]) > 2 * DAY)
     begin = day(program.seconds_of(gap["thisUpdate"]) - DAY)

@@ -1,6 +1,6 @@
-"""examples/board/index.html in Debian's Chromium with no screen: served by nginx with examples/nginx.conf beside a desk whose register has
-good, revoked and expired certificates and CRLs of forty days. Serial numbers are typed, the buttons are pressed, and what is shown is
-compared. BOARD_PICTURE=FILE.png keeps a picture of it."""
+"""examples/board/index.html in Debian's headless Chromium. nginx serves it with examples/nginx.conf, in front of a desk whose register has
+good, revoked and expired certificates and CRLs of forty days. The test types serial numbers, presses the buttons, and compares the
+contents of the page. BOARD_PICTURE=FILE.png keeps a picture of it."""
 
 import base64
 import json
@@ -169,7 +169,7 @@ def little(t, it, desk, browser):
     desk.end()
     it.register("new.db")
     second = t.open("new.db", "--requests", "1000", "--port", desk.port, command="serve")
-    # What was kept for a second is gone, by the whole seconds of nginx.
+    # The answers that nginx cached for a second have expired; nginx counts whole seconds.
     time.sleep(2.1)
     browser.ask("Page.reload")
     loaded(browser)

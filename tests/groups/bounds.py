@@ -12,7 +12,7 @@ LONGEST = 0x7F << 152
 
 
 def entered(first, last, behind=0):
-    """Lines that order and register certificates whose serial numbers are these numbers behind one, an order each, under subscriber 1."""
+    """Lines that order and register certificates for subscriber 1, each under its own order, whose serial numbers are one and these digits."""
     end = "2026-01-10T00:00:00Z"
     return "".join(f"{DAY} order 1 398\n{DAY} register {at} {behind + at:x} {DAY} {end}\n" for at in range(first, last + 1))
 

@@ -1,6 +1,7 @@
-"""`desk at --revoke`: a file's rows, requested and revoked one after the other at the control socket of an open desk."""
+"""`desk at --revoke` and `desk at --import --orders`: the rows of a file, one after the other, at the control socket of an open desk."""
 
 import contextlib
+import fcntl
 import os
 import pty
 import re
@@ -36,7 +37,16 @@ def rows(t, text):
     return t.desk("at", "counter", "--revoke", "rows.csv")
 
 
-def told(t, *lines):
+def ordering(subscriber=1, days=398):
+    return "--import", "rows.csv", "--orders", str(subscriber), str(days)
+
+
+def ordered(t, text, *terms):
+    (t.room / "rows.csv").write_text(text)
+    return t.desk("at", "counter", *ordering(*terms))
+
+
+def replies_to(t, *lines):
     return t.done("at", "counter", given="".join(f"{it}\n" for it in lines)).splitlines()
 
 
@@ -51,7 +61,7 @@ def each_row_is_requested_and_revoked_in_order(t):
         [f"request {3:040x} key-compromise", f"revoke 1 {3:040x}", f"request {1:040x} superseded", f"revoke 2 {1:040x}"],
         "the lines that were sent",
     )
-    t.same(told(t, "status 01", "status 02", "status 03"), [f"revoked {DAY} reason 4", "good", f"revoked {DAY} reason 1"])
+    t.same(replies_to(t, "status 01", "status 02", "status 03"), [f"revoked {DAY} reason 4", "good", f"revoked {DAY} reason 1"])
 
 
 @test
@@ -61,16 +71,16 @@ def it_is_run_again_and_revokes_nothing_twice(t):
     ran = rows(t, "01,superseded\n02,misuse\n03,superseded\n")
     before = f"E19 revoked-before {DAY}\n"
     t.same((ran.status, ran.out.decode(), ran.err), (0, f"{before}{before}revoked\n", b""))
-    t.same(told(t, "counts"), ["good 1 revoked 3 expired 0"])
+    t.same(replies_to(t, "counts"), ["good 1 revoked 3 expired 0"])
     t.same(t.desk("at", "counter", given="show request 4\n").out, b"E17 no-request\n", "no request more than those of the three")
 
 
 @test
-def refused_rows_are_told_and_the_others_revoked(t):
+def refused_rows_are_reported_and_the_others_revoked(t):
     opened(t)
     ran = rows(t, "01,superseded\n0f,superseded\n02,hold\n03,whim\n04,misuse\n")
     t.same((ran.status, ran.out, ran.err), (3, b"revoked\nE14 unknown-serial\nE15 no-hold\nE16 bad-ground\nrevoked\n", b"refused\n"))
-    t.same(told(t, "counts"), ["good 2 revoked 2 expired 0"])
+    t.same(replies_to(t, "counts"), ["good 2 revoked 2 expired 0"])
 
 
 BROKEN = {
@@ -96,7 +106,7 @@ def a_broken_row_revokes_nothing(t, row):
     first, second, third = ran.out.splitlines()
     t.same((first, third), (b"revoked", b"revoked"))
     t.true(second in (b"E22 syntax", b"E16 bad-ground"), f"the reply to the row is {second!r}")
-    t.same(told(t, "status 02"), ["good"])
+    t.same(replies_to(t, "status 02"), ["good"])
 
 
 PASSED_OVER = {
@@ -120,19 +130,19 @@ def a_last_row_without_its_end_is_not_sent(t, text, *wanted):
     opened(t)
     ran = rows(t, text)
     t.same((ran.status, ran.out, ran.err), wanted)
-    t.same(told(t, "status 02"), ["good"])
+    t.same(replies_to(t, "status 02"), ["good"])
 
 
 @each({
     "no socket": ("none", "rows.csv", (1, b"F4 read\n")),
     "no file": ("counter", "none.csv", (1, b"F4 read\n")),
 })
-def nobody_or_nothing_is_read(t, counter, file, wanted):
+def nobody_or_nothing_is_read(t, control, file, wanted):
     opened(t)
     (t.room / "rows.csv").write_text("01,superseded\n")
-    ran = t.desk("at", counter, "--revoke", file)
+    ran = t.desk("at", control, "--revoke", file)
     t.same((ran.status, ran.err), wanted)
-    t.same(told(t, "status 01"), ["good"])
+    t.same(replies_to(t, "status 01"), ["good"])
 
 
 @test
@@ -144,55 +154,68 @@ def it_is_not_taken_beside_an_import(t):
 @test
 def a_request_that_was_open_already_stays_with_its_certificate(t):
     opened(t)
-    told(t, "request 01 superseded")
+    replies_to(t, "request 01 superseded")
     t.same(rows(t, "01,superseded\n").out, b"revoked\n")
-    t.same([it.split('"state":')[1].split(",")[0] for it in told(t, "show request 1", "show request 2")], ['"revoked"'] * 2)
+    t.same([it.split('"state":')[1].split(",")[0] for it in replies_to(t, "show request 1", "show request 2")], ['"revoked"'] * 2)
 
 
-def begun(t, file="rows.csv"):
-    """A revocation that runs, and its output as it comes."""
+# The replies to so many rows are longer than a pipe of one page: if the test does not read them, the program waits before the last one.
+UNREAD, PAGE = 900, 4_096
+
+
+def begun(t, words=("--revoke", "rows.csv")):
+    """A run over the rows, and its output as it comes, which is held back in a pipe of one page."""
     it = subprocess.Popen(
-        [program.program(), "at", "counter", "--revoke", file], cwd=t.room, stdout=subprocess.PIPE, stderr=subprocess.PIPE, env=program.environment(t._clock)
+        [program.program(), "at", "counter", *words], cwd=t.room, bufsize=0, stdout=subprocess.PIPE, stderr=subprocess.PIPE,
+        env=program.environment(t._clock),
     )
+    fcntl.fcntl(it.stdout, fcntl.F_SETPIPE_SZ, PAGE)
     t.callback(it.kill)
     return it
 
 
+def of_many_rows(t):
+    """A desk with so many certificates, and a file that revokes them all."""
+    desk = opened(t, UNREAD)
+    (t.room / "rows.csv").write_text("".join(f"{it:02x},superseded\n" for it in range(1, UNREAD + 1)))
+    return desk
+
+
 @test(seconds=4)
 def it_is_killed_and_resumed(t):
-    opened(t, 300)
-    (t.room / "rows.csv").write_text("".join(f"{it:02x},superseded\n" for it in range(1, 301)))
+    of_many_rows(t)
     kills = 0
     for count in (1, 40, 90):
         it = begun(t)
         for _ in range(count):
             it.stdout.readline()
         it.kill()
-        it.wait(30)
+        it.wait(program.LONGEST)
         kills += 1
     ran = t.desk("at", "counter", "--revoke", "rows.csv")
-    t.same((ran.status, ran.err, len(ran.lines)), (0, b"", 300))
+    t.same((ran.status, ran.err, len(ran.lines)), (0, b"", UNREAD))
     t.same({it.split()[0] for it in ran.lines}, {"E19", "revoked"}, "those before and those now")
-    t.same(told(t, "counts"), ["good 0 revoked 300 expired 0"])
+    t.same(replies_to(t, "counts"), [f"good 0 revoked {UNREAD} expired 0"])
     # A stop between a row's request and its revocation costs one request more at the most.
-    t.same(t.desk("at", "counter", given=f"show request {300 + kills + 1}\n").out, b"E17 no-request\n")
+    t.same(t.desk("at", "counter", given=f"show request {UNREAD + kills + 1}\n").out, b"E17 no-request\n")
 
 
 @test(seconds=2)
 def a_desk_that_is_lost_ends_it(t):
-    desk = opened(t, 300)
-    (t.room / "rows.csv").write_text("".join(f"{it:02x},superseded\n" for it in range(1, 301)))
+    desk = of_many_rows(t)
     it = begun(t)
     it.stdout.readline()
     desk.end(signal.SIGKILL)
-    t.same((it.wait(30), it.stderr.read() in (b"F4 read\n", b"F5 write\n")), (1, True))
+    # Its replies are read until it ends.
+    it.stdout.read()
+    t.same((it.wait(program.LONGEST), it.stderr.read() in (b"F4 read\n", b"F5 write\n")), (1, True))
     t.open("ca.db")
     t.same(t.desk("at", "counter", "--revoke", "rows.csv").status, 0)
-    t.same(told(t, "counts"), ["good 0 revoked 300 expired 0"])
+    t.same(replies_to(t, "counts"), [f"good 0 revoked {UNREAD} expired 0"])
 
 
 def standing_in(path, replies, pause=0):
-    """A socket that answers each line with the next of these texts, after a pause, and what it heard."""
+    """Answers each line at a socket with the next of these texts, after a pause. Returns the list of received lines, and the thread."""
     heard, listener = [], socket.socket(socket.AF_UNIX)
     listener.bind(str(path))
     listener.listen()
@@ -213,16 +236,16 @@ def standing_in(path, replies, pause=0):
     "to a request": (["request 7 due"], [f"request {1:040x} superseded\n"]),
     "to a revocation": (["request 7 due x\n", "revo"], [f"request {1:040x} superseded\n", f"revoke 7 {1:040x}\n"]),
 })
-def a_reply_that_is_cut_off_is_not_told(t, replies, lines):
+def a_reply_that_is_cut_off_is_not_printed(t, replies, lines):
     (t.room / "rows.csv").write_text("01,superseded\n02,superseded\n")
     heard, thread = standing_in(t.room / "counter", replies)
     ran = t.desk("at", "counter", "--revoke", "rows.csv")
-    thread.join(30)
+    thread.join(program.LONGEST)
     t.same((ran.status, ran.out, ran.err, heard), (1, b"", b"F4 read\n", lines))
 
 
 @test
-def a_revocation_that_is_refused_is_told(t):
+def a_refused_revocation_is_reported(t):
     (t.room / "rows.csv").write_text("01,superseded\n")
     heard, _ = standing_in(t.room / "counter", ["request 7 due x\n", "E18 declined-before\n"])
     ran = t.desk("at", "counter", "--revoke", "rows.csv")
@@ -231,7 +254,7 @@ def a_revocation_that_is_refused_is_told(t):
 
 
 @test(seconds=3)
-def it_tells_on_a_terminal_how_far_it_is(t):
+def it_shows_its_progress_on_a_terminal(t):
     (t.room / "rows.csv").write_text("01,superseded\n" * 4)
     standing_in(t.room / "counter", ["E14 unknown-serial\n"] * 4, pause=0.6)
     ours, theirs = pty.openpty()
@@ -244,7 +267,7 @@ def it_tells_on_a_terminal_how_far_it_is(t):
         while piece := os.read(ours, 4096):
             shown += piece
     os.close(ours)
-    t.same((it.wait(30), (t.room / "replies").read_text()), (3, "E14 unknown-serial\n" * 4))
+    t.same((it.wait(program.LONGEST), (t.room / "replies").read_text()), (3, "E14 unknown-serial\n" * 4))
     t.true(re.search(rb"\d+ lines done, \d+ a second", shown), f"it does not tell how far it is: {shown!r}")
 
 
@@ -252,8 +275,170 @@ def it_tells_on_a_terminal_how_far_it_is(t):
 def ten_thousand_rows(t):
     opened(t, MANY)
     (t.room / "rows.csv").write_text("serial,ground\n" + "".join(f"{it:02x},superseded\n" for it in range(1, MANY + 1)))
-    ran = t.desk("at", "counter", "--revoke", "rows.csv", timeout=300)
+    ran = t.desk("at", "counter", "--revoke", "rows.csv", timeout=600)
     t.same((ran.status, ran.err, ran.out), (0, b"", b"revoked\n" * MANY))
-    t.same(told(t, "counts"), [f"good 0 revoked {MANY} expired 0"])
-    again = t.desk("at", "counter", "--revoke", "rows.csv", timeout=300)
+    t.same(replies_to(t, "counts"), [f"good 0 revoked {MANY} expired 0"])
+    again = t.desk("at", "counter", "--revoke", "rows.csv", timeout=600)
     t.same((again.status, again.out), (0, f"E19 revoked-before {DAY}\n".encode() * MANY), "the same rows again")
+
+
+# ---- registrations, each under an order of its own
+
+
+def row(serial, end=END):
+    return f"{serial},{DAY},{end}\n"
+
+
+@test
+def each_row_gets_an_order_and_is_registered_in_order(t):
+    opened(t, 1, "--log-file", "ca.log")
+    ran = ordered(t, "serial,notBefore,notAfter\n" + row("0b") + row("0a"))
+    t.same((ran.status, ran.out, ran.err), (0, b"registered\nregistered\n", b""))
+    lines = [it.split('"')[1] for it in (t.room / "ca.log").read_text().splitlines()]
+    # Queries are in the log too.
+    t.same(
+        lines,
+        [
+            *(f"status {0xb:040x}", "order 1 398", f"register 2 {0xb:040x} {DAY} {END}"),
+            *(f"status {0xa:040x}", "order 1 398", f"register 3 {0xa:040x} {DAY} {END}"),
+        ],
+        "the lines that were sent",
+    )
+    t.same(replies_to(t, "status 0a", "status 0b", "counts"), ["good", "good", "good 3 revoked 0 expired 0"])
+
+
+@test
+def a_certificate_that_is_there_gets_no_order(t):
+    opened(t, 2)
+    replies_to(t, "request 02 superseded", "revoke 1")
+    ran = ordered(t, row("01") + row("02") + row("03") + row("03"))
+    t.same((ran.status, ran.out.decode(), ran.err), (0, f"good\nrevoked {DAY} reason 4\nregistered\ngood\n", b""))
+    t.same(replies_to(t, "order 1 1"), ["order 4"], "one order for the new certificate alone")
+
+
+REFUSED = {
+    "no such subscriber": ((2, 398), row("0a"), "E06 no-subscriber"),
+    "no days": ((1, 0), row("0a"), "E07 bad-days 398"),
+    "too many days": ((1, 399), row("0a"), "E07 bad-days 398"),
+}
+
+
+@each(REFUSED)
+def an_order_that_is_refused_registers_nothing(t, terms, text, reply):
+    opened(t, 1)
+    ran = ordered(t, row("01") + text + text, *terms)
+    t.same((ran.status, ran.out.decode(), ran.err), (3, f"good\n{reply}\n{reply}\n", b"refused\n"))
+    t.same(replies_to(t, "status 0a", "order 1 1"), ["unknown", "order 2"])
+
+
+@test
+def a_registration_that_is_refused_is_told_and_the_others_are_registered(t):
+    opened(t, 1)
+    ran = ordered(t, row("0a", "2027-02-03T00:00:00Z") + row("0b", "2025-01-01T00:00:00Z") + row("0c"))
+    t.same((ran.status, ran.out, ran.err), (3, b"E12 too-long\nE11 bad-validity\nregistered\n", b"refused\n"))
+    t.same(replies_to(t, "counts"), ["good 2 revoked 0 expired 0"])
+
+
+NO_REGISTRATION = {
+    "one field": "0b",
+    "two fields": f"0b,{DAY}",
+    "the order of an import": f"2,0b,{DAY},{END}",
+    "no order in an import's place": f",0b,{DAY},{END}",
+    "a fourth field": f"0b,{DAY},{END},x",
+    "no serial number": f"zz,{DAY},{END}",
+    "no moment": f"0b,2026-01-01,{END}",
+    "no second moment": f"0b,{DAY},",
+    "a space": f"0b, {DAY},{END}",
+    "quotation marks": f'"0b","{DAY}","{END}"',
+    "another line within": f"0b,{DAY},{END}\rorder 1 1",
+    "a long one": f"0b,{DAY}," + "x" * 20_000,
+    "the header of revocations": "serial,ground",
+}
+
+
+@each(NO_REGISTRATION)
+def a_broken_row_gets_no_order(t, text):
+    opened(t, 1)
+    ran = ordered(t, row("0a") + f"{text}\n" + row("0c"))
+    t.same((ran.status, ran.out, ran.err), (3, b"registered\nE22 syntax\nregistered\n", b"refused\n"))
+    t.same(replies_to(t, "status 0b", "order 1 1"), ["unknown", "order 4"])
+
+
+@each({
+    "nothing": ("", ""),
+    "the header alone": ("serial,notBefore,notAfter\n", ""),
+    "a CR before each LF": (f"serial,notBefore,notAfter\r\n0a,{DAY},{END}\r\n\r\n", "registered\n"),
+    "two files with their headers": (2 * f"serial,notBefore,notAfter\n0a,{DAY},{END}\n", "registered\ngood\n"),
+})
+def no_row_to_register_has_no_reply(t, text, replies):
+    opened(t, 1)
+    ran = ordered(t, text)
+    t.same((ran.status, ran.out.decode(), ran.err), (0, replies, b""))
+
+
+@test
+def a_last_registration_without_its_end_is_not_sent(t):
+    opened(t, 1)
+    ran = ordered(t, row("0a") + row("0b").rstrip("\n"))
+    t.same((ran.status, ran.out, ran.err), (3, b"registered\n", b"no-line-end\n"))
+    t.same(replies_to(t, "status 0b", "order 1 1"), ["unknown", "order 3"])
+
+
+@each({
+    "without an import": (("--orders", "1", "398"), b"--orders needs --import"),
+    "beside a revocation": (("--revoke", "rows.csv", "--orders", "1", "398"), b"--orders needs --import"),
+    "one value": (("--import", "rows.csv", "--orders", "1"), b"--orders"),
+    "three values": (("--import", "rows.csv", "--orders", "1", "398", "2"), b"'2'"),
+    "a name": (("--import", "rows.csv", "--orders", "acme", "398"), b"invalid value 'acme' for '--orders'"),
+    "days that are no number": (("--import", "rows.csv", "--orders", "1", "1y"), b"invalid value '1y' for '--orders'"),
+    "twice": (("--import", "rows.csv", "--orders", "1", "1", "--orders", "1", "1"), b"--orders"),
+})
+def orders_are_two_numbers_of_an_import(t, words, part):
+    ran = t.desk("at", "counter", *words)
+    t.same((ran.status, ran.out, part in ran.err), (2, b"", True), ran.err)
+
+
+@test(seconds=4)
+def an_import_is_killed_and_resumed(t):
+    opened(t, 1)
+    (t.room / "rows.csv").write_text("".join(row(f"{it:02x}") for it in range(2, 302)))
+    kills = 0
+    for count in (1, 40, 90):
+        it = begun(t, ordering())
+        for _ in range(count):
+            it.stdout.readline()
+        it.kill()
+        it.wait(30)
+        kills += 1
+    ran = t.desk("at", "counter", *ordering())
+    t.same((ran.status, ran.err, len(ran.lines)), (0, b"", 300))
+    t.same(set(ran.lines), {"good", "registered"}, "those before and those now")
+    t.same(replies_to(t, "counts"), ["good 301 revoked 0 expired 0"])
+    # A stop between a row's order and its registration costs one order more at the most.
+    (reply,) = replies_to(t, "order 1 1")
+    t.true(302 <= int(reply.split()[1]) <= 302 + kills, f"orders without a certificate after {kills} kills: {reply}")
+
+
+@each({
+    "to a status": (["unknown"], [f"status {1:040x}\n"]),
+    "to an order": (["unknown\n", "order 7"], [f"status {1:040x}\n", "order 1 398\n"]),
+    "to a registration": (["unknown\n", "order 7\n", "regis"], [f"status {1:040x}\n", "order 1 398\n", f"register 7 {1:040x} {DAY} {END}\n"]),
+})
+def a_reply_to_a_row_of_an_import_that_is_cut_off_is_not_told(t, replies, lines):
+    (t.room / "rows.csv").write_text(row("01") + row("02"))
+    heard, thread = standing_in(t.room / "counter", replies)
+    ran = t.desk("at", "counter", *ordering())
+    thread.join(30)
+    t.same((ran.status, ran.out, ran.err, heard), (1, b"", b"F4 read\n", lines))
+
+
+@test(seconds=30)
+def ten_thousand_registrations(t):
+    opened(t, 0)
+    (t.room / "rows.csv").write_text("serial,notBefore,notAfter\n" + "".join(row(f"{it:02x}") for it in range(1, MANY + 1)))
+    for reply in ("registered", "good"):
+        began = time.monotonic()
+        ran = t.desk("at", "counter", *ordering(), timeout=300)
+        t.note(f"{MANY} rows, {reply}: {time.monotonic() - began:.1f} s")
+        t.same((ran.status, ran.err, ran.out), (0, b"", f"{reply}\n".encode() * MANY))
+    t.same(replies_to(t, "counts", "order 1 1"), [f"good {MANY} revoked 0 expired 0", f"order {MANY + 1}"])

@@ -12,7 +12,7 @@ from lib.trial import Skipped, each, need, test
 
 ALGORITHMS = {it: it for it in KEYS}
 # For how many seconds a client may run.
-LONGEST = 60 * program.PATIENCE
+LONGEST = program.LONGEST
 # Both say of each certificate what the CRL says, once it verifies by the CA's key.
 JAVA_CRL = """
 import java.nio.file.*; import java.security.cert.*;
@@ -153,7 +153,7 @@ def told_by_the_document():
 
 
 @each({f"{client}, {algorithm}": (client, algorithm) for client in CLIENTS for algorithm in ALGORITHMS}, seconds=6)
-def a_client_takes_what_the_document_says(t, client, algorithm):
+def a_client_accepts_what_the_document_says(t, client, algorithm):
     """A good certificate and a revoked one; a client that does not take the algorithm calls neither of them good or revoked."""
     it = Authority(t, algorithm)
     it.signer()

@@ -1,4 +1,4 @@
-"""Copies of a register, of one that is closed and of one that is open: each is whole, sound and a register, lies where nothing lay, or is not there at all."""
+"""Copies of a closed and of an open register. Each copy is a whole and sound register at a path where no file was, or there is no copy."""
 
 import os
 import re
@@ -6,7 +6,7 @@ import shutil
 import threading
 
 from lib import faults, program, registers
-from lib.program import Counter, parted
+from lib.program import Control, parted
 from lib.trial import each, test
 
 DAY, NEXT = "2026-01-01T00:00:00Z", "2026-01-02T00:00:00Z"
@@ -20,7 +20,7 @@ COPY_FILES = "copy.db,copy.db.part"
 
 
 def copied(t, reply, path="copy.db"):
-    """A reply that tells a copy, of as many bytes as it has, which its owner alone may read and write."""
+    """Checks the reply that reports a copy: it has the copy's size, and the copy has mode 600."""
     told = re.fullmatch(r"copied (\d+) bytes in \d+ ms\n?", reply)
     t.true(told, f"the reply {reply!r}")
     found = (t.room / path).stat()
@@ -33,25 +33,25 @@ def opens(t, path, wanted):
     t.same(t.done("script", path, given=f"{NEXT} counts\n"), f"{wanted}\n")
 
 
-def refused(t, counter, path, why):
-    """No copy is laid at the counter, and the cause is told."""
-    with Counter(t.room / counter) as it:
+def refused(t, control, path, why):
+    """The control socket refuses a copy, and reports the cause."""
+    with Control(t.room / control) as it:
         t.same((it.ask(f"copy {path}"), it.ask("why")), ("F2 store", f"why {why}"))
 
 
 @test
 def a_closed_register(t):
     t.register(lines=ENTERED)
-    before = t.lying()
+    before = t.files()
     copied(t, t.done("copy", "ca.db", "copy.db"))
-    t.same({name: it for name, it in t.lying().items() if name != "copy.db"}, before, "all else that lies there")
+    t.same({name: it for name, it in t.files().items() if name != "copy.db"}, before, "all else that lies there")
     t.same(t.done("audit", "copy.db"), SOUND)
     t.same(t.desk("crl", "copy.db").out, t.desk("crl", "ca.db").out, "the CRL")
     opens(t, "copy.db", "good 2 revoked 0 expired 0")
 
 
 @test(seconds=3)
-def an_open_one_while_it_is_asked(t):
+def an_open_register_is_copied_while_it_answers(t):
     t.register(lines=ENTERED)
     t.clock(NEXT)
     desk = t.open()
@@ -59,7 +59,7 @@ def an_open_one_while_it_is_asked(t):
     stop, wrong = threading.Event(), []
 
     def asks():
-        with Counter(t.room / "counter") as it:
+        with Control(t.room / "counter") as it:
             while not stop.is_set():
                 if it.ask("status 05") != "good" or parted(desk.ask("GET", "/status/06"))[2] != b'{"status":"good"}':
                     wrong.append("another answer")
@@ -67,7 +67,7 @@ def an_open_one_while_it_is_asked(t):
     asker = threading.Thread(target=asks)
     asker.start()
     try:
-        with Counter(t.room / "counter") as it:
+        with Control(t.room / "counter") as it:
             for at in range(20):
                 t.same(it.ask(f"subscriber s{at}"), f"subscriber {at + 2}")
                 copied(t, it.ask(f"copy copy{at}.db"), f"copy{at}.db")
@@ -75,7 +75,7 @@ def an_open_one_while_it_is_asked(t):
         stop.set()
         asker.join()
     t.same(wrong, [], "what was asked meanwhile")
-    # What is entered behind a copy is not in it, and what was entered before is, though the log alone has it.
+    # A copy lacks later entries, and has the earlier ones, although only the -wal has them.
     for at in (0, 19):
         t.same(t.done("audit", f"copy{at}.db"), SOUND)
         t.same(t.sql(f"copy{at}.db", "SELECT count(*) FROM subscriber"), [(at + 2,)], f"subscribers of copy {at}")
@@ -86,12 +86,12 @@ def an_open_one_while_it_is_asked(t):
 
 
 @test
-def a_path_at_the_counter_is_of_the_desks_own_folder(t):
+def a_path_at_the_control_socket_is_of_the_desks_own_folder(t):
     t.register(lines=ENTERED)
     t.clock(NEXT)
     t.open()
     (t.room / "elsewhere").mkdir()
-    with Counter(t.room / "counter") as it:
+    with Control(t.room / "counter") as it:
         it.peer.sendall(b"copy elsewhere/copy.db\r\n")
         copied(t, it.file.readline().decode(), "elsewhere/copy.db")
     copied(t, t.done("at", "counter", given=f"copy {t.room / 'with a blank.db'}\n"), "with a blank.db")
@@ -116,7 +116,7 @@ IN_THE_WAY = {
 
 
 @each(IN_THE_WAY)
-def never_over_what_lies_there(t, lay, end):
+def never_over_an_existing_file(t, lay, end):
     t.register(lines=ENTERED)
     lay(t.room / f"copy.db{end}")
     before = sorted((it.name, os.readlink(it) if it.is_symlink() else it.is_file() and it.read_bytes()) for it in t.room.iterdir())
@@ -154,15 +154,15 @@ def no_copy_by_desk_copy(t, before, file, told):
 
 
 @test
-def no_copy_at_the_counter(t):
+def no_copy_at_the_control_socket(t):
     t.register(lines=ENTERED)
     t.open()
     refused(t, "counter", "nowhere/copy.db", "no such file")
     refused(t, "counter", "", "no such file")
-    with Counter(t.room / "counter") as it:
+    with Control(t.room / "counter") as it:
         it.peer.sendall(b"copy \xff\nwhy\ncopy\n")
         t.same([it.file.readline() for _ in range(3)], [b"F2 store\n", b"why F2 store\n", b"E22 syntax\n"], "no text, and no path")
-    # What lies at the path now is another file, which this desk does not hold.
+    # Another file is at the path now, which this desk does not have open.
     os.rename(t.room / "ca.db", t.room / "moved.db")
     shutil.copy(t.room / "moved.db", t.room / "ca.db")
     refused(t, "counter", "copy.db", "no such file")
@@ -213,7 +213,7 @@ def a_call_that_fails_leaves_nothing(t, kind, cause):
 
 
 @test(seconds=4)
-def a_full_disk_at_the_counter(t):
+def a_full_disk_at_the_control_socket(t):
     t.register(lines=ENTERED)
     t.clock(NEXT)
     t.open(faults=faults.environment(fail="write:1+", only="copy.db.part"))
@@ -247,11 +247,11 @@ def a_stop_leaves_a_whole_one_or_none(t, told):
 
 
 @test(seconds=2)
-def a_desk_that_was_stopped_while_it_copied(t):
-    """Its register is as it was, and what is left of the copy is in the way until it is taken away."""
+def a_desk_that_is_killed_while_it_copies(t):
+    """Its register is as it was. The partial copy blocks the next one until it is deleted."""
     t.register(lines=ENTERED)
     desk = t.open(faults=faults.environment(stop=3, only=COPY_FILES))
-    with Counter(t.room / "counter") as it:
+    with Control(t.room / "counter") as it:
         t.same(it.ask("copy copy.db"), "", "its reply")
     t.same(desk.wait().status, -9)
     t.same(left(t), ["copy.db.part"])

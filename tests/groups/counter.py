@@ -1,10 +1,12 @@
-"""The counter of an open desk: lines in pieces, beside peers and beside other counters; its places; what it hears of a line that is too long."""
+"""The control socket of an open desk: lines in pieces, beside HTTP clients and other control connections; its slots; the end of a connection with a line
+that is too long."""
 
 import socket
 import subprocess
 import time
 
-from lib.program import Counter, environment, free_port, parted, program, read_all
+from lib import authority
+from lib.program import LONGEST, Control, environment, free_port, is_read, parted, program, read_all
 from lib.trial import each, test
 
 DAY = "2026-01-01T00:00:00Z"
@@ -20,86 +22,87 @@ def opened(t):
     return t.open()
 
 
-def closed(counter):
-    counter.file.close()
-    counter.peer.close()
+def closed(control):
+    control.file.close()
+    control.peer.close()
 
 
 @test
-def a_line_is_answered_while_a_slow_peer_is_held(t):
+def a_line_is_answered_beside_a_slow_client(t):
     desk = opened(t)
     with desk.connect() as slow:
         slow.sendall(b"GET /status/05 HT")
         t.same(t.done("at", "counter", given="request 05 superseded\nrevoke 1\n"), "request 1 due 2026-01-02T00:00:00Z\nrevoked\n")
-        # Its request is whole after the revocation, and tells it.
+        # Its request is complete after the revocation, and its answer has it.
         slow.sendall(b"TP/1.1\r\n\r\n")
         t.same(parted(read_all(slow))[2], b'{"at":"2026-01-01T00:00:00Z","reason":4,"status":"revoked"}')
 
 
 @test(seconds=2)
-def lines_in_pieces_of_one_byte_are_answered_each_at_its_own_counter(t):
+def lines_in_pieces_of_one_byte_are_answered_each_on_its_connection(t):
     opened(t)
     lines = {"status 05": "good", "status 06": "unknown", "status 0": "E22 syntax", "counts": "good 1 revoked 0 expired 0"}
-    counters = [(t.counter(), line, reply) for line, reply in lines.items()]
+    controls = [(t.control(), line, reply) for line, reply in lines.items()]
     longest = max(map(len, lines)) + 1
     for _ in range(20):
         # A byte of each in turn: all are in mid-line at once.
         for at in range(longest):
-            for counter, line, _ in counters:
+            for control, line, _ in controls:
                 if piece := f"{line}\n".encode()[at : at + 1]:
-                    counter.peer.sendall(piece)
-        for counter, line, reply in counters:
-            t.same(counter.file.readline().decode(), f"{reply}\n", f"the reply to {line!r}")
+                    control.peer.sendall(piece)
+        for control, line, reply in controls:
+            t.same(control.file.readline().decode(), f"{reply}\n", f"the reply to {line!r}")
 
 
 @test
 def an_end_of_line_with_a_cr_is_the_same(t):
     opened(t)
-    counter = t.counter()
-    counter.peer.sendall(b"status 05\r\nstatus 05\r\r\nstatus\r 05\n")
-    t.same([counter.file.readline() for _ in range(3)], [b"good\n", b"E22 syntax\n", b"E22 syntax\n"], "one CR is dropped, and no other")
+    control = t.control()
+    control.peer.sendall(b"status 05\r\nstatus 05\r\r\nstatus\r 05\n")
+    t.same([control.file.readline() for _ in range(3)], [b"good\n", b"E22 syntax\n", b"E22 syntax\n"], "one CR is dropped, and no other")
 
 
 @each({"as many as are held": (HELD, True), "one fewer": (HELD - 1, False)})
 def bytes_without_an_end_of_line(t, count, is_ended):
     opened(t)
-    with Counter(t.room / "counter") as counter:
-        counter.peer.sendall(b"x" * count)
+    with Control(t.room / "counter") as control:
+        control.peer.sendall(b"x" * count)
         if is_ended:
-            t.same(counter.file.read(), b"", "what it hears: no line fits any more")
+            t.same(control.file.read(), b"", "what it hears: no line fits any more")
         else:
-            time.sleep(0.2)
-            t.same(counter.ask(""), "F4 read", "the line that ends there, which is too long with its moment")
-            t.same(counter.ask("status 05"), "good", "the counter goes on")
+            authority.until(lambda: is_read(control.peer), "that the bytes are read")
+            t.same(control.ask(""), "F4 read", "the line that ends there, which is too long with its moment")
+            t.same(control.ask("status 05"), "good", "the counter goes on")
     t.same(t.done("at", "counter", given="status 05\n"), "good\n", "another counter")
 
 
 @test(seconds=2)
-def whoever_goes_gives_the_place_back(t):
+def a_closed_control_connection_frees_its_slot(t):
     desk = opened(t)
     for number in range(5 * PLACES):
-        counter = Counter(t.room / "counter")
+        control = Control(t.room / "counter")
         if number % 4 == 1:
-            counter.peer.sendall(b"status 0")
+            control.peer.sendall(b"status 0")
         elif number % 4 == 2:
-            t.same(counter.ask("status 05"), "good")
+            t.same(control.ask("status 05"), "good")
         elif number % 4 == 3:
             # Goes with a reply that it did not read.
-            counter.peer.sendall(b"counts\n" * 3)
-        closed(counter)
-    together = [t.counter() for _ in range(PLACES)]
+            control.peer.sendall(b"counts\n" * 3)
+        closed(control)
+    together = [t.control() for _ in range(PLACES)]
     t.same([it.ask("status 05") for it in together], ["good"] * PLACES, "as many as there are places, afterwards")
     t.same(parted(desk.ask("GET", "/counts"))[2], b'{"expired":0,"good":1,"revoked":0}', "a request")
 
 
 @test(seconds=2)
-def those_who_wait_for_a_place_are_answered_as_others_go(t):
+def waiting_control_connections_are_answered_as_others_close(t):
     opened(t)
-    first = [t.counter() for _ in range(PLACES)]
+    first = [t.control() for _ in range(PLACES)]
     t.same([it.ask("counts") for it in first], ["good 1 revoked 0 expired 0"] * PLACES)
-    waiting = [t.counter() for _ in range(3)]
+    waiting = [t.control() for _ in range(3)]
     for number, it in enumerate(waiting):
         it.peer.sendall(f"subscriber s{number}\nstatus 05\n".encode())
+    # Time in which the desk could run their lines.
     time.sleep(0.3)
     # Their lines were not run while they waited: the next number is free.
     t.same(first[0].ask("subscriber early"), "subscriber 2")
@@ -112,7 +115,7 @@ def those_who_wait_for_a_place_are_answered_as_others_go(t):
 @test(seconds=3)
 def replies_that_were_not_read_come_in_order_once_they_are(t):
     opened(t)
-    unread = t.counter()
+    unread = t.control()
     unread.peer.settimeout(1)
     lines = b"".join(b"status %x\n" % number for number in range(1, 200_001))
     sent = 0
@@ -124,14 +127,14 @@ def replies_that_were_not_read_come_in_order_once_they_are(t):
     t.true(sent < len(lines), "all was taken of a counter that reads nothing")
     t.same(t.done("at", "counter", given="status 05\n"), "good\n", "another counter meanwhile")
     whole = lines[:sent].count(b"\n")
-    unread.peer.settimeout(30)
+    unread.peer.settimeout(LONGEST)
     unread.peer.shutdown(socket.SHUT_WR)
     wanted = b"".join(b"good\n" if number == 5 else b"unknown\n" for number in range(1, whole + 1))
     t.true(unread.file.read() == wanted, f"the replies to {whole} lines are others, or fewer, or in another order")
 
 
 def without_room_for_a_log(t, *words):
-    """What runs with a log on a disk that is full, and its port; it is killed at the test's end."""
+    """Starts a desk with a log on a full disk until the test ends: the process, and its port."""
     port = free_port()
     full = t.enter_context(open("/dev/full", "wb"))
     desk = t.enter_context(
@@ -143,13 +146,13 @@ def without_room_for_a_log(t, *words):
 
 
 def status_of_05(port):
-    with socket.create_connection(("127.0.0.1", port), 30) as peer:
+    with socket.create_connection(("127.0.0.1", port), LONGEST) as peer:
         peer.sendall(b"GET /status/05 HTTP/1.1\r\n\r\n")
         return parted(read_all(peer))[2]
 
 
 @test
-def a_log_that_can_t_be_written_disturbs_neither_counter_nor_peer(t):
+def a_log_that_can_t_be_written_disturbs_no_client(t):
     t.register(lines=ENTERED)
     desk, port = without_room_for_a_log(t, "open", "ca.db", "--control", "counter", "--unsigned")
     for _ in range(3):
@@ -157,7 +160,7 @@ def a_log_that_can_t_be_written_disturbs_neither_counter_nor_peer(t):
         t.same(status_of_05(port), b'{"status":"good"}', "a request")
     t.same(desk.poll(), None, "it runs on")
     desk.terminate()
-    t.same(desk.wait(30), -15, "its end by SIGTERM")
+    t.same(desk.wait(LONGEST), -15, "its end by SIGTERM")
     desk, port = without_room_for_a_log(t, "serve", "ca.db", "--requests", "1")
     t.same(status_of_05(port), b'{"status":"good"}', "a request that is served")
-    t.same(desk.wait(30), 0, "status of `serve`")
+    t.same(desk.wait(LONGEST), 0, "status of `serve`")

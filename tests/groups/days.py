@@ -1,6 +1,6 @@
-"""Random days beside the register as plain lists (tests/model): each reply, and each byte of CRLs, OCSP and HTTP, is the one that the lists give.
+"""Random days, compared with the model of the register as plain lists (tests/model): each reply, and each byte of CRLs, OCSP and HTTP.
 
-Each plan of tests/model/plans.py is a day from seed 1, and what it is for must have come in it. tests/random goes through other seeds."""
+Each plan of tests/model/plans.py is a day from seed 1, in which the cases that it is for must occur. tests/random runs other seeds."""
 
 import os
 from dataclasses import replace
@@ -17,8 +17,10 @@ SEED = 1
 # Made smaller for so many seconds at most; tests/random takes its time.
 SECONDS = 40
 REFUSALS = {f"E{it:02}" for it in range(1, 23)}
-FORMS = set(days.FORMS)
-# What must have come in a plan's day: the most of each of these at least, and so many of each of those.
+# Only an open register has the words of a clock that is far ahead.
+OPEN_FORMS = {"bad-clock", "clock accepted"}
+FORMS = set(days.FORMS) - OPEN_FORMS
+# The cases that a plan's day must contain: at least these highest counts, and so many of each of those.
 MOST = {
     "usual": {"rows": 151, "CRLs": 11, "OCSP bytes": 1000, "GET bytes": 401, "overdue": 2, "expired": 10},
     "in-memory": {"rows": 251, "CRLs": 50},
@@ -54,7 +56,7 @@ CAME = {
     "cap-of-3": {"E03": 11, "commands and queries": 700},
     "cap-of-250": {"E03": 11, "commands and queries": 2500},
     "same-second": {it: 1 for it in REFUSALS - {"E03"}},
-    "centuries": {"commands and queries": 700, "E20": 1},
+    "centuries": {"commands and queries": 700, "E20": 1, "bad-clock": 1, "clock accepted": 1},
     "seconds-of-2050": {"commands and queries": 400, "crl": 11},
     "after-2106": {it: 1 for it in REFUSALS - {"E03", "E05", "E12"}},
     "the-clocks-end": {"E02": 20, "ocsp try later": 3, "HTTP E02": 1},
@@ -68,7 +70,7 @@ COMMANDS = {
     "seconds-of-2050": 300, "after-2106": 800, "the-clocks-end": 500, "many-entries": 4_000, "many-ends": 1_000, "many-rows": 1_200,
 }
 KINDS = {"usual": 20, "same-second": 20, "months": 13, "after-2106": 20, "the-clocks-end": 18}
-STATUSES = [f"status {it}" for it in (200, 400, 404, 405, 409, 411, 413, 431)]
+STATUSES = [f"status {it}" for it in (200, 400, 404, 405, 409, 411, 413, 429, 431, 503)]
 OCSP = [f"ocsp {it}" for it in days.OCSP]
 
 
@@ -106,7 +108,7 @@ def plays(t, name):
 def all_that_there_is_comes_in_the_days(t):
     all_days = [day_of(it) for it in PLANS]
     came = {it for day in all_days for it, many in day.came.items() if many}
-    t.same(sorted((REFUSALS | FORMS | {*STATUSES, *OCSP, "import", "schedule", "key-id", "crl", "audit", "tell", "at"}) - came), [], "what came in no day")
+    t.same(sorted((REFUSALS | FORMS | OPEN_FORMS | {*STATUSES, *OCSP, "import", "schedule", "key-id", "crl", "audit", "tell", "at"}) - came), [], "what came in no day")
     t.same({it.ground for day in all_days for it in day.register.requests}, set(GROUNDS), "grounds")
     t.same({it.reason for day in all_days for it in day.register.revocations.values()}, {reason for _, reason in GROUNDS.values()}, "reasons")
     t.true(sum(day.came["commands and queries"] for day in all_days) > 20_000, "fewer commands and queries than 20,000")
@@ -114,7 +116,7 @@ def all_that_there_is_comes_in_the_days(t):
 
 @test(seconds=7)
 def a_difference_is_made_smaller_and_shown(t):
-    # A program that tells of a request that is declined with other words.
+    # A program with another reply to `decline`.
     other = t.room / "other"
     other.write_text(f"#!/bin/sh\n{play.program.program()} \"$@\" | sed 's/^declined$/refused/'\n")
     other.chmod(0o755)
@@ -130,7 +132,7 @@ def a_difference_is_made_smaller_and_shown(t):
     t.true(told is not None, "no difference was found")
     lines = told.splitlines()
     steps = [it for it in lines if it.startswith("  script")]
-    # What a request that is declined wants: a subscriber, an order, a certificate, the request and its end.
+    # A declined request needs a subscriber, an order, a certificate, the request and its end.
     t.same([it.split()[2] for it in steps], ["subscriber", "order", "register", "request", "decline"], "the steps that are left")
     t.same(lines[-3:], ["  wanted  declined", "  got     refused", "  again   tests/random --seed 3 --count 1 --plan in-memory"], "what is shown")
 

@@ -1,4 +1,4 @@
-"""What an open desk shows to the outside, and to whom: its port, its counter's socket, its clock, its log, and the replies that `at` and `script` tell."""
+"""The interfaces of an open desk: its port, its control socket, its clock, its log, and the replies that `at` and `script` print."""
 
 import contextlib
 import os
@@ -8,7 +8,7 @@ import stat
 import time
 from pathlib import Path
 
-from lib.program import Counter, free_port, moment_of, parted, read_all, seconds_of
+from lib.program import Control, free_port, moment_of, parted, read_all, seconds_of
 from lib.trial import Skipped, test
 
 DAY = "2026-01-01T00:00:00Z"
@@ -17,7 +17,7 @@ LISTENS = "0A"
 
 
 def listening_at(port):
-    """The addresses that somebody of this machine listens at with this port, as the kernel writes them, low byte first."""
+    """The addresses at which a process of this machine listens with this port, as the kernel writes them, low byte first."""
     rows = [it.split() for name in ("tcp", "tcp6") for it in open(f"/proc/net/{name}").read().splitlines()[1:]]
     local = [row[1].split(":") for row in rows if row[3] == LISTENS]
     return [address for address, at in local if int(at, 16) == port]
@@ -58,7 +58,7 @@ def the_control_socket_by_its_older_name(t):
 
 
 @test
-def the_counter_is_its_owners_alone(t):
+def only_its_owner_can_use_the_control_socket(t):
     t.register()
     t.open()
     mode = os.stat(t.room / "counter").st_mode
@@ -67,17 +67,17 @@ def the_counter_is_its_owners_alone(t):
 
 
 @test
-def a_counter_at_which_somebody_answers_is_not_taken_over(t):
+def a_live_control_socket_is_not_taken_over(t):
     t.register(lines=ENTERED)
     t.register("other.db")
     t.open()
-    ran = t.desk("open", "other.db", "--port", free_port(), "--control", "counter", "--unsigned", timeout=15)
+    ran = t.desk("open", "other.db", "--port", free_port(), "--control", "counter", "--unsigned")
     t.same((ran.status, ran.out, ran.err), (1, b"", b"F4 read\n"), "the second desk at the same counter")
     t.same(t.done("at", "counter", given="status 05\n"), "good\n", "the first one")
 
 
 @test
-def a_socket_that_was_left_behind_is_taken_over_and_a_file_is_not(t):
+def a_stale_socket_is_taken_over_and_a_file_is_not(t):
     t.register(lines=ENTERED)
     t.open().end()
     t.true((t.room / "counter").is_socket(), "a desk that was ended leaves its socket behind")
@@ -96,12 +96,12 @@ def moments_are_those_of_the_machines_clock(t):
     opened = t.open()
     before = int(time.time())
     _, lines, _ = parted(opened.ask("GET", "/counts"))
-    with t.counter() as counter:
-        counter.ask("subscriber acme")
-        counter.ask("order 1 2")
+    with t.control() as control:
+        control.ask("subscriber acme")
+        control.ask("order 1 2")
         at = [moment_of(int(time.time()) + it) for it in (0, 86_400)]
-        t.same(counter.ask(f"register 1 05 {at[0]} {at[1]}"), "registered")
-        due = counter.ask("request 05 asked").removeprefix("request 1 due ")
+        t.same(control.ask(f"register 1 05 {at[0]} {at[1]}"), "registered")
+        due = control.ask("request 05 asked").removeprefix("request 1 due ")
     after = int(time.time())
     told = time.strptime(next(it for it in lines if it.startswith("Date: ")), "Date: %a, %d %b %Y %H:%M:%S GMT")
     seconds = seconds_of(time.strftime("%Y-%m-%dT%H:%M:%SZ", told))
@@ -116,13 +116,13 @@ def a_clock_that_is_set_is_that_of_answers_and_commands(t):
     t.clock("2026-02-28T23:59:59Z")
     opened = t.open()
     t.same([it for it in parted(opened.ask("GET", "/counts"))[1] if it.startswith("Date")], ["Date: Sat, 28 Feb 2026 23:59:59 GMT"])
-    t.same(t.done("at", "counter", given="request 05 asked\n"), "request 1 due 2026-03-01T23:59:59Z\n")
+    t.same(t.done("at", "counter", given="accept-clock 2026-02-28T23:59:59Z\nrequest 05 asked\n"), "clock accepted\nrequest 1 due 2026-03-01T23:59:59Z\n")
     t.clock("2026-03-01T00:00:00Z")
     t.same(t.done("at", "counter", given="revoke 1\nstatus 05\n"), "revoked\nrevoked 2026-03-01T00:00:00Z reason 0\n")
 
 
 @test
-def at_tells_each_reply_in_order_and_its_status(t):
+def at_prints_each_reply_in_order(t):
     t.register(lines=ENTERED)
     t.clock(DAY)
     t.open()
@@ -144,35 +144,35 @@ def many_lines_in_one_write_are_all_answered_in_order(t):
     t.clock(DAY)
     t.open()
     lines = [f"status {serial:x}" for serial in range(1, 20_001)]
-    with Counter(t.room / "counter", timeout=60) as counter:
+    with Control(t.room / "counter") as control:
         sent = 0
         text = "".join(f"{it}\n" for it in lines).encode()
-        counter.peer.setblocking(False)
+        control.peer.setblocking(False)
         replies, heard = b"", time.monotonic()
         while replies.count(b"\n") < len(lines):
             with contextlib.suppress(BlockingIOError):
-                sent += counter.peer.send(text[sent:]) if sent < len(text) else 0
+                sent += control.peer.send(text[sent:]) if sent < len(text) else 0
             with contextlib.suppress(BlockingIOError):
-                got = counter.peer.recv(65_536)
+                got = control.peer.recv(65_536)
                 t.true(got, f"the counter ended behind {replies.count(10)} of {len(lines)} replies")
                 replies, heard = replies + got, time.monotonic()
-            t.true(time.monotonic() - heard < 20, f"no reply came for 20 s, behind {replies.count(10)} of {len(lines)}")
+            t.true(time.monotonic() - heard < 60, f"no reply came for 60 s, behind {replies.count(10)} of {len(lines)}")
             time.sleep(0.0002)
     wanted = b"".join(b"good\n" if serial == 5 else b"unknown\n" for serial in range(1, 20_001))
     t.true(replies == wanted, "a reply is another, or in another place")
 
 
 @test
-def a_long_line_is_answered_and_a_longer_one_ends_the_counter(t):
+def a_long_line_is_answered_and_a_longer_one_ends_the_connection(t):
     t.register()
     t.clock(DAY)
     t.open()
-    with t.counter() as counter:
-        t.same(counter.ask("status " + "0" * 8_100), "E22 syntax")
-        t.same(counter.ask("counts"), "good 0 revoked 0 expired 0")
-    with t.counter() as counter:
-        counter.peer.sendall(b"x" * 9_000)
-        t.same(counter.file.read(), b"", "what a counter hears that sent 9,000 bytes without an end")
+    with t.control() as control:
+        t.same(control.ask("status " + "0" * 8_100), "E22 syntax")
+        t.same(control.ask("counts"), "good 0 revoked 0 expired 0")
+    with t.control() as control:
+        control.peer.sendall(b"x" * 9_000)
+        t.same(control.file.read(), b"", "what a counter hears that sent 9,000 bytes without an end")
 
 
 @test
@@ -184,7 +184,7 @@ def the_log_has_each_exchange_also_revocations_and_refusals(t):
     opened.ask("GET", "/nowhere")
     t.desk("at", "counter", given="revoke 1\nrevoke 1\nnonsense\n")
     opened.ask("GET", "/status/05")
-    told = opened.end().told
+    told = opened.end().err_lines
     bare = [re.sub(r"127\.0\.0\.1:\d+", "PEER", re.sub(r'" \d+ \d+', '"', it)) for it in told]
     at, serial = "2026-01-02T00:00:00Z", f"{5:040x}"
     t.same(
@@ -202,7 +202,7 @@ def the_log_has_each_exchange_also_revocations_and_refusals(t):
 
 
 @test
-def without_log_nothing_is_told(t):
+def without_log_nothing_is_logged(t):
     t.register(lines=ENTERED)
     opened = t.open()
     opened.ask("GET", "/counts")
@@ -217,12 +217,12 @@ def serve_has_a_log_too(t):
     opened = t.open("ca.db", "--requests", 1, "--log", command="serve")
     opened.ask("GET", "/counts")
     ended = opened.wait()
-    t.same((ended.status, len(ended.told)), (0, 1), "status, and how many lines")
-    t.has(ended.told[0], '"GET /counts HTTP/1.1" "HTTP/1.1 200 OK"')
+    t.same((ended.status, len(ended.err_lines)), (0, 1), "status, and how many lines")
+    t.has(ended.err_lines[0], '"GET /counts HTTP/1.1" "HTTP/1.1 200 OK"')
 
 
 @test
-def a_script_over_a_file_tells_refusals(t):
+def a_script_over_a_file_prints_refusals(t):
     t.register(lines=ENTERED)
     ran = t.desk("script", "ca.db", given=f"{DAY} revoke 1\n{DAY} counts\n{DAY} status 5 5\n")
     t.same((ran.status, ran.out, ran.err), (0, b"E17 no-request\ngood 1 revoked 0 expired 0\nE22 syntax\n", b""))

@@ -1,5 +1,5 @@
-"""A register's files whose calls fail: the reply is `F2 store` (internalError of an OCSP request), what is opened again stands for a prefix of the lines that has
-at least those that were answered, and goes on."""
+"""Calls on a register's files fail: the reply is `F2 store` (internalError of an OCSP request). Opened again, the register has a prefix of the lines, with at
+least all that were answered, and goes on."""
 
 from lib import faults
 from lib.faults import LIFE, STORE, Course

@@ -1,4 +1,4 @@
-"""The ends of a command that fail: standard input and output of those that faults_pieces leaves out, what holds the key, and the counter's client."""
+"""Standard input, standard output, the signer's socket and the client of the control socket fail, for the commands that faults_pieces leaves out."""
 
 from lib import faults, program
 from lib.faults import DAY_1, DAY_2, LIFE, REGISTERED
@@ -21,7 +21,7 @@ def a_write_of_an_import_fails(t, how, words):
         faults.copy(base, t.room / "ca.db")
         ran, count = faults.run(t, ["import", "ca.db", "--now", DAY_1, *words], rows, only="stdout", short=1, fail=f"write:{at}{how}")
         t.same((ran.status, ran.out, ran.err, count["met"]), (1, replies[: at - 1], b"F5 write\n", 1), f"write {at}")
-        # The row whose reply was cut stands, and none behind it.
+        # The register has the row whose reply was cut, and no later one.
         stand = 1 if at <= 11 else 2
         t.same(len(faults.tables(t.room / "ca.db")["cert"]), stand, f"rows that stand after write {at}")
 
@@ -48,7 +48,7 @@ def an_input_of_no_bytes_writes_nothing(t):
     t.same((ran.status, ran.out, ran.err, count["write"]), (0, b"", b"", 0))
 
 
-# Left out: help, whose write that fails is told as `Error: Os { .. }` with status 1 where `F5 write` is due.
+# Without help: if its write fails, it prints `Error: Os { .. }` with status 1 in place of `F5 write`.
 OUTPUTS = {
     "a schedule": ["schedule", "ca.db", "1970-01-01T00:00:00Z=200"],
     "an open desk": ["open", "ca.db", "--control", "counter", "--port", "0", "--unsigned"],
@@ -57,7 +57,7 @@ OUTPUTS = {
 
 
 @each(OUTPUTS, seconds=1)
-def a_first_write_that_fails_is_told(t, words):
+def a_first_write_that_fails_is_reported(t, words):
     t.register(lines=ENTERED)
     words = [str(program.free_port()) if it == "0" else it for it in words]
     for how in ("", "=0", "+"):
@@ -79,7 +79,7 @@ def an_error_of_the_system_has_its_cause_or_none(t, error, line):
 
 
 @test
-def where_nothing_can_be_told_the_status_stays(t):
+def where_nothing_can_be_printed_the_status_stays(t):
     t.register(lines=ENTERED)
     # Left out: words that can't be read, which end with status 1 in place of 2 then.
     for words, status in ((["crl", "ca.db"], 1), (["script", "none.db"], 1)):
@@ -100,7 +100,7 @@ def a_signer_in_pieces(t, size):
     t.same((len(asked), signer.asked[len(asked) :]), (4, asked), "what was to be signed")
 
 
-# How many calls of each kind each of the four signatures has at most, whose failing is `F3 signer`.
+# Kinds of calls of the four signatures. If one fails, the reply is `F3 signer`.
 CALLS = {"a socket": ("socket", ""), "connecting": ("connect", ""), "a write": ("write", ""), "a write of nothing": ("write", "=0"), "a read": ("read", ""),
          "a reset": ("read", "=ECONNRESET")}  # fmt: skip
 
@@ -133,7 +133,7 @@ def a_call_of_the_signer_s_socket_fails(t, kind, how):
 
 
 @each({"a read": "read", "a write": "write"}, seconds=2)
-def a_signal_at_the_signer_s_socket_is_nothing(t, kind):
+def a_signal_at_the_signer_s_socket_changes_nothing(t, kind):
     base = t.register("base.db", key=program.P256_KEY)
     t.signer()
     faults.copy(base, t.room / "ca.db")
@@ -158,7 +158,7 @@ AT = {
 
 
 @each(AT, seconds=1)
-def the_client_of_a_counter_fails(t, only, fail, told):
+def the_client_of_a_control_socket_fails(t, only, fail, told):
     t.register(lines=ENTERED)
     t.clock(DAY_2)
     opened = t.open()

@@ -1,4 +1,5 @@
-"""Commands over a file whose calls fail one by one: each tells `F2 store` and the file is as it was or as it is to be, or is done as ever; the same again is done then."""
+"""Calls of commands over a file fail one by one. The command reports `F2 store`, and the file is as before or as after the command, or the command succeeds. The
+same command succeeds afterwards."""
 
 import re
 
@@ -67,7 +68,7 @@ def a_call_fails(t, job, kind, how):
     t.true(told or kind in ("cut", "stat") or (kind, job) in NEVER_TOLD, f"no {kind} of {job} was told")
 
 
-# What such a job never calls, or need not do: it writes nothing of its own.
+# Calls that such a job never makes, or need not make: it writes nothing of its own.
 NEVER_TOLD = {(it, job) for it in ("write", "sync") for job in ("crl", "list", "audit")}
 
 
@@ -82,7 +83,7 @@ def judge(t, job, ran, usual, where):
 
 
 def stands(t, ran, found, old, where):
-    """Of an import the rows stand that were answered so, and a row whose commit failed stands or not."""
+    """After an import the register has each row with an accepted reply. It may have the row whose commit failed."""
     serials = {row[0][-1] for row in found["cert"]}
     for line, serial in zip(ran.lines, (5, 6)):
         if line == "registered":

@@ -1,5 +1,6 @@
-"""A script and an open desk are ended at moments drawn at random, by SIGKILL and by SIGTERM, and the register is opened again each time: what was answered stands."""
+"""A script and an open desk are killed at random moments, by SIGKILL and by SIGTERM. Opened again, the register has each answered command."""
 
+import os
 import random
 import signal
 import subprocess
@@ -7,7 +8,7 @@ import tempfile
 import threading
 import time
 
-from lib import program
+from lib import authority, program
 from lib.faults import audited
 from lib.trial import each
 
@@ -23,20 +24,22 @@ def feed(process, lines):
         pass
 
 
-def ended_while_fed(t, words, lines, ended, how, after):
-    """Feeds lines, ends a program after a while, and returns the last id that was answered; 0 where none was."""
+def ended_while_fed(t, words, lines, ended, how, after, is_answering):
+    """Feeds lines, ends a program after a while, which may begin with its first reply, and returns the last id that was answered; 0 where none was."""
     with tempfile.TemporaryFile(dir=t.room) as replies:
         asker = subprocess.Popen(
             [program.program(), *words], cwd=t.room, stdin=subprocess.PIPE, stdout=replies, stderr=subprocess.DEVNULL, env=program.environment()
         )
         feeder = threading.Thread(target=feed, args=(asker, lines))
         feeder.start()
+        if is_answering:
+            authority.until(lambda: os.fstat(replies.fileno()).st_size, "a reply")
         time.sleep(after)
         ended = ended or asker
         ended.send_signal(how)
-        ended.wait(30)
-        # Who asked at the counter ends by itself, since nobody answers any more.
-        asker.wait(30)
+        ended.wait(program.LONGEST)
+        # The client of the control socket ends by itself when the desk has ended.
+        asker.wait(program.LONGEST)
         feeder.join()
         replies.seek(0)
         whole = replies.read().decode().split("\n")[:-1]
@@ -58,12 +61,12 @@ def what_was_answered_stands(t, command, how):
         after, now = draw.uniform(0.02, 0.6), program.moment_of(time.time())
         if command == "script":
             lines = [f"{now} subscriber n{number}-{at}\n" for at in range(LINES)]
-            last = ended_while_fed(t, ["script", "ca.db"], lines, None, how, after)
+            last = ended_while_fed(t, ["script", "ca.db"], lines, None, how, after, number % 2)
         else:
             (t.room / "counter").unlink(missing_ok=True)
             with program.Opened(["open", "ca.db", "--control", "counter", "--unsigned"], cwd=t.room) as desk:
                 lines = [f"subscriber n{number}-{at}\n" for at in range(LINES)]
-                last = ended_while_fed(t, ["at", "counter"], lines, desk.process, how, after)
+                last = ended_while_fed(t, ["at", "counter"], lines, desk.process, how, after, number % 2)
         again = t.done("script", "ca.db", given=f"{program.moment_of(time.time())} subscriber after-{number}\n")
         following = int(again.split()[1])
         t.true(following > last, f"round {number}: subscriber {last} was answered and is lost: the next one is {following}")

@@ -1,5 +1,5 @@
-"""Each allocation is refused in turn, until a run meets no refusal: what meets one tells `F1 memory` and changes nothing, or it is done as with memory; what follows has
-its answer. Near the beginning each is refused, and then every so many: an allocation of a statement that comes again is refused at its first time."""
+"""Each allocation fails in turn, until a run has no failing one. A command whose allocation fails reports `F1 memory` and changes nothing, or succeeds. Later
+commands have their usual replies. At first each allocation fails, and then only every Nth: a statement that comes again allocates the same."""
 
 from lib import faults, program
 from lib.faults import CHANGES, LIFE, MEMORY, REGISTERED, Course
@@ -46,7 +46,7 @@ def a_script_of_the_other_commands_goes_on_after_a_refusal(t, part):
         course.round(MEMORY, 0, f"allocation {at}", fail=f"alloc:{at}")
 
 
-# What these two leave out: the other queries, and lines that are refused.
+# The lines that the two lack: the other queries, and refused lines.
 QUERIES = [
     (f"{SOON} overdue", "overdue 1 first 1"),
     (f"{SOON} status 05", f"revoked {DAY} reason 0"),
@@ -106,7 +106,7 @@ def a_job_that_is_refused_is_done_the_next_time(t, words, given, base):
         if (ran.status, ran.out) == (0, usual.out):
             t.same(found, after, f"{where}: the tables, where it was done as with memory")
         elif words[0] == "import" and ran.out == b"F1 memory\n":
-            # A row that found no memory is answered so, and the import goes on.
+            # A row without memory has this reply, and the import goes on.
             t.same((ran.status, found), (0, before), f"{where}: a row that was refused")
         else:
             t.same((ran.status, ran.out, ran.err), (1, b"", b"F1 memory\n"), where)
@@ -117,7 +117,7 @@ def a_job_that_is_refused_is_done_the_next_time(t, words, given, base):
         t.same(faults.tables(t.room / "ca.db"), after, f"{where}: the tables in the end")
 
 
-# What is asked of an open desk, and the status and body of its answer; the log's line of a revocation is behind them.
+# Requests to an open desk, with the status and the body of each answer; the log's line of a revocation comes after them.
 ASKED = [
     ("GET", "/counts", None, 200, b'{"expired":0,"good":1,"revoked":0}'),
     ("GET", "/status/05", None, 200, b'{"status":"good"}'),
@@ -131,7 +131,7 @@ ASKED = [
 
 
 def fits(response, status, body):
-    """Whether an answer is the usual one, or tells that there was no memory: in JSON, by the constant text, by internalError, or by nothing at all."""
+    """Whether an answer is the usual one, or reports an allocation failure: in JSON, by the constant text, by internalError, or by a closed connection."""
     got, lines, told = parted(response)
     no_memory = got == 500 and told in (b'{"error":"F1 memory"}', b"")
     return (got, told) == (status, body) or no_memory or response == b""
@@ -167,18 +167,18 @@ def asked_of(t, desk, at):
     for method, target, body, status, wanted in ASKED:
         response = desk.ask(method, target, body)
         t.true(fits(response, status, wanted), f"allocation {at}: {method} {target}: {response!r}")
-    with program.Counter(t.room / "counter") as counter:
+    with program.Control(t.room / "counter") as control:
         for line, wanted in (("revoke 1", ("revoked", "E17 no-request")), ("counts", ("good 0 revoked 1 expired 0", "good 1 revoked 0 expired 0"))):
             try:
-                reply = counter.ask(line)
+                reply = control.ask(line)
             except OSError:
-                # The line before it had no memory, and its asker was let go.
+                # The line before it had no memory, and the desk closed the connection.
                 reply = ""
             t.true(reply in (*wanted, "F1 memory", ""), f"allocation {at}: {line}: {reply!r}")
 
 
 @test
-def where_nothing_can_be_had_it_is_told(t):
+def a_run_without_any_memory_is_reported(t):
     t.register(lines=script(REGISTERED))
     for words in (["script"], ["script", "ca.db"], ["audit", "ca.db"], ["crl", "ca.db"]):
         ran, _ = faults.run(t, words, f"{DAY} counts\n", fail="alloc:1+")

@@ -1,5 +1,5 @@
-"""An open desk whose disk, sockets or clock fail: a command is answered `F2 store` and the desk goes on; a peer that breaks off is one peer alone; a clock that can't be read
-ends it with `F4 read`, and what was answered stands."""
+"""The disk, the sockets or the clock of an open desk fail. A command is answered `F2 store` and the desk goes on. A fault of a connection ends only that one. A
+clock that can't be read ends the desk with `F4 read`, and the register has each answered command."""
 
 import contextlib
 
@@ -71,7 +71,7 @@ TROUBLES = ("", "=0", "=ECONNRESET")
 
 
 def served(t, base, exchange, where, **told):
-    """One exchange with a fault in it: what the peer got, whether the fault was met, and how many requests stand; the desk answers the next peer as ever."""
+    """One exchange with a fault: the response, whether the fault occurred, and how many requests the register has. The desk answers the next client as usual."""
     faults.copy(base, t.room / "ca.db")
     (t.room / "clock").write_text(str(program.seconds_of(DAY_2)))
     env = faults.environment(count=t.room / "count", same=1, only="socket", **told)
@@ -85,9 +85,9 @@ def served(t, base, exchange, where, **told):
 
 
 @each(EXCHANGES, seconds=15)
-def a_read_of_a_peer_goes_wrong(t, request, response, entered):
+def a_read_from_a_client_fails(t, request, response, entered):
     base = t.register("base.db", text(REGISTERED))
-    # By one byte a read: each goes wrong, that of the last byte too.
+    # One byte a read: each one fails, also that of the last byte.
     for at in range(1, len(request) + 1):
         for how in TROUBLES:
             where = f"read {at}{how}"
@@ -96,7 +96,7 @@ def a_read_of_a_peer_goes_wrong(t, request, response, entered):
 
 
 @each(EXCHANGES, seconds=20)
-def a_write_to_a_peer_goes_wrong(t, request, response, entered):
+def a_write_to_a_client_fails(t, request, response, entered):
     base = t.register("base.db", text(REGISTERED))
     for at in range(1, len(response) + 1):
         for how in TROUBLES[:2] if at % 3 else TROUBLES[2:]:
@@ -106,7 +106,7 @@ def a_write_to_a_peer_goes_wrong(t, request, response, entered):
 
 
 @each({"a read": "read", "a write": "write"}, seconds=2)
-def a_signal_at_a_peer_s_socket_is_nothing(t, kind):
+def a_signal_at_a_client_s_socket_changes_nothing(t, kind):
     base = t.register("base.db", text(REGISTERED))
     for at in (1, 2, len(REQUEST)):
         got, met, stand = served(t, base, REQUEST, f"{kind} {at}", short=1, fail=f"{kind}:{at}=EINTR")
@@ -123,7 +123,7 @@ def pieces_of_any_size_are_the_same(t):
 
 
 @test(seconds=3)
-def a_change_by_http_that_is_not_stored_is_told(t):
+def a_change_by_http_that_is_not_stored_is_reported(t):
     base = t.register("base.db", text(REGISTERED))
     (t.room / "clock").write_text(str(program.seconds_of(DAY_2)))
     for kind in ("write", "sync"):
@@ -140,7 +140,7 @@ def a_change_by_http_that_is_not_stored_is_told(t):
                     told += status == 500
                     stood = len(faults.tables(t.room / "ca.db")["request"])
                     t.true(stood == 1 or status == 500, f"{kind} {at}: what was answered does not stand")
-                    # Where the disk left open whether the change stands, nothing is told any more until the register is opened again.
+                    # If the disk may or may not have the change, the desk answers no query until the register is opened again.
                     behind = [parted(desk.send(it))[::2] for it in (STATUS, COUNTS)]
                     t.true(behind in (KNOWN, UNTOLD if status == 500 else KNOWN), f"{kind} {at}: what is told behind it: {behind}")
                 desk.end()
@@ -155,7 +155,7 @@ def a_change_by_http_that_is_not_stored_is_told(t):
 
 
 @each({"accept": "accept:1=ECONNABORTED", "poll": "poll:2=EINTR"}, seconds=1)
-def a_call_that_is_broken_off_is_done_again(t, fail):
+def an_interrupted_call_is_repeated(t, fail):
     t.register(lines=text(REGISTERED))
     t.clock(DAY_2)
     opened = t.open(faults=faults.environment(count=t.room / "count", fail=fail))
@@ -186,9 +186,9 @@ def a_clock_that_can_not_be_read_ends_an_open_desk(t):
         with program.Opened(["open", "ca.db", "--control", "counter", "--unsigned"], cwd=t.room, clock=t.room / "clock", faults=env) as desk:
             got = []
             if desk.listens:
-                with program.Counter(t.room / "counter") as counter, contextlib.suppress(OSError):
+                with program.Control(t.room / "counter") as control, contextlib.suppress(OSError):
                     for it in asked:
-                        got += [reply for reply in [counter.ask(it)] if reply]
+                        got += [reply for reply in [control.ask(it)] if reply]
             met = faults.counted(t.room / "count")["met"]
             ended = desk.wait() if met else desk.end()
         t.same(got, replies[: len(got)], f"look {at}: what was answered")
@@ -201,7 +201,7 @@ def a_clock_that_can_not_be_read_ends_an_open_desk(t):
 
 @test(seconds=2)
 def a_clock_that_can_not_be_read_ends_a_clocked_script(t):
-    """Behind the replies before it; what was answered stands, and no line behind it is run."""
+    """After the replies before it. The register has each answered command, and no later line runs."""
     base, asked = t.register("base.db", text(REGISTERED)), ["counts", "request 05 superseded", "revoke 2", "revoke 1", "status 05"]
     replies = ["good 1 revoked 0 expired 0", "request 1 due 2026-01-03T00:00:00Z", "E17 no-request", "revoked", f"revoked {DAY_2} reason 4"]
     (t.room / "clock").write_text(str(program.seconds_of(DAY_2)))
@@ -222,10 +222,12 @@ def a_clock_that_can_not_be_read_ends_a_clocked_script(t):
 def a_clock_out_of_range_is_refused(t, seconds, wanted):
     t.register(lines=text(REGISTERED))
     t.clock(DAY_1)
-    opened, counter = t.open(), t.counter()
-    t.same(counter.ask("counts"), "good 1 revoked 0 expired 0")
+    opened, control = t.open(), t.control()
+    t.same(control.ask("counts"), "good 1 revoked 0 expired 0")
+    # The operator has accepted a clock near its end, so that it is not refused as one that is far ahead.
+    t.same(control.ask("accept-clock 9999-12-21T23:59:59Z"), "clock accepted")
     t.clock(seconds)
-    t.same(counter.ask("subscriber late"), wanted, "a line at such a moment")
+    t.same(control.ask("subscriber late"), wanted, "a line at such a moment")
     t.same(parted(opened.send(COUNTS))[::2], (409, b'{"error":"%s"}' % wanted.encode()), "a request at such a moment")
     t.clock(DAY_1)
-    t.same(counter.ask("subscriber b"), "subscriber 2", "nothing was entered, and the desk goes on")
+    t.same(control.ask("subscriber b"), "subscriber 2", "nothing was entered, and the desk goes on")

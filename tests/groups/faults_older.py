@@ -1,5 +1,5 @@
-"""A register of version 1 or 2 is made newer while the disk fails, memory is refused or the process stops, and what was not synced is lost: it is the older one or the newer
-one, whole, and the next command makes it newer and goes on."""
+"""A register of version 1 or 2 is migrated while the disk fails, an allocation fails or the process is killed, and unsynced writes are lost. It is then of the
+old or the new version, as a whole, and the next command migrates it and goes on."""
 
 import contextlib
 import sqlite3
@@ -29,7 +29,7 @@ CREATE TABLE listed (serial BLOB NOT NULL PRIMARY KEY REFERENCES revocation (ser
     not_after INTEGER NOT NULL, last_listed INTEGER) STRICT;
 """
 RECORDS = ("office", "subscriber", "orders", "cert", "request", "revocation", "crl")
-# The register goes on: these follow from its records, whatever stood beside them.
+# The register goes on: these rows follow from its records, whatever the derived rows were.
 GOES_ON = [(f"{PAST_END} listing 05", "listing first 1 last 2"), (f"{PAST_END} crl", "crl 4 entries 0"), (f"{PAST_END} counts", "good 0 revoked 1 expired 0")]
 SOUND = (1, 1, 4)
 VERSIONS = (1, 2)
@@ -41,7 +41,7 @@ def one_line(statements):
 
 
 def older(t, version):
-    """A register of an older version, with the records of one whose certificate was revoked and listed; of version 2 nothing beside them is right."""
+    """Makes a register of an older version, whose certificate was revoked and listed. In version 2 all its derived rows are wrong."""
     newer = faults.tables(t.register("newer.db", "".join(f"{asked}\n" for asked, _ in LIFE)))
     with contextlib.closing(sqlite3.connect(t.room / "older.db")) as database:
         database.execute("PRAGMA journal_mode = DELETE")

@@ -1,5 +1,5 @@
-"""Reads and writes that move one byte, and ones that fail at standard input, standard output and the sockets: the same output byte for byte; `F4 read` behind the replies of
-the whole lines before it; `F5 write`, and the command whose reply was cut stands."""
+"""Reads and writes move one byte: the output is the same, byte for byte. They fail at standard input, standard output and the sockets: `F4 read` comes after the
+replies to the whole lines before it, and after `F5 write` the register has the command whose reply was cut."""
 
 from lib import faults, program
 from lib.faults import LIFE, REGISTERED
@@ -7,7 +7,7 @@ from lib.trial import each, test
 
 DAY = "2026-01-01T00:00:00Z"
 LATER = "2026-01-02T00:00:00Z"
-# All but the register's own files: of these a read or write that moves less than it was told is a failure of the store (below).
+# All but the register's own files, where a short read or write is a failure of the store (below).
 WIRES = "stdin,stdout,socket"
 SCRIPT = "".join(f"{asked}\n" for asked, _ in LIFE)
 REPLIES = "".join(f"{reply}\n" for _, reply in LIFE)
@@ -51,12 +51,12 @@ def an_open_desk_in_pieces(t, size):
 
 
 @each({"one byte": 1, "two bytes": 2}, seconds=2)
-def a_line_at_the_counter_is_answered_however_many_reads_it_takes(t, size):
+def a_control_line_is_answered_however_many_reads_it_takes(t, size):
     t.register()
     t.open(faults=faults.environment(only=WIRES, short=size))
-    with t.counter() as counter:
+    with t.control() as control:
         for length in range(40):
-            t.same(counter.ask("x" * length), "E22 syntax", f"a line of {length} bytes")
+            t.same(control.ask("x" * length), "E22 syntax", f"a line of {length} bytes")
 
 
 @each({"one byte": 1, "4,095 bytes": 4_095}, seconds=2)
@@ -107,7 +107,7 @@ def a_write_of_replies_fails(t, how):
             break
         t.same((ran.status, ran.err), (1, b"F5 write\n"), f"write {at}")
         t.true(REPLIES.encode().startswith(ran.out), f"write {at}: what was written is no front of the replies: {ran.out!r}")
-        # The command whose reply was cut stands, and none behind it.
+        # The register has the command whose reply was cut, and no later one.
         place = ran.out.count(b"\n") + 1
         rest = "".join(f"{asked}\n" for asked, _ in LIFE[place:])
         again = program.run(["script", "ca.db"], rest, cwd=t.room)

@@ -1,5 +1,5 @@
-"""What another program left in a register's file: the command that meets a row which no register writes tells `F2 store` and changes nothing, and a file that is no register
-is not opened and stays as it was."""
+"""A register's file with contents of another program. A command that reads a row which no register writes reports `F2 store` and changes nothing. A file that
+is no register is not opened, and stays as it was."""
 
 import contextlib
 import sqlite3
@@ -60,7 +60,7 @@ def the_latest_crl_is_met_by_opening(t):
 
 
 NOT, NEW = "not-a-register", "new-version"
-# Statements, and what is told then; None where the file is opened.
+# Statements, and the report then; None if the file is opened.
 OPENED = [
     ("UPDATE office SET days = 0", None),
     ("UPDATE office SET last_at = 253401436799", None),

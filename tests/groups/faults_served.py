@@ -1,5 +1,5 @@
-"""Each route of a register that is served, with an allocation refused: the answer is whole, or tells of want of memory (of OCSP by internalError), or the connection is shut without
-one; the tables are as they were then, and the same again has its answer."""
+"""Each route of a served register, with one failing allocation. The answer is whole, or reports that the desk is out of memory (of OCSP by internalError), or the
+connection closes without one. The tables are then as before, and the same request again has its answer."""
 
 from lib import faults, program
 from lib.faults import DAY_1, DAY_2, OCSP_REQUEST, PAST_END
@@ -44,7 +44,7 @@ def is_refused(got):
 
 
 def served(t, base, at):
-    """All routes with one allocation refused: what was counted when it listened, and in the end."""
+    """Requests all routes with one failing allocation: the count of allocations when the desk listened, and at the end."""
     faults.copy(base, t.room / "ca.db")
     env = faults.environment(count=t.room / "count", same=1, fail=f"alloc:{at}" if at else None)
     with program.Opened(["serve", "ca.db", "--requests", "1000"], cwd=t.room, clock=t.room / "clock", faults=env) as desk:

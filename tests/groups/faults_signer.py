@@ -1,4 +1,4 @@
-"""What holds the key fails at its Nth call: each reply says so, nothing is recorded of it, and the next line goes on."""
+"""The signer fails at its Nth call: the reply says so, the register records nothing, and the next line goes on."""
 
 import re
 

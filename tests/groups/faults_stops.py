@@ -1,5 +1,5 @@
-"""The process stops, as by SIGKILL, in place of its Nth write, cut or sync of a register's file, and what was not synced may be lost then: what is opened again stands
-for a prefix of the commands that has at least those whose replies were given, goes on, and is sound."""
+"""The process is killed in place of its Nth write, truncation or sync of a register's file, and unsynced writes may be lost. Opened again, the register has a
+prefix of the commands, with at least all that were answered, goes on, and is sound."""
 
 from lib import faults, program
 from lib.faults import CHANGES, LIFE, REGISTERED, Course
@@ -78,7 +78,7 @@ def an_import_is_stopped(t, told):
         faults.audited(t, "ca.db", (4, 0, 0), f"stopped at step {at}")
 
 
-# What is set, and how that is told.
+# The setting, and its reply.
 SET = {"a schedule": (["schedule", "ca.db", *STEPS], b"schedule set\n"), "a key identifier": (["key-id", "ca.db", "0102"], b"key-id set\n")}
 
 
@@ -99,7 +99,7 @@ def what_is_set_is_stopped(t, words, done, told):
 
 
 @each({"all is lost": 1, "some is lost": 5, "other is lost": 6, "some more is lost": 7}, seconds=2)
-def a_machine_stops_behind_a_command_that_was_told(t, seed):
+def a_machine_stops_after_an_answered_command(t, seed):
     told = {"lose": seed, "lose_files": 1, "only": FILES}
     words = {"init": (["init", "ca.db", "--name", program.NAME, "--key", program.KEY], "", ["created"]),
              "script": (["script", "ca.db"], ORDERS, None),
@@ -141,13 +141,13 @@ def an_open_desk_is_stopped(t, told):
 
 
 def answered(t, desk, clock):
-    """How many lines are answered at the counter, each at its moment, until it is stopped."""
+    """How many lines the control socket answers, each at its moment, until the desk is killed."""
     try:
-        with program.Counter(t.room / "counter") as counter:
+        with program.Control(t.room / "counter") as control:
             for place, (asked, wanted) in enumerate(LIFE):
                 moment, line = asked.split(" ", 1)
                 clock.write_text(str(program.seconds_of(moment)))
-                reply = counter.ask(line)
+                reply = control.ask(line)
                 if reply == "":
                     return place
                 t.same(reply, wanted, asked)

@@ -1,4 +1,4 @@
-"""HTTP: how a request is framed, which route and method answers, what each body and target comes to, byte for byte."""
+"""HTTP: the framing of requests, the routes and their methods, and the response to each body and target, byte for byte."""
 
 import base64
 import time
@@ -32,7 +32,7 @@ def of_length(length):
     return b"GET /counts HTTP/1.1\r\na:" + b"x" * (length - 28) + b"\r\n\r\n"
 
 
-# What is sent, and the first line of the response.
+# A request, and the first line of its response.
 FRAMES = [
     (b"POST /nowhere HTTP/1.1\r\n\r\n", LENGTH),
     (b"POST /ocsp HTTP/1.1\r\ncontent-length:   3\r\n\r\nabcd", OK),
@@ -207,7 +207,7 @@ def a_moment_before_the_last_is_a_conflict(t):
 
 
 @test(seconds=3)
-def each_front_of_a_request_is_not_answered(t):
+def no_prefix_of_a_request_is_answered(t):
     desk = opened(t)
     whole = b'POST /requests HTTP/1.1\r\nContent-Length: 37\r\n\r\n{"serial":"05","ground":"superseded"}'
     for end in range(len(whole)):

@@ -1,5 +1,5 @@
-"""A CA whose certificate has a key identifier of its own, and not the SHA-1 of its key (RFC 5280 4.2.1.2): its CRLs are to have that one, or relying
-parties find no CRL. As openssl, Java, GnuTLS and NSS take them; what examples/issuer-words.sh reads; and where they stand in the file."""
+"""A CA whose certificate has a key identifier of its own, and not the SHA-1 of its key (RFC 5280 4.2.1.2): its CRLs must have that one, or relying parties
+find no CRL. Checked with openssl, Java, GnuTLS and NSS; the output of examples/issuer-words.sh; and its column in the file."""
 
 import hashlib
 import random
@@ -11,7 +11,7 @@ from lib.registers import tlv
 from lib.trial import Skipped, each, need, test
 
 OWN = "00112233445566778899aabbccddeeff"
-# What openssl says of a certificate by a CRL: that none of this issuer was there, and that it is revoked (its numbers 3 and 23).
+# openssl's errors: it found no CRL of this issuer (3), and the certificate is revoked (23).
 NO_CRL, REVOKED = "error 3 at", "error 23 at"
 JAVA = """
 import java.io.FileInputStream;
@@ -76,7 +76,7 @@ class Identified(Authority):
         return crl
 
     def by_openssl(self, serial):
-        """What openssl says of a certificate by the CRL: OK, or the error."""
+        """openssl's result for a certificate with the CRL: OK, or the error."""
         ran = self.t.tried("openssl", "verify", "-CAfile", self.pem, "-CRLfile", "ca.crl", "-crl_check", f"{serial}.pem")
         told = (ran.stdout + ran.stderr).decode()
         return next((it for it in (NO_CRL, REVOKED) if it in told), "OK" if f"{serial}.pem: OK" in told else told)
@@ -85,7 +85,7 @@ class Identified(Authority):
         return self.t.tool("java", "Pkix.java", self.pem, f"{serial}.pem", "ca.crl.der").decode().strip()
 
     def by_gnutls(self, serial):
-        """What certtool says of a certificate by the CRL."""
+        """certtool's result for a certificate with the CRL."""
         ran = self.t.tried("certtool", "--verify", "--load-ca-certificate", self.pem, "--load-crl", "ca.crl", "--infile", f"{serial}.pem")
         told = (ran.stdout + ran.stderr).decode().partition("\nChain verification output: ")[2]
         return ran.returncode, "certificate chain is revoked." in told, "The certificate is trusted." in told
@@ -185,10 +185,10 @@ def gnutls_takes_the_crls_of_a_ca_with_its_own_key_identifier(t):
     t.same((it.by_gnutls("05"), it.by_gnutls("06")), ((1, True, False), (0, False, True)), "status, revoked, trusted")
 
 
-# What examples/issuer-words.sh reads
+# The output of examples/issuer-words.sh
 
 
-# What a certificate has as its subjectKeyIdentifier, as openssl is told of it, and what is told of it.
+# The subjectKeyIdentifier of a certificate in openssl's syntax, and the output for it.
 READ = {
     "the SHA-1 of its key": ("hash", ()),
     "none": ("none", ()),
@@ -202,7 +202,7 @@ READ = {
 
 
 @each(READ, seconds=2)
-def issuer_words_tells_a_key_identifier_that_is_not_the_sha_1_of_the_key(t, said, told):
+def issuer_words_prints_a_key_identifier_that_is_not_the_sha_1_of_the_key(t, said, told):
     """So a register of the usual CA is made by `--name` and `--key`, and is the one that it was."""
     it = Authority(t)
     name_and_key = it.words()
@@ -295,7 +295,7 @@ def the_documents_statement_takes_the_column_apart(t, size):
 
 @test
 def the_documents_worked_example(t):
-    """The octets that docs/RULES.md and docs/MODEL.md have stand there, at each step that they tell."""
+    """The file has the octets of docs/RULES.md and docs/MODEL.md after each step of the example."""
     lines = block("The tables of a file", "300D", "RULES")
     parts = [line.split("   ")[0].replace(" ", "") for line in lines]
     (modelled,) = block("DER (`crates/reg_der/specs`)", "300D", "MODEL")

@@ -1,5 +1,5 @@
-"""An open desk as others meet it: its port, its counter, its clock, many lines at once, long requests; a script on a terminal;
-and causes of faults that want another user, a full disk or a clock that fails."""
+"""An open desk from outside: its port, its control socket, its clock, many lines at once, long requests; a script on a terminal;
+and causes of faults that need another user, a full disk or a failing clock."""
 
 import contextlib
 import os
@@ -11,7 +11,7 @@ import subprocess
 import threading
 import time
 
-from lib import program
+from lib import authority, program
 from lib.trial import Skipped, each, need, test
 
 DAY = "2026-01-01T00:00:00Z"
@@ -20,7 +20,7 @@ DAY = "2026-01-01T00:00:00Z"
 # The port
 
 def listeners(port):
-    """The local addresses, in the kernel's own table, at which somebody listens at a port: IPv4, then IPv6."""
+    """The local addresses, in the kernel's table, at which a process listens at a port: IPv4, then IPv6."""
     found = []
     for table in ("/proc/net/tcp", "/proc/net/tcp6"):
         with contextlib.suppress(FileNotFoundError), open(table) as lines:
@@ -48,10 +48,10 @@ def listens_at_127_0_0_1_alone(t, command, words):
     t.same(program.parted(opened.ask("GET", "/counts"))[0], 200)
 
 
-# The counter
+# The control socket
 
 @test
-def the_counter_is_its_owners_alone(t):
+def only_its_owner_can_use_the_control_socket(t):
     t.register()
     before = os.umask(0)
     try:
@@ -62,18 +62,18 @@ def the_counter_is_its_owners_alone(t):
 
 
 @test
-def a_live_counter_is_not_taken_over(t):
+def a_live_control_socket_is_not_taken_over(t):
     t.register()
     t.register("other.db")
     (t.room / "plain").write_text("left as it is")
     opened = t.open()
-    t.same(t.counter().ask("subscriber acme"), "subscriber 1")
+    t.same(t.control().ask("subscriber acme"), "subscriber 1")
     for path in ("counter", "plain"):
-        ran = t.desk("open", "other.db", "--port", program.free_port(), "--control", path, "--unsigned", timeout=30)
+        ran = t.desk("open", "other.db", "--port", program.free_port(), "--control", path, "--unsigned")
         t.same((ran.status, ran.out, ran.err), (1, b"", b"F4 read\n"), f"a second desk at {path}")
     t.same((t.room / "plain").read_text(), "left as it is")
     # It is the first register that answers, at the socket's path too.
-    t.same(t.counter().ask("subscriber acme"), "E05 name-taken 1")
+    t.same(t.control().ask("subscriber acme"), "E05 name-taken 1")
     t.same(program.parted(opened.ask("GET", "/counts"))[0], 200)
 
 
@@ -85,12 +85,12 @@ def lines_in_one_piece_are_answered_in_order(t):
     t.register()
     t.clock(DAY)
     t.open()
-    counter = t.counter()
+    control = t.control()
     given = b"".join(b"subscriber n%d\n" % it for it in range(1, LINES + 1))
     # It reads no more while its replies are not taken: so they are taken while it writes.
-    writer = threading.Thread(target=counter.peer.sendall, args=(given,))
+    writer = threading.Thread(target=control.peer.sendall, args=(given,))
     writer.start()
-    got = [counter.file.readline() for _ in range(LINES)]
+    got = [control.file.readline() for _ in range(LINES)]
     writer.join(30)
     t.same(next((at for at, it in enumerate(got, 1) if it != b"subscriber %d\n" % at), None), None, "the first line with another reply")
 
@@ -99,10 +99,10 @@ def lines_in_one_piece_are_answered_in_order(t):
 def bytes_past_a_read_are_not_lost(t, size):
     t.register()
     t.open()
-    counter = t.counter()
+    control = t.control()
     count = size // 7 + 1
-    counter.peer.sendall(b"counts\n" * count)
-    t.same([counter.file.readline() for _ in range(count)], [b"good 0 revoked 0 expired 0\n"] * count)
+    control.peer.sendall(b"counts\n" * count)
+    t.same([control.file.readline() for _ in range(count)], [b"good 0 revoked 0 expired 0\n"] * count)
 
 
 @test(seconds=2)
@@ -132,7 +132,7 @@ def at_ends_with_1_where_the_desk_ends_meanwhile(t):
         with contextlib.suppress(BrokenPipeError):
             peer.stdin.write(b"counts\n")
             peer.stdin.flush()
-        out, told = peer.communicate(timeout=30)
+        out, told = peer.communicate(timeout=program.LONGEST)
     # Whether its write or its read meets the end first is the machine's.
     t.same((peer.returncode, out), (1, b""), f"status and standard output, with {told!r} told")
     t.true(told in (b"F4 read\n", b"F5 write\n"), f"told {told!r}")
@@ -149,7 +149,7 @@ def near(t, moment, what):
 def the_moment_is_now(t):
     t.register()
     opened = t.open()
-    t.same(t.counter().ask("subscriber acme"), "subscriber 1")
+    t.same(t.control().ask("subscriber acme"), "subscriber 1")
     _, lines, _ = program.parted(opened.ask("GET", "/counts"))
     date = next(it for it in lines if it.startswith("Date: "))
     near(t, time.mktime(time.strptime(date, "Date: %a, %d %b %Y %H:%M:%S GMT")) - time.timezone, "the moment of a response")
@@ -170,7 +170,7 @@ def in_two(t, opened, given, at):
     """Sends a request in two pieces, the second after the first was read."""
     with opened.connect() as peer:
         peer.sendall(given[:at])
-        time.sleep(0.2)
+        authority.until(lambda: program.is_read(peer), "that the first piece is read")
         peer.sendall(given[at:])
         return program.parted(program.read_all(peer))
 
@@ -211,12 +211,12 @@ def a_log_has_each_exchange(t):
     t.register()
     t.clock(DAY)
     opened = t.open("ca.db", "--log")
-    counter = t.counter()
+    control = t.control()
     asked = ["subscriber acme", "order 1 30", f"register 1 05 {DAY} 2026-01-10T00:00:00Z", "request 05 asked", "revoke 1", "revoke 2"]
     replies = ["subscriber 1", "order 1", "registered", "request 1 due 2026-01-02T00:00:00Z", "revoked", "E17 no-request"]
-    t.same([counter.ask(it) for it in asked], replies)
+    t.same([control.ask(it) for it in asked], replies)
     response = opened.ask("GET", "/counts")
-    told = opened.end().told
+    told = opened.end().err_lines
     serial = f"{5:040x}"
     named = {"request 05 asked": f" request 1 {serial} asked", "revoke 1": f" request 1 {serial}"}
     for line, reply in zip(asked, replies):
@@ -227,10 +227,10 @@ def a_log_has_each_exchange(t):
 
 
 @test
-def without_log_nothing_is_told(t):
+def without_log_nothing_is_logged(t):
     t.register()
     opened = t.open()
-    t.same(t.counter().ask("revoke 2"), "E17 no-request")
+    t.same(t.control().ask("revoke 2"), "E17 no-request")
     opened.ask("GET", "/counts")
     t.same(opened.end().err, b"")
 
@@ -238,7 +238,7 @@ def without_log_nothing_is_told(t):
 # A script on a terminal
 
 @test(seconds=4)
-def a_long_script_tells_on_a_terminal_how_far_it_is(t):
+def a_long_script_shows_its_progress_on_a_terminal(t):
     t.register()
     count = 2_000
     half = f"{DAY} order 1 398\n".encode() * (count // 2)
@@ -249,7 +249,8 @@ def a_long_script_tells_on_a_terminal_how_far_it_is(t):
     os.close(theirs)
     job.stdin.write(f"{DAY} subscriber acme\n".encode() + half)
     job.stdin.flush()
-    # How far it is it tells behind a line, each second.
+    # It prints its progress after a line, each second since its start. It has started when the first reply is there.
+    authority.until(lambda: (t.room / "replies").stat().st_size, "a reply")
     time.sleep(1.3)
     job.stdin.write(half)
     job.stdin.close()
@@ -259,13 +260,13 @@ def a_long_script_tells_on_a_terminal_how_far_it_is(t):
         while piece := os.read(ours, 4096):
             told += piece
     os.close(ours)
-    t.same(job.wait(60), 0)
+    t.same(job.wait(program.LONGEST), 0)
     t.true(re.search(rb"\d+ lines done, \d+ a second", told), f"it does not tell how far it is: {told!r}")
     t.same((t.room / "replies").read_text(), "subscriber 1\n" + "".join(f"order {it}\n" for it in range(1, count + 1)))
 
 
 @test
-def nothing_is_told_where_standard_error_is_no_terminal(t):
+def no_progress_is_shown_without_a_terminal(t):
     t.register()
     t.same(len(t.done("script", "ca.db", given=f"{DAY} subscriber acme\n" + f"{DAY} order 1 398\n" * 2_000).splitlines()), 2_001)
 
@@ -298,7 +299,7 @@ def no_right_to_make(t):
 def a_full_output(t):
     for words, told in ((("--why",), b"F5 write\n  disk full\n"), ((), b"F5 write\n")):
         with open("/dev/full", "wb") as full:
-            ran = subprocess.run([program.program(), "script", *words], input=A_LINE, stdout=full, stderr=subprocess.PIPE, cwd=t.room, timeout=60)
+            ran = subprocess.run([program.program(), "script", *words], input=A_LINE, stdout=full, stderr=subprocess.PIPE, cwd=t.room, timeout=program.LONGEST)
         t.same((ran.returncode, ran.stderr), (1, told), f"script {words}")
 
 

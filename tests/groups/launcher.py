@@ -9,7 +9,7 @@ from lib import program
 from lib.trial import each, test
 
 UNPROVED = "nothing was proved"
-# What the scripts of the toolchain do. `tries` has a line for each run of `rt try`; a file `no-bitcode` or `broken` beside them changes what it does.
+# The stub scripts of the toolchain. `tries` has a line for each run of `rt try`; a file `no-bitcode` or `broken` beside them changes what it does.
 RT = """
 case $1 in
 version) cat "$kit/version" ;;
@@ -40,7 +40,7 @@ esac
 END
 chmod +x "$made"
 """
-# What stands for tools/build.py. It notes its words.
+# A stub of tools/build.py, which records its command line.
 BUILD = """#!/bin/sh
 echo "build $*" >>"$(dirname "$0")/../ran"
 made=$(dirname "$0")/../crates/reg_desk/out
@@ -79,7 +79,7 @@ class Repository:
 
     def run(self, *words):
         """The status, standard output, and standard error."""
-        ran = self.t.tried(*words, env=self.env, timeout=60 * program.PATIENCE)
+        ran = self.t.tried(*words, env=self.env)
         return ran.returncode, ran.stdout.decode(), ran.stderr.decode()
 
     def desk(self, *words):
@@ -222,7 +222,7 @@ def left_of(top):
 
 
 PROGRAM = ["reg_desk/out/reg_desk", "reg_desk/out/reg_desk.stamp"]
-# By how many megabytes may stay: the crates whose libraries do. One that stands on a library that does not fit is not kept, though it would fit itself.
+# By how many megabytes may stay: the crates whose libraries do. A library that depends on one that does not fit is not kept, although it would fit itself.
 LIMITS = {"2000": ["core", "laws", "office", "store"], "1.5": ["core", "laws", "store"], "1.2": ["core", "laws"], "0.4": ["core"], "0": []}
 
 
@@ -249,7 +249,7 @@ def a_trim_with_nothing_built(t):
     t.same(left_of(top), [])
 
 
-# What the toolchain does for a build: it makes a library or the program, with all that it keeps beside them.
+# The toolchain's part of a build: a library or the program, with all files that it leaves beside them.
 MAKES = """
 name=$(basename "$PWD")
 case $1 in
@@ -318,7 +318,7 @@ def another_toolchain_leaves_rt_try(t, change, why):
 
 
 @test
-def a_program_that_does_not_compile_is_told_once(t):
+def a_program_that_does_not_compile_is_reported_once(t):
     it = Repository(t)
     put(it.kit / "broken", "")
     status, out, err = it.desk("script")

@@ -4,15 +4,16 @@ import base64
 import contextlib
 import os
 import re
+import select
 import socket
 import threading
 import time
 from concurrent.futures import ThreadPoolExecutor
 
-from lib import authority, faults, program
+from lib import authority, faults, program, registers
 from lib.passing import Passing
-from lib.program import ANY_SIGNATURE, P256_KEY, Counter, Signers, free_port, parted, read_all
-from lib.trial import each, test
+from lib.program import ANY_SIGNATURE, P256_KEY, Control, Signers, free_port, parted, read_all
+from lib.trial import TEN_SECONDS, each, test
 from model import der
 
 DAY = "2026-01-01T00:00:00Z"
@@ -52,28 +53,29 @@ def a_control_socket_with_a_full_queue_is_not_taken_over(t):
         else:
             t.true(False, "the queue is not full")
         before = (t.room / "counter").stat().st_ino
-        ran = t.desk("open", "ca.db", "--port", free_port(), "--control", "counter", "--unsigned", timeout=15)
+        ran = t.desk("open", "ca.db", "--port", free_port(), "--control", "counter", "--unsigned")
         t.same((ran.status, ran.out, ran.err), (1, b"", b"F4 read\n"), "the second program at the socket")
         t.same((t.room / "counter").stat().st_ino, before, "the socket")
 
 
 @test(seconds=4)
 def a_client_that_connects_before_the_mode_is_set_is_disconnected(t):
-    t.register(lines=f"{DAY} subscriber acme\n")
+    t.register()
     with ThreadPoolExecutor(1) as pool:
-        opening = pool.submit(t.open, faults=faults.environment(slow_chmod=2_000))
+        opening = pool.submit(t.open, faults=faults.environment(slow_chmod=t.room / "connected"))
         authority.until(lambda: (t.room / "counter").is_socket(), "the socket")
-        with Counter(t.room / "counter") as early:
+        with Control(t.room / "counter") as early:
             t.true(oct((t.room / "counter").stat().st_mode & 0o777) != "0o600", "the mode was set before the client came")
             with contextlib.suppress(BrokenPipeError):
                 early.peer.sendall(b"subscriber mallory\n")
+            (t.room / "connected").touch()
             opening.result()
             reply = b""
             with contextlib.suppress(ConnectionResetError, BrokenPipeError):
                 reply = early.file.readline()
             t.same(reply, b"", "the reply to a client that came before the mode was set")
-    with t.counter() as control:
-        t.same(control.ask("subscriber owner"), "subscriber 2", "the owner's line")
+    with t.control() as control:
+        t.same(control.ask("subscriber owner"), "subscriber 1", "the owner's line")
 
 
 @test(seconds=3)
@@ -81,15 +83,15 @@ def a_crl_whose_line_ends_in_cr_lf_holds_up_nobody(t):
     ends = threading.Event()
     t.callback(ends.set)
     t.register(key=P256_KEY)
-    t.enter_context(Signers(t.room / "ca.sign", lambda message: ends.wait(30) and ANY_SIGNATURE))
+    signers = t.enter_context(Signers(t.room / "ca.sign", lambda message: ends.wait(60) and ANY_SIGNATURE))
     desk = t.open("ca.db", *SIGNING)
     for line in (b"crl\r\n", b"ocsp " + asks(1).hex().encode() + b"\r\n"):
-        with t.counter() as control:
+        with t.control() as control:
             control.peer.sendall(line)
-            time.sleep(0.2)
-            begun = time.monotonic()
-            t.same(parted(desk.send(COUNTS))[0], 200, f"GET /counts behind {line[:5]!r}")
-            t.true(time.monotonic() - begun < 3, "GET /counts waited for the signer")
+            # The second line waits for the signature of the first.
+            authority.until(lambda: signers.asked and program.is_read(control.peer), "a signature request")
+            with t.at_once("GET /counts"):
+                t.same(parted(desk.send(COUNTS))[0], 200, f"GET /counts behind {line[:5]!r}")
 
 
 # Long runs
@@ -105,14 +107,14 @@ def as_many_replies_as_lines_and_rows(t):
     t.register()
     t.clock(DAY)
     t.open()
-    ran = t.desk("at", "counter", given="counts\n" * MANY, timeout=120)
+    ran = t.desk("at", "counter", given="counts\n" * MANY)
     t.same((ran.status, ran.lines.count("good 0 revoked 0 expired 0")), (0, MANY), "replies of `desk at`")
     t.register("other.db")
-    ran = t.desk("script", "other.db", "--clock", given="counts\n" * MANY, timeout=120)
+    ran = t.desk("script", "other.db", "--clock", given="counts\n" * MANY)
     t.same((ran.status, ran.lines.count("good 0 revoked 0 expired 0")), (0, MANY), "replies of `desk script --clock`")
-    ran = t.desk("script", given=f"{DAY} counts\n" * MANY, timeout=120)
+    ran = t.desk("script", given=f"{DAY} counts\n" * MANY)
     t.same((ran.status, ran.lines.count("good 0 revoked 0 expired 0")), (0, MANY), "replies of `desk script`")
-    ran = t.desk("import", "other.db", "--now", DAY, given=timed_rows(MANY), timeout=120)
+    ran = t.desk("import", "other.db", "--now", DAY, given=timed_rows(MANY))
     t.same(len(ran.lines), MANY, f"replies of `desk import`, status {ran.status}, {ran.lines[:2]}")
 
 
@@ -141,7 +143,7 @@ def an_idle_desk_uses_no_processor_time(t):
     t.register()
     desk = t.open()
     ticks = lambda: sum(map(int, open(f"/proc/{desk.process.pid}/stat").read().rsplit(") ", 1)[1].split()[11:13]))
-    with desk.connect() as silent, t.counter() as control:
+    with desk.connect() as silent, t.control() as control:
         silent.sendall(b"GET /co")
         t.same(control.ask("counts"), "good 0 revoked 0 expired 0")
         time.sleep(0.3)
@@ -155,22 +157,20 @@ def a_client_whose_request_took_29_seconds_gets_its_signature(t):
     ends = threading.Event()
     t.callback(ends.set)
     t.register(key=P256_KEY)
-    t.enter_context(Signers(t.room / "ca.sign", lambda message: ends.wait(30) and ANY_SIGNATURE))
+    signers = t.enter_context(Signers(t.room / "ca.sign", lambda message: ends.wait(60) and ANY_SIGNATURE))
     desk, request = Passing(t, *SIGNING), asks(1)
     client = desk.comes(b"POST /ocsp HTTP/1.1\r\nHost: ca\r\nContent-Length: %d\r\n\r\n" % len(request))
-    desk.goes(29_000)
+    desk.advance(29_000)
     client.sendall(request)
-    desk.goes(0)
-    time.sleep(0.2)
-    desk.goes(2_000)
+    t.true(signers.until(1), "its signature is requested")
+    desk.advance(2_000)
     ends.set()
-    client.settimeout(20)
     response = read_all(client)
     t.same(parted(response)[0], 200, "its status")
     t.true(ANY_SIGNATURE in response, "its signature")
 
 
-# What the log and replies measure
+# Times in the log and in replies
 
 
 @test(seconds=3)
@@ -180,16 +180,16 @@ def the_log_measures_what_an_exchange_took(t):
     begun = time.monotonic()
     for _ in range(5):
         desk.send(COUNTS)
-    with t.counter() as control:
+    with t.control() as control:
         control.ask("subscriber acme")
     took = 1_000_000 * (time.monotonic() - begun)
-    micros = [int(it.rsplit(" ", 1)[1]) for it in desk.end().told]
+    micros = [int(it.rsplit(" ", 1)[1]) for it in desk.end().err_lines]
     t.same(len(micros), 6, "lines of the log")
     t.true(0 < max(micros) and sum(micros) <= took, f"microseconds in the log: {micros}, of {took:.0f} in all")
 
 
 @test
-def a_copy_tells_milliseconds(t):
+def a_copy_reports_milliseconds(t):
     t.register()
     begun = time.monotonic()
     told = re.fullmatch(r"copied \d+ bytes in (\d+) ms\n", t.done("copy", "ca.db", "copy.db"))
@@ -197,7 +197,7 @@ def a_copy_tells_milliseconds(t):
 
 
 @test(seconds=4)
-def a_connection_that_no_memory_is_left_for_is_logged_as_that(t):
+def a_connection_without_memory_is_logged_as_that(t):
     t.register()
     usual = t.open("ca.db", "--log", faults=faults.environment(count=t.room / "usual"))
     first = faults.counted(t.room / "usual")["alloc"]
@@ -205,7 +205,7 @@ def a_connection_that_no_memory_is_left_for_is_logged_as_that(t):
     os.remove(t.room / "counter")
     desk = t.open("ca.db", "--log", faults=faults.environment(fail=f"alloc:{first + 1}"))
     t.same(desk.send(COUNTS), b"", "the response")
-    lost = lambda: [it.rsplit(" lost ", 1)[1] for it in (t.room / f"told-{desk.port}").read_text().splitlines() if " lost " in it]
+    lost = lambda: [it.rsplit(" lost ", 1)[1] for it in desk.log if " lost " in it]
     authority.until(lost, "a line of the log for the lost connection")
     t.same(lost(), ["memory"], "why it was lost")
 
@@ -231,19 +231,21 @@ def a_long_ocsp_request_by_get_is_answered_as_by_post(t):
 
 @test(seconds=14)
 def a_signer_that_reads_nothing_is_given_up_after_ten_seconds(t):
-    """The CRL is longer than what the system keeps for a reader."""
-    lines = [f"{DAY} subscriber acme\n"]
-    for at in range(1, 6_001):
-        lines.append(f"{DAY} order 1 398\n{DAY} register {at} {(0x7F << 152) + at:x} {DAY} 2026-01-10T00:00:00Z\n{DAY} request {(0x7F << 152) + at:x} superseded\n{DAY} revoke {at}\n")
-    t.register(key=P256_KEY, lines="".join(lines))
+    """The CRL is longer than a socket's buffers."""
+    registers.make_revoked(t.room / "ca.db", 6_000, P256_KEY)
     with socket.socket(socket.AF_UNIX) as silent:
         silent.bind(str(t.room / "ca.sign"))
         silent.listen(8)
         begun = time.monotonic()
-        ran = t.desk("script", "ca.db", *SIGNING, given=f"{DAY} crl\n")
-        took = time.monotonic() - begun
+        with ThreadPoolExecutor(1) as pool:
+            waits = pool.submit(t.desk, "script", "ca.db", *SIGNING, given="2026-01-02T00:00:00Z crl\n")
+            # A connection is there: the register is open, and the CRL is made.
+            select.select([silent], [], [], program.LONGEST)
+            connected = time.monotonic()
+            ran = waits.result()
         t.same((ran.status, ran.lines), (0, ["F3 signer"]), "the CRL")
-        t.true(9.5 < took < 20 * program.PATIENCE, f"it took {took:.1f} s")
+        seconds = time.monotonic() - begun, time.monotonic() - connected
+        t.true(seconds[0] >= TEN_SECONDS[0] and seconds[1] < TEN_SECONDS[1], f"it took {seconds[1]:.1f} s in place of ten")
 
 
 @test(seconds=4)
@@ -275,14 +277,14 @@ def a_script_waits_for_a_signer_whose_queue_is_full(t):
 
 
 @test
-def a_copy_is_told_once_its_folder_is_synced(t):
+def a_copy_is_reported_once_its_folder_is_synced(t):
     t.register()
     (t.room / "copies").mkdir()
     ran, count = faults.run(t, ["copy", "ca.db", "copies/copy.db"], only="copies")
     t.same(ran.status, 0, ran.err)
     t.true(count["sync"] >= 1, "the folder was not synced")
     desk = t.open(faults=faults.environment(count=t.room / "open", only="copies"))
-    with t.counter() as control:
+    with t.control() as control:
         t.true(control.ask("copy copies/second.db").startswith("copied "), "a copy of an open register")
     t.true(faults.counted(t.room / "open")["sync"] >= 1, "the folder was not synced before the reply")
     desk.end()
@@ -294,5 +296,5 @@ def a_register_with_a_second_name_is_not_opened(t):
     os.link(t.room / "ca.db", t.room / "second.db")
     with t.untouched("a register with two names"):
         for words in (["audit", "ca.db"], ["copy", "ca.db", "copy.db"], ["open", "ca.db", "--port", free_port(), "--control", "counter", "--unsigned"]):
-            ran = t.desk(*words, timeout=15)
+            ran = t.desk(*words)
             t.same((ran.status, ran.out, ran.err), (1, b"", b"F2 store\n"), program.shown(words))

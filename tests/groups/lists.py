@@ -65,7 +65,7 @@ def of_revocation(register, now, it):
 
 
 def of_history(register, now, id, it):
-    """What became of a request: one that is not declined is open until its certificate is revoked or has ended."""
+    """The state of a request: one that is not declined is open until its certificate is revoked or has expired."""
     row, status = of_request(register, id, it), register.status_of(now, it.serial)
     if it.declined:
         return {**row, "state": "declined", "decided": None, "lateness": None}
@@ -174,7 +174,7 @@ def each_list_has_its_rows(t):
     for word in WORDS:
         t.true(rows_of(register, NOW, word), f"no row of {word} came")
     t.same({it["status"] for it in rows_of(register, NOW, "certificates")}, {"good", "revoked", "expired"}, "statuses that came")
-    # Each state came, and of each a request in time and one that was late; of a declined one nobody knows.
+    # Each state occurs, and of each one a request in time and a late one; a declined request is neither.
     requests = rows_of(register, NOW, "requests") + rows_of(register, NOW + 400 * DAY, "requests")
     t.same({it["state"] for it in requests}, {"open", "declined", "revoked", "expired"}, "states that came")
     for state in ("open", "revoked", "expired"):
@@ -208,7 +208,7 @@ def an_empty_register_has_empty_lists(t):
 
 
 @test
-def the_machines_clock_tells_the_moment(t):
+def the_moment_is_that_of_the_machines_clock(t):
     register = made(t, entered())
     t.clock(NOW + DAY)
     t.same(t.done("list", "ca.db", "overdue"), as_csv("overdue", rows_of(register, NOW + DAY, "overdue")))
@@ -225,7 +225,7 @@ OF_SUBSCRIBER, OF_SERIAL = {"--subscriber": "a" * 64}, {"--serial": "8"}
 
 
 def is_wanted(word, row, told):
-    """Whether the row of a list has what is told."""
+    """Whether the row of a list passes the filter."""
     moment = row.get(MOMENT_OF.get(word))
     serial, prefix = row.get("serial"), told.get("--serial", "").lower()
     return all((
@@ -237,7 +237,7 @@ def is_wanted(word, row, told):
 
 
 def takes(word, told):
-    """Whether the rows of a list have what is told."""
+    """The rows of a list that pass the filter."""
     wanted = {it.removeprefix("--") for it in told}
     return not wanted & {"crls": {"subscriber", "serial"}, "subscribers": {"serial", "from", "to"}, "orders": {"from", "to"}}.get(word, set())
 
@@ -319,7 +319,7 @@ def what_is_entered_meanwhile_comes_behind_its_key(t):
     desk = t.open()
     first = page(t, desk, "subscribers", limit=6)
     t.same((first["next"], len(first["rows"])), ("6", 6))
-    t.same(t.counter().ask("subscriber seventh"), "subscriber 7")
+    t.same(t.control().ask("subscriber seventh"), "subscriber 7")
     t.same(page(t, desk, "subscribers", limit=6, after=first["next"]), {"list": "subscribers", "next": None, "rows": [{"subscriber": 7, "name": "seventh"}]})
 
 

@@ -2,17 +2,16 @@
 
 import re
 import socket
-import time
 
-from lib import program
-from lib.program import ANY_SIGNATURE, Counter
+from lib import authority, program
+from lib.program import ANY_SIGNATURE, Control
 from lib.trial import each, test
 
 DAY = "2026-01-01T00:00:00Z"
 
 
-def told(t, *sent, lines=()):
-    """What the log has of these requests, and of these lines at the counter: without the peer and the microseconds."""
+def log_of(t, *sent, lines=()):
+    """The log of these requests, and of these lines at the control socket, without the client's port and the microseconds."""
     t.register()
     t.clock(DAY)
     desk = t.open("ca.db", "--log")
@@ -20,34 +19,34 @@ def told(t, *sent, lines=()):
         desk.send(it)
     if lines:
         t.desk("at", "counter", given="".join(f"{it}\n" for it in lines))
-    return [re.sub(r" \d+$", "", re.sub(r"127\.0\.0\.1:\d+", "PEER", it)) for it in desk.end().told]
+    return [re.sub(r" \d+$", "", re.sub(r"127\.0\.0\.1:\d+", "PEER", it)) for it in desk.end().err_lines]
 
 
 @test
 def an_exchange_has_its_first_lines_and_its_bytes(t):
     response = b"HTTP/1.1 404 Not Found\r\nDate: Thu, 01 Jan 2026 00:00:00 GMT\r\nContent-Type: application/json\r\nContent-Length: 22\r\nConnection: close\r\n\r\n"
     size = len(response) + len(b'{"error":"E21 no-crl"}')
-    t.same(told(t, b"GET /crl HTTP/1.1\r\nHost: ca\r\n\r\n"), [f'{DAY} PEER "GET /crl HTTP/1.1" "HTTP/1.1 404 Not Found" {size}'])
+    t.same(log_of(t, b"GET /crl HTTP/1.1\r\nHost: ca\r\n\r\n"), [f'{DAY} PEER "GET /crl HTTP/1.1" "HTTP/1.1 404 Not Found" {size}'])
 
 
 @test
-def nobody_puts_a_line_of_their_own_into_it(t):
-    lines = told(t, b'GET /"\\\x00\x7f\xff~ HTTP/1.1\r\n\r\n', b"\nGET /x HTTP/1.1\r\n\r\n", lines=["status \x1b[31m", 'x"'])
+def no_client_can_inject_a_line(t):
+    lines = log_of(t, b'GET /"\\\x00\x7f\xff~ HTTP/1.1\r\n\r\n', b"\nGET /x HTTP/1.1\r\n\r\n", lines=["status \x1b[31m", 'x"'])
     t.same(lines[0].split('" "')[0], f'{DAY} PEER "GET /\\x22\\x5c\\x00\\x7f\\xff~ HTTP/1.1')
     t.same(lines[2:], [f'{DAY} counter "status \\x1b[31m" "E22 syntax" 11', f'{DAY} counter "x\\x22" "E22 syntax" 11'])
     t.same(len(lines), 4, "lines")
 
 
 @test
-def a_long_line_is_told_as_far_as_256_bytes(t):
-    (line,) = told(t, b"GET /" + b"a" * 5_000 + b" HTTP/1.1\r\n\r\n")
+def a_long_line_is_logged_up_to_256_bytes(t):
+    (line,) = log_of(t, b"GET /" + b"a" * 5_000 + b" HTTP/1.1\r\n\r\n")
     t.same(line.split('"')[1], "GET /" + "a" * 251)
 
 
 @test
-def a_counter_s_line_and_its_reply(t):
+def a_control_line_and_its_reply(t):
     t.same(
-        told(t, lines=["subscriber acme", "counts", "revoke 1"]),
+        log_of(t, lines=["subscriber acme", "counts", "revoke 1"]),
         [f'{DAY} counter "subscriber acme" "subscriber 1" 13', f'{DAY} counter "counts" "good 0 revoked 0 expired 0" 27', f'{DAY} counter "revoke 1" "E17 no-request" 15'],
     )
 
@@ -67,7 +66,7 @@ SIGNERS = {
 
 @each(SIGNERS, seconds=2)
 def a_signature_that_did_not_come_is_the_line_s_last_word(t, answer, failing):
-    """Of an OCSP answer that is internalError for that, whose status is 200 all the same; and of no other exchange."""
+    """Of an OCSP answer that is internalError because of it, although its status is 200; and of no other exchange."""
     t.register(key=program.P256_KEY)
     t.clock(DAY)
     if answer is not None:
@@ -76,7 +75,7 @@ def a_signature_that_did_not_come_is_the_line_s_last_word(t, answer, failing):
     for is_unsigned in failing:
         t.same(desk.ask("POST", "/ocsp", OCSP).endswith(INTERNAL), is_unsigned, "whether the answer is internalError")
         desk.ask("GET", "/counts")
-    told = [re.sub(r"127\.0\.0\.1:\d+", "PEER", it) for it in desk.end().told]
+    told = [re.sub(r"127\.0\.0\.1:\d+", "PEER", it) for it in desk.end().err_lines]
     for line, is_unsigned in zip(told, [it for first in failing for it in (first, False)], strict=True):
         t.same(re.fullmatch(DAY + r' PEER "(POST /ocsp|GET /counts) HTTP/1\.1" "HTTP/1\.1 200 OK" \d+ \d+( signer)?', line).group(2), " signer" if is_unsigned else None, line)
 
@@ -86,9 +85,9 @@ def a_crl_that_nobody_signs_has_the_word_too(t):
     t.register(key=program.P256_KEY)
     t.clock(DAY)
     desk = t.open("ca.db", "--log", *SIGNING)
-    with Counter(t.room / "counter") as counter:
-        t.same([counter.ask(it) for it in ("crl", "counts")], ["F3 signer", "good 0 revoked 0 expired 0"])
-    told = [re.sub(r" \d+( signer)?$", r" N\1", it) for it in desk.end().told]
+    with Control(t.room / "counter") as control:
+        t.same([control.ask(it) for it in ("crl", "counts")], ["F3 signer", "good 0 revoked 0 expired 0"])
+    told = [re.sub(r" \d+( signer)?$", r" N\1", it) for it in desk.end().err_lines]
     t.same(told, [f'{DAY} counter "crl" "F3 signer" 10 N signer', f'{DAY} counter "counts" "good 0 revoked 0 expired 0" 27 N'])
 
 
@@ -102,49 +101,44 @@ def an_answer_that_the_store_does_not_give_has_no_such_word(t):
     # A request for its serial number 05 (RFC 6960 A.1).
     path = "/ocsp/MGcwZTA%2BMDwwOjAJBgUrDgMCGgUABBRxHTl2ccn6zyJCCVkll5oGmORrEQQUqZk%2BNkcGgWq6PiVxeFDCbJzQ2J0CAQWiIzAhMB8GCSsGAQUFBzABAgQSBBAAAQIDBAUGBwgJCgsMDQ4P"
     t.same(desk.ask("GET", path).endswith(INTERNAL), True, "internalError")
-    (line,) = desk.end().told
+    (line,) = desk.end().err_lines
     t.true(re.search(r'"HTTP/1\.1 200 OK" \d+ \d+$', line), line)
 
 
-def within(t, desk, holds, what):
-    """Waits until the log has what is wanted."""
-    for _ in range(200):
-        desk.told.flush()
-        told = (t.room / f"told-{desk.port}").read_text("latin-1").splitlines()
-        if holds(told):
-            return told
-        time.sleep(0.05)
-    t.true(False, f"{what}: {told}")
+def within(desk, what):
+    """The log, once a line of it ends so."""
+    authority.until(lambda: any(it.endswith(what) for it in desk.log), f"a line that ends with {what!r}")
+    return desk.log
 
 
 @test
-def who_breaks_off_has_a_line_behind_that_of_its_exchange(t):
+def a_client_that_resets_has_a_line_after_that_of_its_exchange(t):
     t.register()
     t.clock(DAY)
     desk = t.open("ca.db", "--log")
     with desk.connect() as peer:
         port = peer.getsockname()[1]
         peer.sendall(b"GET /counts")
-        time.sleep(0.2)
-        # It goes by a reset.
+        authority.until(lambda: program.is_read(peer), "that it is read")
+        # Closing sends a reset.
         peer.setsockopt(socket.SOL_SOCKET, socket.SO_LINGER, b"\1\0\0\0\0\0\0\0")
-    told = within(t, desk, lambda it: len(it) >= 2, "lines")
+    told = within(desk, "lost broken")
     t.same([re.sub(r" \d+$", "", it) for it in told], [f'{DAY} 127.0.0.1:{port} "GET /counts" "" 0', f"{DAY} 127.0.0.1:{port} lost broken"])
 
 
 @test(seconds=3)
-def a_counter_that_goes_with_a_reply_unsent_is_lost(t):
+def a_control_connection_that_closes_before_its_reply_is_lost(t):
     t.register()
     t.clock(DAY)
     desk = t.open("ca.db", "--log")
-    with Counter(t.room / "counter") as counter:
-        t.same(counter.ask("counts"), "good 0 revoked 0 expired 0")
-    with Counter(t.room / "counter") as counter:
-        counter.peer.settimeout(1)
+    with Control(t.room / "counter") as control:
+        t.same(control.ask("counts"), "good 0 revoked 0 expired 0")
+    with Control(t.room / "counter") as control:
+        control.peer.settimeout(1)
         try:
             while True:
-                counter.peer.sendall(b"counts\n")
+                control.peer.sendall(b"counts\n")
         except TimeoutError:
             pass
-    told = within(t, desk, lambda it: it[-1].endswith("lost broken"), "the counter that went")
+    told = within(desk, "counter lost broken")
     t.same([it for it in told if " lost " in it], [f"{DAY} counter lost broken"], "what was lost: not the counter that had its reply")

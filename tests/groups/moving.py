@@ -1,5 +1,5 @@
-"""An index of `openssl ca` moved into a register by examples/from-openssl-index.py: what both say of each serial number is compared, the
-register's statuses with the index, its CRL with that of `openssl ca -gencrl`, and its OCSP answers with those of `openssl ocsp -index`."""
+"""An index of `openssl ca`, moved into a register by examples/from-openssl-index.py. The tests compare the register's statuses with the
+index, its CRL with that of `openssl ca -gencrl`, and its OCSP answers with those of `openssl ocsp -index`."""
 
 import hashlib
 import random
@@ -15,7 +15,7 @@ from lib.trial import each, test
 LINES = 2_000
 MOVE = [sys.executable, EXAMPLES / "from-openssl-index.py"]
 REASONS = ["", "unspecified", "keyCompromise", "affiliationChanged", "superseded", "cessationOfOperation", "CACompromise", "certificateHold"]
-# What a CRL says of each of openssl's words, and what the register says in its place. 0 is no reason at all.
+# The CRL reason for each of openssl's words, and the register's reason in its place. 0 is no reason.
 THEIRS = {"": 0, "unspecified": 0, "keyCompromise": 1, "CACompromise": 2, "affiliationChanged": 3, "superseded": 4, "cessationOfOperation": 5,
           "certificateHold": 6, "keyTime": 1, "CAkeyTime": 2, "holdInstruction": 6}
 OURS = THEIRS | {"CACompromise": 1, "certificateHold": 0, "CAkeyTime": 1, "holdInstruction": 0}
@@ -84,12 +84,12 @@ def reason_of(cert):
 
 
 def is_late(cert):
-    """Revoked after its end: what has ended is revoked no more."""
+    """Revoked after its notAfter: an expired certificate can't be revoked."""
     return cert["revoked"] is not None and cert["revoked"] > cert["ends"]
 
 
 def status_of(cert, now):
-    """The status line of the register: what the index says, but for what the register can't say."""
+    """The expected status line of the register: that of the index, except where a register has no such status."""
     if cert["revoked"] is not None and not is_late(cert):
         return f"revoked {moment_of(min(cert['revoked'], now))} reason {reason_of(cert)}"
     return "expired" if cert["ends"] < now else "good"
@@ -129,7 +129,7 @@ def asked(t, lines, now, file="ca.db"):
 
 
 def differences(got, wanted):
-    """What is other than wanted, alone: of thousands it is what is to be seen."""
+    """Only the differences, out of thousands of values."""
     return {it: (got.get(it), wanted.get(it)) for it in got.keys() | wanted.keys() if got.get(it) != wanted.get(it)}
 
 
@@ -167,7 +167,7 @@ def an_index_of_many_lines(t):
 
 
 def its_crl_is_that_of_gencrl(t, file, certs, now):
-    # It draws the revoked from the index, also those who had ended.
+    # openssl lists the revoked certificates of the index, also the expired ones.
     pem = t.tool("openssl", "ca", "-config", "ca.cnf", "-gencrl", "-batch", "-out", "theirs.pem")
     theirs = listed(t, t.tool("openssl", "crl", "-in", "theirs.pem", "-outform", "DER"))
     t.same(asked(t, ["crl"], now, file)[0].split()[:2], ["crl", str(0x2A)], "the CRL has the number of openssl's next one")
@@ -305,13 +305,13 @@ def a_number_that_the_first_crl_would_take_again(t):
 
 @test(seconds=4)
 def a_small_ca_that_openssl_made(t):
-    """With notBefore from its certificates; what can't be carried over is told, a line each."""
+    """With notBefore from its certificates. Each thing that can't be carried over is reported in a line."""
     it = make_ca(t)
     issue(t, ("a", 90), ("b", 365), ("c", 30), ("d", 3650))
     revoke(t, "1001", "superseded")
     lines = (t.room / "index.txt").read_text()
     first = lines.splitlines()[0]
-    # What no openssl wrote: a serial number that comes twice, and one that is too great.
+    # Lines that openssl never writes: a serial number that comes twice, and one that is too large.
     (t.room / "odd.txt").write_text(lines + first + "\n" + first.replace("\t1000\t", "\t" + "F" * 40 + "\t") + "\n")
     script, told = moved(t, "odd.txt", "--certs", "newcerts")
     wanted = ["line 4, serial number 1003", "line 5, serial number 1000", "line 6, serial number " + "F" * 40]
@@ -326,11 +326,11 @@ def a_small_ca_that_openssl_made(t):
     t.same([reply.split()[0] for reply in got], ["good", "revoked", "good", "unknown"])
     t.has(got[1], "reason 4")
     for serial, wanted in (("1000", "Valid (V)"), ("1001", "Revoked (R)")):
-        # It tells the status on standard error, and ends with 1 whatever that is.
+        # openssl prints the status on standard error, and always ends with 1.
         t.has(t.tried("openssl", "ca", "-config", "ca.cnf", "-status", serial).stderr.decode(), wanted)
 
 
-# A line that ends it with nothing written, and what is told.
+# A line because of which nothing is written, and the message.
 UNREADABLE = {
     "too few fields": ("V\t26\n", "bad.txt:2: no line of an index"),
     "another state": ("X\t260101000000Z\t\t06\tunknown\t/CN=a\n", "bad.txt:2: no line of an index"),
@@ -366,7 +366,7 @@ def holds_that_are_said_to_be_good(t):
 
 @test
 def a_certificate_whose_assumed_start_lies_after_today(t):
-    """It was made for more days than are said: it is told, and left out, and the others are carried over."""
+    """It was made for more days than --days says: it is reported and left out, and the others are carried over."""
     lines = ["V\t260301000000Z\t\t05\tunknown\t/CN=a\n", "V\t261130000000Z\t\t06\tunknown\t/CN=b\n",
              "R\t261130000001Z\t251101000000Z,superseded\t07\tunknown\t/CN=c\n", "V\t260301000001Z\t\t08\tunknown\t/CN=d\n"]
     (t.room / "index.txt").write_text("".join(lines))

@@ -1,4 +1,4 @@
-"""Requests that are named with their serial numbers: decided at the counter, shown, logged, and told again from a log."""
+"""Requests that are named with their serial numbers: decided at the control socket, shown, logged, and replayed from a log."""
 
 import json
 import re
@@ -24,8 +24,8 @@ def opened(t, *words):
     return t.open("ca.db", *words)
 
 
-def told(t, *lines):
-    """The replies to these lines at one counter."""
+def replies_to(t, *lines):
+    """The replies to these lines on one control connection."""
     return t.desk("at", "counter", given="".join(f"{it}\n" for it in lines)).out.decode().splitlines()
 
 
@@ -35,8 +35,8 @@ DECIDED = {"revoke": "revoked", "decline": "declined"}
 @each({it: (it, reply) for it, reply in DECIDED.items()})
 def a_request_is_decided_by_its_number_and_its_serial_number(t, word, reply):
     opened(t)
-    t.same(told(t, "request 01 superseded", f"{word} 1 01"), [f"request 1 due {DUE}", reply])
-    t.same(told(t, "request 02 superseded", f"{word} 2 {serial(2).upper()}"), [f"request 2 due {DUE}", reply])
+    t.same(replies_to(t, "request 01 superseded", f"{word} 1 01"), [f"request 1 due {DUE}", reply])
+    t.same(replies_to(t, "request 02 superseded", f"{word} 2 {serial(2).upper()}"), [f"request 2 due {DUE}", reply])
 
 
 @each({it: (it, reply) for it, reply in DECIDED.items()})
@@ -45,7 +45,7 @@ def one_that_is_for_another_serial_number_is_refused(t, word, reply):
     # Somebody else is first, so that the office's own request has another number than it wrote down.
     t.same(parted(desk.ask("POST", "/requests", b'{"serial":"03","ground":"superseded"}'))[2], f'{{"due":"{DUE}","request":1}}'.encode())
     t.same(
-        told(t, "request 01 superseded", f"{word} 1 01", "why", "status 03", f"{word} 2 01"),
+        replies_to(t, "request 01 superseded", f"{word} 1 01", "why", "status 03", f"{word} 2 01"),
         [f"request 2 due {DUE}", "E17 no-request", f"why request 1 is for {serial(3)}", "good", reply],
     )
 
@@ -53,25 +53,25 @@ def one_that_is_for_another_serial_number_is_refused(t, word, reply):
 @test
 def a_request_that_is_not_open_is_refused_as_by_its_number_alone(t):
     opened(t)
-    told(t, "request 01 superseded", "request 02 superseded", "request 02 superseded", "decline 1", "revoke 2")
+    replies_to(t, "request 01 superseded", "request 02 superseded", "request 02 superseded", "decline 1", "revoke 2")
     for number, its_serial in ((1, "01"), (2, "02"), (3, "02"), (4, "04"), (0, "04")):
         for word in DECIDED:
-            with_serial, alone = told(t, f"{word} {number} {its_serial}", f"{word} {number}")
+            with_serial, alone = replies_to(t, f"{word} {number} {its_serial}", f"{word} {number}")
             t.same(with_serial, alone, f"{word} {number}")
-    t.same(told(t, "revoke 1 01", "why", "revoke 3 02"), ["E18 declined-before", "why E18 declined-before", f"E19 revoked-before {DAY}"])
+    t.same(replies_to(t, "revoke 1 01", "why", "revoke 3 02"), ["E18 declined-before", "why E18 declined-before", f"E19 revoked-before {DAY}"])
 
 
 @test
 def one_that_is_not_open_and_for_another_serial_number_is_none_either(t):
     opened(t)
-    told(t, "request 01 superseded", "request 02 superseded", "decline 1", "revoke 2")
-    t.same(told(t, "revoke 1 02", "why", "decline 2 01", "why"), ["E17 no-request", f"why request 1 is for {serial(1)}", "E17 no-request", f"why request 2 is for {serial(2)}"])
+    replies_to(t, "request 01 superseded", "request 02 superseded", "decline 1", "revoke 2")
+    t.same(replies_to(t, "revoke 1 02", "why", "decline 2 01", "why"), ["E17 no-request", f"why request 1 is for {serial(1)}", "E17 no-request", f"why request 2 is for {serial(2)}"])
 
 
 @each({it: it for it in ("revoke 1 ", "revoke 1 x", "revoke x 01", "revoke 1 01 02", "decline 1 00", "revoke 1  01", "REVOKE 1 01", "show", "show ", "show x", "show request", "show request x", "show subscriber", "show subscriber ", "show order 1", "show request 1 2", "help me")})
 def what_is_no_such_word_is_a_line_that_can_not_be_read(t, line):
     opened(t)
-    t.same(told(t, line), ["E22 syntax"])
+    t.same(replies_to(t, line), ["E22 syntax"])
 
 
 @each({it: it for it in ("revoke 1 01", "decline 1 01", "show 01", "show request 1", "show subscriber acme", "help")})
@@ -81,14 +81,14 @@ def a_script_has_none_of_these_words(t, line):
 
 
 def shown(t, word):
-    (line,) = told(t, f"show {word}")
+    (line,) = replies_to(t, f"show {word}")
     return json.loads(line)
 
 
 @test
 def what_is_shown_is_a_row_of_its_list(t):
     desk = opened(t)
-    told(t, "request 02 superseded", "request 03 superseded", "request 04 superseded", "revoke 1", "decline 3")
+    replies_to(t, "request 02 superseded", "request 03 superseded", "request 04 superseded", "revoke 1", "decline 3")
     rows = [(f"request {number}", "requests", number - 1) for number in (1, 2, 3)]
     for word, list_word, at in (*rows, ("02", "certificates", 1), ("04", "certificates", 3), ("subscriber beta", "subscribers", 1)):
         t.same(shown(t, word), json.loads(parted(desk.ask("GET", f"/list/{list_word}"))[2])["rows"][at], word)
@@ -99,9 +99,9 @@ def what_is_shown_is_a_row_of_its_list(t):
 @test
 def what_is_not_there_is_refused(t):
     opened(t)
-    told(t, "request 02 superseded", "request 03 superseded", "revoke 1", "decline 2")
+    replies_to(t, "request 02 superseded", "request 03 superseded", "revoke 1", "decline 2")
     t.same(
-        told(t, "show request 3", "show request 0", "show 05", "show subscriber gamma", "why"),
+        replies_to(t, "show request 3", "show request 0", "show 05", "show subscriber gamma", "why"),
         ["E17 no-request", "E17 no-request", "E14 unknown-serial", "E06 no-subscriber", "why E06 no-subscriber"],
     )
 
@@ -116,7 +116,7 @@ def a_certificate_is_shown_wherever_it_stands(t, number):
     t.clock(DAY)
     t.open()
     t.same(shown(t, f"{number:x}")["serial"], serial(number))
-    t.same(told(t, f"show {2**100:x}"), ["E14 unknown-serial"])
+    t.same(replies_to(t, f"show {2**100:x}"), ["E14 unknown-serial"])
 
 
 @test(seconds=3)
@@ -125,21 +125,21 @@ def a_subscriber_behind_the_first_page_is_found(t):
     t.clock(DAY)
     t.open()
     t.same([shown(t, f"subscriber s{it}")["subscriber"] for it in (0, 249, 250, 259)], [1, 250, 251, 260])
-    t.same(told(t, "show subscriber s260"), ["E06 no-subscriber"])
+    t.same(replies_to(t, "show subscriber s260"), ["E06 no-subscriber"])
 
 
 @test
 def nothing_is_shown_while_the_clock_is_back(t):
     opened(t)
-    told(t, "crl")
+    replies_to(t, "crl")
     t.clock("2025-12-31T00:00:00Z")
-    t.same(told(t, "show 01", "revoke 1 01"), [f"E01 clock-back {DAY}"] * 2)
+    t.same(replies_to(t, "show 01", "revoke 1 01"), [f"E01 clock-back {DAY}"] * 2)
 
 
 @test
 def help_lists_each_word_in_one_line(t):
     opened(t)
-    (line,) = told(t, "help")
+    (line,) = replies_to(t, "help")
     words = "subscriber order register request decline revoke crl status counts listing overdue next-crl ocsp show why schedule copy help".split()
     t.same([it for it in words if not re.search(rf"[:|] {it}\b", line)], [], "words that it lacks")
     t.same(t.desk("at", "counter", given="help\r\n").status, 0)
@@ -149,8 +149,8 @@ def help_lists_each_word_in_one_line(t):
 
 
 def tails(t, desk):
-    """What each line of the log has behind the microseconds, with what was asked."""
-    return [re.fullmatch(r'\S+ (\S+) "([^"]*)" "[^"]*" \d+ \d+(.*)', it).group(2, 3) for it in desk.end().told]
+    """For each line of the log its request, and the text after the microseconds."""
+    return [re.fullmatch(r'\S+ (\S+) "([^"]*)" "[^"]*" \d+ \d+(.*)', it).group(2, 3) for it in desk.end().err_lines]
 
 
 @test
@@ -158,7 +158,7 @@ def the_log_names_each_request_that_is_entered_or_decided(t):
     desk = opened(t, "--log")
     desk.ask("POST", "/requests", b'{"serial":"03","ground":"key-compromise"}')
     desk.ask("POST", "/requests", b'{"serial":"09","ground":"superseded"}')
-    told(t, "request 01 superseded", "revoke 1", "revoke 2 03", "decline 2 01", "revoke 2", "revoke 7", "crl", "show 01")
+    replies_to(t, "request 01 superseded", "revoke 1", "revoke 2 03", "decline 2 01", "revoke 2", "revoke 7", "crl", "show 01")
     t.same(
         tails(t, desk),
         [
@@ -176,16 +176,16 @@ def the_log_names_each_request_that_is_entered_or_decided(t):
     )
 
 
-# ---- a log that is told again
+# ---- a log that is replayed
 
 
 def a_day(t):
-    """A register of ENTERED, a copy of it, and the log of what came behind the copy."""
+    """Makes a register of ENTERED, a copy of it, and the log of the commands after the copy."""
     desk = opened(t, "--log-file", "ca.log")
-    told(t, "copy copy.db")
+    replies_to(t, "copy copy.db")
     desk.ask("POST", "/requests", b'{"serial":"03","ground":"key-compromise"}')
-    told(t, "subscriber gamma", "order 3 100", f"register 5 05 {DAY} 2026-04-10T23:59:59Z", "counts", "status 05", "register 1 0f x y")
-    told(t, "request 01 superseded", "revoke 2", "decline 1 03", "request 05 superseded", "revoke 3 04", "revoke 3 05", "crl", "schedule 1970-01-01T00:00:00Z=300")
+    replies_to(t, "subscriber gamma", "order 3 100", f"register 5 05 {DAY} 2026-04-10T23:59:59Z", "counts", "status 05", "register 1 0f x y")
+    replies_to(t, "request 01 superseded", "revoke 2", "decline 1 03", "request 05 superseded", "revoke 3 04", "revoke 3 05", "crl", "schedule 1970-01-01T00:00:00Z=300")
     desk.end()
     return (t.room / "ca.log").read_text()
 
@@ -194,15 +194,15 @@ REPLAYED = ["request 1 due", "subscriber 3", "order 5", "registered", "request 2
 
 
 @test
-def a_log_is_told_again_to_a_copy(t):
+def a_log_is_replayed_to_a_copy(t):
     a_day(t)
     t.clock("2026-01-01T10:00:00Z")
     t.open("copy.db")
     ran = t.desk("replay", "counter", "ca.log")
     t.same((ran.status, ran.err), (0, b""), "status and standard error")
     t.same([line.startswith(part) for line, part in zip(ran.out.decode().splitlines(), REPLAYED, strict=True)], [True] * len(REPLAYED), ran.out)
-    t.same(told(t, "status 01", "status 03", "status 05")[1:2], ["good"])
-    t.same([it.split()[0] for it in told(t, "status 01", "status 05")], ["revoked"] * 2)
+    t.same(replies_to(t, "status 01", "status 03", "status 05")[1:2], ["good"])
+    t.same([it.split()[0] for it in replies_to(t, "status 01", "status 05")], ["revoked"] * 2)
 
 
 @test
@@ -212,19 +212,19 @@ def a_request_that_came_between_shifts_no_revocation(t):
     for number in (4, 4):
         desk.ask("POST", "/requests", f'{{"serial":"0{number}","ground":"superseded"}}'.encode())
     t.same(t.desk("replay", "counter", "ca.log").status, 0)
-    t.same([it.split()[0] for it in told(t, "status 01", "status 03", "status 04", "status 05")], ["revoked", "good", "good", "revoked"])
+    t.same([it.split()[0] for it in replies_to(t, "status 01", "status 03", "status 04", "status 05")], ["revoked", "good", "good", "revoked"])
 
 
 @test
 def it_stops_at_the_first_reply_that_differs(t):
     log = a_day(t)
     t.open("copy.db")
-    told(t, "subscriber other")
+    replies_to(t, "subscriber other")
     ran = t.desk("replay", "counter", "ca.log")
     line = next(it for it in log.splitlines() if '"subscriber gamma"' in it)
     t.same((ran.status, ran.err), (3, b"refused\n"), "status and standard error")
     t.same(ran.out.decode().splitlines()[1:], ["subscriber 4", line], "the reply that differs, and the log's line")
-    t.same(told(t, "counts"), ["good 4 revoked 0 expired 0"], "nothing behind it was told")
+    t.same(replies_to(t, "counts"), ["good 4 revoked 0 expired 0"], "nothing behind it was told")
 
 
 @test
@@ -251,7 +251,7 @@ UNKNOWN = {
 
 
 @each(UNKNOWN)
-def what_the_log_does_not_tell_whole_stops_it(t, line):
+def a_log_line_that_is_not_whole_stops_it(t, line):
     opened(t)
     (t.room / "ca.log").write_text(line + f'{DAY} counter "subscriber gamma" "subscriber 3" 13 99\n')
     ran = t.desk("replay", "counter", "ca.log")
@@ -277,11 +277,11 @@ def what_was_no_accepted_command_is_left_out(t, line):
     opened(t)
     (t.room / "ca.log").write_text(line)
     t.same(t.done("replay", "counter", "ca.log"), "")
-    t.same(told(t, "subscriber gamma"), ["subscriber 3"])
+    t.same(replies_to(t, "subscriber gamma"), ["subscriber 3"])
 
 
 @test
-def a_last_line_without_its_end_is_not_told(t):
+def a_last_line_without_its_end_is_not_replayed(t):
     opened(t)
     (t.room / "ca.log").write_text(f'{DAY} counter "subscriber gamma" "subscriber 3" 13 99\n{DAY} counter "subscriber delta" "subscriber 4" 13 99')
     ran = t.desk("replay", "counter", "ca.log")

@@ -1,5 +1,5 @@
-"""examples/nginx.conf in Debian's nginx, before one desk: what is answered, who may post requests for revocation, what is kept and for how
-long, and how old an answer can be when a certificate was revoked."""
+"""examples/nginx.conf in Debian's nginx, in front of one desk: the answers, the clients that may post requests for revocation, the cached answers and for
+how long, and the greatest age of an answer after a revocation."""
 
 import re
 import signal
@@ -12,11 +12,12 @@ from lib.authority import Authority, first_day, path_of
 from lib.trial import each, need, test
 from lib.web_server import Front, certificates, revoke
 
-KEPT = 4
+# For how many seconds an answer is kept: in tests that wait until it is kept no more, and in all others.
+KEPT, LONG = 4, 60
 ASK = '{"serial":"06","ground":"superseded"}'
 
 
-def opened(t, *names, seconds=KEPT):
+def opened(t, *names, seconds=LONG):
     """A CA, an open desk of which 05 is revoked and 06 good, and servers before it."""
     need("nginx")
     it = Authority(t)
@@ -58,7 +59,7 @@ def ocsp_at_the_url_of_an_older_certificate(t, end):
     it, _, [front] = opened(t, "front")
     for serial, told in (("05", "revoked"), ("06", "good"), ("07", "unknown")):
         t.same(it.asked_by_openssl(serial, f"http://127.0.0.1:{front.port}{end}"), told, f"{serial} by POST, with a nonce")
-        # What is behind `/ocsp` of the desk stands behind the URL as it is, with its slash and one more (RFC 6960 A.1).
+        # The path after `/ocsp` of the desk follows the URL as it is, with its slash and one more (RFC 6960 A.1).
         for way, path in (("quoted", path_of(it.asks(serial))), ("as it is", path_of(it.asks(serial), quoted=False))):
             status, fields, body = front.ask(end + path.removeprefix("/ocsp"))
             t.same((status, fields["Content-Type"], it.reads(serial, body, verify=False)), (200, "application/ocsp-response", told), f"{serial} by GET, {way}")
@@ -75,7 +76,7 @@ def the_urls_of_older_certificates(t):
     old = path.removeprefix("/ocsp")
     states = [front.state(one) for one in (old, old, "/" + old, path, old + "?x=1")]
     t.same(states, ["MISS", "HIT", "HIT", "HIT", "HIT"], f"{old}, with two slashes, as /ocsp, with a query")
-    t.same(front.ask(old)[1]["Cache-Control"], f"public, max-age={KEPT}, no-transform, must-revalidate")
+    t.same(front.ask(old)[1]["Cache-Control"], f"public, max-age={LONG}, no-transform, must-revalidate")
     t.same([front.ask("/MAAA")[2].hex(), front.state("/MAAA"), front.ask("/MAAA")[1]["Cache-Control"]], ["30030a0101", "MISS", "no-store"],
            "a refusal is not kept")
     for path in ("/", "/%4DFQ", "/ca.pem", "/mfQ", "/ca.crl/1"):
@@ -94,7 +95,7 @@ def the_urls_of_older_certificates(t):
 def who_may_post_requests(t):
     _, _, [front] = opened(t, "front")
     shows = lambda name: ("--cert", f"{name}.pem", "--key", f"{name}.key")
-    counter = t.counter()
+    control = t.control()
     t.same(front.ask("/requests", "-d", ASK)[0], 403, "nobody by plain http")
     t.same(front.ask("/requests", "-d", ASK, tls=True)[0], 403, "nobody without a certificate")
     t.same(front.ask("/requests", *shows("stranger"), "-d", ASK, tls=True)[0], 400, "nobody with another certificate")
@@ -103,7 +104,7 @@ def who_may_post_requests(t):
     # None of these reached the desk: the next request is the second.
     status, _, body = front.ask("/requests", *shows("clerk"), "-d", ASK, tls=True)
     t.same((status, b'"request":2' in body), (200, True), f"a clerk, who is told {body!r}")
-    t.same(counter.ask("revoke 2"), "revoked", "and the office decides")
+    t.same(control.ask("revoke 2"), "revoked", "and the office decides")
     told = [line.split('"')[1::2] for line in (front.folder / "desk.log").read_text().splitlines() if "POST /requests" in line]
     wanted = ["-", "-", "CN=stranger", "CN=former,O=The Office", "CN=clerk,O=The Office"]
     t.same(told, [[who, "POST /requests HTTP/1.1"] for who in wanted], "the log has who posted")
@@ -124,15 +125,15 @@ def a_client_certificate_that_is_revoked(t):
 
 
 @test(seconds=12)
-def what_is_kept_and_for_how_long(t):
-    it, _, [front, other] = opened(t, "front", "other")
+def what_is_cached_and_for_how_long(t):
+    it, desk, [front, other] = opened(t, "front", "other")
     path = path_of(it.asks("06"))
     t.same([front.state(path), front.state(path)], ["MISS", "HIT"], "OCSP by GET")
     t.same(front.state(path + "?x=1"), "HIT", "with a query behind it, it is the same")
     t.same(other.state(path), "MISS", "the other server asks for itself")
     t.same([front.state("/ocsp/AAAA"), front.state("/ocsp/AAAA")], ["MISS", "MISS"], "a refusal is not kept")
     t.same(front.ask("/ocsp/AAAA")[1]["Cache-Control"], "no-store", "and readers are told so")
-    t.same(front.ask(path)[1]["Cache-Control"], f"public, max-age={KEPT}, no-transform, must-revalidate", "a good answer may be kept by readers")
+    t.same(front.ask(path)[1]["Cache-Control"], f"public, max-age={LONG}, no-transform, must-revalidate", "a good answer may be kept by readers")
     t.same([front.state("/crl/1"), front.state("/crl/1")], ["MISS", "HIT"], "a CRL by number")
     t.same(front.ask("/crl/1")[1]["Cache-Control"], "public, max-age=3600", "for an hour")
     t.same([front.state("/crl"), front.state("/crl")], ["MISS", "HIT"], "the latest CRL")
@@ -142,26 +143,32 @@ def what_is_kept_and_for_how_long(t):
         t.same(front.ask(route, tls=True)[1]["Cache-Control"], "no-store", route)
     # Two requests that differ in a slash alone are two (their base64 has any bytes).
     t.same([front.state("/ocsp/a//b"), front.state("/ocsp/a/b")], ["MISS", "MISS"], "slashes are not merged")
+    brief = Front(t, desk.port, "brief", KEPT)
+    t.same([brief.state(path), brief.state("/crl/1")], ["MISS", "MISS"], "a server that keeps answers for some seconds")
     time.sleep(KEPT + 1)
-    t.same([front.state(path), front.state(path)], ["EXPIRED", "HIT"], "then the desk is asked anew")
-    t.same(front.state("/crl/1"), "HIT", "but for a CRL by number")
+    t.same(brief.state(path), "EXPIRED", "then the desk is asked anew")
+    t.same(brief.state("/crl/1"), "HIT", "but for a CRL by number")
 
 
 @test(seconds=12)
 def how_old_an_answer_can_be(t):
-    it, _, [front] = opened(t, "front")
-    path, counter = path_of(it.asks("06")), t.counter()
+    it, _, [front] = opened(t, "front", seconds=KEPT)
+    path, control = path_of(it.asks("06")), t.control()
     front.state("/crl")
     told = lambda: it.reads("06", front.ask(path)[2], verify=False)
-    made = time.monotonic()
+    # The answer begins to be kept between these moments.
+    before = time.monotonic()
     t.same(told(), "good")
-    t.same([counter.ask("request 06 superseded").split()[0], counter.ask("revoke 2"), counter.ask("crl")], ["request", "revoked", "crl 2 entries 2"])
+    made = time.monotonic()
+    t.same([control.ask("request 06 superseded").split()[0], control.ask("revoke 2"), control.ask("crl")], ["request", "revoked", "crl 2 entries 2"])
     status, fields, body = front.ask(path)
-    t.same((fields["X-Cache-Status"], it.reads("06", body, verify=False)), ("HIT", "good"), "right after the revocation a kept answer")
+    # On a slow machine it may be kept no more.
+    if time.monotonic() - before < KEPT:
+        t.same((fields["X-Cache-Status"], it.reads("06", body, verify=False)), ("HIT", "good"), "right after the revocation a kept answer")
     t.same(it.asked_by_openssl("06", front.url("/ocsp")), "revoked", "OCSP by POST, which is never kept")
     # When the last old answer was asked for: when an answer was read says how busy the machine is too. nginx counts whole seconds.
     last = made
-    while time.monotonic() < made + 60:
+    while time.monotonic() < made + 120:
         at = time.monotonic()
         if told() != "good":
             break
@@ -169,12 +176,12 @@ def how_old_an_answer_can_be(t):
         time.sleep(0.1)
     t.true(last - made <= KEPT + 1.5, f"an answer of {last - made:.1f} s was given, and they are kept for {KEPT} s")
     t.same(told(), "revoked", "then OCSP by GET")
-    authority.until(lambda: 6 in authority.listed(t, front.ask("/crl")[2]), "the latest CRL to list it", 10)
+    authority.until(lambda: 6 in authority.listed(t, front.ask("/crl")[2]), "the latest CRL to list it")
 
 
 @test(seconds=12)
-def an_old_answer_is_never_given_while_the_desk_is_away(t):
-    it, desk, [front] = opened(t, "front")
+def an_old_answer_is_never_sent_while_the_desk_is_away(t):
+    it, desk, [front] = opened(t, "front", seconds=KEPT)
     path = path_of(it.asks("06"))
     t.same(front.state(path), "MISS")
     desk.end()
@@ -187,7 +194,7 @@ def an_old_answer_is_never_given_while_the_desk_is_away(t):
 
 @test(seconds=5)
 def of_many_readers_one_goes_to_the_desk(t):
-    it, _, [front] = opened(t, "front", seconds=60)
+    it, _, [front] = opened(t, "front")
     before, path = front.asked_of_desk(), path_of(it.asks("06"))
 
     def read(_):
@@ -204,7 +211,7 @@ def of_many_readers_one_goes_to_the_desk(t):
 @test(seconds=6)
 def two_servers_answer_as_many_as_wrk_asks(t):
     need("wrk")
-    it, _, fronts = opened(t, "front", "other", seconds=60)
+    it, _, fronts = opened(t, "front", "other")
     before, path = [front.asked_of_desk() for front in fronts], path_of(it.asks("06"))
     asks = lambda front: t.tool("wrk", "-t", 1, "-c", 16, "-d", 1, front.url(path)).decode()
     with ThreadPoolExecutor(2) as pool:

@@ -1,5 +1,5 @@
-"""examples/office/index.html in Debian's Chromium with no screen: served by nginx with examples/nginx.conf beside an open desk, to a browser that shows a client
-certificate of the office. What is shown is compared with the lines that made the register. OFFICE_PICTURE=FILE.png keeps a picture of it."""
+"""examples/office/index.html in Debian's headless Chromium. nginx serves it with examples/nginx.conf, in front of an open desk, to a browser with a client
+certificate of the office. The tests compare the page with the lines that made the register. OFFICE_PICTURE=FILE.png keeps a picture of it."""
 
 import json
 import os
@@ -19,7 +19,7 @@ def shown(at):
 
 
 def give_certificate(t, front, name):
-    """Has chromium show this client certificate to the server: it lies in the browser's database, and its settings choose it without a question."""
+    """Puts a client certificate into the browser's database. Its settings choose the certificate without a question."""
     words = ("-inkey", f"{name}.key", "-name", name, "-passout", "pass:it", "-out", f"{name}.p12")
     t.tool("openssl", "pkcs12", "-export", "-in", f"{name}.pem", *words)
     for folder in (".pki/nssdb", ".local/share/pki/nssdb"):
@@ -137,7 +137,7 @@ def the_office_view_shows_what_the_desk_says(t):
     gaps_and_plot(t, year, browser)
     months(t, year, browser)
     t.same(texts(browser, "health", "fault", "issuer"), ["failing", "", "Example CA"], "health; no fault; the issuer")
-    t.same([row.split("|")[1] for row in rows(browser, "healthrows") if row.split("|")[0] not in ("CRL",)], ["ok"] * 4)
+    t.same([row.split("|")[1] for row in rows(browser, "healthrows") if row.split("|")[0] not in ("CRL",)], ["ok"] * 5)
     t.has([row for row in rows(browser, "healthrows") if row.startswith("CRL|")][0], "the next CRL is due", "why it is failing")
     if "OFFICE_PICTURE" in os.environ:
         browser.picture(os.environ["OFFICE_PICTURE"])
@@ -146,7 +146,7 @@ def the_office_view_shows_what_the_desk_says(t):
 
 
 def complaints(browser):
-    """What the browser complained of; an answer of /health with 503, and of a desk that is away, is in its log as an error."""
+    """The errors in the browser's log, without those for /health with status 503 and for a desk that is away."""
     return [it for it in browser.complaints if "status of 50" not in it]
 
 
@@ -163,7 +163,7 @@ def gaps_and_plot(t, year, browser):
     browser.until(f"{points} === {2 * len(year.crls)}")
     t.same([tuple(row.split("|")[1:]) for row in rows(browser, "gaprows")], told[::-1], "gaps between CRLs")
     t.same(browser.value("document.querySelectorAll('#plot rect').length"), len(found), "gaps in the plot")
-    # The bytes and entries of the latest CRL, as the plot tells them.
+    # The bytes and entries of the latest CRL, as in the plot.
     latest = t.tool("curl", "-sk", "-o", "latest.crl", "-w", "%{size_download}", browser.value("location.origin") + "/crl").decode()
     entries = t.tool("openssl", "crl", "-inform", "DER", "-in", "latest.crl", "-noout", "-text").decode().count("Serial Number: ")
     last = browser.value("Array.from(document.querySelectorAll('#plot circle title'), it => it.textContent).pop()")
@@ -184,7 +184,7 @@ def months(t, year, browser):
 
 
 def recent(t, desk, browser):
-    """The requests of the last 30 days, the latest first, with what the list of all tells of each."""
+    """The requests of the last 30 days, the latest first, with the data of the list of all requests."""
     listed = json.loads(desk.ask("GET", "/list/requests").split(b"\r\n\r\n")[1])["rows"]
     of_days = [it for it in reversed(listed) if it["received"] >= moment_of(authority.now() - 30 * DAY)]
     t.same({it["state"] for it in of_days} >= {"open", "revoked", "declined"}, True, "states that came")
@@ -196,11 +196,11 @@ def recent(t, desk, browser):
 
 
 def later(t, year, desk, browser, overdue):
-    """What is entered meanwhile is there after the next round; so is a fault, which leaves what was shown."""
-    counter = t.counter()
+    """The next round shows new entries. It also shows a fault, and the page keeps its old contents then."""
+    control = t.control()
     first = sorted(year.open)[0][1]
-    t.same(counter.ask(f"revoke {first}"), "revoked late")
-    t.same(counter.ask("crl").split(" ")[0], "crl")
+    t.same(control.ask(f"revoke {first}"), "revoked late")
+    t.same(control.ask("crl").split(" ")[0], "crl")
     again(browser)
     t.same(texts(browser, "open", "overdue", "health"), [str(len(year.open) - 1), str(overdue - 1), "all is well"], "after the overdue request was carried out, and a CRL came")
     t.same(browser.text_of("crlsnote").split(";")[0], str(len(year.crls) + 1), "one CRL more")
@@ -244,7 +244,7 @@ def a_desk_that_is_away_or_refuses_or_fails(t):
 
 @test(seconds=15)
 def a_store_that_fails(t):
-    """Where the disk refuses a write the page goes on showing what can be read, and tells since when and what to look at."""
+    """If the disk refuses a write, the page goes on with all that can be read. It shows since when the store fails, and what to check."""
     _, desk, front, browser = opened(t)
     desk.end()
     base, files = t.register("base.db"), "ca.db-wal,ca.db"
@@ -257,7 +257,7 @@ def a_store_that_fails(t):
         desk = t.open("ca.db", "--port", desk.port, "--control", "second", faults=faults.environment(only=files, **how))
         if not fails:
             desk.end()
-    t.same(t.counter("second").ask("subscriber acme"), "F2 store")
+    t.same(t.control("second").ask("subscriber acme"), "F2 store")
     load(browser, front)
     t.same(texts(browser, "health", "fault", "good"), ["failing", "", "0"], "what is shown")
     [row] = [row for row in rows(browser, "healthrows") if row.startswith("Store|")]
@@ -281,7 +281,7 @@ def thousands_of_rows(t):
     folder = authority.in_memory(t)
     _, desk, front, browser = opened(t)
     t.same(t.done("init", folder / "large.db", "--name", "300D310B300906035504030C024341", "--key", "616263"), "created\n")
-    told = t.done("script", folder / "large.db", given="\n".join(lines) + "\n", timeout=120).splitlines()
+    told = t.done("script", folder / "large.db", given="\n".join(lines) + "\n").splitlines()
     t.same([it for it in told if it[:1] in "EF"], [], "refusals")
     desk.end()
     t.open(folder / "large.db", "--port", desk.port, "--control", "second")

@@ -1,5 +1,5 @@
-"""A signer that signs what the desk has signed for one issuer, and nothing else: examples/signer.py --only-ours, and examples/only_ours.py before
-openssl. What is signed comes from the program itself; what is refused, from openssl and by hand."""
+"""A signer that signs only the desk's messages for one issuer: examples/signer.py --only-ours, and examples/only_ours.py in front of openssl.
+The accepted messages come from the program itself; the refused ones come from openssl, or are made by hand."""
 
 import random
 import socket
@@ -17,9 +17,9 @@ INTEGER, OCTETS, SEQUENCE, UTC, GENERAL = 0x02, 0x04, 0x30, 0x17, 0x18
 
 
 def signature(path, message):
-    """What comes back for a message: nothing where it is refused."""
+    """The reply to a message; empty if it is refused."""
     with socket.socket(socket.AF_UNIX) as peer:
-        peer.settimeout(20 * program.PATIENCE)
+        peer.settimeout(program.LONGEST)
         peer.connect(str(path))
         peer.sendall(message)
         peer.shutdown(socket.SHUT_WR)
@@ -27,14 +27,14 @@ def signature(path, message):
 
 
 def guard(t, it, path="guarded.sign"):
-    """The signer, and where it tells what it refused."""
+    """The signer's socket, and its process, whose standard error has the refusals."""
     authority.need_cryptography(t)
     process = authority.started(t, ["python3", EXAMPLES / "signer.py", "--only-ours", it.pem, it.key, path], t.room / path)
     return t.room / path, process
 
 
 def to_be_signed(t, it):
-    """What the program has signed: CRLs with and without entries, and answers with and without a nonce."""
+    """The messages that the program requests signatures for: CRLs with and without entries, and answers with and without a nonce."""
     file = it.register(f"{it.name}.db")
     signer = it.signer(f"{it.name}.asked")
     begun = authority.now()
@@ -90,8 +90,8 @@ def what_the_desk_has_signed_is_signed(t, algorithm):
 
 
 @test(seconds=10)
-def what_is_none_of_the_issuer_s_is_refused(t):
-    """And F3 to the desk whose CRL it is, internalError to who asks OCSP; the signer goes on."""
+def a_message_that_is_not_the_issuer_s_is_refused(t):
+    """The desk replies F3 to `crl`, and internalError to an OCSP request. The signer goes on."""
     it, other, twin = Authority(t), Authority(t, name="other", subject="/CN=Other"), Authority(t, name="twin")
     path, process = guard(t, it)
     ours = to_be_signed(t, it)
@@ -101,7 +101,7 @@ def what_is_none_of_the_issuer_s_is_refused(t):
         t.same(t.done("script", f"{foreign.name}.db", *it.signing(path.name), "--clock", given="crl\n"), "F3 signer\n", f"a CRL of {what}")
         desk = t.open(f"{foreign.name}.db", *it.signing(path.name), "--control", f"{foreign.name}.counter")
         t.same(body_of(t, desk.ask("POST", "/ocsp", foreign.asks("05"))), INTERNAL, f"an answer of {what}")
-    # What openssl signs: certificates, of which one begins as a CRL does; a request for one; CRLs of other forms; and an answer by another responder.
+    # Messages that openssl signs: certificates, of which one begins as a CRL does; a request for one; CRLs of other forms; and an answer by another responder.
     t.tool("openssl", "req", "-new", "-key", other.key, "-subj", "/CN=T", "-out", "x.csr")
     t.tool("openssl", "x509", "-req", "-in", "x.csr", "-CA", it.pem, "-CAkey", it.key, "-set_serial", "1", "-days", "90", "-out", "v1.pem")
     request = t.tool("openssl", "req", "-in", "x.csr", "-outform", "DER")
@@ -117,13 +117,13 @@ def what_is_none_of_the_issuer_s_is_refused(t):
     for message in ours:
         t.true(signature(path, message) != b"", "what is ours is signed all the while")
     process.terminate()
-    process.wait(20)
+    process.wait(program.LONGEST)
     told = process.stderr.read().decode().splitlines()
     t.true(len(told) > 20 and all(line.startswith("refused to sign ") for line in told), f"what is told of each: {told}")
 
 
 def is_refused(t, it, message, what):
-    """By the filter, which a command stands behind that must not run."""
+    """The filter refuses a message, and does not run its command."""
     ran = t.tried(*FILTER, it.pem, "touch", "ran", given=message)
     t.same((ran.returncode, ran.stdout, (t.room / "ran").exists()), (1, b"", False), f"{what}: status, output, whether the command ran")
     t.has(ran.stderr, b"refused to have ", what)
@@ -139,7 +139,7 @@ def whole(value):
 
 
 def other_crls(crl):
-    """What a CRL of this issuer may have by RFC 5280 5 and the desk never writes, and what is no DER: made of one with entries, by what it is."""
+    """By name, forms of a CRL that RFC 5280 5 allows and the desk never writes, and bytes that are not DER, made from a CRL with entries."""
     parts = whole(inside(crl)[1])
     version, algorithm, name, this, following, entries, _ = parts
     extensions = whole(inside(crl, 6, 0)[1])
@@ -202,7 +202,7 @@ def crls_of_other_forms(t):
 
 
 def forms_of_answer(answer, name):
-    """Of an answer with a revoked certificate and a nonce: other answers of the desk, and what an answer may have by RFC 6960 4.2.1 and the desk never
+    """By name, forms of an answer with a revoked certificate and a nonce: other answers of the desk, forms that RFC 6960 4.2.1 allows and the desk never
     writes, and statuses of another issuer's certificates. `name` is the issuer's."""
     responder, produced, answers, nonce = whole(inside(answer)[1])
     singles = whole(inside(answers)[1])
@@ -258,7 +258,7 @@ def answers_of_other_forms(t):
 
 
 @test(seconds=3)
-def an_octet_of_what_tells_the_issuer_is_changed(t):
+def an_octet_that_names_the_issuer_is_changed(t):
     """Each octet up to the moments, and of the key's identifier and of the responder: none may be another."""
     it = Authority(t)
     sys.path.insert(0, str(EXAMPLES))
@@ -339,7 +339,7 @@ def a_command_with_another_key(t, algorithm):
     t.same(t.desk("crl", "wrong.db").err, b"E21 no-crl\n", "none is recorded")
 
 
-# What hashlib gives for each message is the digest of another one.
+# This hashlib returns for each message the digest of another one.
 WRONG_DIGESTS = """
 import hashlib
 for name in ("sha256", "sha384"):
@@ -359,7 +359,7 @@ def a_signature_that_does_not_verify(t, algorithm):
     for _ in range(3):
         refused(t, t.room / "guarded.sign", message, "a signature of another message")
     process.terminate()
-    process.wait(20)
+    process.wait(program.LONGEST)
     told = process.stderr.read().decode().splitlines()
     t.same([f"its signature does not verify by {it.pem}" in line for line in told], [True] * 3, f"each is told of: {told}")
     authority.started(t, [*signer, it.key, "alone.sign"], t.room / "alone.sign")
@@ -425,7 +425,7 @@ def a_socket_that_is_handed_over(t):
         t.true(signature(t.room / "handed.sign", message) != b"", "it signs")
         refused(t, t.room / "handed.sign", b"hello", "a text")
     process.terminate()
-    t.same(process.wait(20), 0, "ended by SIGTERM")
+    t.same(process.wait(program.LONGEST), 0, "ended by SIGTERM")
     t.true((t.room / "handed.sign").exists(), "the socket stays, which is not its own")
     ran = t.tried(*words)
     t.same((ran.returncode, b"no socket was handed over" in ran.stderr), (1, True), "with none")

@@ -1,4 +1,4 @@
-"""The program beside openssl and curl: requests and answers of OCSP, CRLs, each route, and the examples that use them, played as they stand."""
+"""The program with openssl and curl: OCSP requests and answers, CRLs, each route, and the examples that use them, run as they are."""
 
 import contextlib
 import os
@@ -21,7 +21,7 @@ def register_of_a_day(t, it, begun):
 
 # OCSP: what openssl asks, and what it reads
 
-# The words of `openssl ocsp`, whether it draws a nonce, and what each serial number is told.
+# Options of `openssl ocsp`, whether it sends a nonce, and the status of each serial number.
 REQUESTS = {
     "one by SHA-1, with a nonce": (["5"], True, ["good"]),
     "one by SHA-1, no nonce": (["5"], False, ["good"]),
@@ -41,7 +41,7 @@ def nonce_in(text):
 
 @each(REQUESTS, seconds=3)
 def openssl_asks_and_reads(t, words, nonce, told):
-    """Each CertID and the nonce come back byte for byte, by a line and over HTTP by POST and GET; openssl reads what each is told."""
+    """The answer repeats each CertID and the nonce byte for byte, at the control socket and over HTTP by POST and GET. openssl reads each answer."""
     it = Authority(t)
     it.register()
     begun = authority.now()
@@ -69,7 +69,7 @@ def openssl_asks_and_reads(t, words, nonce, told):
         t.has(said, "OCSP Response Status: successful (0x0)", way)
         produced = re.search(r"Produced At: (.*)", said)[1]
         t.same(authority.openssl_time(produced), later, f"Produced At {way}")
-        # A digest stands where each command seals: all three are the same bytes.
+        # All three commands issue the same bytes, with a placeholder digest.
         got = re.findall(r"Serial Number: ([0-9A-F]+)\s+Cert Status: (\w+)", said)
         t.same(got, list(zip(serials, told)), f"statuses {way}")
         t.same(nonce_in(said), nonce_in(text), f"the nonce {way}")
@@ -144,7 +144,7 @@ def each_route_by_curl(t):
 
 
 @test(seconds=2)
-def it_ends_after_as_many_connections_as_it_was_told(t):
+def it_ends_after_the_given_number_of_connections(t):
     it = Authority(t)
     register_of_a_day(t, it, authority.now())
     desk = t.open("ca.db", "--requests", "3", command="serve")
@@ -153,7 +153,7 @@ def it_ends_after_as_many_connections_as_it_was_told(t):
         curl.same("/status/06", 200, b'{"status":"good"}')
     ended = desk.wait()
     t.same((ended.status, ended.out, ended.err), (0, b"", b""), "it ends with status 0, and has said nothing but its port")
-    # Two peers that ask nothing hold nobody; each of K is one of those that are answered.
+    # Two clients that send nothing delay no other one. Only answered connections count.
     desk = t.open("ca.db", "--requests", "3", command="serve")
     with contextlib.ExitStack() as silent:
         for _ in range(2):
@@ -164,7 +164,7 @@ def it_ends_after_as_many_connections_as_it_was_told(t):
 
 
 @test(seconds=3)
-def an_open_desk_tells_a_revocation_in_the_next_answer(t):
+def a_revocation_is_in_the_next_answer_of_an_open_desk(t):
     it = Authority(t)
     register_of_a_day(t, it, authority.now())
     desk = t.open("ca.db", "--control", "ca.control")
@@ -199,7 +199,7 @@ def an_open_desk_tells_a_revocation_in_the_next_answer(t):
 
 
 def play(t, *words, where=None, more=None, status=0):
-    """Plays a script of examples/, whose `desk` is the program that is tested."""
+    """Runs a script of examples/ with the tested program as its `desk`."""
     env = dict(os.environ, DESK=program.program(), **(more or {}))
     ran = t.tried(*words, env=env) if where is None else t.tried("env", "-C", where, *words, env=env)
     t.same(ran.returncode, status, f"status of {words[0]}, which printed {(ran.stdout + ran.stderr)[-2000:]!r}")
@@ -242,11 +242,11 @@ def issue_due_crl_issues_one_where_it_is_due(t):
     it.register()
     signer = it.signer()
     desk = t.open("ca.db", "--control", "counter", *it.signing())
-    counter = t.counter()
+    control = t.control()
     t.same(play(t, "bash", script, "counter").stdout, b"crl 1 entries 0\n", "with no CRL it is due at once")
     t.same(play(t, "bash", script, "counter").stdout, b"", "and no second one within the week")
     t.same(len(signer.asked), 1, "signatures")
-    t.same(counter.ask("counts"), "good 0 revoked 0 expired 0")
+    t.same(control.ask("counts"), "good 0 revoked 0 expired 0")
     it.verifies(body_of(t, desk.ask("GET", "/crl"), CRL_TYPE))
     ran = play(t, "bash", script, status=2)
     t.has(ran.stderr, b"usage: ")
@@ -274,7 +274,7 @@ def issue_due_crl_behind_a_placeholder_digest(t):
 
 @test(seconds=4)
 def issue_due_crl_by_the_clock(t):
-    """A week after the latest one, or a day after a revocation that none lists; a signer that fails is told with status 3."""
+    """A week after the latest one, or a day after a revocation that no CRL lists. With a failing signer the exit status is 3."""
     script = EXAMPLES / "issue-due-crl.sh"
     # The script compares with the clock of `date`, which no test sets: so the desk's is set before it.
     begun = authority.now()
@@ -333,8 +333,8 @@ def issue_due_crl_at_once_among_many(t):
     desk = t.open()
     issues = ("bash", EXAMPLES / "issue-due-crl.sh", "--at-once", "key-compromise", "--port", desk.port, "counter")
     t.same(play(t, *issues).stdout, b"", "each is on a CRL")
-    counter = t.counter()
-    t.same(counter.ask("revoke 300").split()[0], "revoked")
+    control = t.control()
+    t.same(control.ask("revoke 300").split()[0], "revoked")
     t.same(play(t, *issues).stdout, b"crl 2 entries 300\n", "one is on none")
     for words, status, told in (((*issues[:5], "1", "counter"), 1, b"does not answer /metrics at port 1"), ((*issues[:3], "none", "counter"), 2, b"there is no ground none"),
                                 (issues[:4], 2, b"usage: "), ((*issues[:3], "", "counter"), 2, b"usage: "), ((*issues[:2], "--other", "x", "counter"), 2, b"usage: ")):

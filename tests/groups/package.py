@@ -1,7 +1,7 @@
-"""The Debian package of tools/package.sh as one who installs it: built twice, looked through by lintian, installed into a fresh root of
-Debian, its first steps typed there (README.Debian) with what its units say in place of systemd, and again with systemd where
-systemd-nspawn can start it, upgraded and removed while it runs there, and removed, which leaves the registers and the keys. For root; it
-fetches a Debian of some 100 MB by debootstrap, which PACKAGE_ROOT=FOLDER keeps for the next time."""
+"""The Debian package of tools/package.sh: built twice, checked by lintian, and installed into a fresh root of Debian. The tests type its first
+steps there (README.Debian), run the commands of its units in place of systemd, and again with systemd if systemd-nspawn can start it. They
+upgrade and remove it while it runs. Removing it leaves the registers and the keys. The tests need root. debootstrap fetches a Debian of some
+100 MB, which PACKAGE_ROOT=FOLDER keeps for the next time."""
 
 import contextlib
 import gzip
@@ -26,15 +26,15 @@ from lib.trial import Failed, Skipped, need, test
 REGISTER, KEY = "/var/lib/durshavon/ca.db", "/var/lib/durshavon-signer/ca.key"
 SOCKET, PUBLISHED = "/run/durshavon-signer/ca.sign", "/var/lib/durshavon-crl/ca"
 COPIES = "/var/backups/ca"
-COUNTER = "/run/durshavon/ca/control"
+CONTROL = "/run/durshavon/ca/control"
 # For how many seconds what is typed may run.
-LONGEST = int(60 * program.PATIENCE)
-# What `systemctl enable` is told of a register.
+LONGEST = program.LONGEST
+# The units of a register for `systemctl enable`.
 ENABLED = ("desk@ca.service", "desk-crl@ca.timer", "desk-signer@ca.socket", "desk-responder@ca.socket")
 # A responder's key, its socket and its certificate.
 RESPONDER = ("/var/lib/durshavon-signer/ca.ocsp.key", "/run/durshavon-signer/ca.ocsp.sign", "/etc/durshavon/ca.ocsp.der")
 DEBIAN = "bookworm"
-# What the root has besides: systemd, and what the first steps have apt install, with what debootstrap does not find that this stands on.
+# Further packages of the root: systemd, those that the first steps install, and their dependencies that debootstrap does not find.
 MORE = "dbus,systemd,systemd-sysv,python3-cffi-backend,python3-cryptography,openssl,curl"
 
 
@@ -56,7 +56,7 @@ class Root:
             raise Skipped(f"{self.path} has not all of {MORE}: remove it, and another is fetched")
 
     def words(self, words, user=None):
-        """What runs a program in the root, with a /proc of its own; `desk` is the one that was installed there."""
+        """The command line that runs a program in the root, with its own /proc; `desk` is the installed one."""
         as_whom = as_user(user) if user else []
         enter = 'mount -t proc proc "$0/proc"; exec chroot "$0" "$@"'
         return ["env", "-u", "DESK", "unshare", "--mount", "bash", "-c", enter, str(self.path), *as_whom, *map(str, words)]
@@ -65,18 +65,18 @@ class Root:
         return self.t.tried(*self.words(words, user), given=given, timeout=LONGEST)
 
     def run(self, *words, **how):
-        """What it prints on standard output."""
+        """The standard output of a program in the root."""
         ran = self.tried(*words, **how)
         self.t.same(ran.returncode, 0, f"status of {words[0]}, which printed {(ran.stdout + ran.stderr)[-2000:]!r}")
         return ran.stdout.decode()
 
     def owner(self, *words, **how):
-        """The same as the user who owns the registers."""
+        """The same, by the user who owns the registers."""
         return self.run(*words, user="durshavon", **how)
 
 
 def built(t):
-    """The package's path. It is made beside the program that is tested, in a folder that has what tools/package.sh wants of this repository."""
+    """The package's path. It is built with the tested program, in a folder with those files of this repository that tools/package.sh needs."""
     folder = authority.stood_in(t)
     for it in (".git", "LICENSE", "crates.txt", "CHANGELOG.md", "SECURITY.md", "signer"):
         (folder / it).symlink_to(TOP / it)
@@ -144,7 +144,7 @@ def linked(t, deb):
     t.tool("dpkg-deb", "-x", deb, files)
     pages = sorted((files / "usr/share/doc/durshavon").rglob("*.md"))
     links = [page.parent / path for page in pages for path in re.findall(r"\]\(([^)#:\s]+)(?:#[^)]*)?\)", page.read_text(encoding="utf-8"))]
-    links += [files / path for unit in (files / "lib/systemd/system").iterdir() for path in re.findall(r"file:///(\S+)", unit.read_text())]
+    links += [files / path for unit in (files / "lib/systemd/system").glob("*@.*") if unit.is_file() for path in re.findall(r"file:///(\S+)", unit.read_text())]
     t.true(len(links) > 20, f"few links: {links}")
     t.same([str(it.relative_to(files)) for it in links if not it.exists()], [], "links that lead nowhere")
 
@@ -167,14 +167,14 @@ def installed(t, root, deb):
 
 def cleared(root):
     """A root in which nothing was done before: it may be one that was kept."""
-    for it in (REGISTER, REGISTER + "-wal", KEY, SOCKET, *RESPONDER, "/etc/durshavon/ca.conf", "/etc/durshavon/ca.pem", COUNTER):
+    for it in (REGISTER, REGISTER + "-wal", KEY, SOCKET, *RESPONDER, "/etc/durshavon/ca.conf", "/etc/durshavon/ca.pem", CONTROL):
         (root.path / it[1:]).unlink(missing_ok=True)
     for it in (PUBLISHED, COPIES, "/var/lib/durshavon/before", "/root/elsewhere"):
         shutil.rmtree(root.path / it[1:], ignore_errors=True)
 
 
 def steps(t, port):
-    """The lines of the first steps, which docs/OPERATIONS.md has too; but for the port, and for apt: the package and what it wants are there."""
+    """The lines of the first steps, which docs/OPERATIONS.md has too, with another port and without apt: the package and its dependencies are there."""
     lines = [line for line in (TOP / "packaging/README.Debian").read_text().splitlines(keepends=True) if line.startswith("    ")]
     t.has((TOP / "docs/OPERATIONS.md").read_text(), "".join(lines), "docs/OPERATIONS.md has the lines of README.Debian")
     first, *lines = [line.strip().replace("8080", str(port)) for line in lines]
@@ -183,21 +183,22 @@ def steps(t, port):
 
 
 class Units:
-    """What `systemctl` has the units do, as far as their own words say it, where no systemd runs."""
+    """Does what `systemctl` would do, by the units' own settings, without systemd."""
 
     def __init__(self, t, root, running):
         self.t, self.root, self.running, self.kept = t, root, running, {}
 
-    def told(self, unit, setting):
+    def setting(self, unit, name):
         """A setting of a unit for the register `ca`."""
-        text = (self.root.path / "lib/systemd/system" / unit.replace("@ca.", "@.")).read_text()
-        return re.search(rf"^{setting}=(.*)$", text, re.MULTILINE)[1].replace("%i", "ca")
+        path = self.root.path / "lib/systemd/system" / unit.replace("@ca.", "@.")
+        found = (re.search(rf"^{name}=(.+)$", it.read_text(), re.MULTILINE) for it in (*Path(f"{path}.d").glob("*.conf"), path))
+        return next(it for it in found if it)[1].replace("%i", "ca")
 
     def words(self, unit, setting="ExecStart"):
         """The words of a service, with the variables of its register's file."""
         said = {"OPTIONS": "", "RESPONDER": ""}
         said |= dict(line.split("=", 1) for line in (self.root.path / "etc/durshavon/ca.conf").read_text().splitlines())
-        words = self.told(unit, setting).replace("${PORT}", said["PORT"])
+        words = self.setting(unit, setting).replace("${PORT}", said["PORT"])
         for name in ("OPTIONS", "RESPONDER"):
             words = words.replace(f"${name}", said[name].strip('"'))
         return shlex.split(words)
@@ -207,28 +208,28 @@ class Units:
             return
         if unit.endswith(".socket"):
             self.listen(unit)
-        elif self.told(unit, "Type") == "oneshot":
+        elif self.setting(unit, "Type") == "oneshot":
             self.once(unit)
         else:
             for part in ("", "/ca"):
                 self.root.run("install", "-d", "-m", "0700", "-o", "durshavon", "-g", "durshavon", f"/run/durshavon{part}")
-            user = self.told(unit, "User")
+            user = self.setting(unit, "User")
             self.root.run(*self.words(unit, "ExecStartPre"), user=user)
             self.keep(unit, self.words(unit), user)
             process = str(self.kept[unit].pid)
             self.root.run(*(process if it == "$MAINPID" else it for it in self.words(unit, "ExecStartPost")), user=user)
 
     def stop(self, unit):
-        """Ends a service, with what its RuntimeDirectory holds."""
+        """Ends a service, and deletes its RuntimeDirectory."""
         authority.end(self.kept.pop(unit))
-        self.root.run("rm", "-rf", f"/run/{self.told(unit, 'RuntimeDirectory')}")
+        self.root.run("rm", "-rf", f"/run/{self.setting(unit, 'RuntimeDirectory')}")
 
     def once(self, unit):
-        """What it prints, with that of the unit that it has started behind it."""
+        """Its output, followed by that of the unit that it starts."""
         if "publish" in unit:
             self.root.run("install", "-d", "-m", "0755", "-o", "durshavon", "-g", "durshavon", PUBLISHED)
-        told = self.root.run(*self.words(unit), user=self.told(unit, "User"))
-        return told + (self.once(self.told(unit, "Wants")) if "-crl@" in unit else "")
+        told = self.root.run(*self.words(unit), user=self.setting(unit, "User"))
+        return told + (self.once(self.setting(unit, "Wants")) if "-crl@" in unit else "")
 
     def keep(self, unit, words, user, **how):
         words = ["chroot", self.root.path, *as_user(user), *words]
@@ -239,16 +240,16 @@ class Units:
 
     def listen(self, unit):
         """The socket of a unit, handed over to its service as systemd does."""
-        path, user = self.told(unit, "ListenStream"), self.told(unit, "SocketUser")
-        self.root.run("install", "-d", "-m", self.told(unit, "DirectoryMode"), os.path.dirname(path))
+        path, user = self.setting(unit, "ListenStream"), self.setting(unit, "SocketUser")
+        self.root.run("install", "-d", "-m", self.setting(unit, "DirectoryMode"), os.path.dirname(path))
         listener = self.running.enter_context(socket.socket(socket.AF_UNIX))
         listener.bind(str(self.root.path) + path)
         listener.listen(64)
         self.root.run("chown", user, path)
-        self.root.run("chmod", self.told(unit, "SocketMode"), path)
+        self.root.run("chmod", self.setting(unit, "SocketMode"), path)
         service, at = unit.replace(".socket", ".service"), listener.fileno()
         handed = ["bash", "-c", 'exec 3<&"$0"; export LISTEN_PID=$$ LISTEN_FDS=1; exec "$@"', at]
-        self.keep(service, [*handed, *self.words(service)], self.told(service, "User"), pass_fds=[at])
+        self.keep(service, [*handed, *self.words(service)], self.setting(service, "User"), pass_fds=[at])
 
     def typed(self, line):
         words = shlex.split(line)
@@ -259,7 +260,7 @@ class Units:
 
 
 def first_steps(t, root, it):
-    """Typed line by line; then a day's work at the counter, and what openssl says."""
+    """Runs line by line; then a day's work at the control socket, checked by openssl."""
     port = program.free_port()
     for made in (it.pem, it.key):
         shutil.copy(made, root.path / "root")
@@ -286,7 +287,7 @@ def first_steps(t, root, it):
 
 
 def moved_in(t, root):
-    """A register that root made elsewhere is laid by the document's line where the package has it, and is its user's."""
+    """The document's line moves a register that root made elsewhere to the package's path, and gives it to its user."""
     (line,) = block("Into an installed package", "install")
     makes = ["mkdir elsewhere; cd elsewhere", "desk init ca.db $(/usr/lib/durshavon/issuer-words.sh ../ca.pem)", "desk script ca.db --clock <<< 'subscriber acme'"]
     t.same(root.run("bash", "-ec", "\n".join(["cd /root", *makes, line])), "created\nsubscriber 1\n")
@@ -302,7 +303,7 @@ def responder_steps(port):
 
 
 def answers_by_a_responder(t, root, it, units, port):
-    """Typed line by line: a responder's key signs OCSP answers, the CA's the CRLs. Who may reach its key and its signer."""
+    """Runs line by line: a responder's key signs OCSP answers, the CA's key signs CRLs. Checks which users can reach its key and its signer."""
     told, lines = "", []
     for line in [*responder_steps(port), ""]:
         if line and not line.startswith("systemctl "):
@@ -318,7 +319,7 @@ def answers_by_a_responder(t, root, it, units, port):
     t.same(it.asked_by_openssl("05", f"http://127.0.0.1:{port}/ocsp", verify=True), "revoked", "by the responder")
     key, path, _ = RESPONDER
     t.same(root.run("stat", "-c", "%a %U", key, path).splitlines(), ["400 durshavon-signer", "600 durshavon"], "its key and its socket")
-    t.same(root.owner("desk", "at", COUNTER, given="crl\n"), "crl 3 entries 1\n", "a CRL")
+    t.same(root.owner("desk", "at", CONTROL, given="crl\n"), "crl 3 entries 1\n", "a CRL")
     it.verifies(t.tool("curl", "-s", f"http://127.0.0.1:{port}/crl"))
 
 
@@ -328,11 +329,12 @@ def published(root):
 
 
 def works(t, root, it, port):
-    """A revocation at the counter is in the next answer, which openssl verifies, and so is the CRL. Who may reach the key, and who its signer. The CRL."""
+    """A revocation at the control socket is in the next answer, which openssl verifies, and so is the CRL. Checks which users can reach the key and its
+    signer. Returns the CRL."""
     now = authority.now()
     registers = f"register 1 05 {moment_of(now)} {moment_of(now + 90 * authority.DAY)}"
     given = "".join(f"{line}\n" for line in ("subscriber acme", "order 1 398", registers, "request 05 superseded", "revoke 1", "crl"))
-    told = root.owner("desk", "at", COUNTER, given=given).splitlines()
+    told = root.owner("desk", "at", CONTROL, given=given).splitlines()
     t.same([line.partition(" due ")[0] for line in told], ["subscriber 1", "order 1", "registered", "request 1", "revoked", "crl 2 entries 1"])
     t.same(it.asked_by_openssl("05", f"http://127.0.0.1:{port}/ocsp", verify=True), "revoked")
     crl = t.tool("curl", "-s", f"http://127.0.0.1:{port}/crl")
@@ -377,14 +379,14 @@ def documented(t, root):
     for option in ("--algorithm", "--responder-algorithm"):
         t.same(sorted(completed("desk", "open", "ca.db", option, "e")), ["ecdsa-sha256", "ecdsa-sha384", "ed25519"], f"desk open ca.db {option} e..")
     t.has(completed("desk", "script", "durs"), "durshavon.deb")
-    for unit in sorted((root.path / "lib/systemd/system").glob("desk*@.*")):
+    for unit in sorted(it for it in (root.path / "lib/systemd/system").glob("desk*@.*") if it.is_file()):
         told = root.tried("systemd-analyze", "verify", "--man=no", unit.name.replace("@", "@ca"))
         wrong = [line for line in (told.stdout + told.stderr).decode("latin-1").splitlines() if "desk" in line.lower()]
         t.same(wrong, [], f"what systemd finds wrong with {unit.name}")
 
 
 def booted(t, root, it):
-    """The first steps again, as they stand, in a machine of their own, where systemd-nspawn can start one; some machines let it not."""
+    """The first steps again, as they are, in a container of their own, if systemd-nspawn can start one; some machines don't allow it."""
     if not shutil.which("systemd-nspawn"):
         return
     cleared(root)
@@ -404,7 +406,7 @@ def booted(t, root, it):
         machine = subprocess.Popen(words, stdin=subprocess.DEVNULL, stdout=log, stderr=subprocess.STDOUT)
     try:
         with contextlib.suppress(Failed):
-            authority.until(lambda: machine.poll() is not None or ending.exists(), "the first steps", 90 * program.PATIENCE)
+            authority.until(lambda: machine.poll() is not None or ending.exists(), "the first steps", 300)
         t.note(f"systemd-nspawn started it: {told.exists()}")
         if told.exists():
             printed = [line for line in told.read_text().splitlines() if not line.startswith("Created symlink ")]
@@ -425,7 +427,7 @@ def booted(t, root, it):
 
 
 def behind(t, root, machine, it, port):
-    """What the units do besides, in the machine that runs: CRLs are published, a copy taken of a register that is open, and a responder's key is told of."""
+    """The other units, in the running container: they publish CRLs, copy an open register, and use a responder's key."""
     authority.until(lambda: published(root), "the CRL that desk-crl@ca.service has published")
     inside = Path(f"/proc/{machine.pid}/task/{machine.pid}/children").read_text().split()[0]
     at = ("env", "-u", "DESK", "nsenter", "-t", inside, "-a")
@@ -434,7 +436,7 @@ def behind(t, root, machine, it, port):
     copy = (*at, "/usr/lib/durshavon/backup.sh", REGISTER, COPIES)
     root.run("install", "-d", "-m", "0700", COPIES)
     t.same(t.tried(*copy).returncode, 1, "status of backup.sh while the register is open and no counter is told")
-    t.has(t.tool(*copy, COUNTER).decode(), ": sound, 0 certificates, 0 revoked, 1 CRLs\n", "a copy of what is open")
+    t.has(t.tool(*copy, CONTROL).decode(), ": sound, 0 certificates, 0 revoked, 1 CRLs\n", "a copy of what is open")
     upgraded(t, root, it, at, port)
     gone_back(t, root, at)
     a_held_port(t, at, port)
@@ -460,11 +462,11 @@ def newer(t, root):
 
 
 def silence(t, port, work):
-    """For how many seconds nobody was answered at most, who asks again and again while this is done and once behind it."""
+    """The longest time in seconds without an answer to a client that asks again and again during the work and after it."""
     answered, ended = [], threading.Event()
 
     def ask():
-        peer = http.client.HTTPConnection("127.0.0.1", port, timeout=10)
+        peer = http.client.HTTPConnection("127.0.0.1", port, timeout=60)
         with contextlib.suppress(OSError, http.client.HTTPException), contextlib.closing(peer):
             peer.request("GET", "/counts")
             if peer.getresponse().status == 200:
@@ -489,26 +491,26 @@ def silence(t, port, work):
 
 
 def upgraded(t, root, it, at, port):
-    """A newer package over the one that runs: the desk and its signer go on by it, and nobody waits for two seconds."""
+    """A newer package over the one that runs: the desk and its signer go on by it, and are away for a few seconds at most, on a slow machine too."""
     units = ("desk@ca.service", "desk-signer@ca.service")
     processes = lambda: [t.tool(*at, "systemctl", "show", "--property=MainPID", "--value", unit).decode().strip() for unit in units]
     package, before = newer(t, root), processes()
     t.true("0" not in before, f"desk and signer run before: {before}")
     longest = silence(t, port, lambda: t.tool(*at, "dpkg", "--install", package))
     t.note(f"nobody was answered for {longest:.2f} s")
-    t.true(longest < 2 * program.PATIENCE, f"nobody was answered for {longest:.2f} s")
+    t.true(longest < 10, f"nobody was answered for {longest:.2f} s")
     after = processes()
     t.same([old == new for old, new in zip(before, after)], [False, False], f"the same processes, before {before} and after {after}")
     t.true("0" not in after, f"desk and signer run behind it: {after}")
     t.same(t.tool(*at, "desk", "--version"), b"newer\n", "the program")
     t.same(it.asked_by_openssl("05", f"http://127.0.0.1:{port}/ocsp", verify=True), "unknown", "signed behind it")
-    t.same(t.tool(*at, "desk", "at", COUNTER, given="counts\n"), b"good 0 revoked 0 expired 0\n", "the counter")
+    t.same(t.tool(*at, "desk", "at", CONTROL, given="counts\n"), b"good 0 revoked 0 expired 0\n", "the counter")
     t.tool(*at, "systemctl", "is-active", "desk-crl@ca.timer", "desk-signer@ca.socket")
 
 
 def gone_back(t, root, at):
-    """To the copy, by the document's lines: what was entered behind it is not there, and the desk goes on."""
-    asks = lambda line: t.tool(*at, "desk", "at", COUNTER, given=f"{line}\n")
+    """Back to the copy, by the document's lines: later entries are gone, and the desk goes on."""
+    asks = lambda line: t.tool(*at, "desk", "at", CONTROL, given=f"{line}\n")
     t.same(asks("subscriber late"), b"subscriber 1\n", "behind the copy")
     [copy] = (it.name for it in (root.path / COPIES[1:]).iterdir())
     lines = [line.replace("ca.db-20260101T021500Z", copy) for line in block("Go back to a backup", "systemctl stop")]
@@ -538,7 +540,7 @@ def a_held_port(t, at, port):
         t.same(t.tried(*at, "systemctl", "start", "desk@ca.service").returncode, 1, "status of systemctl start")
         time.sleep(15)
         t.same(state(t, at, "desk@ca.service"), "activating", "after 15 seconds")
-    authority.until(lambda: state(t, at, "desk@ca.service") == "active", "desk@ca.service once the port is free", 30 * program.PATIENCE)
+    authority.until(lambda: state(t, at, "desk@ca.service") == "active", "desk@ca.service once the port is free")
     t.true(answers(t, port), "it answers")
     t.has(t.tool(*at, "journalctl", "-u", "desk@ca.service").decode(), "  port in use", "the journal has the cause")
 
@@ -554,7 +556,7 @@ def a_key_that_its_signer_can_t_read(t, it, at, port):
     t.true(state(t, at, "desk-signer@ca.service") in ("activating", "active"), "systemd gave the signer up")
     t.tool(*at, "chown", "durshavon-signer", KEY)
     is_signed = lambda: b"Response verify OK" in t.tried("openssl", "ocsp", "-issuer", it.pem, "-serial", "5", "-url", url, "-CAfile", it.pem, timeout=LONGEST).stderr
-    authority.until(is_signed, "an answer that is signed", 60 * program.PATIENCE)
+    authority.until(is_signed, "an answer that is signed")
 
 
 def a_wrong_key(t, root, it, at, port):
@@ -565,8 +567,8 @@ def a_wrong_key(t, root, it, at, port):
     kept = (root.path / KEY[1:]).read_bytes()
     (root.path / KEY[1:]).write_bytes((t.room / "other.key").read_bytes())
     t.tool(*at, "systemctl", "restart", "desk-signer@ca.service")
-    t.same(t.tried(*at, "desk", "at", COUNTER, given="crl\n").stdout, b"F3 signer\n", "a CRL by another key in the place of the CA's")
-    t.has(t.tool(*at, "journalctl", "-u", "desk-signer@ca.service").decode(), "/etc/durshavon/ca.pem is the certificate of another key", "why")
+    t.same(t.tried(*at, "desk", "at", CONTROL, given="crl\n").stdout, b"F3 signer\n", "a CRL by another key in the place of the CA's")
+    t.has(t.tool(*at, "journalctl", "-u", "desk-signer@ca.service").decode(), "is the certificate of another key", "why")
     (root.path / KEY[1:]).write_bytes(kept)
     conf = root.path / "etc/durshavon/ca.conf"
     before = conf.read_text()
@@ -602,15 +604,14 @@ def taken_away(t, root, at, port):
 
 
 def links(root):
-    """The names of what is enabled."""
+    """The names of the enabled units."""
     return sorted(it.name for it in (root.path / "etc/systemd/system").rglob("desk*"))
 
 
 def by_the_native_signer(t, root, it, at, port):
-    """By the document's lines: it signs for the CA and for the responder, under all that the units forbid, and its memory is locked."""
+    """It signs for the CA and for the responder, under all that the units forbid, and its memory is locked. By the document's lines signer.py does."""
     if not (root.path / "usr/lib/durshavon/desk-signer").exists():
         return
-    t.tool(*at, "bash", "-ec", "\n".join(block("With the package's units", "install -D", "signer/README")))
     t.same(it.asked_by_openssl("05", f"http://127.0.0.1:{port}/ocsp", verify=True), "unknown", "by the responder")
     t.same(t.tool(*at, "/usr/lib/durshavon/check-signer.py", "/etc/durshavon/ca.pem", *it.signing(SOCKET)), b"", "by the CA's key")
     asks = 'import socket, sys; s = socket.socket(socket.AF_UNIX); s.connect(sys.argv[1]); s.sendall(b"x"); s.shutdown(1); print(s.recv(9))'
@@ -624,6 +625,10 @@ def by_the_native_signer(t, root, it, at, port):
         t.tool(*at, "systemctl", "stop", f"{unit}.service")
         t.same(state(t, at, f"{unit}.service"), "inactive", f"{unit}: it ends by SIGTERM")
     t.same(it.asked_by_openssl("05", f"http://127.0.0.1:{port}/ocsp", verify=True), "unknown", "the socket starts the responder's signer")
+    t.tool(*at, "bash", "-ec", "\n".join(block("With the package's units", "install -d", "signer/README")))
+    t.same(it.asked_by_openssl("05", f"http://127.0.0.1:{port}/ocsp", verify=True), "unknown", "by signer.py")
+    process = t.tool(*at, "systemctl", "show", "--property=MainPID", "--value", "desk-responder@ca").decode().strip()
+    t.has(t.tool(*at, "cat", f"/proc/{process}/cmdline"), b"/usr/lib/durshavon/signer.py", "the responder's program")
     t.tool(*at, "bash", "-ec", "rm -r /etc/systemd/system/desk-*@.service.d; systemctl daemon-reload; systemctl restart desk-signer@ca desk-responder@ca")
 
 
@@ -634,7 +639,7 @@ def while_the_key_is_away(t, root, it, at, port):
     types("sed -i")
     t.true(answers(t, port), "desk@ca.service without the CA's key")
     t.same(it.asked_by_openssl("05", f"{url}/ocsp", verify=True), "unknown", "by the responder alone")
-    ran = t.tried(*at, "desk", "at", COUNTER, given="crl\n")
+    ran = t.tried(*at, "desk", "at", CONTROL, given="crl\n")
     t.same((ran.returncode, ran.stdout), (3, b"F3 signer\n"), "a CRL at the counter")
     t.tool(*at, "systemctl", "start", "desk-crl@ca.service")
     t.has(types("systemctl stop"), "crl 2 entries 0\n", "a CRL while the key is back")

@@ -1,6 +1,6 @@
-"""Types what docs/OPERATIONS.md says: each path from nothing to a CRL that a key signed, and each signer that it names. The lines are typed into
-a folder like that of the repository, as they stand but for ports and for the folders of an installed package (tests/run package has those), and end
-in `verify OK` and `Response verify OK` of openssl."""
+"""Runs the code blocks of docs/OPERATIONS.md: each path from nothing to a signed CRL, and each signer that it names. They run in a folder like the
+repository, unchanged except for ports and the folders of an installed package (tests/run package has those), and end in `verify OK` and
+`Response verify OK` of openssl."""
 
 import grp
 import os
@@ -14,7 +14,7 @@ from lib.authority import KEYS, Authority, moment_of
 from lib.documents import block, blocks, document
 from lib.trial import Failed, each, need, test
 
-# What `openssl ca` wants to be told, for a CA in demoCA.
+# The configuration of `openssl ca` for a CA in demoCA.
 CONFIG = """[ca]
 default_ca = it
 [it]
@@ -32,7 +32,7 @@ policy = any
 commonName = supplied
 """
 
-# Where what an installed package has lies in the folder in which lines are typed.
+# Paths of an installed package, and of the same files in the folder in which the lines run.
 HERE = {"/usr/lib/durshavon/": "examples/", "/run/durshavon/ca/": "", "/run/durshavon-signer/": "", "/etc/durshavon/": "", "/var/lib/durshavon/": ""}
 
 
@@ -43,7 +43,7 @@ def here(line):
 
 
 def folder_of(t, algorithm="ecdsa-sha256"):
-    """A folder like the repository's, whose `desk` is the program that is tested, with a CA's certificate in ca.pem and its key in ca.key."""
+    """A folder like the repository, with the tested program as `desk`, a CA's certificate in ca.pem and its key in ca.key."""
     top = authority.stood_in(t)
     it = Authority(t, algorithm)
     for made in (it.pem, it.key):
@@ -52,11 +52,11 @@ def folder_of(t, algorithm="ecdsa-sha256"):
 
 
 def typed(t, top, lines):
-    """What bash prints that is typed these lines; what they started is ended behind them."""
+    """The output of bash for these lines. The processes that they start end afterwards."""
     env = {**os.environ, "TZ": "America/New_York", "PATH": f"{top}:{os.environ['PATH']}"}
     env.pop("LD_PRELOAD", None)
     script = "\n".join([f"cd {top}", *map(here, lines), "jobs -p | xargs -r kill", "wait"])
-    ran = t.tried("timeout", int(50 * program.PATIENCE), "bash", "-c", script, env=env, timeout=60 * program.PATIENCE)
+    ran = t.tried("timeout", program.LONGEST - 10, "bash", "-c", script, env=env)
     told = (ran.stdout + ran.stderr).decode()
     t.true(ran.returncode != 124, f"it did not come to an end: {told}")
     return told
@@ -72,7 +72,7 @@ def ends_well(t, told, crls=1, answers=0, replies=("created\n", "crl 1 entries 0
 
 
 def office(port):
-    """The office is opened by the document's own line, tells a status, and issues a CRL."""
+    """The document's line opens the desk, which answers a status and issues a CRL."""
     opens = block("Open it and close it", "desk open ca.db")[0].replace("8080", port)
     return [
         f"{opens} &",
@@ -100,14 +100,14 @@ def from_the_repository(t):
 
 
 def of_a_responder(beginning, port):
-    """A block of "A responder" that opens the office by its last line, and what is asked then."""
+    """A block of "A responder" whose last line opens the desk, and the lines that ask it then."""
     *lines, opens = block("A responder", beginning)
     return [*lines, f'{opens.replace("8080", port)} & desk=$!', *office(port)[1:]]
 
 
 @each({"beside the CA's key": "openssl req", "the CA's key with its certificate": "openssl x509"}, seconds=4)
 def a_responder(t, beginning):
-    """Behind "From the repository": answers that openssl takes by the CA's certificate alone, asked as the document says it too."""
+    """After "From the repository": answers that openssl verifies with only the CA's certificate, requested by the document's lines."""
     need("curl", "bash")
     authority.need_cryptography(t)
     port = str(program.free_port())
@@ -119,7 +119,7 @@ def a_responder(t, beginning):
 
 @test(seconds=5)
 def a_responder_while_the_ca_s_key_is_away(t):
-    """What holds the CA's key is ended behind the first CRL: answers go on, a CRL is refused by a line, and comes by a script once the key is back."""
+    """The CA's signer ends after the first CRL: answers go on, and a `crl` line is refused. A script issues a CRL once the key is back."""
     need("curl", "bash")
     authority.need_cryptography(t)
     port = str(program.free_port())
@@ -139,7 +139,7 @@ def a_responder_while_the_ca_s_key_is_away(t):
 
 @test(seconds=4)
 def a_key_identifier_that_a_register_lacks(t):
-    """A register of a CA with a key identifier of its own, which it was not told: openssl finds no CRL until the document's lines are typed."""
+    """A register without the key identifier of its CA, which is not the SHA-1: openssl finds no CRL until the document's lines run."""
     need("curl", "bash")
     authority.need_cryptography(t)
     top = authority.stood_in(t)
@@ -190,7 +190,7 @@ def a_signer_of_the_document(t, part):
 
 @each({"-t 10, as it stands": True, "without -t 10": False}, seconds=4)
 def a_signer_behind_socat_that_takes_a_second(t, patient):
-    """The document's line, whose command sleeps first. Without -t 10 socat is gone before the signature is there."""
+    """The document's line, whose command sleeps first. Without -t 10 socat ends before the signature is there."""
     need("bash", "socat")
     top = folder_of(t)
     (top / "slowly").write_text("#!/bin/sh\nsleep 1\nexec openssl dgst -sha256 -sign ca.key\n")
@@ -289,15 +289,15 @@ def coming_from_openssl_ca(t):
 
 
 @test(seconds=4)
-def the_way_out_of_a_digest(t):
-    """A register whose CRL was sealed by a digest is opened with a signer, and a line at the counter issues a CRL that verifies."""
+def from_a_placeholder_digest_to_a_signature(t):
+    """A register whose CRL has a placeholder digest is opened with a signer, and a line at the control socket issues a CRL that verifies."""
     it = Authority(t)
     it.signer()
     it.register()
     begun = authority.now()
     t.same(t.done("script", "ca.db", given=authority.first_day(begun)).splitlines(), authority.first_day_replies(begun))
     desk = t.open("ca.db", *it.signing())
-    t.same(t.counter().ask("crl"), "crl 2 entries 1")
+    t.same(t.control().ask("crl"), "crl 2 entries 1")
     it.verifies(authority.body_of(t, desk.ask("GET", "/crl"), "application/pkix-crl"))
 
 
@@ -320,7 +320,7 @@ def the_lists(t):
 
 @test(seconds=2)
 def the_log_s_rotation(t):
-    """The document's lines for logrotate: what was told stays in the file that was renamed, and the next line goes into another."""
+    """The document's lines for logrotate: the renamed file keeps its lines, and the next line goes into a new file."""
     need("logrotate", "curl")
     lines = "\n".join(block("The log", "/var/log/durshavon/*.log {"))
     owner = f"{pwd.getpwuid(os.getuid()).pw_name} {grp.getgrgid(os.getgid()).gr_name}"
@@ -337,20 +337,20 @@ def the_log_s_rotation(t):
 
 
 @test
-def each_line_that_may_sign_is_told_of_the_signer(t):
-    """No line of the document, nor of what is beside the examples and the units, opens a register without a signer: a digest would seal what it issues."""
+def each_line_that_may_sign_names_the_signer(t):
+    """No line of the document, the examples or the units opens a register without a signer: its CRLs would have a placeholder digest."""
     files = [it for folder in ("examples", "packaging") for it in sorted((program.TOP / folder).iterdir()) if it.is_file()]
     texts = [document(), *(it.read_text(encoding="utf-8") for it in files)]
     found = [line for text in texts for line in re.findall(r"\bdesk (?:script|open|serve) ca\.db[^`\n|]*", text)]
     t.true(len(found) > 8, f"few lines: {found}")
-    # Beside a responder no digest seals.
+    # With a responder no CRL has a placeholder digest.
     is_told = lambda line: "$SIGNER" in line or "--signer" in line or (" open " in line and "$RESPONDER" in line)
     t.same([it for it in found if not is_told(it)], [], "lines with no signer")
 
 
 @test
 def each_signer_signs_for_one_ca_alone(t):
-    """Each line of README, of the document, of what is packaged and of the walkthrough that starts a signer has the CA's certificate before it."""
+    """Each line of README, the document, the packaged files and the walkthrough that starts a signer names the CA's certificate first."""
     files = [it for folder in ("examples", "packaging") for it in sorted((program.TOP / folder).iterdir()) if it.suffix in (".sh", ".service", ".Debian")]
     texts = [document(), *(it.read_text(encoding="utf-8") for it in (program.TOP / "README.md", *files))]
     lines = [line for text in texts for line in text.splitlines()]

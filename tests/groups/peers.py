@@ -1,4 +1,4 @@
-"""Peers of an open desk, of all kinds and many at once: nobody who is slow holds anybody up. And lines at the counter, beside them."""
+"""Connections to an open desk, of all kinds and many at once: a slow client delays no other client. Also lines at the control socket beside them."""
 
 import os
 import re
@@ -10,7 +10,7 @@ from concurrent.futures import ThreadPoolExecutor
 
 from lib.authority import until
 from lib.passing import Passing
-from lib.program import PATIENCE, Counter, parted, read_all
+from lib.program import LONGEST, Control, is_read, parted, read_all
 from lib.trial import Skipped, test
 
 DAY = "2026-01-01T00:00:00Z"
@@ -20,7 +20,7 @@ LARGE = 12_000_000
 
 
 def entered(t, *sizes):
-    """A register whose CRLs, but for the last, are so large; nothing but an audit looks into an older CRL."""
+    """Makes a register whose CRLs, except the last, have these sizes. Only an audit reads an older CRL."""
     crls = f"{DAY} crl\n" * (len(sizes) + 1)
     t.register(lines=f"{DAY} subscriber acme\n{DAY} order 1 398\n{DAY} register 1 05 {DAY} 2026-12-31T00:00:00Z\n{crls}")
     for number, size in enumerate(sizes, 1):
@@ -29,7 +29,7 @@ def entered(t, *sizes):
 
 
 def opened(t, *words, command="open"):
-    """A desk whose CRL 1 is larger than what a socket holds."""
+    """Opens a register whose CRL 1 is larger than a socket's buffers."""
     entered(t, LARGE)
     return t.open("ca.db", *words, command=command)
 
@@ -41,16 +41,18 @@ def peer(t, desk, sent=b""):
 
 
 def at_once(t, desk, beside):
-    """A request is answered within a second, or a few on a slow machine."""
-    began = time.perf_counter()
-    status = parted(desk.send(COUNTS))[0]
-    took = time.perf_counter() - began
-    t.true(status == 200 and took < 5 * PATIENCE, f"beside {beside}: {status} after {took:.1f} s")
+    """A request is answered before the 30 seconds that each other client has."""
+    began = time.monotonic()
+    t.same(parted(desk.send(COUNTS))[0], 200, f"beside {beside}")
+    took = time.monotonic() - began
+    t.true(took < 25, f"a request beside {beside} took {took:.1f} s")
 
 
 @test(seconds=4)
-def a_request_is_answered_among_200_peers_at_all_stages(t):
-    desk = opened(t)
+def a_request_is_answered_among_200_connections_at_all_stages(t):
+    """No time passes: a desk that waits for another client would wait for ever."""
+    entered(t, LARGE)
+    desk = Passing(t).desk
     kinds = [b"", b"GET /cou", b"G", b"\0\xff\0\r\n\r\n", b"half closed", b"gone", CRL, COUNTS + b"more" * 1_000]
     for _ in range(25):
         for sent in kinds:
@@ -59,7 +61,7 @@ def a_request_is_answered_among_200_peers_at_all_stages(t):
                 made.shutdown(socket.SHUT_WR)
             elif sent == b"gone":
                 made.close()
-    at_once(t, desk, "200 peers")
+    t.same(parted(desk.send(COUNTS))[0], 200, "beside 200 connections")
     with desk.connect() as slow:
         for it in COUNTS:
             slow.sendall(bytes([it]))
@@ -104,7 +106,7 @@ def pieces_of_several_requests_are_not_mixed_up(t):
 
 
 @test(seconds=5)
-def more_peers_than_there_are_places(t):
+def more_connections_than_slots(t):
     _, hard = resource.getrlimit(resource.RLIMIT_NOFILE)
     if hard < 2_000 and hard != resource.RLIM_INFINITY:
         raise Skipped("the system has no descriptors for 1,100 connections: ulimit -n 2000")
@@ -112,9 +114,8 @@ def more_peers_than_there_are_places(t):
     desk = opened(t)
     held = [peer(t, desk) for _ in range(1_100)]
     at_once(t, desk, "1,100 silent peers")
-    held[0].settimeout(10)
+    held[0].settimeout(20)
     t.same(read_all(held[0]), b"", "the oldest is let go, with no answer")
-    held[-1].settimeout(10)
     held[-1].sendall(COUNTS)
     t.same(parted(read_all(held[-1]))[0], 200, "the newest")
 
@@ -129,17 +130,18 @@ def busy(process):
 
 @test(seconds=8)
 def control_connections_have_all_of_16_descriptors(t):
-    """The desk goes on, with nothing to do meanwhile; who comes over HTTP is answered once one of them is closed, and so is a line once an HTTP connection is."""
+    """The desk goes on, and is idle meanwhile. An HTTP request is answered once one of them closes, and a control line once an HTTP connection closes."""
     desk = opened(t)
     files = lambda: len(os.listdir(f"/proc/{desk.process.pid}/fd"))
     t.tool("prlimit", "--pid", desk.process.pid, "--nofile=16:16")
     lines = []
     while files() < 16:
         before = files()
-        lines.append(t.enter_context(Counter(t.room / "counter")))
+        lines.append(t.enter_context(Control(t.room / "counter")))
         until(lambda: files() == before + 1, f"control connection {len(lines)}")
     t.true(len(lines) <= 8, f"{len(lines)} control connections: there is no room for them all")
     waiting = peer(t, desk, COUNTS)
+    # Time in which the desk could end.
     time.sleep(1)
     t.same(desk.process.poll(), None, "the desk has ended")
     t.true(busy(desk.process) < 20, "the desk is busy")
@@ -147,14 +149,12 @@ def control_connections_have_all_of_16_descriptors(t):
     last = lines.pop()
     last.file.close()
     last.peer.close()
-    waiting.settimeout(10)
     t.same(parted(read_all(waiting))[0], 200, "the HTTP request, once a descriptor is free")
     until(lambda: files() == 15, "the end of the HTTP connection")
     held = peer(t, desk, COUNTS[:9])
     until(lambda: files() == 16, "an HTTP connection that has not sent all")
-    line = t.enter_context(Counter(t.room / "counter", timeout=10))
+    line = t.control()
     line.peer.sendall(b"counts\n")
-    time.sleep(0.5)
     t.true(busy(desk.process) < 20, "the desk is busy")
     held.sendall(COUNTS[9:])
     t.same(parted(read_all(held))[0], 200)
@@ -163,8 +163,8 @@ def control_connections_have_all_of_16_descriptors(t):
 
 
 @test(seconds=4)
-def the_last_descriptor_lets_nobody_go(t):
-    """The system says that no descriptor is left also where nobody comes. The oldest is let go only once somebody does."""
+def the_last_descriptor_evicts_no_connection(t):
+    """accept(2) fails for lack of descriptors even if no client waits. The oldest connection is evicted only once another client connects."""
     desk = opened(t)
     files = lambda: len(os.listdir(f"/proc/{desk.process.pid}/fd"))
     before = files()
@@ -175,7 +175,6 @@ def the_last_descriptor_lets_nobody_go(t):
         until(lambda: files() == before + at + 1, f"peer {at + 1}")
     time.sleep(0.5)
     for at, each in enumerate(held):
-        each.settimeout(10)
         each.sendall(COUNTS[9:])
         t.same(parted(read_all(each))[0], 200, f"peer {at + 1} of as many as there are descriptors for")
         each.close()
@@ -185,19 +184,18 @@ def the_last_descriptor_lets_nobody_go(t):
         held.append(peer(t, desk, COUNTS[:9]))
         until(lambda: files() == before + at + 1, f"peer {at + 1} once more")
     at_once(t, desk, "as many as there are descriptors for")
-    held[0].settimeout(10)
+    held[0].settimeout(20)
     t.same(read_all(held[0]), b"", "the oldest is let go, with no answer")
     for each in held[1:]:
-        each.settimeout(10)
         each.sendall(COUNTS[9:])
         t.same(parted(read_all(each))[0], 200, "who is not the oldest")
 
 
 @test(seconds=3)
-def a_large_answer_is_sent_as_its_peer_takes_it(t):
+def a_large_answer_is_sent_as_its_client_reads_it(t):
     desk = opened(t)
     slow = peer(t, desk, CRL)
-    time.sleep(0.2)
+    until(lambda: is_read(slow), "that its request is read")
     at_once(t, desk, "one that does not read")
     got = 0
     while piece := slow.recv(200_000):
@@ -206,41 +204,40 @@ def a_large_answer_is_sent_as_its_peer_takes_it(t):
 
 
 @test(seconds=3)
-def who_breaks_off_is_told_in_the_log(t):
+def a_reset_connection_is_in_the_log(t):
     desk = opened(t, "--log")
     gone = peer(t, desk, CRL)
     port = gone.getsockname()[1]
-    time.sleep(0.3)
-    # What comes to it is refused by a reset.
+    t.same(gone.recv(1), b"H", "its answer has begun")
+    # Closing sends a reset.
     gone.setsockopt(socket.SOL_SOCKET, socket.SO_LINGER, b"\1\0\0\0\0\0\0\0")
     gone.close()
-    time.sleep(0.5)
+    until(lambda: any(" lost " in it for it in desk.log), "a line of the log")
     at_once(t, desk, "one that broke off")
-    told = desk.end().told
+    told = desk.end().err_lines
     t.same([it for it in told if " lost " in it], [f"{DAY} 127.0.0.1:{port} lost broken"], "what was lost")
 
 
 @test(seconds=35)
-def who_is_not_whole_in_30_seconds_is_let_go(t):
+def an_incomplete_request_is_closed_after_30_seconds(t):
     desk = opened(t, "--log")
     began = time.monotonic()
     both = {sent: peer(t, desk, sent) for sent in (b"GET /coun", b"")}
     ports = {sent: late.getsockname()[1] for sent, late in both.items()}
     for sent, late in both.items():
-        late.settimeout(60)
         t.same(read_all(late), b"", f"what it hears that sent {sent!r}")
         took = time.monotonic() - began
-        t.true(29 < took < 45, f"after {took:.0f} s")
-    # The log tells of both by the time that the next is answered.
+        t.true(29 < took < 55, f"after {took:.0f} s")
+    # The log has both by the time that the next request is answered.
     at_once(t, desk, "nobody")
-    told = [re.sub(r" \d+$", "", it) for it in desk.end().told]
+    told = [re.sub(r" \d+$", "", it) for it in desk.end().err_lines]
     # A line of the exchange, which had no answer, and one of its end; whether one that sent nothing had an exchange is left open.
     half = f"{DAY} 127.0.0.1:{ports[b'GET /coun']}"
     t.same([it for it in told if it.startswith(half)], [f'{half} "GET /coun" "" 0', f"{half} lost late"], "the log of half a request")
     t.true(f"{DAY} 127.0.0.1:{ports[b'']} lost late" in told, f"the log does not tell of who was silent: {told}")
 
 
-# To the millisecond: what ends for one goes on for another who came a millisecond later.
+# To the millisecond: a time that ends for one client has not ended for another one that connected a millisecond later.
 
 
 @test
@@ -248,9 +245,9 @@ def a_request_has_30_seconds_to_be_whole(t):
     entered(t)
     desk = Passing(t)
     first = desk.comes(COUNTS[:9])
-    desk.goes(1)
+    desk.advance(1)
     second = desk.comes(COUNTS[:9])
-    desk.goes(29_999)
+    desk.advance(29_999)
     t.same(read_all(first), b"", "what the first hears")
     second.sendall(COUNTS[9:])
     t.same(parted(read_all(second))[0], 200, "the second")
@@ -264,10 +261,10 @@ def an_answer_has_30_seconds_to_be_taken(t):
     desk = Passing(t)
     first, second = desk.comes(CRL[:9]), desk.comes(CRL[:9])
     for it, passes in ((first, 20_000), (second, 1)):
-        desk.goes(passes)
+        desk.advance(passes)
         it.sendall(CRL[9:])
         t.same(it.recv(1), b"H", "its answer is there")
-    desk.goes(29_999)
+    desk.advance(29_999)
     t.true(len(read_all(first)) < LARGE, "the first got all of its answer")
     t.true(len(read_all(second)) > LARGE, "the second did not")
     desk.loses(first, why="late")
@@ -275,22 +272,22 @@ def an_answer_has_30_seconds_to_be_taken(t):
 
 @test
 def what_follows_a_request_is_dropped_for_a_second(t):
-    """Its peer has its place until then, and its answer, whatever it sends."""
+    """Until then its client keeps its slot, and has its answer, whatever it sends."""
     entered(t)
     desk = Passing(t)
     for passes in (1, 0):
         it = desk.comes(COUNTS + b"more")
         t.same(parted(read_all(it))[0], 200, "its answer, and that no more is written")
         it.sendall(b"more")
-        desk.goes(passes)
-    t.same(desk.files, desk.before + 2, "both have their places")
-    desk.goes(999)
-    t.same(desk.files, desk.before + 1, "the second alone")
+        desk.advance(passes)
+    until(lambda: desk.files == desk.before + 2, "that both have their places, and no other request has one")
+    desk.advance(999)
+    until(lambda: desk.files == desk.before + 1, "that the second alone has its place")
     desk.loses()
 
 
 @test
-def who_has_its_answer_is_let_go_before_the_oldest(t):
+def an_answered_connection_is_evicted_before_the_oldest(t):
     entered(t)
     desk = Passing(t)
     t.tool("prlimit", "--pid", desk.desk.process.pid, f"--nofile={desk.before + 3}:{desk.before + 3}")
@@ -307,8 +304,8 @@ def who_has_its_answer_is_let_go_before_the_oldest(t):
 
 @test(seconds=10)
 def answers_that_wait_hold_64_mib_together(t):
-    """Two of 33 MB fit and a third does not, whatever of them the system has taken. The oldest is let go; never the newest, also where it is longer than
-    that alone."""
+    """Two of 33 MB fit and a third does not, however much of them the sockets have buffered. The oldest is evicted, and never the newest, even if it is longer
+    than 64 MiB by itself."""
     size, too_long = 33_000_000, 70_000_000
     entered(t, size, too_long)
     desk = Passing(t)
@@ -327,7 +324,7 @@ def answers_that_wait_hold_64_mib_together(t):
 
 
 @test(seconds=2)
-def so_many_are_served_and_no_more(t):
+def serve_answers_the_given_number_of_requests(t):
     desk = opened(t, "--requests", 3, command="serve")
     t.same([parted(desk.send(COUNTS))[0] for _ in range(3)], [200] * 3)
     t.same(desk.wait().status, 0, "status")
@@ -336,7 +333,7 @@ def so_many_are_served_and_no_more(t):
 
 
 @test
-def half_a_request_is_one_of_so_many(t):
+def half_a_request_counts_as_one(t):
     desk = opened(t, "--requests", 2, command="serve")
     half = peer(t, desk, b"GET /status/05 HTTP/1.1\r\n")
     half.shutdown(socket.SHUT_WR)
@@ -347,15 +344,15 @@ def half_a_request_is_one_of_so_many(t):
 
 
 @test(seconds=2)
-def counters_wait_for_nobody_and_the_ninth_for_a_place(t):
+def eight_control_connections_are_served_and_the_ninth_waits(t):
     desk = opened(t)
-    first, second = t.counter(), t.counter()
+    first, second = t.control(), t.control()
     first.peer.sendall(b"status 7f")
     t.same(second.ask("status 05"), "good", "while another is in mid-line")
     first.peer.sendall(b"f\nstatus x\nstat")
     t.same([first.file.readline(), first.file.readline()], [b"unknown\n", b"E22 syntax\n"], "in order")
-    idle = [t.counter() for _ in range(6)]
-    ninth = t.counter()
+    idle = [t.control() for _ in range(6)]
+    ninth = t.control()
     ninth.peer.sendall(b"status 05\n")
     t.same([it.ask("status 06") for it in (second, *idle)], ["unknown"] * 7, "eight at once")
     ninth.peer.settimeout(0.5)
@@ -365,7 +362,7 @@ def counters_wait_for_nobody_and_the_ninth_for_a_place(t):
         pass
     first.file.close()
     first.peer.close()
-    ninth.peer.settimeout(10)
+    ninth.peer.settimeout(LONGEST)
     t.same(ninth.peer.recv(10), b"good\n", "the ninth, once one is gone")
     t.true(desk.process.poll() is None, "the desk ended")
 
@@ -373,23 +370,24 @@ def counters_wait_for_nobody_and_the_ninth_for_a_place(t):
 @test(seconds=2)
 def a_line_that_is_not_whole_is_never_run(t):
     desk = opened(t)
-    with Counter(t.room / "counter") as counter:
-        counter.ask("request 05 asked")
-        counter.peer.sendall(b"revoke 1")
-        counter.peer.shutdown(socket.SHUT_WR)
-        t.same(counter.file.read(), b"", "the reply to a line with no LF")
-    with Counter(t.room / "counter") as counter:
-        counter.peer.sendall(b"revoke 1")
+    with Control(t.room / "counter") as control:
+        control.ask("request 05 asked")
+        control.peer.sendall(b"revoke 1")
+        control.peer.shutdown(socket.SHUT_WR)
+        t.same(control.file.read(), b"", "the reply to a line with no LF")
+    with Control(t.room / "counter") as control:
+        control.peer.sendall(b"revoke 1")
+    # Time in which the desk could run it.
     time.sleep(0.2)
     t.same(t.done("at", "counter", given="status 05\n"), "good\n")
     at_once(t, desk, "a counter that was cut off")
 
 
 @test(seconds=3)
-def a_counter_that_does_not_read_is_held(t):
-    """Its next line is told once the socket has taken the reply to the one before, and no line behind that."""
+def a_control_connection_that_does_not_read_is_held(t):
+    """Its next line runs once the socket has accepted the reply to the one before, and no later line does."""
     desk = opened(t, "--log")
-    unread = t.counter()
+    unread = t.control()
     unread.peer.settimeout(1)
     try:
         for _ in range(100_000):
@@ -397,24 +395,33 @@ def a_counter_that_does_not_read_is_held(t):
     except TimeoutError:
         pass
     t.same(t.done("at", "counter", given="status 05\n"), "good\n", "another counter")
-    told = sum('counter "status 7b"' in it for it in desk.end().told)
+    told = sum('counter "status 7b"' in it for it in desk.end().err_lines)
     replies = read_all(unread.peer).count(b"unknown\n")
     t.true(0 < replies <= told <= replies + 1, f"{told} lines were told, and {replies} replies taken")
 
 
 @test(seconds=3)
-def a_counter_of_many_lines_holds_nobody_up(t):
+def a_control_connection_of_many_lines_holds_up_nobody(t):
+    """Its client writes lines and reads replies until the others have been answered."""
     desk = opened(t)
-    busy, other = t.counter(), t.counter()
-    count = 20_000
+    busy, other = t.control(), t.control()
+    ends = threading.Event()
+
+    def sends():
+        while not ends.is_set():
+            busy.peer.sendall(b"status 7b\n" * 1_000)
+        busy.peer.shutdown(socket.SHUT_WR)
+
     with ThreadPoolExecutor(2) as pool:
-        pool.submit(busy.peer.sendall, b"status 7b\n" * count)
-        replies = pool.submit(lambda: [busy.file.readline() for _ in range(count)])
-        for _ in range(3):
-            t.same(other.ask("status 05"), "good", "another counter")
-            at_once(t, desk, "a counter of many lines")
-        t.same(replies.done(), False, "all its lines were told before")
-        t.same(set(replies.result()), {b"unknown\n"}, "its replies")
+        pool.submit(sends)
+        replies = pool.submit(lambda: set(busy.file))
+        try:
+            for _ in range(3):
+                t.same(other.ask("status 05"), "good", "another counter")
+                at_once(t, desk, "a counter of many lines")
+        finally:
+            ends.set()
+        t.same(replies.result(), {b"unknown\n"}, "its replies")
 
 
 @test(seconds=2)

@@ -10,7 +10,7 @@ import sys
 from lib import authority, program
 from lib.authority import EXAMPLES, Authority, body_of, moment_of
 from lib.documents import blocks
-from lib.program import Counter, seconds_of
+from lib.program import Control, seconds_of
 from lib.trial import each, test
 
 BEGUN = "2026-01-01T00:00:00Z"
@@ -52,16 +52,16 @@ def begun(t):
 
 
 def ending(ran):
-    return ran.status, ran.lines, ran.told
+    return ran.status, ran.lines, ran.err_lines
 
 
 def compared(t, command="open", file="copy.db", crl="published.crl"):
     """Starts a desk with a published CRL that stops it: its status, and its lines on standard output and on standard error."""
     more = {"open": ("--control", "counter", "--unsigned"), "serve": ("--requests", "1")}[command]
     if not (t.room / file).exists():
-        return ending(t.desk(command, file, "--port", program.free_port(), *more, "--published", crl, timeout=20))
+        return ending(t.desk(command, file, "--port", program.free_port(), *more, "--published", crl))
     before = (t.room / file).read_bytes()
-    ran = t.desk(command, file, "--port", program.free_port(), *more, "--published", crl, timeout=20)
+    ran = t.desk(command, file, "--port", program.free_port(), *more, "--published", crl)
     t.same(((t.room / file).read_bytes(), (t.room / "counter").exists()), (before, False), "the register as it was, and no control socket")
     return ending(ran)
 
@@ -430,25 +430,25 @@ LOST = "2026-01-02T09:30:00Z"
 
 def lost(t, it):
     """Makes a register with a log, copies it, enters more of each kind, and publishes a CRL as ca.crl. Then it deletes the register's files, and puts the
-    copy in their place. What the lists had before."""
+    copy in their place. Returns the lists as they were before."""
     it.register()
     it.signer()
     t.clock(BACKUP)
     desk = t.open("ca.db", *it.signing(), "--log-file", "ca.log")
-    asks = lambda counter, *words: [t.true(counter.ask(word)[:1] not in "EF", word) for word in words]
-    with Counter(t.room / "counter") as counter:
-        asks(counter, "subscriber acme", "order 1 365", "order 1 365", f"register 1 05 {BEGUN} {ENDS}", f"register 2 06 {BEGUN} {ENDS}")
-        asks(counter, "request 05 superseded", "revoke 1 05", "crl", f"copy {t.room}/copy.db")
+    asks = lambda control, *words: [t.true(control.ask(word)[:1] not in "EF", word) for word in words]
+    with Control(t.room / "counter") as control:
+        asks(control, "subscriber acme", "order 1 365", "order 1 365", f"register 1 05 {BEGUN} {ENDS}", f"register 2 06 {BEGUN} {ENDS}")
+        asks(control, "request 05 superseded", "revoke 1 05", "crl", f"copy {t.room}/copy.db")
         t.clock("2026-01-02T09:00:00Z")
         certificate(t, it, 7)
         begins, ends = (openssl_moment(t, "07.pem", word) for word in ("-startdate", "-enddate"))
-        asks(counter, "subscriber beta", "order 2 365", f"register 3 07 {begins} {ends}")
+        asks(control, "subscriber beta", "order 2 365", f"register 3 07 {begins} {ends}")
         t.same(program.parted(desk.ask("POST", "/requests", json.dumps({"serial": "06", "ground": "key-compromise"})))[0], 200, "over HTTP")
-        asks(counter, "request 07 asked", "decline 3 07", "request 07 misuse")
+        asks(control, "request 07 asked", "decline 3 07", "request 07 misuse")
         t.clock(LOST)
-        asks(counter, "revoke 2 06", "revoke 4 07", "crl")
+        asks(control, "revoke 2 06", "revoke 4 07", "crl")
         (t.room / "ca.crl").write_bytes(body_of(t, desk.ask("GET", "/crl"), "application/pkix-crl"))
-        asks(counter, "order 1 30", f"register 4 08 {BEGUN} 2026-01-30T00:00:00Z", "request 08 cessation", "revoke 5 08")
+        asks(control, "order 1 30", f"register 4 08 {BEGUN} 2026-01-30T00:00:00Z", "request 08 cessation", "revoke 5 08")
     desk.end()
     had = listed(t)
     for file in t.room.glob("ca.db*"):
@@ -482,7 +482,7 @@ def transcripts():
 
 
 def typed(t, it, port, command):
-    """What bash prints for a command of the document."""
+    """The output of bash for a command of the document."""
     env = dict(program.environment(), SIGNER=" ".join(it.signing()))
     env["PATH"] = f"{t.room}/bin:{env['PATH']}"
     (t.room / "bin").mkdir(exist_ok=True)
@@ -506,7 +506,7 @@ def as_it_stands(t, it, transcript):
 
 def goes_on(t, it, desk, wanted):
     """The next CRL has a higher number than the published one, verifies, and lists these with their moments and reasons; an OCSP answer has them too."""
-    with Counter(t.room / desk.words[desk.words.index("--control") + 1]) as control:
+    with Control(t.room / desk.words[desk.words.index("--control") + 1]) as control:
         t.same(control.ask("crl"), f"crl 3 entries {len(wanted)}")
     crl = body_of(t, desk.ask("GET", "/crl"), "application/pkix-crl")
     it.verifies(crl)
@@ -538,7 +538,7 @@ def after_a_lost_disk(t):
 
 @test(seconds=4)
 def after_a_lost_disk_and_a_lost_log(t):
-    """The second transcript, with the CRL alone: all that it lists is revoked as it was. Later entries are lost."""
+    """The second transcript, with only the CRL: all certificates that it lists are revoked as before. Later entries are lost."""
     it = Authority(t)
     lost(t, it)
     (t.room / "ca.log").unlink()

@@ -1,4 +1,4 @@
-"""Types what README says: the lines of its small CA, one after the other into an empty folder, exactly as they stand; and looks at what it says that they print."""
+"""Runs README's lines of its small CA in an empty folder, exactly as they are, and compares their output with README's."""
 
 import os
 import re
@@ -27,7 +27,7 @@ def blocks(heading):
 
 
 def home_of(t):
-    """A home with this repository at ~/durshavon, whose `./desk` is the program that is tested."""
+    """A home with this repository at ~/durshavon, with the tested program as `./desk`."""
     home = t.room / "home"
     (home / "durshavon").mkdir(parents=True)
     (home / "durshavon/examples").symlink_to(program.TOP / "examples")
@@ -47,7 +47,7 @@ def is_free(port):
 
 
 def in_order(t, wanted, told):
-    """These lines stand in what was told, each behind the one before."""
+    """The output has these lines, in this order."""
     lines = iter(told.splitlines())
     for want in wanted:
         if not any(line == want for line in lines):
@@ -65,7 +65,7 @@ def the_small_ca_ends_in_verify_ok(t):
     env = {**os.environ, "HOME": str(home_of(t)), "TZ": "America/New_York"}
     env.pop("LD_PRELOAD", None)
     script = "\n".join(["exec 2>&1", "cd ca", *typed, "wait"])
-    ran = t.tried("timeout", int(50 * program.PATIENCE), "bash", "-c", script, env=env, timeout=60 * program.PATIENCE)
+    ran = t.tried("timeout", program.LONGEST - 10, "bash", "-c", script, env=env)
     told = ran.stdout.decode()
     t.true(ran.returncode != 124, f"it did not come to an end: {told}")
     in_order(t, printed, told)
@@ -92,7 +92,7 @@ def no_line_is_longer_than_120_letters(t):
 
 
 @test(seconds=3)
-def what_is_told_as_proved_is_built(t):
+def what_is_reported_as_proved_is_built(t):
     """By `./desk --version`, in a folder whose program is not there, is there, and is older than a source."""
     need("bash")
     top = t.room / "top"
@@ -102,16 +102,16 @@ def what_is_told_as_proved_is_built(t):
     for it in ("desk", "crates.txt", "tools/version.sh", "tools/current.sh", "crates/reg_desk_cli/src/desk.rt"):
         shutil.copy2(program.TOP / it, top / it)
 
-    def told():
+    def version_lines():
         ran = t.tried(top / "desk", "--version")
         t.same(ran.returncode, 0, "status")
         return ran.stdout.decode().splitlines()
 
-    t.same(told()[0].split()[:2], ["desk", version()])
-    t.true(told()[1].startswith("not built; "), "where no program is")
+    t.same(version_lines()[0].split()[:2], ["desk", version()])
+    t.true(version_lines()[1].startswith("not built; "), "where no program is")
     built.write_text("#!/bin/sh\n")
     built.chmod(0o755)
-    t.true(told()[1].startswith("each function proved and built by Rattle: "), "where one is that no source is newer than")
+    t.true(version_lines()[1].startswith("each function proved and built by Rattle: "), "where one is that no source is newer than")
     later = built.stat().st_mtime + 10
     os.utime(source, (later, later))
-    t.true(told()[1].startswith("not built: the program that is there is older than its sources"), "where a source is newer")
+    t.true(version_lines()[1].startswith("not built: the program that is there is older than its sources"), "where a source is newer")

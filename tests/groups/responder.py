@@ -1,15 +1,16 @@
-"""Who answers OCSP requests: a responder with a key and a certificate of its own, which the CA delegated (RFC 6960 4.2.2.2), and the CA's
-certificate in its own answers; both as openssl, Java, GnuTLS, NSS, Go and nginx take them, and what is refused by its name."""
+"""OCSP responders: one with its own key and a certificate by which the CA delegated to it (RFC 6960 4.2.2.2), and the CA itself with its
+certificate in its answers. openssl, Java, GnuTLS, NSS, Go and nginx check both. Also the refusals by `bad-responder`."""
 
 import hashlib
 import os
-import time
+import threading
 from concurrent.futures import ThreadPoolExecutor
 from pathlib import Path
 
 from lib import authority, faults, program, registers
 from lib.authority import EXAMPLES, INTERNAL, KEYS, Authority, body_of, first_day, inside, path_of, values_of, with_key_identifier
 from lib.documents import block
+from lib.passing import Passing
 from lib.registers import tlv
 from lib.trial import Skipped, each, need, test
 from lib.web_server import AROUND
@@ -56,7 +57,7 @@ def whole(value):
 
 
 def rebuilt(it, der, change, sign=None):
-    """A certificate like another, signed by the CA, whose TBSCertificate has other parts: `change` is given its own."""
+    """A certificate signed by the CA whose TBSCertificate has the parts of another one, changed by `change`."""
     part, algorithm, _ = whole(inside(der)[1])
     made = tlv(SEQUENCE, *change(whole(inside(part)[1])))
     return tlv(SEQUENCE, made, algorithm, tlv(BITS, b"\0" + (sign or it.sign)(made)))
@@ -75,7 +76,7 @@ def named_by(response):
 
 
 def certificates_in(response):
-    """The bytes of each certificate that stands with an answer; `None` where there is no `certs`."""
+    """The bytes of each certificate in an answer; `None` if it has no `certs`."""
     behind = values_of(values_of(authority.basic_of(response))[0][1])[3:]
     if not behind:
         return None
@@ -94,7 +95,7 @@ def answer(t, it, desk, serial):
 
 
 def bad_responder(t, words, err=b"bad-responder\n"):
-    """A command that ends with `bad-responder` before anything is opened, bound or laid."""
+    """Checks that a command ends with `bad-responder` before it opens, binds or creates anything."""
     ran = t.desk(*words)
     t.same((ran.status, ran.out, ran.err), (1, b"", err), program.shown(words))
     t.same((t.room / "counter").exists(), False, "a counter that was laid")
@@ -105,26 +106,28 @@ def bad_responder(t, words, err=b"bad-responder\n"):
 
 @test(seconds=8)
 def a_responder_answers_while_a_crl_is_signed(t):
-    """What holds the CA's key takes three seconds for it."""
-    it = Authority(t)
+    it, signs = Authority(t), threading.Event()
+    t.callback(signs.set)
     responder = Responder(it)
     responder.signer()
     t.signer("day.sign", lambda message, call: it.sign(message))
     a_day(t, it, *it.signing("day.sign"))
-    t.signer("ca.sign", lambda message, call: (time.sleep(3), it.sign(message))[1])
-    desk = t.open("ca.db", *it.signing(), *responder.words())
-    with ThreadPoolExecutor(1) as pool, t.counter() as counter:
-        crl = pool.submit(counter.ask, "crl")
-        time.sleep(0.3)
+    signer = t.signer("ca.sign", lambda message, call: (signs.wait(60), it.sign(message))[1])
+    # No time passes: the ten seconds of a signature never end.
+    desk = Passing(t, *it.signing(), *responder.words()).desk
+    with ThreadPoolExecutor(1) as pool, t.control() as control:
+        crl = pool.submit(control.ask, "crl")
+        authority.until(lambda: signer.asked, "that the CA's signer is asked")
         t.same(it.reads("05", answer(t, it, desk, "05")), "revoked")
         t.same(crl.done(), False, "the CRL is there")
+        signs.set()
         t.same(crl.result(), "crl 2 entries 1")
     it.verifies(body_of(t, desk.ask("GET", "/crl"), "application/pkix-crl"))
 
 
 @each(ALGORITHMS, seconds=8)
 def openssl_verifies_what_a_responder_signed(t, algorithm):
-    """The CA's key signs CRLs, and the responder's OCSP answers: openssl, which is told of the CA alone, takes them by the certificate in them."""
+    """The CA's key signs CRLs, and the responder's key OCSP answers. openssl, which knows only the CA, verifies them by the certificate in them."""
     it = Authority(t)
     responder = Responder(it, algorithm)
     signer, signs = it.signer(), responder.signer()
@@ -143,7 +146,7 @@ def openssl_verifies_what_a_responder_signed(t, algorithm):
         t.same((identifier.hex().upper(), signs.asked[-1]), (authority.IDENTIFIERS[algorithm], part), f"{command}: what is signed, and how")
         it.verifies(body_of(t, desk.ask("GET", "/crl"), "application/pkix-crl"))
         if command == "open":
-            t.same(t.counter().ask("crl"), "crl 2 entries 1")
+            t.same(t.control().ask("crl"), "crl 2 entries 1")
             it.verifies(body_of(t, desk.ask("GET", "/crl"), "application/pkix-crl"), "the CRL of the counter")
         desk.end()
     t.same((len(signer.asked), len(signs.asked)), (2, 8), "what each key signed")
@@ -157,15 +160,15 @@ def a_revocation_is_in_the_next_answer(t):
     responder.signer()
     a_day(t, it, *it.signing())
     desk = t.open("ca.db", *it.signing(), *responder.words())
-    counter = t.counter()
+    control = t.control()
     t.same(it.reads("06", answer(t, it, desk, "06")), "good")
-    t.same([counter.ask("request 06 superseded").split()[0], counter.ask("revoke 2")], ["request", "revoked"])
+    t.same([control.ask("request 06 superseded").split()[0], control.ask("revoke 2")], ["request", "revoked"])
     t.same(it.reads("06", answer(t, it, desk, "06")), "revoked")
 
 
 @each({"before the first CRL": (False, True), "after a CRL that the key signed": (True, True), "after a CRL that a digest sealed": (True, False)}, seconds=5)
 def a_responder_alone(t, has_crl, is_signed):
-    """Without `--signer` beside a responder no CRL is signed, by nothing: the counter says so, OCSP goes on, and the number is the next one's."""
+    """With a responder and without `--signer` no CRL is issued: the control socket says so, OCSP goes on, and the next CRL gets the number."""
     it = Authority(t)
     responder = Responder(it)
     signer = it.signer()
@@ -180,12 +183,12 @@ def a_responder_alone(t, has_crl, is_signed):
             t.same(it.reads(serial, answer(t, it, desk, serial)), told, f"{command}: {serial}")
         if command == "serve":
             desk.end()
-    counter = t.counter()
-    t.same([counter.ask("crl"), counter.ask("crl")], ["F3 signer", "F3 signer"])
-    t.same((it.reads("06", answer(t, it, desk, "06")), counter.ask("request 06 superseded").split()[0]), ("good", "request"), "and all else goes on")
+    control = t.control()
+    t.same([control.ask("crl"), control.ask("crl")], ["F3 signer", "F3 signer"])
+    t.same((it.reads("06", answer(t, it, desk, "06")), control.ask("request 06 superseded").split()[0]), ("good", "request"), "and all else goes on")
     ran = t.desk("at", "counter", given="crl\n")
     t.same((ran.status, ran.out, ran.err), (3, b"F3 signer\n", b"refused\n"), "told to a program")
-    t.same(counter.ask("revoke 2"), "revoked")
+    t.same(control.ask("revoke 2"), "revoked")
     t.same(it.reads("06", answer(t, it, desk, "06")), "revoked", "a revocation that no CRL lists yet")
     status, _, _ = program.parted(desk.ask("GET", "/crl"))
     t.same((status, len(signer.asked)), (200 if has_crl else 404, asked), "the latest CRL is the one before, and the CA's key was not asked")
@@ -222,8 +225,8 @@ def a_crl_that_nobody_signs_is_no_failing_signer(t):
     it.register()
     t.done("script", "ca.db", *it.signing(), given=first_day(authority.now()))
     desk = t.open("ca.db", *responder.words())
-    t.same(t.counter().ask("crl"), "F3 signer")
-    t.has(desk.ask("GET", "/health").decode(), '"crl_signer":null,"ocsp_signer":null,"status":"ok"')
+    t.same(t.control().ask("crl"), "F3 signer")
+    t.has(desk.ask("GET", "/health").decode(), '"crl_signer":null,"ocsp_signer":null,"rows":null,"status":"ok"')
     told = desk.ask("GET", "/metrics").decode()
     for series in ("desk_signature_failures_total", "desk_signer_failing_since_timestamp_seconds"):
         t.has(told, f'{series}{{of="crl"}} 0\n')
@@ -252,7 +255,7 @@ def a_responder_that_fails(t):
     a_day(t, it, *it.signing())
     desk = t.open("ca.db", *it.signing(), *responder.words())
     t.same(body_of(t, desk.ask("POST", "/ocsp", it.asks("05"))), INTERNAL, "while nothing holds its key")
-    t.same(t.counter().ask("crl"), "crl 2 entries 1", "CRLs are the CA's")
+    t.same(t.control().ask("crl"), "crl 2 entries 1", "CRLs are the CA's")
     with program.Signer(t.room / "responder.sign", responder.sign):
         t.same(it.reads("05", answer(t, it, desk, "05")), "revoked", "once something does")
     # A signature of another key has its form; that is not looked at, and openssl sees it.
@@ -266,46 +269,42 @@ def a_responder_that_fails(t):
 
 @test(seconds=13)
 def a_responder_that_hangs_holds_up_no_crl(t):
-    """Who asked it waits for its ten seconds, and nobody else does; the CA's signer signs meanwhile."""
+    """Only the requester waits for its ten seconds. The CA's signer signs meanwhile."""
     it = Authority(t)
     responder = Responder(it)
     it.signer()
     a_day(t, it, *it.signing())
     hanging = t.signer("responder.sign", lambda message, call: "hang")
     desk = t.open("ca.db", *it.signing(), *responder.words())
-    counter, request = t.counter(), it.asks("05")
-    with ThreadPoolExecutor(1) as pool:
-        begun = time.monotonic()
+    control, request = t.control(), it.asks("05")
+    with ThreadPoolExecutor(1) as pool, t.ten_seconds():
         waits = pool.submit(desk.ask, "POST", "/ocsp", request)
         authority.until(lambda: hanging.asked, "that the responder is asked")
-        asked = time.monotonic()
-        t.same(counter.ask("crl"), "crl 2 entries 1", "a CRL")
-        t.true(time.monotonic() - asked < 2, f"a CRL took {time.monotonic() - asked:.1f} s")
+        with t.at_once("a CRL"):
+            t.same(control.ask("crl"), "crl 2 entries 1", "a CRL")
         t.same(waits.done(), False, "who asked still waits")
         t.same(body_of(t, waits.result()), INTERNAL)
-        seconds = time.monotonic() - begun
-    t.true(9.9 <= seconds < 20, f"it took {seconds:.1f} s in place of ten")
 
 
 @test(seconds=4)
-def the_log_s_last_word_tells_of_either_key(t):
-    """`signer` stands where a signature did not come: of the responder's key for an answer, of the CA's for a CRL; and nowhere else."""
+def the_log_s_last_word_is_about_either_key(t):
+    """The word `signer` marks a missing signature: of the responder's key for an answer, of the CA's for a CRL; and no other line has it."""
     it = Authority(t)
     responder = Responder(it)
     with it.signer():
         a_day(t, it, *it.signing())
     desk = t.open("ca.db", "--log", *it.signing(), *responder.words())
-    counter = t.counter()
+    control = t.control()
     t.same(body_of(t, desk.ask("POST", "/ocsp", it.asks("05"))), INTERNAL, "while nothing holds its key")
-    t.same([counter.ask("crl"), counter.ask("counts")], ["F3 signer", "good 1 revoked 1 expired 0"], "nor the CA's")
+    t.same([control.ask("crl"), control.ask("counts")], ["F3 signer", "good 1 revoked 1 expired 0"], "nor the CA's")
     with program.Signer(t.room / "responder.sign", responder.sign):
         t.same(it.reads("05", answer(t, it, desk, "05")), "revoked")
-    t.same([line.endswith(" signer") for line in desk.end().told], [True, True, False, False], "which lines have it")
+    t.same([line.endswith(" signer") for line in desk.end().err_lines], [True, True, False, False], "which lines have it")
 
 
 @each({"a new certificate of the same key": False, "a new key": True}, seconds=6)
 def a_certificate_is_exchanged(t, is_new):
-    """What is open goes on with the one that it read; opened again its next answer has the new one."""
+    """An open desk goes on with the certificate that it read. Opened again, its next answer has the new one."""
     it = Authority(t)
     it.signer()
     a_day(t, it, *it.signing())
@@ -354,7 +353,7 @@ def the_ca_s_certificate_in_its_answers(t, is_signed):
 
 @test(seconds=3)
 def without_the_options_each_byte_is_as_it_was(t):
-    """Sealed by a digest an answer is told by its moment: with and without a certificate they differ in `certs`, and in the lengths around it."""
+    """An answer with a placeholder digest depends only on its moment: with and without a certificate it differs in `certs`, and in the lengths around it."""
     it = Authority(t)
     der = der_of(t, "ca")
     a_day(t, it)
@@ -373,7 +372,7 @@ def without_the_options_each_byte_is_as_it_was(t):
     t.same(len(der) + 12 > len(with_it[3][2]) > len(der), True, "certs")
 
 
-# What is refused by its name
+# Refusals by `bad-responder`
 
 
 BROKEN = {
@@ -388,7 +387,7 @@ def bytes_that_are_no_certificate(t, broken):
     it = Authority(t)
     responder = Responder(it)
     (t.room / "responder.der").write_bytes(broken(responder.der))
-    # The register is not there: what is told of it would be `F2 store`.
+    # The register is missing: the fault would be `F2 store`.
     for command, more, sealed in (("open", ("--control", "counter"), ("--unsigned",)), ("serve", ("--requests", "9"), ())):
         bad_responder(t, [command, "none.db", "--port", "1", *more, *responder.words()])
         bad_responder(t, [command, "none.db", "--port", "1", *more, *sealed, "--embed", "responder.der"])
@@ -452,13 +451,13 @@ def a_certificate_without_a_key_of_its_algorithm(t, change):
 
 
 def gencrl(t):
-    """What openssl wants to be told before it makes a CRL."""
+    """The files that openssl needs before it makes a CRL."""
     path = t.room / "ca.cnf"
     path.write_text("[ca]\ndatabase = index.txt\ndefault_md = sha256\ndefault_crl_days = 8\n")
     return path
 
 
-# What openssl writes in DER that is no certificate.
+# Files in DER from openssl that are no certificate.
 OTHERS = {
     "a request for one": ("req", "-in", "responder.csr", "-outform", "DER"),
     "its key": ("pkey", "-in", "responder.key", "-outform", "DER"),
@@ -549,7 +548,7 @@ def a_certificate_that_can_t_be_read(t):
 
 @test(seconds=15)
 def an_allocation_is_refused_while_it_is_opened(t):
-    """It listens as ever, or `F1 memory` is told, and nothing else: want of memory is no bad certificate."""
+    """It listens as usual, or reports `F1 memory` and nothing else: out of memory is not a bad certificate."""
     it = Authority(t)
     responder = Responder(it)
     responder.signer()
@@ -628,7 +627,7 @@ BELOW, OWN = ", below a root", ", by key identifiers of their own"
 
 
 def asked(t, form):
-    """A CA, and the words that start this form of a desk: what is trusted is root.pem, and all.pem has what lies between a leaf and that too."""
+    """A CA, and the options for this form of a desk: root.pem is the trust anchor, and all.pem also has the certificates between a leaf and it."""
     it = Authority(t)
     if form.endswith(BELOW):
         below_a_root(t, it)
@@ -648,7 +647,7 @@ def forms(*more):
 
 @each(forms(BELOW, OWN), seconds=4)
 def openssl_takes_both_forms(t, form):
-    """It trusts the root alone, and knows the CA as the issuer that it asks about. The CRL is of the CA too."""
+    """It trusts only the root, and knows the CA as the issuer in its request. The CRL is of the CA too."""
     it, words = asked(t, form)
     desk = t.open("ca.db", *it.signing(), *words)
     for name, _ in LEAVES:
@@ -804,17 +803,17 @@ def nginx_staples_with_the_leaf_alone(t, form):
         return b"OCSP Response Status: successful" in ran.stdout and b"Cert Status: good" in ran.stdout
 
     asks = ("curl", "-sS", "-o", "/dev/null", "-w", "%{http_code}", "--cert-status", "--cacert", "all.pem", f"https://localhost:{other}/")
-    authority.until(lambda: t.tried(*asks).stdout == b"204", "what is stapled and curl takes", 10)
+    authority.until(lambda: t.tried(*asks).stdout == b"204", "what is stapled and curl takes")
     if words:
-        authority.until(stapled, "a stapled answer", 10)
+        authority.until(stapled, "a stapled answer")
         return
     stapled()
-    authority.until(lambda: "OCSP_basic_verify() failed" in (folder / "error.log").read_text(), "nginx to refuse it", 10)
+    authority.until(lambda: "OCSP_basic_verify() failed" in (folder / "error.log").read_text(), "nginx to refuse it")
     t.same(stapled(), False, "an answer without a certificate")
 
 
 @test(seconds=5)
-def a_signer_that_answers_alone(t):
+def a_signer_of_a_responder_only(t):
     """examples/signer.py, and examples/only_ours.py before openssl, with a responder's key: they sign its answers, and no CRL and nothing else."""
     authority.need_cryptography(t)
     it = Authority(t)

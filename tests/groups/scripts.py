@@ -1,5 +1,4 @@
-"""The scripts of examples/ that an operator's cron runs or who registers certificates: what each prints, its exit status, and that nothing of what
-was there is lost where it fails."""
+"""The scripts of examples/ for cron and for registering certificates: their output, their exit status, and that a failure loses nothing."""
 
 import fcntl
 import hashlib
@@ -15,20 +14,20 @@ from lib.trial import Skipped, each, need, test
 
 
 def played(t, script, *words, before=(), more=None):
-    """Plays a script of examples/, whose `desk` is the program that is tested; its status, what it printed, and the lines that it told."""
+    """Runs a script of examples/ with the tested program as its `desk`: its status, its output, and its lines on standard error."""
     env = {**os.environ, "DESK": program.program(), "TZ": "America/New_York", **(more or {})}
     ran = t.tried(*before, EXAMPLES / script if not before else t.room / script, *words, env=env)
     return ran.returncode, ran.stdout.decode(), ran.stderr.decode().splitlines()
 
 
 def fails(t, ran, told, status=1):
-    """It printed nothing, and told one line with this in it."""
+    """Checks that it printed nothing, and one line with this text on standard error."""
     t.same((ran[0], ran[1], len(ran[2])), (status, "", 1), f"status, output and lines told, of which {ran[2]!r}")
     t.has(ran[2][0], told)
 
 
 def as_nobody(t, script):
-    """What runs a script, which is copied to where that user may come, as a user who has no rights here."""
+    """A function that runs a script as a user without rights, who can read a copy of it."""
     if os.geteuid():
         return ("env",)
     need("setpriv")
@@ -60,17 +59,17 @@ def contents(folder):
 
 
 def open_desk(t, *lines):
-    """A CA with an open desk, whose key signs, and the folder `www`; at its counter these lines are accepted."""
+    """A CA with an open desk and a signer, and the folder `www`; these lines run at its control socket."""
     it = Authority(t)
     it.register()
     it.signer()
     desk = t.open("ca.db", "--control", "counter", *it.signing())
     (t.room / "www").mkdir()
-    told_at_counter(t, *lines)
+    at_control(t, *lines)
     return it, desk
 
 
-def told_at_counter(t, *lines):
+def at_control(t, *lines):
     return t.done("at", "counter", given="".join(f"{line}\n" for line in lines)).splitlines()
 
 
@@ -79,7 +78,7 @@ def publish(t, desk, path="/crl", folder="www", ca="ca.pem", **how):
 
 
 def published(t, it, desk, number):
-    """What is published is the desk's latest CRL, in both forms, for everybody to read, and verifies."""
+    """Checks that the published files are the desk's latest CRL in both forms, readable by all users, and verify."""
     crl = body_of(t, desk.ask("GET", "/crl"), "application/pkix-crl")
     t.same((t.room / "www/ca.crl").read_bytes(), crl, "ca.crl")
     t.same(t.tool("openssl", "crl", "-in", "www/ca.crl.pem", "-outform", "DER"), crl, "ca.crl.pem")
@@ -89,7 +88,7 @@ def published(t, it, desk, number):
 
 
 @test(seconds=3)
-def a_crl_is_published_where_it_is_another(t):
+def a_crl_is_published_if_it_differs(t):
     it, desk = open_desk(t, "crl")
     t.same(publish(t, desk), (0, "crl 1 published in www\n", []), "the first one")
     published(t, it, desk, 1)
@@ -97,7 +96,7 @@ def a_crl_is_published_where_it_is_another(t):
     t.same(publish(t, desk), (0, "", []), "the same again")
     t.same(contents(t.room / "www"), before, "what is the same stays as it is")
     now = authority.now()
-    told_at_counter(t, "subscriber acme", "order 1 30", f"register 1 05 {moment_of(now)} {moment_of(now + DAY)}", "request 05 superseded", "revoke 1", "crl")
+    at_control(t, "subscriber acme", "order 1 30", f"register 1 05 {moment_of(now)} {moment_of(now + DAY)}", "request 05 superseded", "revoke 1", "crl")
     t.same(publish(t, desk), (0, "crl 2 published in www\n", []), "a newer one")
     published(t, it, desk, 2)
     t.same(list(authority.listed(t, (t.room / "www/ca.crl").read_bytes())), [5])
@@ -135,7 +134,7 @@ def gone(t, desk):
     return publish(t, desk)
 
 
-# What fails where CRL 2 is published and 3 is the latest, and what is told.
+# Failures while CRL 2 is published and 3 is the latest, and the message.
 FAILURES = {
     "a CA of the same name with another key": (other_authority("/CN=T"), "is not verified by other.pem: verify failure"),
     "a CA of another name": (other_authority("/CN=U"), "is not verified by other.pem: Error getting CRL issuer certificate"),
@@ -151,17 +150,17 @@ FAILURES = {
 
 
 @each(FAILURES, seconds=2)
-def what_is_published_stays_where_it_fails(t, fail, told):
+def a_published_crl_stays_after_a_failure(t, fail, told):
     _, desk = open_desk(t, "crl", "crl")
     publish(t, desk)
-    told_at_counter(t, "crl")
+    at_control(t, "crl")
     before = contents(t.room / "www")
     fails(t, fail(t, desk), told)
     t.same(contents(t.room / "www"), before, "what is published")
 
 
 @each({"ca.crl": "ca.crl", "ca.crl.pem": "ca.crl.pem"}, seconds=2)
-def an_older_crl_where_one_form_alone_lies_there(t, left):
+def an_older_crl_beside_one_form_only(t, left):
     _, desk = open_desk(t, "crl", "crl")
     publish(t, desk)
     for name in {"ca.crl", "ca.crl.pem"} - {left}:
@@ -180,7 +179,7 @@ def a_folder_that_is_none_or_not_to_be_written(t):
     fails(t, publish(t, desk, folder="nowhere"), "nowhere is no folder that can be read")
     fails(t, publish(t, desk, folder="ca.db"), "ca.db is no folder that can be read")
     publish(t, desk)
-    told_at_counter(t, "crl")
+    at_control(t, "crl")
     before = contents(t.room / "www")
     os.chmod(t.room / "www", 0o555)
     if not os.geteuid():
@@ -195,7 +194,7 @@ def a_disk_that_is_full(t):
     folder = small_disk(t, 12)
     t.same(publish(t, desk, folder=folder)[0], 0)
     (folder / "filler").write_bytes(bytes(4_096))
-    told_at_counter(t, "crl")
+    at_control(t, "crl")
     before = contents(folder)
     t.same(publish(t, desk, folder=folder)[:2], (1, ""), "status and output")
     t.same(contents(folder), before, "what is published")
@@ -208,9 +207,9 @@ def a_crl_that_has_ended(t):
     _, desk = open_desk(t, "crl")
     fails(t, publish(t, desk), f"CRL 1 of http://127.0.0.1:{desk.port}/crl has ended, ")
     t.same(contents(t.room / "www"), {})
-    told_at_counter(t, "crl")
+    at_control(t, "crl")
     t.clock(moment_of(begun + 9 * DAY))
-    told_at_counter(t, "crl")
+    at_control(t, "crl")
     t.same(publish(t, desk)[1], "crl 3 published in www\n")
 
 
@@ -224,16 +223,16 @@ def a_register_that_was_set_back(t):
             shutil.copy(t.room / name, t.room / f"before-{name}")
     t.clock(moment_of(authority.now() + 60))
     desk = t.open("ca.db", "--control", "counter", *it.signing())
-    told_at_counter(t, "crl")
+    at_control(t, "crl")
     publish(t, desk)
     desk.end()
     t.clock(moment_of(authority.now() + 3600))
     desk = t.open("before-ca.db", "--control", "counter", *it.signing())
-    t.same(told_at_counter(t, "crl"), ["crl 2 entries 0"])
+    t.same(at_control(t, "crl"), ["crl 2 entries 0"])
     before = contents(t.room / "www")
     fails(t, publish(t, desk), "is no newer than number 2 in www: was the register set back?")
     t.same(contents(t.room / "www"), before)
-    told_at_counter(t, "crl")
+    at_control(t, "crl")
     t.same(publish(t, desk)[1], "crl 3 published in www\n", "a greater number is taken again")
 
 
@@ -252,7 +251,7 @@ def a_reader_gets_the_old_one_or_the_new_one(t):
     reader.start()
     try:
         for _ in range(4):
-            told_at_counter(t, "crl")
+            at_control(t, "crl")
             t.same(publish(t, desk)[0], 0)
             crls.add((t.room / "www/ca.crl").read_bytes())
     finally:
@@ -304,7 +303,7 @@ def unsigned_desk(t, *lines):
     it.register()
     desk = t.open("ca.db", "--control", "counter")
     if lines:
-        told_at_counter(t, *lines)
+        at_control(t, *lines)
     return it, desk
 
 
@@ -350,18 +349,18 @@ def two_common_names_are_two_subscribers(t):
 
 
 @test(seconds=3)
-def certificates_are_registered_at_the_counter(t):
+def certificates_are_registered_at_the_control_socket(t):
     it, desk = unsigned_desk(t, "subscriber first", "order 1 398")
     days = {name: issued(t, it, name, *more) for name, *more in
             (("a", "05", "/O=Example/CN=a & sons, Zürich", 90), ("b", "7FFFFFFF00AA", "/CN=b.example", 397), ("c", "06", "/CN=first", 1))}
     wanted = ["a.pem: serial number 05 registered, order 2 of subscriber 2", "b.pem: serial number 7FFFFFFF00AA registered, order 3 of subscriber 3",
               "c.pem: serial number 06 registered, order 4 of subscriber 1"]
     t.same(register_pem(t, "-c", "counter", "-a", "ca.pem", "a.pem", "b.pem", "c.pem"), (0, "\n".join([*wanted, ""]), []))
-    t.same(told_at_counter(t, "status 05", "status 7fffffff00aa", "status 6"), ["good"] * 3)
+    t.same(at_control(t, "status 05", "status 7fffffff00aa", "status 6"), ["good"] * 3)
     ran = register_pem(t, "-c", "counter", "a.pem", "b.pem")
     t.same(ran, (3, "", ["a.pem: serial number 05 is not registered anew, status: good",
                          "b.pem: serial number 7FFFFFFF00AA is not registered anew, status: good"]), "once more")
-    # As DER, under a subscriber who is named.
+    # As DER, under a named subscriber.
     issued(t, it, "d", "08", "/CN=d")
     t.tool("openssl", "x509", "-in", "d.pem", "-outform", "DER", "-out", "d.der")
     t.same(register_pem(t, "-c", "counter", "-s", "b.example", "d.der")[1], "d.der: serial number 08 registered, order 5 of subscriber 3\n")
@@ -375,7 +374,7 @@ def certificates_are_registered_at_the_counter(t):
 
 
 @test(seconds=3)
-def what_is_refused_is_told_and_the_others_are_registered(t):
+def refused_certificates_are_reported_and_the_others_registered(t):
     it, desk = unsigned_desk(t)
     issued(t, it, "long", "11", days=3650)
     issued(t, it, "good", "12")
@@ -397,7 +396,7 @@ def what_is_refused_is_told_and_the_others_are_registered(t):
 
 
 @test(seconds=2)
-def an_order_that_stays_without_its_certificate_is_told(t):
+def an_order_that_stays_without_its_certificate_is_reported(t):
     """Where fewer days are allowed now than there were, the order is accepted and the certificate is not."""
     it = Authority(t)
     it.register()
@@ -411,12 +410,12 @@ def an_order_that_stays_without_its_certificate_is_told(t):
 
 
 @test(seconds=2)
-def as_many_days_as_openssl_was_told(t):
-    """docs/OPERATIONS.md, "Register certificates": `-days 90` is a second longer than an order of 90 days, and `-enddate` tells the last second."""
+def as_many_days_as_given_to_openssl(t):
+    """docs/OPERATIONS.md, "Register certificates": `-days 90` is a second longer than an order of 90 days, and `-enddate` names the last second."""
     it, _ = unsigned_desk(t, "subscriber acme", "order 1 90", "order 1 91")
     begins, ends = issued(t, it, "a", "05", days=90)
-    counter = t.counter()
-    registers = lambda order, serial, last: counter.ask(f"register {order} {serial} {moment_of(begins)} {moment_of(last)}")
+    control = t.control()
+    registers = lambda order, serial, last: control.ask(f"register {order} {serial} {moment_of(begins)} {moment_of(last)}")
     t.same((ends - begins, registers(1, "05", ends), registers(2, "05", ends)), (90 * DAY, "E12 too-long", "registered"))
     asn1 = lambda at: re.sub("[-:T]", "", moment_of(at))
     by_openssl_ca(t, it, "b", "06", asn1(begins), asn1(ends - 1))
@@ -426,7 +425,7 @@ def as_many_days_as_openssl_was_told(t):
 
 
 @test(seconds=2)
-def nobody_at_the_counter(t):
+def no_desk_at_the_control_socket(t):
     it = Authority(t)
     issued(t, it, "a", "05")
     fails(t, register_pem(t, "-c", "counter", "a.pem", "a.pem"), "a.pem: status 05: no reply at counter")
@@ -479,8 +478,8 @@ ENTERED = "2026-01-01T00:00:00Z subscriber acme\n2026-01-01T00:00:00Z order 1 39
 REGISTERED = ENTERED + "2026-01-01T00:00:00Z register 1 05 2026-01-01T00:00:00Z 2026-12-31T00:00:00Z\n2026-01-01T00:00:00Z crl\n"
 
 
-def back_up(t, register="ca.db", folder="copies", *counter, **how):
-    return played(t, "backup.sh", register, folder, *counter, **how)
+def back_up(t, register="ca.db", folder="copies", *control, **how):
+    return played(t, "backup.sh", register, folder, *control, **how)
 
 
 def register_and_copies(t, *older):
@@ -509,18 +508,18 @@ def a_copy_of_a_closed_register(t):
     modes = {it.name: "%o" % (it.stat().st_mode & 0o777) for it in [copy, *copy.iterdir()]}
     t.same({mode for name, mode in modes.items() if name.startswith("ca.db") and name != copy.name}, {"600"}, "modes of its files")
     t.same(modes[copy.name], "700")
-    # It is a register: one goes back to it by copying its files.
+    # It is a register: to go back to it, copy its files.
     replies = t.done("script", copy / "ca.db", given="2026-01-02T00:00:00Z status 05\n2026-01-02T00:00:00Z counts\n")
     t.same(replies, "good\ngood 1 revoked 0 expired 0\n")
 
 
 @test(seconds=2)
 def a_copy_of_a_register_whose_desk_was_ended(t):
-    """What was answered last is in its -wal alone."""
+    """The last answered commands are only in its -wal."""
     register_and_copies(t)
     t.clock("2026-01-02T00:00:00Z")
     desk = t.open("ca.db", "--control", "counter")
-    told_at_counter(t, "request 05 superseded", "revoke 1")
+    at_control(t, "request 05 superseded", "revoke 1")
     desk.end()
     t.has(back_up(t)[1], ": sound, 1 certificates, 1 revoked, 1 CRLs\n")
 
@@ -542,22 +541,22 @@ def a_copy_of_an_open_register_comes_from_a_snapshot(t):
     t.register("srv/ca/ca.db", REGISTERED)
     t.clock("2026-01-02T00:00:00Z")
     desk = t.open("srv/ca/ca.db", "--control", "counter")
-    told_at_counter(t, "request 05 superseded", "revoke 1")
+    at_control(t, "request 05 superseded", "revoke 1")
     t.tool("btrfs", "subvolume", "snapshot", "-r", "srv/ca", "srv/ca-now")
-    told_at_counter(t, "crl")
+    at_control(t, "crl")
     status, out, told = back_up(t, "srv/ca-now/ca.db")
     t.same((status, out.partition(": ")[2], told), (0, "sound, 1 certificates, 1 revoked, 1 CRLs\n", []), "as it was at the snapshot")
     fails(t, back_up(t, "srv/ca/ca.db"), "srv/ca/ca.db is open: name its control socket, or close it")
-    t.same(told_at_counter(t, "crl"), ["crl 3 entries 1"], "the desk goes on")
+    t.same(at_control(t, "crl"), ["crl 3 entries 1"], "the desk goes on")
     desk.end()
 
 
 @test(seconds=2)
-def a_copy_of_an_open_register_by_its_counter(t):
+def a_copy_of_an_open_register_by_its_control_socket(t):
     copies = register_and_copies(t)
     t.clock("2026-01-02T00:00:00Z")
     t.open("ca.db", "--control", "counter")
-    told_at_counter(t, "request 05 superseded", "revoke 1")
+    at_control(t, "request 05 superseded", "revoke 1")
     # What a run left that was killed.
     (t.room / "ca.db.copy.part").write_text("a front")
     status, out, told = back_up(t, "ca.db", "copies", "counter")
@@ -565,7 +564,7 @@ def a_copy_of_an_open_register_by_its_counter(t):
     [copy] = copies.iterdir()
     t.same({it.name: "%o" % (it.stat().st_mode & 0o777) for it in copy.iterdir()}, {"ca.db": "600"})
     t.same([it.name for it in t.room.iterdir() if ".copy" in it.name], [], "what is left beside the register")
-    t.same(told_at_counter(t, "crl"), ["crl 2 entries 1"], "the desk goes on")
+    t.same(at_control(t, "crl"), ["crl 2 entries 1"], "the desk goes on")
     t.same(t.done("script", copy / "ca.db", given="2026-01-02T00:00:00Z counts\n"), "good 0 revoked 1 expired 0\n")
 
 
@@ -603,7 +602,7 @@ def a_cut_one(t):
 
 
 def in_the_way(t):
-    """Where the desk is to lay its copy lies a folder."""
+    """A folder is at the path of the desk's copy."""
     t.open("ca.db", "--control", "counter")
     (t.room / "ca.db.copy").mkdir()
     return back_up(t, "ca.db", "copies", "counter")

@@ -1,5 +1,4 @@
-"""What holds the issuer's key, at a Unix socket: real keys and signatures of openssl under each algorithm, what is no signature, and signers
-that fail."""
+"""Signers at a Unix socket: real keys and signatures of openssl under each algorithm, bytes that are no signature, and signers that fail."""
 
 import json
 import os
@@ -7,6 +6,8 @@ import re
 import select
 import signal
 import socket
+import subprocess
+import sys
 import threading
 import time
 from concurrent.futures import ThreadPoolExecutor
@@ -16,7 +17,8 @@ from lib import authority, faults, program
 from lib.authority import IDENTIFIERS, INTERNAL, KEYS, Authority, Peer, body_of, first_day, first_day_replies, moment_of
 from lib.program import ANY_SIGNATURE, P256_KEY
 from lib.native import NAME, connected, ended, signature, started
-from lib.trial import Skipped, each, need, test
+from lib.passing import Passing
+from lib.trial import TEN_SECONDS, Skipped, each, need, test
 
 MOMENT = "2026-01-01T00:00:00Z"
 ALGORITHMS = {it: it for it in KEYS}
@@ -62,7 +64,7 @@ def openssl_verifies_what_a_key_signed(t, algorithm):
 
 
 @each(ALGORITHMS, seconds=4)
-def once_nothing_holds_the_key(t, algorithm):
+def once_no_signer_has_the_key(t, algorithm):
     it = Authority(t, algorithm)
     it.register()
     begun = authority.now()
@@ -116,9 +118,30 @@ def examples_signer_py_signs_under_each_algorithm(t, algorithm):
         it.verifies(t.done("crl", "ca.db", "--number", number).encode("latin-1"), f"CRL {number}")
 
 
+@test(seconds=5)
+def examples_signer_py_started_thrice_at_a_stale_socket(t):
+    """Each takes half a second to remove what it found: one serves, and the others find that one."""
+    authority.need_cryptography(t)
+    it = Authority(t)
+    with socket.socket(socket.AF_UNIX) as stale:
+        stale.bind(str(t.room / "ca.sign"))
+    slowed = ("import os, runpy, sys, time; remove = os.remove; os.remove = lambda path: (time.sleep(0.5), remove(path)); "
+              "sys.argv = sys.argv[1:]; sys.path.insert(0, os.path.dirname(sys.argv[0])); runpy.run_path(sys.argv[0])")
+    words = [sys.executable, "-c", slowed, str(authority.EXAMPLES / "signer.py"), str(it.key), "ca.sign"]
+    processes = [subprocess.Popen(words, cwd=t.room, stdout=subprocess.PIPE, stderr=subprocess.PIPE) for _ in range(3)]
+    for process in processes:
+        t.callback(authority.end, process)
+    serving = [process for process in processes if process.stdout.readline()]
+    t.same(len(serving), 1, "how many serve")
+    others = [(process.communicate()[1], process.returncode) for process in processes if process not in serving]
+    t.same(others, [(b"something listens at ca.sign already\n", 1)] * 2, "the others")
+    t.true(signature(t.room / "ca.sign", b"a message") != b"", "it signs")
+    serving[0].stdout.close()
+
+
 @each(ALGORITHMS, seconds=4)
-def a_key_follows_a_digest(t, algorithm):
-    """The next CRL is signed, with the next number and what the sealed one lists, which stays as it was; from then on no digest follows."""
+def a_signature_follows_a_placeholder_digest(t, algorithm):
+    """The next CRL is signed, with the next number and the same entries. The CRL with the placeholder digest stays as it was, and no other follows."""
     it = Authority(t, algorithm)
     it.register()
     begun = authority.now()
@@ -151,7 +174,7 @@ SEALED = {"a script": [], "a strict one": ["--strict"], "one by the clock": ["--
 
 
 @each(SEALED)
-def the_first_crl_that_a_digest_seals_is_told_of(t, more):
+def the_first_crl_with_a_placeholder_digest_has_a_warning(t, more):
     """Once, on standard error; the replies and the status are as they were, and nothing is said of any CRL but the first of the register."""
     t.register()
     moment = "" if "--clock" in more else f"{MOMENT} "
@@ -167,8 +190,8 @@ def the_first_crl_that_a_digest_seals_is_told_of(t, more):
 
 
 @test
-def it_is_told_of_where_replies_can_t_be_said(t):
-    """The CRL stands, whatever becomes of its reply."""
+def the_warning_comes_even_if_replies_can_t_be_written(t):
+    """The register has the CRL even if its reply can't be written."""
     t.register()
     ran = t.tried("sh", "-c", f"{program.program()} script ca.db > /dev/full", given=f"{MOMENT} crl\n".encode())
     t.same((ran.returncode, ran.stderr), (1, program.SEALED + b"F5 write\n"))
@@ -176,7 +199,7 @@ def it_is_told_of_where_replies_can_t_be_said(t):
 
 
 @test
-def it_is_told_of_nothing_else(t):
+def nothing_else_has_the_warning(t):
     """Not where a key signs, nor in memory, nor where a CRL is refused."""
     t.register(key=P256_KEY)
     t.same(tried(t, ["crl"]), ["F3 signer"], "a signer that is away")
@@ -194,7 +217,7 @@ def it_is_told_of_nothing_else(t):
 
 @test(seconds=20)
 def a_crl_of_3000_entries_is_sent_whole_and_verified(t):
-    """Over 100 kB, so far over what a buffer of 4,096 bytes has. The signer answers once the desk has told that no more comes."""
+    """Over 100 kB, and so far more than a buffer of 4,096 bytes. The signer answers once the desk has shut down its side for writing."""
     it = Authority(t)
     file = it.register(authority.in_memory(t) / "ca.db")
     signer = it.signer()
@@ -223,7 +246,7 @@ def a_crl_of_3000_entries_is_sent_whole_and_verified(t):
 
 @each({f"{size} bytes": size for size in (4095, 4096, 4097, 8192, 20_000)}, seconds=2)
 def an_ocsp_answer_so_long_is_sent_whole(t, size):
-    """Of exactly so many bytes to be signed: each CertID that is asked adds some, and each octet of a serial number one."""
+    """With exactly so many bytes to sign: each requested CertID adds some, and each octet of a serial number one."""
     it = Authority(t)
     it.register()
     signer = it.signer()
@@ -247,7 +270,7 @@ def an_ocsp_answer_so_long_is_sent_whole(t, size):
 
 
 @each({"script": "script", "serve": "serve", "open": "open"}, seconds=2)
-def only_the_socket_that_is_told_is_asked(t, command):
+def only_the_named_socket_is_used(t, command):
     it = Authority(t)
     it.register()
     told, others = it.signer("told.sign"), [t.signer("other.sign"), t.signer("ca.sign")]
@@ -258,7 +281,7 @@ def only_the_socket_that_is_told_is_asked(t, command):
         desk = t.open("ca.db", *more, *it.signing("told.sign"), command=command)
         t.same(it.reads("05", body_of(t, desk.ask("POST", "/ocsp", it.asks("05")))), "unknown")
         if command == "open":
-            t.same(t.counter().ask("crl"), "crl 1 entries 0")
+            t.same(t.control().ask("crl"), "crl 1 entries 0")
     t.same((len(told.asked), [other.asked for other in others]), ({"script": 1, "serve": 1, "open": 2}[command], [[], []]))
 
 
@@ -361,7 +384,7 @@ def a_signature_of_openssl_cut_short_or_made_longer(t, algorithm):
 
 @each(ALGORITHMS, seconds=4)
 def a_signature_of_one_algorithm_under_the_others(t, algorithm):
-    """What is below 2^256 is below 2^384: the form alone is looked at."""
+    """A number below 2^256 is below 2^384: the desk checks only the form."""
     own = Authority(t, algorithm)
     own.register()
     others = [Authority(t, it, name=it) for it in KEYS]
@@ -447,7 +470,7 @@ def endless(peer):
 
 @each(FAILING, seconds=2)
 def a_signer_that_fails_once(t, manner):
-    """The CRL is F3 with nothing recorded, an OCSP request internalError; the next command goes on with the same signer."""
+    """The CRL is F3, and nothing is recorded. An OCSP request is internalError. The next command goes on with the same signer."""
     t.register(key=P256_KEY)
     well = gives(ANY_SIGNATURE)
     t.enter_context(Peer(t.room / "ca.sign", lambda peer, it: (manner if it.asked % 2 else well)(peer, it)))
@@ -499,14 +522,14 @@ def hangs(peer, it):
 
 
 def drips(peer, it):
-    """A byte each second: who waits ten seconds for each byte waits for ever."""
+    """A byte each second: a timeout of ten seconds for each byte would never end."""
     program.read_all(peer)
     while not it.ended.wait(1):
         peer.sendall(b"\7")
 
 
 def takes_little(peer, it):
-    """All that a socket holds of single bytes each four seconds: who waits ten seconds for each byte to be taken waits for longer."""
+    """Reads the full buffer of a socket each four seconds: a timeout of ten seconds for each write would take longer."""
     while not it.ended.wait(4):
         peer.recv(65_536)
 
@@ -531,7 +554,7 @@ def a_signer_has_ten_seconds_in_all(t):
         return by_script(name, faults=faults.environment(short=1, only="socket"))
 
     def by_stopped(name):
-        """What a process waits for at a socket ends by EINTR where it is stopped and goes on (signal(7))."""
+        """A process that is stopped and continued gets EINTR while it waits at a socket (signal(7))."""
         with faults.Lines(t, f"{name}.db", signing(name)) as desk, ThreadPoolExecutor(1) as asker:
             begun = time.monotonic()
             told = asker.submit(lambda: [desk.ask(it) for it in LINES])
@@ -543,9 +566,9 @@ def a_signer_has_ten_seconds_in_all(t):
 
     def by_open(name):
         desk = t.open(f"{name}.db", *signing(name), "--control", f"{name}.counter")
-        with program.Counter(t.room / f"{name}.counter") as counter:
+        with program.Control(t.room / f"{name}.counter") as control:
             begun = time.monotonic()
-            told = [counter.ask("crl"), counter.ask("counts")]
+            told = [control.ask("crl"), control.ask("counts")]
             return told, time.monotonic() - begun
 
     works = {"hangs-script": (hangs, by_script), "hangs-stopped": (hangs, by_stopped), "hangs-open": (hangs, by_open),
@@ -558,15 +581,13 @@ def a_signer_has_ten_seconds_in_all(t):
             told, seconds = work.result()
             t.same(told, ["F3 signer", "good 0 revoked 0 expired 0"], name)
             # As long on a machine that is busy, and never less.
-            t.true(9.9 <= seconds < 20, f"{name} took {seconds:.1f} s in place of ten")
+            t.true(TEN_SECONDS[0] <= seconds < TEN_SECONDS[1], f"{name} took {seconds:.1f} s in place of ten")
 
 
 # Signers that hang, and what is answered meanwhile
 
 # An OCSP request for a certificate of another issuer, in the form of RFC 6960 4.1.1.
 OCSP = bytes.fromhex("30423040303E303C303A300906052B0E03021A05000414" + "00" * 20 + "0414" + "00" * 20 + "020105")
-# What is answered at once takes less than this on a machine that is busy.
-AT_ONCE = 2
 ENTERED = ["subscriber acme", "order 1 398", f"register 1 05 {MOMENT} 2026-12-31T00:00:00Z"]
 
 
@@ -579,7 +600,7 @@ class Hanging:
 
     def manner(self, peer, it):
         gone = select.poll()
-        # Where nothing is waited for, it tells that the other side has closed.
+        # With no events, poll(2) still reports that the other side has closed.
         gone.register(peer, 0)
         while not (self.mended.is_set() or it.ended.is_set() or gone.poll(50)):
             pass
@@ -591,89 +612,98 @@ class Hanging:
 
 
 def timed(work):
-    """What it gives, and how many seconds it took."""
+    """Its result, and how many seconds it took."""
     begun = time.monotonic()
     return work(), time.monotonic() - begun
 
 
 def at_once(t, work, wanted, what):
-    """It gives this, and nobody waits for a signer."""
-    told, seconds = timed(work)
-    t.same(told, wanted, what)
-    t.true(seconds < AT_ONCE, f"{what} took {seconds:.1f} s")
+    """Checks the result, and that it did not wait for a signer."""
+    with t.at_once(what):
+        t.same(work(), wanted, what)
 
 
-def is_signed(counter):
+def after_ten_seconds(t, signer, desk, work):
+    """The reply to a line that waits for the signer. It comes when ten seconds have passed, to the millisecond."""
+    asked = signer.asked
+    with ThreadPoolExecutor(1) as pool:
+        waits = pool.submit(work)
+        authority.until(lambda: signer.asked > asked, "that the signer is asked")
+        desk.advance(9_999)
+        t.same(waits.done(), False, "a reply a millisecond before")
+        desk.advance(1)
+        return waits.result()
+
+
+def is_signed(control):
     """Whether an `ocsp` line is answered by more than internalError."""
-    return counter.ask(f"ocsp {OCSP.hex()}") != f"ocsp {INTERNAL.hex()}"
+    return control.ask(f"ocsp {OCSP.hex()}") != f"ocsp {INTERNAL.hex()}"
 
 
-def hung(t, *words):
-    """A desk whose signer hangs, at whose counter one `ocsp` line has waited for its ten seconds."""
+def hung(t):
+    """A desk whose signer hangs. One `ocsp` line at its control socket has waited for ten seconds. Its time stands still until `advance`."""
     t.register(key=P256_KEY, lines="".join(f"{MOMENT} {it}\n" for it in ENTERED))
     t.clock(MOMENT)
     signer = Hanging(t)
-    desk = t.open("ca.db", *words, *P256)
-    counter = t.counter()
-    told, seconds = timed(lambda: is_signed(counter))
-    t.same((told, signer.asked), (False, 1), "an answer that nobody signs, and how often the signer was asked")
-    t.true(9.9 <= seconds < 20, f"it took {seconds:.1f} s in place of ten")
-    return signer, desk, counter
+    desk = Passing(t, *P256)
+    control = t.control()
+    signed = after_ten_seconds(t, signer, desk, lambda: is_signed(control))
+    t.same((signed, signer.asked), (False, 1), "an answer that nobody signs, and how often the signer was asked")
+    return signer, desk, control
 
 
-@test(seconds=24)
+@test(seconds=3)
 def a_signer_that_hangs_holds_nobody_up_for_ten_seconds_more(t):
-    """Each `ocsp` line is internalError at once, and all else is answered at once. Then one line tries the signer, and all is as before; an
-    OCSP request over HTTP, for which nobody else waits, asks it each time."""
-    signer, desk, counter = hung(t, "--log")
-    tired = time.monotonic()
-    while time.monotonic() < tired + 4:
-        at_once(t, lambda: is_signed(counter), False, "a line behind it")
+    """Each `ocsp` line is internalError at once, and all else is answered at once. Then one line tries the signer, and all is as before. An
+    OCSP request over HTTP asks the signer each time, because only its client waits."""
+    signer, passing, control = hung(t)
+    desk = passing.desk
+    for _ in range(3):
+        at_once(t, lambda: is_signed(control), False, "a line behind it")
         at_once(t, lambda: program.parted(desk.ask("GET", "/counts"))[0], 200, "GET /counts")
-        time.sleep(0.5)
-    at_once(t, lambda: counter.ask("request 05 asked"), "request 1 due 2026-01-02T00:00:00Z", "a request at the counter")
-    at_once(t, lambda: counter.ask("revoke 1"), "revoked", "a revocation at the counter")
+        passing.advance(3_000)
+    at_once(t, lambda: control.ask("request 05 asked"), "request 1 due 2026-01-02T00:00:00Z", "a request at the counter")
+    at_once(t, lambda: control.ask("revoke 1"), "revoked", "a revocation at the counter")
     at_once(t, lambda: json.loads(program.parted(desk.ask("GET", "/status/05"))[2])["status"], "revoked", "GET /status")
     t.same(signer.asked, 1, "how often the signer was asked")
     signer.mended.set()
-    at_once(t, lambda: is_signed(counter), False, "a line before it is tried again")
+    passing.advance(999)
+    at_once(t, lambda: is_signed(control), False, "a line a millisecond before it is tried again")
     at_once(t, lambda: desk.ask("POST", "/ocsp", OCSP).endswith(INTERNAL), False, "a request over HTTP")
-    authority.until(lambda: is_signed(counter), "an answer that is signed", 15)
-    t.true(time.monotonic() - tired > 9, f"it was tried again {time.monotonic() - tired:.1f} s after it had hung")
-    for _ in range(3):
-        at_once(t, lambda: is_signed(counter), True, "a line once it answers again")
-    told = [re.search(r'("POST|"GET|counter "ocsp|counter).*?( signer)?$', it) for it in desk.end().told]
+    passing.advance(1)
+    for _ in range(4):
+        at_once(t, lambda: is_signed(control), True, "a line once it answers again")
+    told = [re.search(r'("POST|"GET|counter "ocsp|counter).*?( signer)?$', it) for it in desk.end().err_lines]
     unsigned = [it[2] is not None for it in told if it[1] == 'counter "ocsp']
     t.same(unsigned, [True] * (len(unsigned) - 4) + [False] * 4, "which `ocsp` lines have the word `signer` in the log")
     t.same([it[0] for it in told if it[1] != 'counter "ocsp' and it[2]], [], "which other lines have it")
 
 
-@test(seconds=32)
+@test(seconds=3)
 def a_signer_that_still_hangs_is_tried_once_in_ten_seconds(t):
-    signer, desk, counter = hung(t)
-    tired = time.monotonic()
-    waited = seconds = 0
-    while signer.asked == 1 and waited < 15:
-        time.sleep(0.2)
-        waited = time.monotonic() - tired
-        told, seconds = timed(lambda: is_signed(counter))
-        t.same(told, False, "a line that nobody signs")
-    t.true(9 < waited < 15 and 9.9 <= seconds < 20, f"it was tried again after {waited:.1f} s, for {seconds:.1f} s")
-    at_once(t, lambda: is_signed(counter), False, "a line behind that")
+    signer, desk, control = hung(t)
+    for _ in range(2):
+        desk.advance(9_999)
+        asked = signer.asked
+        at_once(t, lambda: is_signed(control), False, "a line a millisecond before it is tried again")
+        t.same(signer.asked, asked, "how often the signer was asked")
+        desk.advance(1)
+        signed = after_ten_seconds(t, signer, desk, lambda: is_signed(control))
+        t.same((signed, signer.asked), (False, asked + 1), "an answer that nobody signs, and how often the signer was asked")
+    at_once(t, lambda: is_signed(control), False, "a line behind that")
 
 
-@test(seconds=25)
-def a_crl_asks_a_signer_that_is_left_alone(t):
+@test(seconds=3)
+def a_crl_asks_a_signer_during_its_back_off(t):
     """While it hangs the CRL waits for its own ten seconds; once it answers the CRL is issued at once, and OCSP is signed again."""
-    signer, desk, counter = hung(t)
-    told, seconds = timed(lambda: counter.ask("crl"))
+    signer, desk, control = hung(t)
+    told = after_ten_seconds(t, signer, desk, lambda: control.ask("crl"))
     t.same((told, signer.asked), ("F3 signer", 2), "a CRL")
-    t.true(9.9 <= seconds < 20, f"it took {seconds:.1f} s in place of ten")
-    at_once(t, lambda: is_signed(counter), False, "a line behind it")
+    at_once(t, lambda: is_signed(control), False, "a line behind it")
     signer.mended.set()
-    at_once(t, lambda: is_signed(counter), False, "a line once it would answer")
-    at_once(t, lambda: counter.ask("crl"), "crl 1 entries 0", "a CRL then")
-    at_once(t, lambda: is_signed(counter), True, "a line behind that")
+    at_once(t, lambda: is_signed(control), False, "a line once it would answer")
+    at_once(t, lambda: control.ask("crl"), "crl 1 entries 0", "a CRL then")
+    at_once(t, lambda: is_signed(control), True, "a line behind that")
     t.same(signer.asked, 4, "how often the signer was asked")
 
 
@@ -697,13 +727,13 @@ def valgrind_finds_no_fault_in_the_native_signer(t, algorithm):
         with connected(path) as client:
             client.sendall(octets)
     t.same(signature(path, bytes(3_000_000)), b"", "a long message")
-    status, told = ended(process, 60)
+    status, told = ended(process)
     t.same((status, [line for line in told if not line.startswith(NAME)]), (0, []), "valgrind's status, and its lines on standard error")
 
 
 @test(seconds=60)
 def a_fuzzer_finds_no_fault_in_what_the_native_signer_accepts(t):
-    """DESK_FUZZ seconds, 60 by default. What it has found is compared with examples/only_ours.py."""
+    """DESK_FUZZ seconds, 60 by default. Its corpus is compared with examples/only_ours.py."""
     need("clang", "nice")
     try:
         fuzzer = native_signer.checker("fuzzer", "clang", "-O1", "-DFUZZED", "-fsanitize=fuzzer,address,undefined", "-fno-sanitize-recover=all")

@@ -1,4 +1,4 @@
-"""What is no register is left as it was by each command: an empty file, and one that is no database; nothing is laid beside it."""
+"""No command changes a file that is no register: an empty file, and one that is no database. None creates a file beside it."""
 
 from lib import program
 from lib.trial import each
@@ -17,7 +17,7 @@ COMMANDS = {
     "audit": (["audit", "ca.db"], ""),
     "copy": (["copy", "ca.db", "copy.db"], ""),
 }
-# What lies at the path, the line that tells of it, and the cause, where there is one.
+# The contents of the path, the line that reports them, and the cause, if there is one.
 FILES = {
     "no byte": (b"", "not-a-register\n", ""),
     "one byte": (b"x", "not-a-register\n", ""),

@@ -1,5 +1,5 @@
-"""Registers of versions 1 and 2 are made ones of version 3 by the first command that opens them: the records stay as they are, and what is kept beside them follows from
-them, whatever stood there; a stop or want of memory leaves the one or the other."""
+"""The first command that opens a register of version 1 or 2 migrates it to version 3. The records stay as they are, and the derived rows follow from them,
+whatever they were before. A kill or running out of memory leaves the old or the new version."""
 
 from functools import cache
 
@@ -28,7 +28,7 @@ def made(t, size, version, file="ca.db"):
 
 
 def is_newer(t, records, before, file="ca.db", what=""):
-    """The file is a register of version 3 with these records, and what is kept beside them follows from them."""
+    """Checks that the file is a register of version 3 with these records, and with the derived rows that follow from them."""
     t.same(registers.rows_of(t.room / file), before, f"the records{what}")
     found, sound = registers.beside(t.room / file)
     t.same(found, registers.expected(records), f"what is kept beside them{what}")

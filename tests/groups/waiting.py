@@ -1,5 +1,4 @@
-"""Signatures that are on their way, of OCSP answers and of what is signed at the counter: nobody waits for one but who asked, and lines at
-counters."""
+"""Pending signatures of OCSP answers and CRLs: only the requester waits for one, and lines at the control socket after it."""
 
 import hashlib
 import os
@@ -10,16 +9,15 @@ import time
 from concurrent.futures import ThreadPoolExecutor
 from contextlib import ExitStack
 
-from lib import authority, program
+from lib import authority, program, registers
 from lib.authority import INTERNAL, Authority, body_of
 from lib.passing import Passing
 from lib.program import ANY_SIGNATURE, P256_KEY, Signers
 from lib.trial import test
 
 SIGNING = ("--signer", "ca.sign", "--algorithm", "ecdsa-sha256")
+DAY = "2026-01-01T00:00:00Z"
 AT_ONCE = 32
-# How many milliseconds who asks for no signature waits at the longest.
-QUICK, REVOKED = 50, 100
 
 
 def asked_for(serial):
@@ -33,11 +31,11 @@ def asked_for(serial):
 
 
 def names(message, serial):
-    """Whether what is to be signed is the answer for this serial number."""
+    """Whether the message to sign is the answer for this serial number."""
     return b"\x02\x02" + serial.to_bytes(2, "big") in message
 
 
-def told(desk, serial):
+def ocsp_answer(desk, serial):
     """The body of the answer for a serial number."""
     return program.parted(desk.ask("POST", "/ocsp", asked_for(serial)))[2]
 
@@ -48,50 +46,47 @@ def is_signed(response):
 
 
 def own_signature(message):
-    """What has the form of an ECDSA signature, another one for each message."""
+    """Bytes in the form of an ECDSA signature, other ones for each message."""
     number = b"\x02\x20\x01" + hashlib.sha256(message).digest()[1:]
     return b"\x30\x44" + number * 2
 
 
+def files(desk):
+    """How many descriptors the desk has."""
+    return len(os.listdir(f"/proc/{desk.process.pid}/fd"))
+
+
 class Held:
-    """Signers that answer nothing until they are let go."""
+    """A signer that answers only after `release`."""
 
     def __init__(self, t, path="ca.sign", signature=lambda message: ANY_SIGNATURE):
-        self.goes, self.signature = threading.Event(), signature
-        t.callback(self.goes.set)
+        self.release, self.signature = threading.Event(), signature
+        t.callback(self.release.set)
         self.signers = t.enter_context(Signers(t.room / path, self.answer))
 
     def answer(self, message):
-        self.goes.wait(60)
+        self.release.wait(60)
         return self.signature(message)
 
 
 def opened(t, *words):
+    """An open desk for which no time passes: the ten seconds of a signature never end, however slow the machine is."""
     t.register(key=P256_KEY)
-    return t.open("ca.db", *SIGNING, *words)
-
-
-def milliseconds(works):
-    """The shortest time of five that something took."""
-    took = []
-    for _ in range(5):
-        begun = time.monotonic()
-        works()
-        took.append(1000 * (time.monotonic() - begun))
-    return min(took)
+    return Passing(t, *SIGNING, *words).desk
 
 
 @test(seconds=3)
-def so_many_are_asked_for_at_once_and_no_more(t):
-    """And each signature is put to what was signed by it."""
+def at_most_32_signatures_are_requested_at_once(t):
+    """And each answer gets its own signature."""
     held = Held(t, signature=own_signature)
     desk = opened(t)
     with ThreadPoolExecutor(AT_ONCE + 8) as pool:
-        answers = [pool.submit(told, desk, 0x1100 + at) for at in range(AT_ONCE + 8)]
+        answers = [pool.submit(ocsp_answer, desk, 0x1100 + at) for at in range(AT_ONCE + 8)]
         t.true(held.signers.until(AT_ONCE), f"only {held.signers.now} are asked for at once")
+        # Time in which the desk could ask for one more.
         time.sleep(0.3)
         t.same(held.signers.most, AT_ONCE, "at once")
-        held.goes.set()
+        held.release.set()
         for at, it in enumerate(answers):
             part, _, signature = authority.signed_part(authority.basic_of(it.result()))
             t.true(names(part, 0x1100 + at), f"answer {at} is another one's")
@@ -106,40 +101,41 @@ def nobody_else_waits(t):
     begins, ends = program.moment_of(begun), program.moment_of(begun + 90 * authority.DAY)
     lines = ["subscriber acme", "order 1 398", f"register 1 05 {begins} {ends}"]
     t.register(key=P256_KEY, lines="".join(f"{begins} {it}\n" for it in lines))
-    desk = t.open("ca.db", *SIGNING)
+    desk = Passing(t, *SIGNING).desk
     with ThreadPoolExecutor(4) as pool:
-        waits = [pool.submit(told, desk, 0x1100 + at) for at in range(4)]
+        waits = [pool.submit(ocsp_answer, desk, 0x1100 + at) for at in range(4)]
         t.true(held.signers.until(4), "they are asked for")
-        took = milliseconds(lambda: desk.ask("GET", "/counts"))
-        t.true(took < QUICK * program.PATIENCE, f"GET /counts took {took:.0f} ms")
-        with t.counter() as counter:
-            took = milliseconds(lambda: counter.ask("status 05"))
-            t.true(took < REVOKED * program.PATIENCE, f"a line took {took:.0f} ms")
-            t.same(counter.ask("request 05 key-compromise").split(" due ")[0], "request 1")
-            begun = time.monotonic()
-            t.same(counter.ask("revoke 1"), "revoked")
-            took = 1000 * (time.monotonic() - begun)
-            t.true(took < REVOKED * program.PATIENCE, f"a revocation took {took:.0f} ms")
+        quick(t, desk)
+        with t.control() as control:
+            with t.at_once("a query at the control socket"):
+                t.same(control.ask("status 05"), "good")
+            t.same(control.ask("request 05 key-compromise").split(" due ")[0], "request 1")
+            with t.at_once("a revocation"):
+                t.same(control.ask("revoke 1"), "revoked")
         t.same([it.done() for it in waits], [False] * 4, "who asked still waits")
-        held.goes.set()
+        held.release.set()
         t.same([is_signed(it.result()) for it in waits], [True] * 4)
 
 
 @test(seconds=3)
-def who_has_gone_is_not_signed_for(t):
+def a_disconnected_client_is_not_signed_for(t):
     held = Held(t)
-    desk = opened(t)
+    t.register(key=P256_KEY)
+    passing = Passing(t, *SIGNING)
+    desk = passing.desk
     with ThreadPoolExecutor(AT_ONCE + 1) as pool:
-        waits = [pool.submit(told, desk, 0x1100 + at) for at in range(AT_ONCE)]
+        waits = [pool.submit(ocsp_answer, desk, 0x1100 + at) for at in range(AT_ONCE)]
         t.true(held.signers.until(AT_ONCE), "all that may be asked for are")
         with desk.connect() as gone:
             body = asked_for(0x2200)
             gone.sendall(b"POST /ocsp HTTP/1.1\r\nContent-Length: %d\r\n\r\n" % len(body) + body)
-            time.sleep(0.3)
+            authority.until(lambda: program.is_read(gone), "that the request of the client that disconnects is read")
+        # The desk looks for a client that has waited for some time before it requests its signature.
+        passing.advance(1)
+        stays = pool.submit(ocsp_answer, desk, 0x3300)
+        # Time in which the desk reads the request of the client that stays. It may come later, too.
         time.sleep(0.3)
-        stays = pool.submit(told, desk, 0x3300)
-        time.sleep(0.3)
-        held.goes.set()
+        held.release.set()
         t.true(is_signed(stays.result()), "who stayed")
         t.same([is_signed(it.result()) for it in waits], [True] * AT_ONCE)
     asked = held.signers.asked
@@ -147,7 +143,7 @@ def who_has_gone_is_not_signed_for(t):
 
 
 @test(seconds=2)
-def who_ended_its_side_behind_its_request_is_answered(t):
+def a_client_that_half_closes_after_its_request_is_answered(t):
     t.signer()
     desk = opened(t)
     with desk.connect() as half:
@@ -158,8 +154,8 @@ def who_ended_its_side_behind_its_request_is_answered(t):
 
 
 @test(seconds=14)
-def ten_seconds_and_for_one_alone(t):
-    """What signs hangs for one of them."""
+def only_the_requester_waits_ten_seconds(t):
+    """The signer hangs for one of them."""
     ends = threading.Event()
     t.callback(ends.set)
 
@@ -169,92 +165,90 @@ def ten_seconds_and_for_one_alone(t):
         return ANY_SIGNATURE
 
     t.enter_context(Signers(t.room / "ca.sign", answer))
-    desk = opened(t, "--log")
-    with ThreadPoolExecutor(1) as pool:
-        begun = time.monotonic()
-        hangs = pool.submit(told, desk, 0x1111)
+    t.register(key=P256_KEY)
+    desk = t.open("ca.db", *SIGNING, "--log")
+    with ThreadPoolExecutor(1) as pool, t.ten_seconds():
+        hangs = pool.submit(ocsp_answer, desk, 0x1111)
         while not hangs.done():
-            t.true(is_signed(told(desk, 0x2222)), "another one")
+            t.true(is_signed(ocsp_answer(desk, 0x2222)), "another one")
             time.sleep(0.1)
-        seconds = time.monotonic() - begun
         t.same(hangs.result(), INTERNAL)
-        t.true(9.9 <= seconds < 10 + 2 * program.PATIENCE, f"it took {seconds:.1f} s")
-    lines = desk.end().told
+    lines = desk.end().err_lines
     t.same(sum(it.endswith(" signer") for it in lines), 1, "lines of the log that tell of it")
 
 
 @test
 def ten_seconds_to_the_millisecond(t):
-    """They end for one, and go on for another who asked a millisecond later."""
+    """They end for one client, and not yet for another one whose request came a millisecond later."""
     t.register(key=P256_KEY)
     held = Held(t)
     desk = Passing(t, *SIGNING)
     with ThreadPoolExecutor(2) as pool:
-        first = pool.submit(told, desk.desk, 0x1111)
+        first = pool.submit(ocsp_answer, desk.desk, 0x1111)
         t.true(held.signers.until(1), "the first is asked for")
-        desk.goes(1)
-        second = pool.submit(told, desk.desk, 0x2222)
+        desk.advance(1)
+        second = pool.submit(ocsp_answer, desk.desk, 0x2222)
         t.true(held.signers.until(2), "the second is asked for")
-        desk.goes(9_999)
+        desk.advance(9_999)
         t.same(first.result(), INTERNAL)
-        held.goes.set()
+        held.release.set()
         t.true(is_signed(second.result()), "the second is not signed")
 
 
 @test(seconds=3)
-def a_revocation_is_in_each_answer_that_is_asked_for_behind_it(t):
+def a_revocation_is_in_each_answer_requested_after_it(t):
     it = Authority(t)
     it.register()
     moment = authority.now() - 10
-    goes = threading.Event()
-    t.callback(goes.set)
+    release = threading.Event()
+    t.callback(release.set)
 
     def sign(message):
-        goes.wait(60)
+        release.wait(60)
         return it.sign(message)
 
     lines = authority.first_day(moment).splitlines(True)
     with program.Signer(t.room / "day.sign", it.sign):
         t.done("script", "ca.db", *it.signing("day.sign"), given="".join(lines))
     signers = t.enter_context(Signers(t.room / "ca.sign", sign))
-    desk = t.open("ca.db", *it.signing())
-    with ThreadPoolExecutor(2) as pool, t.counter() as counter:
+    desk = Passing(t, *it.signing()).desk
+    with ThreadPoolExecutor(2) as pool, t.control() as control:
         before = pool.submit(desk.ask, "GET", authority.path_of(it.asks("06")))
         t.true(signers.until(1), "the first is asked for")
-        t.same(counter.ask("request 06 key-compromise").split(" due ")[0], "request 2")
-        t.same(counter.ask("revoke 2"), "revoked")
+        t.same(control.ask("request 06 key-compromise").split(" due ")[0], "request 2")
+        t.same(control.ask("revoke 2"), "revoked")
         behind = pool.submit(desk.ask, "GET", authority.path_of(it.asks("06")))
         t.true(signers.until(2), "the second is asked for")
-        goes.set()
+        release.set()
         t.same(it.reads("06", body_of(t, before.result())), "good", "what was asked before")
         t.same(it.reads("06", body_of(t, behind.result())), "revoked", "what was asked behind it")
 
 
 @test(seconds=2)
-def who_answers_so_many_waits_for_their_signatures(t):
+def serve_waits_for_the_signatures_of_its_last_requests(t):
     held = Held(t)
     t.register(key=P256_KEY)
     desk = t.open("ca.db", "--requests", 3, *SIGNING, command="serve")
     with ThreadPoolExecutor(3) as pool:
-        waits = [pool.submit(told, desk, 0x1100 + at) for at in range(3)]
+        waits = [pool.submit(ocsp_answer, desk, 0x1100 + at) for at in range(3)]
         t.true(held.signers.until(3), "they are asked for")
         time.sleep(0.2)
         t.same(desk.process.poll(), None, "it has not ended")
-        held.goes.set()
+        held.release.set()
         t.same([is_signed(it.result()) for it in waits], [True] * 3)
     t.same(desk.wait().status, 0)
 
 
 @test(seconds=2)
-def what_signs_has_no_room_for_a_while(t):
-    """Its queue is full: whom it does not take is asked for again."""
+def a_signer_with_a_full_queue_is_asked_again(t):
+    """The desk connects again to a signer whose queue is full."""
     t.register(key=P256_KEY)
     server = t.enter_context(socket.socket(socket.AF_UNIX))
     server.bind(str(t.room / "ca.sign"))
     server.listen(1)
     desk = t.open("ca.db", *SIGNING)
     with ThreadPoolExecutor(8) as pool:
-        waits = [pool.submit(told, desk, 0x1100 + at) for at in range(8)]
+        waits = [pool.submit(ocsp_answer, desk, 0x1100 + at) for at in range(8)]
         time.sleep(0.3)
         for _ in range(8):
             peer, _ = server.accept()
@@ -265,17 +259,17 @@ def what_signs_has_no_room_for_a_while(t):
 
 
 @test(seconds=2)
-def no_descriptor_is_left_for_a_while(t):
-    """Whose signature can't be asked for since too many files are open is asked for again."""
+def a_signature_is_requested_again_once_a_descriptor_is_free(t):
+    """A signature that can't be requested because too many files are open is requested again."""
     held = Held(t)
-    desk = opened(t)
-    files = lambda: len(os.listdir(f"/proc/{desk.process.pid}/fd"))
-    # Four peers, who are all there before the first asks, and three connections to what signs.
-    before = files()
+    t.register(key=P256_KEY)
+    desk = t.open("ca.db", *SIGNING)
+    # Four clients, which all connect before the first one sends its request, and three connections to the signer.
+    before = files(desk)
     t.tool("prlimit", "--pid", desk.process.pid, f"--nofile={before + 7}:{before + 7}")
     with ExitStack() as open_ones, ThreadPoolExecutor(4) as pool:
         peers = [open_ones.enter_context(desk.connect()) for _ in range(4)]
-        authority.until(lambda: files() == before + 4, "four peers")
+        authority.until(lambda: files(desk) == before + 4, "four peers")
         for at, peer in enumerate(peers):
             request = asked_for(0x1100 + at)
             peer.sendall(b"POST /ocsp HTTP/1.1\r\nHost: ca.example\r\nContent-Length: %d\r\n\r\n" % len(request) + request)
@@ -283,7 +277,7 @@ def no_descriptor_is_left_for_a_while(t):
         t.true(held.signers.until(3), f"only {held.signers.now} are asked for")
         time.sleep(0.2)
         t.same([it.done() for it in waits], [False] * 4, "all wait")
-        held.goes.set()
+        held.release.set()
         t.same([is_signed(program.parted(it.result())[2]) for it in waits], [True] * 4)
 
 
@@ -305,110 +299,111 @@ def a_signer_of_many_processes(t):
     for at, response in enumerate(answers):
         t.same(it.reads(f"11{at:02x}", body_of(t, response)), "unknown")
     signer.terminate()
-    signer.wait(20)
+    signer.wait(program.LONGEST)
     is_there = lambda pid: t.tried("kill", "-0", pid.decode()).returncode == 0
     authority.until(lambda: not any(map(is_there, others)), "the end of the others")
 
 
-# What is signed at the counter
+# Signatures for the control socket
 
 
-def certified(t, count=1):
-    """An open desk whose register has so many certificates, from serial number 5 on; they can be asked to be revoked."""
-    begun = authority.now() - 10
-    begins, ends = program.moment_of(begun), program.moment_of(begun + 90 * authority.DAY)
-    lines = ["subscriber acme", "order 1 398", *(f"register 1 {5 + at:02x} {begins} {ends}" for at in range(count))]
-    t.register(key=P256_KEY, lines="".join(f"{begins} {it}\n" for it in lines))
-    return t.open("ca.db", *SIGNING)
+def with_certificate(t):
+    """A register with a certificate of serial number 5, for which a revocation can be requested."""
+    t.register(key=P256_KEY, lines="".join(f"{DAY} {it}\n" for it in ("subscriber acme", "order 1 398", f"register 1 05 {DAY} 2026-03-01T00:00:00Z")))
+    t.clock(DAY)
+
+
+def certified(t):
+    """An open desk over such a register, for which no time passes."""
+    with_certificate(t)
+    return Passing(t, *SIGNING).desk
 
 
 def requests_revocation(t, desk):
-    """Asks by HTTP for the revocation of serial number 5, which is accepted: how many milliseconds that took."""
-    begun = time.monotonic()
-    status = program.parted(desk.ask("POST", "/requests", b'{"serial":"05","ground":"superseded"}'))[0]
+    """Requests over HTTP the revocation of serial number 5, which is accepted at once."""
+    with t.at_once("a request for revocation"):
+        status = program.parted(desk.ask("POST", "/requests", b'{"serial":"05","ground":"superseded"}'))[0]
     t.same(status, 200, "the request")
-    return 1000 * (time.monotonic() - begun)
 
 
 def quick(t, desk):
-    """That a request over HTTP is answered at once."""
-    took = milliseconds(lambda: desk.ask("GET", "/counts"))
-    t.true(took < QUICK * program.PATIENCE, f"GET /counts took {took:.0f} ms")
+    """A request over HTTP is answered at once."""
+    with t.at_once("GET /counts"):
+        t.same(program.parted(desk.ask("GET", "/counts"))[0], 200)
 
 
-@test(seconds=6)
-def a_crl_holds_lines_and_no_request(t):
-    """What signs takes three seconds for it."""
-    signers = t.enter_context(Signers(t.room / "ca.sign", lambda message: (time.sleep(3), ANY_SIGNATURE)[1]))
+@test(seconds=3)
+def a_crl_delays_control_lines_and_no_http_request(t):
+    held = Held(t)
     desk = certified(t)
-    with ThreadPoolExecutor(2) as pool, t.counter() as first, t.counter() as second:
-        begun = time.monotonic()
+    with ThreadPoolExecutor(2) as pool, t.control() as first, t.control() as second:
         crl = pool.submit(first.ask, "crl")
-        t.true(signers.until(1), "it is asked for")
+        t.true(held.signers.until(1), "it is asked for")
         request = pool.submit(second.ask, "request 05 superseded")
         quick(t, desk)
+        # Time in which the desk could answer the line.
+        time.sleep(0.3)
         t.same((crl.done(), request.done()), (False, False), "lines that are answered")
         # Nor is what would come of it there.
         t.has(desk.ask("GET", "/metrics"), b"\ndesk_lines_total{reply=\"accepted\"} 0\n", "lines that were told")
+        held.release.set()
         t.same((crl.result(), request.result().split(" due ")[0]), ("crl 1 entries 0", "request 1"))
-        t.true(time.monotonic() - begun >= 3, "it waited for its signature")
-    t.same(len(signers.asked), 1, "signatures")
+    t.same(len(held.signers.asked), 1, "signatures")
 
 
 @test(seconds=5)
 def replies_come_in_the_order_of_their_lines(t):
     held = Held(t)
     certified(t)
-    with ThreadPoolExecutor(1) as pool, t.counter() as counter:
-        replies = pool.submit(counter.ask, "counts\ncrl\nstatus 05\ncrl\ncounts")
+    with ThreadPoolExecutor(1) as pool, t.control() as control:
+        replies = pool.submit(control.ask, "counts\ncrl\nstatus 05\ncrl\ncounts")
         t.same(replies.result(), "good 1 revoked 0 expired 0")
         t.true(held.signers.until(1), "a CRL is asked for")
-        held.goes.set()
-        told = [counter.file.readline().decode().rstrip("\n") for _ in range(4)]
+        held.release.set()
+        told = [control.file.readline().decode().rstrip("\n") for _ in range(4)]
     t.same(told, ["crl 1 entries 0", "good", "crl 2 entries 0", "good 1 revoked 0 expired 0"])
 
 
-@test(seconds=5)
+@test(seconds=3)
 def a_request_goes_on_and_the_crl_is_signed_anew(t):
     held = Held(t)
     desk = certified(t)
-    with ThreadPoolExecutor(1) as pool, t.counter() as counter:
-        crl = pool.submit(counter.ask, "crl")
+    with ThreadPoolExecutor(1) as pool, t.control() as control:
+        crl = pool.submit(control.ask, "crl")
         t.true(held.signers.until(1), "it is asked for")
         # In a later second than the CRL's.
-        time.sleep(1.1)
-        took = requests_revocation(t, desk)
-        t.true(took < REVOKED * program.PATIENCE, f"a request took {took:.0f} ms")
+        t.clock(program.seconds_of(DAY) + 1)
+        requests_revocation(t, desk)
         t.same(crl.done(), False, "the CRL is there")
-        held.goes.set()
+        held.release.set()
         t.same(crl.result(), "crl 1 entries 0")
     first, second = held.signers.asked
     t.true(first != second, "it is of another moment")
     t.has(authority.body_of(t, desk.ask("GET", "/crl"), "application/pkix-crl"), second, "what was signed last")
 
 
-@test(seconds=8)
+@test(seconds=3)
 def a_crl_is_signed_anew_three_times_and_then_waited_for(t):
-    goes = queue.Queue()
+    release = queue.Queue()
 
     def answer(message):
-        goes.get(timeout=60)
+        release.get(timeout=60)
         return ANY_SIGNATURE
 
     signers = t.enter_context(Signers(t.room / "ca.sign", answer))
     desk = certified(t)
-    with ThreadPoolExecutor(2) as pool, t.counter() as counter:
-        crl = pool.submit(counter.ask, "crl")
+    with ThreadPoolExecutor(2) as pool, t.control() as control:
+        crl = pool.submit(control.ask, "crl")
         for count in range(1, 4):
             authority.until(lambda: len(signers.asked) == count, f"signature {count}")
-            time.sleep(1.1)
+            t.clock(program.seconds_of(DAY) + count)
             requests_revocation(t, desk)
-            goes.put(None)
+            release.put(None)
         authority.until(lambda: len(signers.asked) == 4, "the last signature")
         counts = pool.submit(desk.ask, "GET", "/counts")
         time.sleep(0.3)
         t.same(counts.done(), False, "somebody is answered meanwhile")
-        goes.put(None)
+        release.put(None)
         t.same(crl.result(), "crl 1 entries 0")
         counts.result()
 
@@ -416,19 +411,18 @@ def a_crl_is_signed_anew_three_times_and_then_waited_for(t):
 @test(seconds=14)
 def a_crl_whose_signature_does_not_come(t):
     held = Held(t)
-    desk = certified(t)
-    with ThreadPoolExecutor(1) as pool, t.counter() as counter:
-        begun = time.monotonic()
-        crl = pool.submit(counter.ask, "crl")
-        t.true(held.signers.until(1), "it is asked for")
-        while not crl.done():
-            quick(t, desk)
-            time.sleep(0.2)
-        seconds = time.monotonic() - begun
-        t.same(crl.result(), "F3 signer")
-        t.true(9.9 <= seconds < 10 + 2 * program.PATIENCE, f"it took {seconds:.1f} s")
-        held.goes.set()
-        t.same(counter.ask("crl"), "crl 1 entries 0", "the next")
+    with_certificate(t)
+    desk = t.open("ca.db", *SIGNING)
+    with ThreadPoolExecutor(1) as pool, t.control() as control:
+        with t.ten_seconds():
+            crl = pool.submit(control.ask, "crl")
+            t.true(held.signers.until(1), "it is asked for")
+            while not crl.done():
+                quick(t, desk)
+                time.sleep(0.2)
+            t.same(crl.result(), "F3 signer")
+        held.release.set()
+        t.same(control.ask("crl"), "crl 1 entries 0", "the next")
 
 
 @test
@@ -436,56 +430,50 @@ def ten_seconds_of_a_line_to_the_millisecond(t):
     t.register(key=P256_KEY)
     held = Held(t)
     desk = Passing(t, *SIGNING)
-    with ThreadPoolExecutor(1) as pool, t.counter() as counter:
-        crl = pool.submit(counter.ask, "crl")
+    with ThreadPoolExecutor(1) as pool, t.control() as control:
+        crl = pool.submit(control.ask, "crl")
         t.true(held.signers.until(1), "it is asked for")
-        desk.goes(9_999)
+        desk.advance(9_999)
         time.sleep(0.1)
         t.same(crl.done(), False, "it is answered a millisecond before")
-        desk.goes(1)
+        desk.advance(1)
         t.same(crl.result(), "F3 signer")
 
 
 @test(seconds=3)
-def an_ocsp_line_holds_no_request(t):
+def an_ocsp_line_delays_no_http_request(t):
     held = Held(t)
     desk = certified(t)
-    with ThreadPoolExecutor(1) as pool, t.counter() as counter:
-        line = pool.submit(counter.ask, f"ocsp {asked_for(0x1111).hex()}")
+    with ThreadPoolExecutor(1) as pool, t.control() as control:
+        line = pool.submit(control.ask, f"ocsp {asked_for(0x1111).hex()}")
         t.true(held.signers.until(1), "it is asked for")
         quick(t, desk)
         t.same(line.done(), False, "its answer is there")
-        held.goes.set()
+        held.release.set()
         word, response = line.result().split()
     t.true(word == "ocsp" and is_signed(bytes.fromhex(response)), "it is signed")
 
 
 @test(seconds=3)
-def nothing_listens_for_a_crl(t):
+def no_signer_listens_for_a_crl(t):
     desk = certified(t)
-    with t.counter() as counter:
-        t.same((counter.ask("crl"), counter.ask("counts")), ("F3 signer", "good 1 revoked 0 expired 0"))
+    with t.control() as control:
+        t.same((control.ask("crl"), control.ask("counts")), ("F3 signer", "good 1 revoked 0 expired 0"))
     quick(t, desk)
 
 
-@test(seconds=30)
+@test(seconds=5)
 def a_crl_of_more_than_a_socket_takes_at_once(t):
-    """What signs begins to read it after a second."""
-    count = 5200
-    begun = authority.now() - 10
-    begins, ends = program.moment_of(begun), program.moment_of(begun + 90 * authority.DAY)
-    serials = [f"{at:040x}" for at in range(1 << 152, (1 << 152) + count)]
-    t.register(key=P256_KEY, lines=f"{begins} subscriber acme\n")
-    # A script of its own for each, so that a slow disk is waited for.
-    for line in ("order 1 398", "register {at} {it} {begins} {ends}", "request {it} superseded", "revoke {at}"):
-        told = "".join(f"{begins} {line.format(at=at, it=it, begins=begins, ends=ends)}\n" for at, it in enumerate(serials, 1))
-        t.same([it for it in t.done("script", "ca.db", given=told).splitlines() if it[:1] in "EF"], [], "refusals")
+    """The signer begins to read it after a second."""
+    count = 6_000
+    registers.make_revoked(t.room / "ca.db", count, P256_KEY)
     server = t.enter_context(socket.socket(socket.AF_UNIX))
     server.bind(str(t.room / "ca.sign"))
     server.listen(4)
-    desk = t.open("ca.db", *SIGNING)
-    with ThreadPoolExecutor(1) as pool, t.counter() as counter:
-        crl = pool.submit(counter.ask, "crl")
+    desk = Passing(t, *SIGNING).desk
+    with ThreadPoolExecutor(1) as pool, t.control() as control:
+        t.same(control.ask(f"accept-clock {program.moment_of(authority.now())}"), "clock accepted")
+        crl = pool.submit(control.ask, "crl")
         peer, _ = server.accept()
         with peer:
             quick(t, desk)

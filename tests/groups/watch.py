@@ -1,4 +1,4 @@
-"""What an open register tells of itself: /health, /metrics in the text form of Prometheus, and the alerts of examples/alerts.yml."""
+"""Monitoring of an open register: /health, /metrics in the text format of Prometheus, and the alerts of examples/alerts.yml."""
 
 import contextlib
 import json
@@ -10,7 +10,7 @@ import urllib.parse
 import urllib.request
 from concurrent.futures import ThreadPoolExecutor
 
-from lib import faults, program
+from lib import authority, faults, program
 from lib.program import ANY_SIGNATURE, Signers, parted
 from lib.trial import Failed, each, need, test
 
@@ -41,7 +41,7 @@ def asked(t, desk, path):
 
 
 def metrics(t, desk):
-    """Each sample of /metrics, by its series; its form is looked at (Prometheus, "Text-based format", version 0.0.4)."""
+    """Each sample of /metrics, by its series. Checks their form (Prometheus, "Text-based format", version 0.0.4)."""
     status, kind, body = asked(t, desk, "/metrics")
     t.same((status, kind), (200, "text/plain; version=0.0.4; charset=utf-8"))
     t.true(body.endswith(b"\n"), "it ends with a line's end")
@@ -65,7 +65,7 @@ def metrics(t, desk):
 
 
 def of(found, start):
-    """The samples whose series begin so, without that."""
+    """The samples whose series begin with this prefix, by the rest of the name."""
     return {series.removeprefix(start): value for series, value in found.items() if series.startswith(start)}
 
 
@@ -156,9 +156,9 @@ def answers_by_route_and_status(t):
 @test
 def lines_connections_and_seconds(t):
     desk = opened(t)
-    with t.counter() as counter:
+    with t.control() as control:
         for line in ("subscriber acme", "counts", "revoke 1", "x"):
-            counter.ask(line)
+            control.ask(line)
         desk.ask("GET", "/counts")
         found = metrics(t, desk)
     t.same(of(found, "desk_lines_total"), {'{reply="accepted"}': 2, '{reply="refused"}': 2, '{reply="fault"}': 0})
@@ -167,7 +167,7 @@ def lines_connections_and_seconds(t):
     ranges = [seconds[f'_bucket{{le="{it}"}}'] for it in ENDS]
     t.same(ranges, sorted(ranges), "each range has those below it")
     t.same((ranges[-1], seconds["_count"]), (5, 5), "four lines and an answer")
-    t.true(0 < seconds["_sum"] < 5, f"their sum: {seconds['_sum']}")
+    t.true(0 < seconds["_sum"] < 60, f"their sum: {seconds['_sum']}")
     by_route = of(found, "desk_http_response_seconds")
     t.same({it: value for it, value in by_route.items() if it.startswith("_count") and value}, {'_count{route="/counts"}': 1})
     t.true(0 < by_route['_sum{route="/counts"}'] < seconds["_sum"], f"the answer's: {by_route}")
@@ -180,22 +180,19 @@ def lines_connections_and_seconds(t):
 
 
 @test(seconds=2)
-def who_breaks_off_is_lost(t):
+def a_reset_connection_is_counted_as_lost(t):
     desk = opened(t)
     with desk.connect() as peer:
         peer.sendall(b"GET /counts")
-        time.sleep(0.2)
-        # It goes by a reset.
+        authority.until(lambda: program.is_read(peer), "that it is read")
+        # Closing sends a reset.
         peer.setsockopt(1, 13, b"\1\0\0\0\0\0\0\0")
-    for _ in range(100):
-        if of(metrics(t, desk), "desk_connections_lost_total") == {'{why="broken"}': 1, '{why="late"}': 0, '{why="crowded"}': 0, '{why="memory"}': 0}:
-            return
-        time.sleep(0.05)
-    raise Failed("it is not told")
+    wanted = {'{why="broken"}': 1, '{why="late"}': 0, '{why="crowded"}': 0, '{why="memory"}': 0}
+    authority.until(lambda: of(metrics(t, desk), "desk_connections_lost_total") == wanted, "the lost connection")
 
 
 @test(seconds=2)
-def signatures_and_who_fails(t):
+def signatures_and_failures(t):
     """Of CRLs and of OCSP answers each by itself, since when the last one did not come."""
     fails = set()
     t.signer(answer=lambda message, call: None if call in fails else ANY_SIGNATURE)
@@ -223,7 +220,7 @@ def signatures_and_who_fails(t):
 
 
 @test
-def a_crl_without_a_signature_behind_which_a_key_signs(t):
+def a_crl_with_a_placeholder_digest_and_a_new_signer(t):
     """The next CRL is due at once where the latest has a placeholder digest and the desk has a signer; and not where it has none."""
     t.register(lines=f"{DAY} subscriber acme\n{DAY} crl\n", key=program.P256_KEY)
     signer = t.signer()
@@ -234,12 +231,12 @@ def a_crl_without_a_signature_behind_which_a_key_signs(t):
         for _ in range(2):
             t.same(health(t, desk), found)
             t.same(metrics(t, desk)["desk_crl_due_timestamp_seconds"], program.seconds_of(due) if due else 0)
-        with t.counter() as counter:
-            t.same([counter.ask(line) for line in ("next-crl", "why")], [f"next-crl {program.moment_of(FIRST + 7 * 86_400)}", told])
+        with t.control() as control:
+            t.same([control.ask(line) for line in ("next-crl", "why")], [f"next-crl {program.moment_of(FIRST + 7 * 86_400)}", told])
             if words:
-                t.same([counter.ask(line) for line in ("revoke 9", "why", "next-crl", "why")], ["E17 no-request", "why E17 no-request", f"next-crl {program.moment_of(FIRST + 7 * 86_400)}", why])
-                t.same(counter.ask("crl"), "crl 2 entries 0")
-                t.same([counter.ask(line) for line in ("revoke 9", "next-crl", "why")], ["E17 no-request", f"next-crl {program.moment_of(FIRST + 60 + 7 * 86_400)}", "why E17 no-request"])
+                t.same([control.ask(line) for line in ("revoke 9", "why", "next-crl", "why")], ["E17 no-request", "why E17 no-request", f"next-crl {program.moment_of(FIRST + 7 * 86_400)}", why])
+                t.same(control.ask("crl"), "crl 2 entries 0")
+                t.same([control.ask(line) for line in ("revoke 9", "next-crl", "why")], ["E17 no-request", f"next-crl {program.moment_of(FIRST + 60 + 7 * 86_400)}", "why E17 no-request"])
         if words:
             t.same(health(t, desk), (200, {}))
             t.same(metrics(t, desk)["desk_crl_due_timestamp_seconds"], FIRST + 60 + 7 * 86_400)
@@ -250,41 +247,42 @@ def a_crl_without_a_signature_behind_which_a_key_signs(t):
 
 
 @test
-def an_ocsp_line_at_the_counter_is_signed_too(t):
+def an_ocsp_line_at_the_control_socket_is_signed_too(t):
     t.signer(answer=lambda message, call: None if call == 2 else ANY_SIGNATURE)
     desk = opened(t, *SIGNING, key=program.P256_KEY)
-    with t.counter() as counter:
-        t.true(len(counter.ask(f"ocsp {OCSP.hex()}")) > 100, "signed")
-        t.same(counter.ask(f"ocsp {OCSP.hex()}"), "ocsp 30030a0102", "not signed")
-        t.same(counter.ask("ocsp 00"), "ocsp 30030a0101", "none")
+    with t.control() as control:
+        t.true(len(control.ask(f"ocsp {OCSP.hex()}")) > 100, "signed")
+        t.same(control.ask(f"ocsp {OCSP.hex()}"), "ocsp 30030a0102", "not signed")
+        t.same(control.ask("ocsp 00"), "ocsp 30030a0101", "none")
     found = metrics(t, desk)
     t.same((found['desk_signatures_total{of="ocsp"}'], found['desk_signature_failures_total{of="ocsp"}'], found['desk_signature_failures_total{of="crl"}']), (1, 1, 0))
 
 
 @test(seconds=3)
 def an_answer_that_waits_for_its_signature(t):
-    """It is counted where it is made, by what was asked, and with all the time that it took."""
-    goes = threading.Event()
-    t.callback(goes.set)
-    signers = t.enter_context(Signers(t.room / "ca.sign", lambda message: (goes.wait(60), ANY_SIGNATURE)[1]))
+    """It is counted when it is made, by its request, and with all the time that it took."""
+    release = threading.Event()
+    t.callback(release.set)
+    signers = t.enter_context(Signers(t.room / "ca.sign", lambda message: (release.wait(60), ANY_SIGNATURE)[1]))
     desk = opened(t, *SIGNING, key=program.P256_KEY)
+    begun = time.monotonic()
     with ThreadPoolExecutor(1) as pool:
         waits = pool.submit(desk.ask, "POST", "/ocsp", OCSP)
         t.true(signers.until(1), "a signature is asked for")
         time.sleep(0.4)
         found = metrics(t, desk)
         t.same((of(found, "desk_http_responses_total"), found["desk_exchange_seconds_count"]), ({}, 0), "while it waits")
-        goes.set()
+        release.set()
         waits.result()
     found = metrics(t, desk)
     t.same(of(found, "desk_http_responses_total"), {'{route="/ocsp",code="200"}': 1, '{route="/metrics",code="200"}': 1})
     t.same((found['desk_signatures_total{of="ocsp"}'], found['desk_signature_failures_total{of="ocsp"}']), (1, 0))
-    t.true(0.4 <= found["desk_exchange_seconds_sum"] < 5 * program.PATIENCE, f"the seconds of both: {found['desk_exchange_seconds_sum']}")
+    t.true(0.4 <= found["desk_exchange_seconds_sum"] <= 2 * (time.monotonic() - begun), f"the seconds of both: {found['desk_exchange_seconds_sum']}")
 
 
 @test
 def a_disk_that_fails(t):
-    """Up to a command that is entered: queries say nothing of what can be written."""
+    """Until a command is entered: queries don't show whether the disk can be written."""
     base, files = t.register("base.db"), "ca.db-wal,ca.db"
     t.clock(DAY)
     faults.copy(base, t.room / "ca.db")
@@ -293,23 +291,23 @@ def a_disk_that_fails(t):
     faults.copy(base, t.room / "ca.db")
     # The first write behind those of the opening.
     desk = t.open("ca.db", faults=faults.environment(only=files, fail=f"write:{faults.counted(t.room / 'count')['write'] + 1}"))
-    with t.counter() as counter:
-        t.same(counter.ask("subscriber acme"), "F2 store")
+    with t.control() as control:
+        t.same(control.ask("subscriber acme"), "F2 store")
         t.same(health(t, desk), (503, {"crl": "at-once", "store": DAY}))
         t.clock(program.moment_of(FIRST + 5))
-        t.same(counter.ask("counts"), "good 0 revoked 0 expired 0")
+        t.same(control.ask("counts"), "good 0 revoked 0 expired 0")
         t.same(health(t, desk), (503, {"crl": "at-once", "store": DAY}), "a query was answered")
         t.same(metrics(t, desk)["desk_store_failing_since_timestamp_seconds"], FIRST)
-        t.same(counter.ask("subscriber acme"), "subscriber 1")
+        t.same(control.ask("subscriber acme"), "subscriber 1")
     t.same(health(t, desk), (503, {"crl": "at-once"}), "a command was entered")
 
 
 @test
 def a_copy_that_fails_is_no_failure_of_the_store(t):
     desk = opened(t)
-    with t.counter() as counter:
-        counter.ask("crl")
-        t.same(counter.ask("copy nowhere/ca.db"), "F2 store")
+    with t.control() as control:
+        control.ask("crl")
+        t.same(control.ask("copy nowhere/ca.db"), "F2 store")
         t.same(health(t, desk), (200, {}))
         t.same((metrics(t, desk)['desk_lines_total{reply="fault"}'], metrics(t, desk)["desk_store_failing_since_timestamp_seconds"]), (1, 0))
 
@@ -335,7 +333,7 @@ def promtool_takes_the_metrics_and_the_alerts(t):
     t.done("at", "counter", given="".join(f"{it}\n" for it in [*LINES, "crl"]))
     desk.ask("GET", "/crl")
     t.same(t.tool("promtool", "check", "metrics", given=asked(t, desk, "/metrics")[2]), b"", "what promtool finds wrong with /metrics")
-    t.has(t.tool("promtool", "check", "rules", ALERTS).decode(), "SUCCESS: 8 rules found")
+    t.has(t.tool("promtool", "check", "rules", ALERTS).decode(), "SUCCESS: 11 rules found")
 
 
 RULES = """
@@ -358,6 +356,11 @@ CASES = {
     "a responder's certificate that ends": (["desk_responder_certificate_not_after_timestamp_seconds 604800x60", "desk_clock_timestamp_seconds 0+60x60"], ["DeskResponderEnds"]),
     "a responder's certificate that does not end yet": (["desk_responder_certificate_not_after_timestamp_seconds 610000x60", "desk_clock_timestamp_seconds 0+60x60"], []),
     "a request that is overdue": (["desk_requests_overdue 2x60"], ["DeskRequestOverdue"]),
+    "a flood that was refused": (["desk_http_responses_total{route='/requests',code='429'} 1+1x60"], ["DeskFlooded"]),
+    "a flood that found little room": (["desk_http_responses_total{route='/requests',code='503'} 1+1x60", "desk_http_responses_total{route='/health',code='503'} 1+1x60"], ["DeskFlooded"]),
+    "tables with room": (["desk_rows{table='requests'} 800000x60", "desk_rows{table='crls'} 10x60", "desk_rows_cap 1000000x60"], []),
+    "a table that fills up": (["desk_rows{table='requests'} 800001x60", "desk_rows{table='crls'} 10x60", "desk_rows_cap 1000000x60"], ["DeskTableFilling"]),
+    "a disk that fills up": (["node_filesystem_avail_bytes{mountpoint='/var'} 9x60", "node_filesystem_size_bytes{mountpoint='/var'} 100x60"], ["DeskDiskFilling"]),
     "a clock that is behind": (["desk_clock_behind_seconds 3x60"], ["DeskClock"]),
     "a clock of its own": (["desk_clock_timestamp_seconds 90+60x60"], ["DeskClock"]),
 }
@@ -384,7 +387,7 @@ LATE = {"none yet": (1_790_000_000, 0, "no signed CRL was issued yet"), "late": 
 
 
 @each(LATE)
-def a_late_crl_is_told_in_words(t, clock, due, wanted):
+def a_late_crl_is_described(t, clock, due, wanted):
     need("promtool")
     case = RULES.format(rules=ALERTS) + f"""  - interval: 1m
     input_series:
@@ -416,12 +419,14 @@ def a_real_prometheus_scrapes_it(t):
         stack.callback(process.kill)
         wanted = {"up": "1", "desk_clock_behind_seconds": "0", "desk_register_readable": "1", 'desk_lines_total{reply="accepted"}': "1", "desk_crl_number": "0"}
         got = {}
-        for _ in range(int(200 * program.PATIENCE)):
+
+        def has_scraped():
             with contextlib.suppress(OSError, KeyError, IndexError):
-                got = {it: value_of(port, it) for it in wanted}
-                if got == wanted:
-                    break
-            time.sleep(0.1)
+                got.update({it: value_of(port, it) for it in wanted})
+            return got == wanted
+
+        with contextlib.suppress(Failed):
+            authority.until(has_scraped, "a scrape")
         t.same(got, wanted, f"what it has after a scrape; it said {(t.room / 'prometheus.log').read_text()[-1000:]}")
         t.true(abs(float(value_of(port, "desk_clock_timestamp_seconds - timestamp(desk_clock_timestamp_seconds)"))) < 10, "both clocks")
         t.same(value_of(port, 'count({__name__=~"desk_.+"}) > bool 40'), "1", "how many series it has")
@@ -429,5 +434,5 @@ def a_real_prometheus_scrapes_it(t):
 
 def value_of(port, query):
     """The value that Prometheus has for a query."""
-    with urllib.request.urlopen(f"http://127.0.0.1:{port}/api/v1/query?" + urllib.parse.urlencode({"query": query}), timeout=10) as it:
+    with urllib.request.urlopen(f"http://127.0.0.1:{port}/api/v1/query?" + urllib.parse.urlencode({"query": query}), timeout=60) as it:
         return json.load(it)["data"]["result"][0]["value"][1]

@@ -1,4 +1,4 @@
-"""The command line: each word and option, what help says, which words are refused, and how the ones that are taken show in what the program does."""
+"""The command line: each word and option, the help, the refused words, and the effects of the accepted ones."""
 
 import re
 
@@ -23,7 +23,7 @@ MOMENT, STEP = "a moment is written as", "a step is written as"
 
 
 def refused(t, *words):
-    """Runs words that are bad: status 2, nothing on standard output, no file made; what is told, which ends with the usage."""
+    """Runs a wrong command line: status 2, nothing on standard output, no file created. Returns standard error, which ends with the usage."""
     ran = t.desk(*words)
     told = ran.err.decode()
     t.same((ran.status, ran.out), (2, b""), "status and standard output")
@@ -95,7 +95,7 @@ def an_option_without_its_value_is_named(t):
     # Here no usage follows, but where it is found.
     ran = t.desk("init", "none.db", *ISSUER, "--days")
     t.same((ran.status, ran.out), (2, b""), "status and standard output")
-    t.same(ran.told, ["error: a value is required for '--days <N>' but none was supplied", "", "For more information, try '--help'."])
+    t.same(ran.err_lines, ["error: a value is required for '--days <N>' but none was supplied", "", "For more information, try '--help'."])
 
 
 @each({
@@ -107,7 +107,7 @@ def a_refusal_says_what_is_wrong(t, words, what):
     t.has(refused(t, *words), what)
 
 
-# Words with one value that is out of its form or its range: the words before it, its option, the value, and what is told of it.
+# Words with one value that is out of its form or its range: the words before it, its option, the value, and the message.
 VALUES = [
     *[(("init", "none.db", *ISSUER), "--days", it, NUMBER) for it in ("x", "1.5", "", "0000000000000000398")],
     (("init", "none.db", *ISSUER), "--crl-life", "8d", NUMBER),
@@ -266,12 +266,12 @@ def an_option_without_its_value_is_refused(t):
 
 
 @each({it: it for it in ("--version", "-V")})
-def the_version_is_told(t, word):
+def the_version_is_printed(t, word):
     ran = t.desk(word)
     t.same((ran.status, ran.out.decode(), ran.err), (0, f"desk {version()}\n", b""), "status, standard output and standard error: as CHANGELOG.md has it")
 
 
-# What is told of each command.
+# The help of each command.
 HELPED = {
     "--help": ("init", "script", "import", "crl", "serve", "open", "at", "replay", "schedule", "key-id", "list", "copy", "audit", "--why", "-V, --version"),
     "-h": ("init", "script", "import", "crl", "serve", "open", "at", "replay", "schedule", "key-id", "list", "copy", "audit"),
@@ -282,7 +282,7 @@ HELPED = {
     "crl --help": ("<FILE>", "--number <N>", "--why"),
     "serve --help": ("<FILE>", "--port <N>", "--listen <ADDRESS>", "--requests <N>", "--signer <SOCKET>", "--algorithm <NAME>", *RESPONDER_HELP, "--published <CRL>", "--log", "--log-file <PATH>", "--why"),
     "open --help": ("<FILE>", "--port <N>", "--listen <ADDRESS>", "--control <SOCKET>", "--signer <SOCKET>", "--algorithm <NAME>", "--unsigned", *RESPONDER_HELP, "--published <CRL>", "--log", "--log-file <PATH>", "--why"),
-    "at --help": ("<SOCKET>", "--import <FILE>", "--revoke <FILE>", "--why", "desk at ca.control"),
+    "at --help": ("<SOCKET>", "--import <FILE>", "--orders <SUBSCRIBER> <DAYS>", "--revoke <FILE>", "--why", "desk at ca.control"),
     "replay --help": ("<SOCKET>", "<LOG>", "--why", "desk replay ca.control ca.log"),
     "schedule F --help": ("<FILE>", "<MOMENT=DAYS>...", "--why"),
     "key-id --help": ("<FILE>", "<HEX>", "--why"),
@@ -334,7 +334,7 @@ TAKEN = {
 
 
 @each({name: (words,) for name, words in TAKEN.items()})
-def words_that_are_taken(t, words):
+def words_that_are_accepted(t, words):
     ran = t.desk(*words)
     t.same((ran.status, ran.out, ran.err), (1, b"", b"F2 store\n"), "status, standard output and standard error")
     t.same(sorted(it.name for it in t.room.iterdir()), [], "files that were made")

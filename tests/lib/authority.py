@@ -1,5 +1,5 @@
-"""A certification authority that openssl makes: its key, its certificate, what signs for it, and what openssl says of what the program
-answers. And the few parts of DER (X.690) that are compared byte for byte."""
+"""A certification authority that openssl makes: its key, its certificate, its signer, and what openssl says about the program's answers.
+Also the few parts of DER (X.690) that tests compare byte for byte."""
 
 import base64
 import contextlib
@@ -20,7 +20,7 @@ from .trial import Failed, Skipped
 
 EXAMPLES = TOP / "examples"
 DAY = 86400
-# What `openssl req -newkey` is told for a key of each algorithm.
+# The arguments of `openssl req -newkey` for a key of each algorithm.
 KEYS = {
     "ecdsa-sha256": ("ec", "-pkeyopt", "ec_paramgen_curve:P-256"),
     "ecdsa-sha384": ("ec", "-pkeyopt", "ec_paramgen_curve:P-384"),
@@ -54,7 +54,7 @@ class Authority:
         certificate(t, name, subject, KEYS[algorithm], more)
 
     def words(self):
-        """The words --name and --key of its register, and --key-id where its key identifier is not the SHA-1 of its key."""
+        """The options --name and --key of its register, and --key-id if its key identifier is not the SHA-1 of its key."""
         return self.t.tool("sh", EXAMPLES / "issuer-words.sh", self.pem).decode().split()
 
     def register(self, file="ca.db", options=()):
@@ -75,7 +75,7 @@ class Authority:
         return self.t.signer(path, self.sign)
 
     def signing(self, path="ca.sign"):
-        """The words that name its signer."""
+        """The options that name its signer."""
         return ("--signer", path, "--algorithm", self.algorithm)
 
     def verifies(self, crl, what="the CRL"):
@@ -85,14 +85,14 @@ class Authority:
     # OCSP
 
     def asks(self, *serials, nonce=False, more=()):
-        """A request that openssl makes: for serial numbers, or words of `openssl ocsp`."""
+        """An OCSP request that openssl makes, for serial numbers or with options of `openssl ocsp`."""
         words = [word for it in serials for word in ((it,) if str(it).startswith("-") else ("-serial", f"0x{it}"))]
         request = self.t.room / "asked.der"
         self.t.tool("openssl", "ocsp", "-issuer", self.pem, *more, *words, *([] if nonce else ["-no_nonce"]), "-reqout", request)
         return request.read_bytes()
 
     def reads(self, serial, response, *words, verify=True):
-        """What openssl says of a response for this serial number; where it is not to be verified, a digest may stand for the signature."""
+        """The status that openssl reads in a response for this serial number. If the response is not verified, it may have a placeholder digest."""
         file = self.t.room / "said.der"
         file.write_bytes(response)
         trust = ("-CAfile", self.pem) if verify else ("-noverify",)
@@ -102,7 +102,7 @@ class Authority:
         return status_of(told, serial)
 
     def asked_by_openssl(self, serial, url, *words, verify=False):
-        """The status that `openssl ocsp -url` prints, which asks by POST and with a nonce."""
+        """The status that `openssl ocsp -url` prints, which sends its request by POST and with a nonce."""
         trust = ("-CAfile", self.pem) if verify else ("-noverify",)
         told = self.t.tool("openssl", "ocsp", "-issuer", self.pem, *trust, *words, "-serial", f"0x{serial}", "-url", url).decode()
         if verify:
@@ -111,19 +111,19 @@ class Authority:
 
 
 def with_key_identifier(it, identifier):
-    """Another certificate of a CA's key, with this as its subjectKeyIdentifier, as openssl is told of it."""
+    """Another certificate of a CA's key, with this subjectKeyIdentifier, in openssl's syntax."""
     words = ("-key", it.key, "-out", it.pem, "-subj", "/CN=T", "-days", "3650")
     it.t.tool("openssl", "req", "-x509", *words, "-addext", f"subjectKeyIdentifier={identifier}", "-addext", "authorityKeyIdentifier=none")
 
 
 def certificate(t, name, subject, key=KEYS["ecdsa-sha256"], more=()):
-    """A certificate that signs itself, and its key: NAME.pem and NAME.key."""
+    """Makes a self-signed certificate and its key: NAME.pem and NAME.key."""
     words = ("-keyout", f"{name}.key", "-out", f"{name}.pem", "-subj", subject, "-days", "3650")
     t.tool("openssl", "req", "-x509", "-newkey", *key, "-nodes", *words, *more)
 
 
 def openssl(*words, given=b""):
-    """What openssl prints; for a signer's thread, where a test can't fail."""
+    """The output of openssl, in a signer's thread, where a test can't fail."""
     return subprocess.run(["openssl", *map(str, words)], input=given, capture_output=True, check=True).stdout
 
 
@@ -159,12 +159,12 @@ def body_of(t, response, content="application/ocsp-response", status=200):
 
 
 def path_of(request, quoted=True):
-    """The path of an OCSP request that is asked by GET (RFC 6960 appendix A.1)."""
+    """The path of an OCSP request by GET (RFC 6960 appendix A.1)."""
     text = base64.b64encode(request).decode()
     return "/ocsp/" + (urllib.parse.quote(text, safe="") if quoted else text)
 
 
-# What openssl prints
+# The output of openssl
 
 
 def openssl_time(text):
@@ -188,7 +188,7 @@ def listed(t, crl):
 
 
 def values_of(content):
-    """The values that stand in a row: of each its tag, its contents, and its bytes as a whole."""
+    """A sequence of DER values: of each its tag, its contents, and all its bytes."""
     found, at = [], 0
     while at < len(content):
         tag, length, head = content[at], content[at + 1], 2
@@ -201,7 +201,7 @@ def values_of(content):
 
 
 def inside(value, *path):
-    """What stands in a value at places of places, the first being 0: a tag, contents, and the whole."""
+    """The value at a path of indices from 0 within a DER value: its tag, its contents, and all its bytes."""
     found = values_of(value)[0]
     for place in path:
         found = values_of(found[1])[place]
@@ -228,16 +228,16 @@ def answered_ids(response):
 
 
 def signed_part(value):
-    """What was signed, the AlgorithmIdentifier, and the signature, of a CRL or a BasicOCSPResponse."""
+    """The signed part, the AlgorithmIdentifier and the signature of a CRL or a BasicOCSPResponse."""
     part, algorithm, signature = values_of(values_of(value)[0][1])[:3]
     return part[2], algorithm[2], signature[1][1:]
 
 
-# Signers that don't go by the book
+# Signers that break the protocol
 
 
 class Peer:
-    """What listens at a socket and does with each connection what it is told, beside the others."""
+    """A signer that handles each connection, one after the other, as `manner` says."""
 
     def __init__(self, path, manner):
         self.manner, self.asked = manner, 0
@@ -270,13 +270,13 @@ class Peer:
 
 
 def need_cryptography(t):
-    """Skips the test where Python has no `cryptography`, which examples/signer.py wants."""
+    """Skips the test if Python has no `cryptography`, which examples/signer.py needs."""
     if t.tried("python3", "-c", "import cryptography").returncode:
         raise Skipped("no cryptography of python3 here: apt install python3-cryptography")
 
 
 def started(t, words, made):
-    """Starts another program, until the test ends, and waits for the path that it makes."""
+    """Starts another program until the test ends, and waits for the path that it creates."""
     t.note(" ".join(map(str, words)))
     process = subprocess.Popen([*map(str, words)], cwd=t.room, stdin=subprocess.DEVNULL, stdout=subprocess.DEVNULL, stderr=subprocess.PIPE)
     t.callback(end, process)
@@ -288,14 +288,14 @@ def started(t, words, made):
 
 def end(process):
     process.terminate()
-    process.wait(20)
+    process.wait(program.LONGEST)
     if process.stderr:
         process.stderr.close()
 
 
-def until(holds, what, seconds=20):
-    """Waits until something holds, and fails where it never does."""
-    last = time.monotonic() + seconds
+def until(holds, what, seconds=60):
+    """Waits until something holds, and fails if it never does."""
+    last = time.monotonic() + seconds * program.PATIENCE
     while not holds():
         if time.monotonic() > last:
             raise Failed(f"waited in vain for {what}")
@@ -303,13 +303,13 @@ def until(holds, what, seconds=20):
 
 
 def in_memory(t):
-    """A folder for a register of thousands of lines, in memory where the machine has such: each line is synced, for which a disk takes its time."""
+    """A folder for a register of thousands of lines, in memory if possible: the program syncs each line, which is slow on a disk."""
     memory = "/dev/shm"
     return Path(t.enter_context(tempfile.TemporaryDirectory(prefix="desk-", dir=memory if os.access(memory, os.W_OK) else t.room)))
 
 
 def stood_in(t):
-    """A folder in which `./desk` is the program that is tested, beside the examples and what else the scripts of this repository want."""
+    """A folder in which `./desk` is the tested program, beside the examples and whatever else the scripts of this repository need."""
     folder = t.room / "top"
     folder.mkdir()
     for it in ("examples", "docs", "packaging", "tools", "README.md"):

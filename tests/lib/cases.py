@@ -53,7 +53,7 @@ class Step:
 
 
 def bytes_of(text):
-    """The bytes that a text stands for."""
+    """The bytes of a text with escapes."""
     made, at = b"", 0
     for it in ESCAPE.finditer(text):
         made += text[at : it.start()].encode()
@@ -63,7 +63,7 @@ def bytes_of(text):
 
 
 def piece_of(mark, text):
-    """What a line of a case stands for, by the mark behind < or >."""
+    """The bytes of a line of a case, by the mark after < or >."""
     if mark == "x":
         return bytes.fromhex(text)
     if mark == "*":
@@ -94,7 +94,7 @@ def read(path):
 
 
 def pattern_of(wanted, values):
-    """What is wanted, as a pattern of bytes."""
+    """The expected output as a pattern of bytes."""
     made = b""
     for mark, text in wanted:
         for name, value in values.items():
@@ -112,7 +112,7 @@ def text_of(wanted):
 
 
 class Case:
-    """A case that runs: what is open, and the steps."""
+    """A running case: the open desk, and the steps."""
 
     def __init__(self, t, path):
         self.t, self.path, self.opened = t, path, None

@@ -1,4 +1,4 @@
-"""The blocks of lines that docs/OPERATIONS.md and other pages have, to be typed as they stand."""
+"""The code blocks of docs/OPERATIONS.md and other pages, which tests run as they are."""
 
 import re
 
@@ -7,7 +7,7 @@ from .trial import Failed
 
 
 def document(name="OPERATIONS"):
-    """A page of docs/, or one that is named with its folder."""
+    """The text of a page of docs/, or of a page that is named with its folder."""
     return (TOP / (f"{name}.md" if "/" in name else f"docs/{name}.md")).read_text(encoding="utf-8")
 
 

@@ -1,4 +1,4 @@
-"""The program with faults put into it (tests/faults.c): what is run, what its file holds afterwards, and how it goes on.
+"""The program with injected faults (tests/faults.c): runs, the contents of its file afterwards, and whether it goes on.
 
 On a slow build the variable DESK_FAULTS_STEP=N tries each Nth place alone, for a look.
 """
@@ -20,7 +20,7 @@ KINDS = (
 )  # fmt: skip
 COUNTED = (*KINDS, "steps", "met")
 MEMORY, STORE = "F1 memory", "F2 store"
-# An OCSP response that tells internalError (RFC 6960 2.3).
+# The OCSP response internalError (RFC 6960 2.3).
 INTERNAL_ERROR = "ocsp 30030a0102"
 OCSP_REQUEST = (
     "30673065303e303c303a300906052b0e03021a05000414711d397671c9facf2242095925979a0698e46b110414a9993e364706816aba3e25717850c26c9cd0d89d020105"
@@ -63,13 +63,13 @@ SOUND = "sound, {} certificates, {} revoked, {} CRLs\n"
 
 
 def places(last, each, stride, first=1):
-    """The places that are tried: each one up to `each`, and every `stride`th after it."""
+    """The call numbers that are tried: each one up to `each`, and every `stride`th after it."""
     slower = int(os.environ.get("DESK_FAULTS_STEP", "1"))
     return [it for it in range(first, last + 1) if it <= each or it % stride == first % stride][::slower]
 
 
 def environment(**told):
-    """The variables that put these faults in: `fail="write:3"` is FAULTS_FAIL=write:3. The disk is not waited for: no test here ends the machine."""
+    """The variables that inject these faults: `fail="write:3"` is FAULTS_FAIL=write:3. Syncs don't wait for the disk, since no test stops the machine."""
     return {f"FAULTS_{name.upper()}": str(value) for name, value in {"quick": 1, **told}.items() if value is not None}
 
 
@@ -85,23 +85,23 @@ def counted(path):
 
 
 def run(t, words, given=b"", count="count", clock=None, **told):
-    """Runs the program with faults, to its end: what came of it, and what was counted."""
+    """Runs the program with faults, to its end: the result, and the counts of calls."""
     ran = program.run(words, given, cwd=t.room, clock=clock, faults=environment(count=t.room / count, same=1, **told))
     return ran, counted(t.room / count)
 
 
 def total(t, words, kind, given=b"", **told):
-    """How many calls of a kind a run has where nothing fails."""
+    """How many calls of a kind a run makes without a fault."""
     ran, count = run(t, words, given, **told)
     t.same((ran.status, ran.err), (0, b""), f"{program.shown(words)} without a fault")
     return count[kind]
 
 
-# What a register's file holds
+# The contents of a register's file
 
 
 def copy(base, path):
-    """A register's file and its log at another path, in the place of what was there; nothing where there is no base."""
+    """Copies a register's file and its -wal to another path, and replaces the files there. Without a base, deletes them."""
     for end in ("", "-wal"):
         if os.path.lexists(f"{path}{end}"):
             os.remove(f"{path}{end}")
@@ -110,12 +110,12 @@ def copy(base, path):
 
 
 def contents(path):
-    """The bytes of a register's file and of its log; None where there is none."""
+    """The bytes of a register's file and of its -wal; None for a missing file."""
     return [open(f"{path}{end}", "rb").read() if os.path.exists(f"{path}{end}") else None for end in ("", "-wal")]
 
 
 def tables(path):
-    """Every row of a register's file, by Python's own SQLite over a copy, so that the file is left alone; None where it has no tables, or is
+    """Every row of a register's file, read by Python's SQLite from a copy, so that the file stays as it is; None if it has no tables or is
     no database yet."""
     with tempfile.TemporaryDirectory(dir=os.path.dirname(path)) as folder:
         if not os.path.exists(path):
@@ -133,7 +133,7 @@ def tables(path):
 
 
 def states(t, base, lines, path="states.db"):
-    """What the tables hold before each line of a script and after all, where nothing fails; each line is answered as it must be."""
+    """The tables before each line of a script and after the last, without a fault; each line has its expected reply."""
     copy(base, t.room / path)
     found = [tables(t.room / path)]
     with Lines(t, path) as desk:
@@ -145,9 +145,9 @@ def states(t, base, lines, path="states.db"):
 
 
 class Lines:
-    """`desk script` over a file, asked line by line."""
+    """`desk script` over a file, which gets line after line."""
 
-    # How it ends where nothing stops it, and where a fault does.
+    # How it ends without a fault.
     ends = (("", 0, ""),)
 
     def __init__(self, t, path, words=(), **told):
@@ -159,7 +159,7 @@ class Lines:
         )
 
     def ask(self, line):
-        """The reply to a line; empty where the program has ended."""
+        """The reply to a line; empty if the program has ended."""
         try:
             self.process.stdin.write(line.encode() + b"\n")
             self.process.stdin.flush()
@@ -172,13 +172,13 @@ class Lines:
         return counted(self.count)
 
     def end(self):
-        """Its exit status, what was left of standard output, and standard error."""
+        """Its exit status, the rest of standard output, and standard error."""
         try:
             self.process.stdin.close()
         except BrokenPipeError:
             pass
         self.process.stdin = None
-        out, err = self.process.communicate(timeout=60)
+        out, err = self.process.communicate(timeout=program.LONGEST)
         err, _ = program.without_warning(self.words, err)
         return self.process.returncode, out.decode(), err.decode()
 
@@ -192,13 +192,13 @@ class Lines:
 
 
 class Office:
-    """`desk open` over a file, asked line by line at its counter, each at its moment."""
+    """`desk open` over a file, which gets line after line at its control socket, each at its moment."""
 
     # By SIGTERM, with the line that it printed first.
     ends = (("", -15, ""),)
 
     def __init__(self, t, path, words=(), **told):
-        self.count, self.clock, self.socket, self.counter = t.room / "count-office", t.room / "clock", t.room / "counter", None
+        self.count, self.clock, self.socket, self.control = t.room / "count-office", t.room / "clock", t.room / "counter", None
         self.socket.unlink(missing_ok=True)
         self.clock.write_text(str(program.seconds_of(DAY_1)))
         env = environment(count=self.count, same=1, **told)
@@ -208,9 +208,9 @@ class Office:
         moment, line = line.split(" ", 1)
         self.clock.write_text(str(program.seconds_of(moment)))
         try:
-            if self.counter is None:
-                self.counter = program.Counter(self.socket)
-            return self.counter.ask(line)
+            if self.control is None:
+                self.control = program.Control(self.socket)
+            return self.control.ask(line)
         except OSError:
             return ""
 
@@ -219,8 +219,8 @@ class Office:
         return counted(self.count)
 
     def end(self):
-        if self.counter is not None:
-            self.counter.__exit__()
+        if self.control is not None:
+            self.control.__exit__()
         ended = self.desk.end()
         return ended.status, ended.out.decode(), ended.err.decode()
 
@@ -232,7 +232,7 @@ class Office:
 
 
 class Course:
-    """Lines over a register, and what its tables hold at each place. A round is run with a fault in it, and must go on as though there was none."""
+    """Lines for a register, and its tables before each of them. A round has a fault, and must go on as if there was none."""
 
     def __init__(self, t, base, lines, sound, asked_by=Lines):
         self.t, self.base, self.lines, self.sound, self.asked_by = t, base, lines, sound, asked_by
@@ -243,7 +243,7 @@ class Course:
         raise Failed(f"{where}: {what}")
 
     def standing(self, path, place, reach, where):
-        """How many lines stand: those that were answered, and `reach` more at most."""
+        """How many lines are in the register: those that were answered, and at most `reach` more."""
         found = tables(self.t.room / path)
         for it in range(place, min(place + reach, len(self.lines)) + 1):
             if found == self.states[it]:
@@ -251,7 +251,7 @@ class Course:
         self.fail(where, f"the tables are not those after {place} lines: {found}")
 
     def round(self, fault, reach, where, path="ca.db", **told):
-        """The lines, one by one, with faults put in. `fault` is the reply that tells of one, None where the process is stopped. Whether one was met."""
+        """Runs the lines one by one with a fault. `fault` is the reply that reports it, or None if it kills the process. Returns whether the fault occurred."""
         copy(self.base, self.t.room / path)
         place, faults = 0, 0
         with self.asked_by(self.t, path, **told) as desk:
@@ -268,7 +268,7 @@ class Course:
                 if reply != fault and not (reply == INTERNAL_ERROR and " ocsp " in asked):
                     self.fail(where, f"{asked}: {reply!r}")
                 faults += 1
-                # A change whose commit failed stands whole, or not at all.
+                # The register has a change whose commit failed as a whole, or not at all.
                 place = self.standing(path, place, reach, where)
                 if faults == 3:
                     break
@@ -284,7 +284,7 @@ class Course:
         return met
 
     def goes_on(self, path, place, reach, where):
-        """The file opened again stands for a prefix, takes the rest, and is sound."""
+        """Opened again, the register has a prefix of the lines, accepts the rest, and is sound."""
         mark = (place, reach, *(hashlib.sha1(it or b"").digest() for it in contents(self.t.room / path)))
         if mark in self.known:
             return

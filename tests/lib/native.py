@@ -5,7 +5,6 @@ import os
 import select
 import socket
 import subprocess
-import time
 from pathlib import Path
 
 from . import authority, program
@@ -13,7 +12,7 @@ from .program import TOP
 from .trial import Failed, Skipped, need
 
 SOURCES = TOP / "signer"
-# What stands before each of its lines on standard error.
+# The prefix of each of its lines on standard error.
 NAME = "desk-signer: "
 
 
@@ -29,7 +28,7 @@ def need_libcrypto():
 
 
 def made(name, *words):
-    """A program that a command makes at a path, which becomes its last word, once for all tests."""
+    """A program that a command makes once for all tests, at a path that is the command's last word."""
     path = Path(os.environ["DESK_TESTS_FOLDER"]) / name
     with open(f"{path}.lock", "w", encoding="utf-8") as lock:
         fcntl.flock(lock, fcntl.LOCK_EX)
@@ -46,13 +45,13 @@ def signer():
 
 
 def started(t, *words, path="ca.sign", before=()):
-    """The signer at a socket, until the test ends; it prints a line once it serves."""
+    """Starts the signer at a socket until the test ends. It prints a line once it serves."""
     words = [*map(str, before), str(signer()), *map(str, words), path]
     t.note(" ".join(words))
     process = subprocess.Popen(words, cwd=t.room, stdin=subprocess.DEVNULL, stdout=subprocess.PIPE, stderr=subprocess.PIPE)
     t.callback(authority.end, process)
     with process.stdout:
-        is_told = select.select([process.stdout], [], [], 60 * program.PATIENCE)[0]
+        is_told = select.select([process.stdout], [], [], program.LONGEST)[0]
         line = process.stdout.readline() if is_told else b""
     if not line.endswith(f" at {path}\n".encode()):
         process.kill()
@@ -62,13 +61,13 @@ def started(t, *words, path="ca.sign", before=()):
 
 def connected(path):
     it = socket.socket(socket.AF_UNIX)
-    it.settimeout(20 * program.PATIENCE)
+    it.settimeout(program.LONGEST)
     it.connect(str(path))
     return it
 
 
 def signature(path, message):
-    """What comes back for a message: nothing where it is refused, or where the signer closes before it has read all."""
+    """The reply to a message; empty if the signer refuses it, or closes before it has read all."""
     with connected(path) as it:
         try:
             it.sendall(message)
@@ -78,10 +77,10 @@ def signature(path, message):
         return program.read_all(it)
 
 
-def ended(process, seconds=20):
-    """Ends a signer; its status, and what it has told."""
+def ended(process):
+    """Ends a signer: its status, and its lines on standard error."""
     process.terminate()
-    status = process.wait(seconds * program.PATIENCE)
+    status = process.wait(program.LONGEST)
     return status, process.stderr.read().decode().splitlines()
 
 
@@ -96,7 +95,3 @@ def is_there(number):
     except FileNotFoundError:
         return False
 
-
-def seconds_of(work):
-    began = time.monotonic()
-    return work(), time.monotonic() - began

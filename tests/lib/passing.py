@@ -1,17 +1,17 @@
-"""An open desk by a time that the test lets pass: what ends after seconds is looked at to the millisecond, and nobody waits for it."""
+"""An open desk whose elapsed time the test sets: a test checks timeouts to the millisecond, and waits for none."""
 
 import os
 import struct
 
 from . import faults
 from .authority import until
-from .program import parted
+from .program import is_read, parted
 
 ASKED = b"GET /counts HTTP/1.1\r\nHost: localhost\r\n\r\n"
 
 
 class Passing:
-    """An open desk with a log, for which no time passes but what it is told."""
+    """An open desk with a log, whose time stands still until `advance`."""
 
     def __init__(self, t, *words, file="ca.db"):
         self.t, self.file, self.millis = t, t.room / "passed", 1_000_000
@@ -24,8 +24,8 @@ class Passing:
         """How many descriptors it has."""
         return len(os.listdir(f"/proc/{self.desk.process.pid}/fd"))
 
-    def goes(self, millis):
-        """So many milliseconds pass; what is due then is done when this returns."""
+    def advance(self, millis):
+        """Lets so many milliseconds pass. When this returns, the desk has done what was due."""
         self.millis += millis
         # It is shared with the desk, so it is never empty.
         with open(self.file, "r+b") as it:
@@ -34,21 +34,19 @@ class Passing:
             self.t.same(parted(self.desk.send(ASKED))[0], 200, f"a request at {self.millis} ms")
 
     def comes(self, sent):
-        """A peer that has come, and sent this."""
-        taken = self.files
+        """A client that has connected and sent this, which the desk has read."""
         made = self.t.enter_context(self.desk.connect())
         made.sendall(sent)
-        until(lambda: self.files == taken + 1, "a place for a peer")
-        self.goes(0)
+        until(lambda: is_read(made), "that the desk has read it")
+        self.advance(0)
         return made
 
     @property
-    def told(self):
-        """Whom the log tells as lost so far, by the port, and why."""
-        lines = (self.t.room / f"told-{self.desk.port}").read_text().splitlines()
-        return [tuple(it.split(":")[-1].split(" lost ")) for it in lines if " lost " in it]
+    def lost(self):
+        """The lost connections in the log so far: the port of each client, and why."""
+        return [tuple(it.split(":")[-1].split(" lost ")) for it in self.desk.log if " lost " in it]
 
     def loses(self, *peers, why=""):
-        """Wants that these were told as lost by this, in this order, and no others."""
-        self.goes(0)
-        self.t.same(self.told, [(str(it.getsockname()[1]), why) for it in peers], "who was lost, and why")
+        """Checks that these connections, in this order, are the lost ones of the log, for this reason."""
+        self.advance(0)
+        self.t.same(self.lost, [(str(it.getsockname()[1]), why) for it in peers], "lost connections, and why")

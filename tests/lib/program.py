@@ -1,4 +1,4 @@
-"""The program `desk` as a user has it: run with words and an input, or kept open and asked over HTTP and at its counter."""
+"""The program `desk` from outside: run once with a command line and an input, or kept open for requests over HTTP and lines at its control socket."""
 
 import contextlib
 import fcntl
@@ -8,8 +8,10 @@ import re
 import shlex
 import signal
 import socket
+import struct
 import subprocess
 import tempfile
+import termios
 import threading
 import time
 from dataclasses import dataclass, field
@@ -28,20 +30,22 @@ P256_KEY = (
 )
 # The form of an ECDSA signature, r = s = 1 (RFC 5480 appendix A): no client verifies it.
 ANY_SIGNATURE = bytes.fromhex("3006020101020101")
-# What is said of the first CRL of a register that a digest seals.
+# The warning about the first CRL of a register that has a placeholder digest.
 SEALED = b"warning: CRL 1 has a placeholder digest instead of a signature; to sign: --signer SOCKET --algorithm NAME\n"
-# How many times as long as usual all is waited for, on a slow machine or over a slow build.
+# Timeouts are multiplied by this, for a slow machine or a slow build.
 PATIENCE = float(os.environ.get("DESK_PATIENCE", "1"))
+# After so many seconds a program that a test runs has hung: far more than any takes on a slow machine.
+LONGEST = 200
 
 
 def program():
-    """The program that is tested: what DESK names, or the one that this checkout built."""
+    """The tested program: the one that DESK names, or the one that this checkout built."""
     return os.environ.get("DESK") or str(BUILT)
 
 
 @dataclass
 class Ran:
-    """What a run of the program came to. That it said of a first CRL that a digest seals it is told apart from standard error."""
+    """The result of a run of the program. `is_warned` has whether it printed the warning about a placeholder digest, which is left out of `err`."""
 
     status: int
     out: bytes
@@ -54,12 +58,12 @@ class Ran:
         return self.out.decode("latin-1").splitlines()
 
     @property
-    def told(self):
+    def err_lines(self):
         return self.err.decode("latin-1").splitlines()
 
 
 def environment(clock=None, faults=None, more=None):
-    """The variables that the program runs under: PATH alone, and what puts faults into it (tests/faults.c)."""
+    """The environment of the program: only PATH, and the variables that inject faults (tests/faults.c)."""
     env = {"PATH": os.environ.get("PATH", ""), "LANG": "C.UTF-8"}
     if clock is not None or faults:
         env["LD_PRELOAD"] = os.environ["DESK_FAULTS_LIBRARY"]
@@ -71,26 +75,26 @@ def environment(clock=None, faults=None, more=None):
 
 
 def make_faults(folder):
-    """Builds the library that puts faults into the program, for what is run afterwards."""
+    """Builds the library that injects faults, for later runs."""
     made = f"{folder}/faults.so"
     subprocess.run(["cc", "-shared", "-fPIC", "-O2", "-Wall", "-o", made, str(TESTS / "faults.c"), "-ldl", "-lpthread"], check=True)
     os.environ["DESK_FAULTS_LIBRARY"] = made
 
 
 def can_seal(words):
-    """Whether words are a script over a register in a file, whose CRLs a digest seals."""
+    """Whether the words are a script over a register in a file, whose CRLs may have a placeholder digest."""
     words = [it for it in words if not it.startswith("--")]
     return words[:1] == ["script"] and len(words) > 1
 
 
 def without_warning(words, told):
-    """Standard error without what it has of a first CRL that a digest seals, and whether it has that: once, and in its first line."""
+    """Standard error without the warning about a placeholder digest, and whether it had that: once, and in its first line."""
     if "--signer" not in words and can_seal(words) and told.startswith(SEALED):
         return told[len(SEALED) :], True
     return told, False
 
 
-def run(words, given=b"", cwd=None, timeout=60, **how):
+def run(words, given=b"", cwd=None, timeout=LONGEST, **how):
     """Runs the program once, to its end."""
     words = [str(it) for it in words]
     if isinstance(given, str):
@@ -102,12 +106,12 @@ def run(words, given=b"", cwd=None, timeout=60, **how):
     return Ran(ran.returncode, ran.stdout, told, words, is_warned)
 
 
-# Below the ports that the system gives to who connects.
+# Below the ports that the system gives to clients.
 FIRST_PORT, PORTS = 10_240, 22_000
 
 
 def next_port():
-    """A port that no test beside this one was given: they count in one file."""
+    """A port that no other test got: all tests count in one file."""
     path = Path(os.environ.get("DESK_TESTS_FOLDER") or tempfile.gettempdir()) / "ports"
     with open(path, "a+") as it:
         fcntl.flock(it, fcntl.LOCK_EX)
@@ -120,7 +124,7 @@ def next_port():
 
 
 def free_port():
-    """A port of 127.0.0.1 that nobody listens at, another one each time."""
+    """A port of 127.0.0.1 at which no program listens, another one each time."""
     while True:
         port = next_port()
         with socket.socket() as it, contextlib.suppress(OSError):
@@ -129,38 +133,43 @@ def free_port():
 
 
 class Opened:
-    """`desk open` or `desk serve`, started and listening; ended when it is left."""
+    """`desk open` or `desk serve`, started and listening until the `with` block ends."""
 
-    def __init__(self, words, cwd=None, timeout=60, **how):
+    def __init__(self, words, cwd=None, **how):
         self.cwd, self.words = cwd, [str(it) for it in words]
         if "--port" in self.words:
             self.port = int(self.words[self.words.index("--port") + 1])
         else:
             self.port = free_port()
             self.words += ["--port", str(self.port)]
-        self.told = open(os.path.join(cwd or ".", f"told-{self.port}"), "w+b")
+        self.stderr = open(os.path.join(cwd or ".", f"stderr-{self.port}"), "w+b")
         self.process = subprocess.Popen(
-            [program(), *self.words], cwd=cwd, stdin=subprocess.DEVNULL, stdout=subprocess.PIPE, stderr=self.told, env=environment(**how)
+            [program(), *self.words], cwd=cwd, stdin=subprocess.DEVNULL, stdout=subprocess.PIPE, stderr=self.stderr, env=environment(**how)
         )
-        # What it prints first is that it listens; where it ends before, nothing.
+        # Its first line says that it listens. It is empty if the program ends before.
         self.first = self.process.stdout.readline()
 
     @property
     def listens(self):
         return self.first == b"listening %d\n" % self.port
 
-    def connect(self, timeout=30):
+    @property
+    def log(self):
+        """The whole lines that it has written to standard error so far."""
+        return Path(self.stderr.name).read_text("latin-1").split("\n")[:-1]
+
+    def connect(self, timeout=LONGEST):
         return socket.create_connection(("127.0.0.1", self.port), timeout * PATIENCE)
 
-    def send(self, asked, timeout=30):
-        """Writes these bytes, and reads what comes until the other side closes."""
+    def send(self, asked, timeout=LONGEST):
+        """Sends these bytes, and returns all that the desk sends until it closes."""
         with self.connect(timeout) as peer:
-            # It may close before it has read all.
+            # The desk may close before it has read all.
             with contextlib.suppress(BrokenPipeError, ConnectionResetError):
                 peer.sendall(asked)
             return read_all(peer)
 
-    def ask(self, method, target, body=None, headers=(), timeout=30):
+    def ask(self, method, target, body=None, headers=(), timeout=LONGEST):
         """One request of HTTP/1.1 and its response, byte for byte."""
         if isinstance(body, str):
             body = body.encode()
@@ -169,18 +178,18 @@ class Opened:
             lines.append(f"Content-Length: {len(body)}")
         return self.send("\r\n".join([*lines, "", ""]).encode("latin-1") + (body or b""), timeout)
 
-    def end(self, how=signal.SIGTERM, timeout=30):
-        """Ends it by a signal, where it still runs; its status, what it printed after the first line, and what it told on standard error."""
+    def end(self, how=signal.SIGTERM, timeout=LONGEST):
+        """Ends it by a signal if it still runs: its status, its output after the first line, and standard error."""
         if self.process.poll() is None:
             self.process.send_signal(how)
         return self.wait(timeout)
 
-    def wait(self, timeout=30):
+    def wait(self, timeout=LONGEST):
         rest = self.process.stdout.read() if not self.process.stdout.closed else b""
         status = self.process.wait(timeout * PATIENCE)
         self.process.stdout.close()
-        self.told.seek(0)
-        return Ran(status, rest, self.told.read(), self.words)
+        self.stderr.seek(0)
+        return Ran(status, rest, self.stderr.read(), self.words)
 
     def __enter__(self):
         return self
@@ -190,7 +199,7 @@ class Opened:
             self.process.kill()
         self.process.wait()
         self.process.stdout.close()
-        self.told.close()
+        self.stderr.close()
 
 
 def read_all(peer):
@@ -201,17 +210,34 @@ def read_all(peer):
     return bytes(got)
 
 
+def is_read(client):
+    """Whether the desk has accepted this connection and has read all that the client sent."""
+    if client.family == socket.AF_UNIX:
+        return fcntl.ioctl(client, termios.TIOCOUTQ, bytes(4)) == bytes(4)
+    here, there = map(socket_name, (client.getsockname(), client.getpeername()))
+    with open("/proc/net/tcp") as table:
+        rows = {tuple(row[1:3]): row for row in map(str.split, table)}
+    sent, received = rows.get((here, there)), rows.get((there, here))
+    # The column of both queues: bytes that are not acknowledged yet, and bytes that are not read yet. A connection that is not accepted has no inode.
+    return bool(sent and received) and sent[4].startswith("00000000:") and received[4].endswith(":00000000") and received[9] != "0"
+
+
+def socket_name(address):
+    """An address of IPv4 and its port, as /proc/net/tcp writes them."""
+    return "%08X:%04X" % (struct.unpack("=I", socket.inet_aton(address[0]))[0], address[1])
+
+
 def parted(response):
-    """A response's status, its header lines and its body; 0 and nothing where there is none."""
+    """A response's status, its header lines and its body; 0 and nothing if there is no response."""
     head, _, body = response.partition(b"\r\n\r\n")
     first, *lines = head.decode("latin-1").split("\r\n")
     return int(first.split()[1]) if " " in first else 0, lines, body
 
 
-class Counter:
-    """A connection to the counter's socket of an open desk."""
+class Control:
+    """A connection to the control socket of an open desk."""
 
-    def __init__(self, path, timeout=30):
+    def __init__(self, path, timeout=LONGEST):
         self.peer = socket.socket(socket.AF_UNIX)
         self.peer.settimeout(timeout * PATIENCE)
         self.peer.connect(str(path))
@@ -231,8 +257,8 @@ class Counter:
 
 
 class Signer:
-    """What holds a key, at a Unix socket: reads the bytes to sign until their end, and answers. `answer(message, call)` gives a signature; None
-    closes with nothing, and the text "hang" keeps the asker waiting."""
+    """A signer at a Unix socket, which reads a message to its end and answers it. `answer(message, call)` returns a signature, or None to close
+    without one, or the text "hang" to keep the desk waiting."""
 
     def __init__(self, path, answer=lambda message, call: ANY_SIGNATURE):
         self.path, self.answer, self.asked = str(path), answer, []
@@ -262,11 +288,11 @@ class Signer:
         return self
 
     def __exit__(self, *_):
-        """Ends it, and takes its socket away, so that another one can be there. It may have been ended before."""
+        """Ends it, and removes its socket, so that another signer can listen there. It may have ended before."""
         if self.ended.is_set():
             return
         self.ended.set()
-        # Wakes who accepts.
+        # Wakes the thread that accepts.
         with contextlib.suppress(OSError):
             self.server.shutdown(socket.SHUT_RDWR)
         self.server.close()
@@ -275,8 +301,8 @@ class Signer:
 
 
 class Signers:
-    """The same, for as many at once as connect, each on a thread of its own. `answer(message)` gives a signature, or None; `now` are those that
-    are answered just now, and `most` how many these were at most."""
+    """A signer that answers all connections at once, each on its own thread. `answer(message)` returns a signature, or None. `now` counts the requests
+    that are being answered, and `most` is the highest count so far."""
 
     def __init__(self, path, answer=lambda message: ANY_SIGNATURE):
         self.path, self.answer, self.asked, self.now, self.most = str(path), answer, [], 0, 0
@@ -305,8 +331,8 @@ class Signers:
             if signature is not None:
                 peer.sendall(signature)
 
-    def until(self, count, seconds=10):
-        """Waits until so many are answered at once; whether they are."""
+    def until(self, count, seconds=60):
+        """Waits until so many requests are being answered at once; returns whether they are."""
         ends = time.monotonic() + seconds * PATIENCE
         while self.now < count and time.monotonic() < ends:
             time.sleep(0.005)
@@ -316,7 +342,7 @@ class Signers:
         return self
 
     def __exit__(self, *_):
-        # Wakes who accepts.
+        # Wakes the thread that accepts.
         with contextlib.suppress(OSError):
             self.server.shutdown(socket.SHUT_RDWR)
         self.server.close()

@@ -1,4 +1,4 @@
-"""Registers of any size made by Python's sqlite3, as a program of version 1, 2 or 3 left them, and what must stand in them once they were opened."""
+"""Registers of any size that Python's sqlite3 makes, as a program of version 1, 2 or 3 would, and their expected contents once they were opened."""
 
 import hashlib
 import random
@@ -138,12 +138,12 @@ def sealed(number, this_update, entries):
 
 
 def on_crl(listed, number):
-    """What CRL `number` lists of these rows: serial number, moment and reason."""
+    """The entries of CRL `number` from these rows: serial number, moment and reason."""
     return [(serial, row[0], row[1]) for serial, row in listed.items() if row[2] <= number and (row[4] is None or number <= row[4])]
 
 
 class Records:
-    """Sound records: a CRL a day, certificates that end on some day, and a fifth of them revoked before they do."""
+    """Sound records: a CRL each day, certificates that expire on some day, and a fifth of them revoked before."""
 
     def __init__(self, certificates, crls=40):
         choice = random.Random(certificates)
@@ -182,7 +182,7 @@ class Records:
 
 
 def make(path, records, version):
-    """A register of a version; where it is version 2, half of what it keeps is missing, and the other half is wrong."""
+    """Makes a register of a version. In version 2 half of its derived rows are missing, and the other half are wrong."""
     with sqlite3.connect(path) as db:
         # On one line each, as the program wrote them: the texts stand in the file.
         texts = " ".join("".join((FIRST, SECOND, THIRD)[:version]).split()).replace("( ", "(").replace(" )", ")")
@@ -205,8 +205,16 @@ def make(path, records, version):
     db.close()
 
 
+def make_revoked(path, count, key):
+    """Makes a register with another key, in which so many certificates are revoked, a fifth of all, and no CRL was issued."""
+    make(path, Records(5 * count, 0), 3)
+    with sqlite3.connect(path) as db:
+        db.execute("UPDATE office SET pubkey = ?", (bytes.fromhex(key),))
+    db.close()
+
+
 def put_beside(db, records):
-    """What version 3 keeps beside the records, in their order."""
+    """Inserts the derived rows of version 3, in the order of the records."""
     letters, listed = records.standing(), records.listed()
     db.executemany("INSERT INTO standing VALUES (?, ?, ?)", [(cert[0], cert[3], letters[cert[0]]) for cert in records.certs])
     db.executemany("INSERT INTO listed VALUES (?, ?, ?, ?, ?, ?)", [(row[0], *listed[row[0]]) for row in records.revocations])
@@ -216,7 +224,7 @@ def put_beside(db, records):
 
 
 def rows_of(path):
-    """The rows of the records' tables, with their places."""
+    """The rows of the records' tables, with their rowids."""
     with sqlite3.connect(path) as db:
         rows = {table: db.execute(f"SELECT rowid, * FROM {table} ORDER BY rowid").fetchall() for table in RECORDS}
     db.close()
@@ -231,7 +239,7 @@ def schema_of(path):
 
 
 def expected(records):
-    """What must stand beside the records in a register of version 3: office, schedule, letters, counts, listings."""
+    """The expected derived rows of a register of version 3: office, schedule, letters, counts, listings."""
     letters = records.standing()
     return {
         "office": [(1, 3, bytes.fromhex(NAME), KEY, 398, 691200, 345600, 1000000, records.last)],
@@ -243,7 +251,7 @@ def expected(records):
 
 
 def beside(path):
-    """The same as it stands in a file, and what SQLite says of the file's soundness."""
+    """The derived rows of a file, and the results of SQLite's checks of the file."""
     with sqlite3.connect(path) as db:
         found = {table: sorted(db.execute(f"SELECT * FROM {table}").fetchall()) for table in ("office", "longest", "standing", "kept", "listed")}
         sound = (db.execute("PRAGMA integrity_check").fetchall(), db.execute("PRAGMA foreign_key_check").fetchall())

@@ -1,10 +1,11 @@
-"""What a test is given: a folder of its own, the program, and comparisons that tell what was given, wanted and got."""
+"""The argument `t` of a test: a folder of its own, the program, and comparisons whose failures show the input, the expected and the actual value."""
 
 import contextlib
 import os
 import shutil
 import sqlite3
 import subprocess
+import time
 from pathlib import Path
 
 from . import program
@@ -19,8 +20,15 @@ PACKAGES = {
 }
 
 
+# A desk that waits for a signer or a client waits for ten seconds at least. A reply that waits for neither takes fewer seconds than this, even on a
+# slow machine with a slow disk.
+AT_ONCE = 5
+# A wait of ten seconds is never shorter. On a slow machine it takes longer, but less than two such waits.
+TEN_SECONDS = (9.9, 19)
+
+
 class Failed(Exception):
-    """A test that came to something else than what was wanted."""
+    """A test whose result differs from the expected one."""
 
 
 class Skipped(Exception):
@@ -36,7 +44,7 @@ def test(function=None, *, seconds=1):
 
 
 def each(rows, *, seconds=1):
-    """Marks a function as a test of each row of a table: a name, and what the function is given behind `t`."""
+    """Marks a function as a test of each row of a table: its name, and the arguments after `t`."""
 
     def marked(function):
         function.rows, function.seconds = dict(rows), seconds
@@ -46,7 +54,7 @@ def each(rows, *, seconds=1):
 
 
 def need(*tools):
-    """Skips the test where a tool is missing."""
+    """Skips the test if a tool is missing."""
     for tool in tools:
         if not shutil.which(tool):
             raise Skipped(f"no {tool} here: apt install {PACKAGES.get(tool, tool)}")
@@ -60,13 +68,13 @@ class Trial(contextlib.ExitStack):
         self.room, self.given = Path(room), []
         self._clock = None
 
-    # What was done
+    # Actions
 
     def note(self, text):
         self.given.append(text)
 
     def clock(self, moment):
-        """Sets the machine's clock, for what is started afterwards and for what runs already under a clock that was set."""
+        """Sets the machine's clock for programs that start later, and for those that run already under a clock that was set."""
         self._clock = self.room / "clock"
         self._clock.write_text(str(moment if isinstance(moment, int) else program.seconds_of(moment)))
         self.note(f"clock {moment}")
@@ -77,23 +85,23 @@ class Trial(contextlib.ExitStack):
         text = given if isinstance(given, str) else given.decode("latin-1")
         self.note(program.shown(words) + (f"  < {show(text, 600)}" if text else ""))
         ran = program.run(words, given, cwd=self.room, **how)
-        # A first CRL that a digest sealed is told of in each test, and no other is.
+        # The first CRL with a placeholder digest has a warning, in each test, and no other CRL has one.
         is_sealed = program.can_seal(ran.words) and "--signer" not in ran.words
-        self.same(ran.is_warned, is_sealed and any(it.startswith("crl 1 entries ") for it in ran.lines), "whether it is told that a digest seals")
+        self.same(ran.is_warned, is_sealed and any(it.startswith("crl 1 entries ") for it in ran.lines), "whether there is a warning about a placeholder digest")
         return ran
 
     def done(self, *words, given=b"", **how):
-        """Runs the program, and wants status 0 with nothing on standard error; what it printed."""
+        """Runs the program, which must end with status 0 and nothing on standard error; returns its output."""
         ran = self.desk(*words, given=given, **how)
         self.same((ran.status, ran.err), (0, b""), "status and standard error")
         return ran.out.decode("latin-1")
 
     def as_nobody(self, *words, given=b""):
-        """Runs the program to its end as a user who has no rights here but those that everybody has."""
+        """Runs the program to its end as a user without rights."""
         before = [program.program()]
         if os.geteuid() == 0:
             need("setpriv")
-            # The program is copied to where that user may come.
+            # That user can read the copy.
             desk = self.room / "desk"
             if not desk.exists():
                 shutil.copy(program.program(), desk)
@@ -101,10 +109,10 @@ class Trial(contextlib.ExitStack):
                 os.chmod(self.room, 0o755)
             before = ["setpriv", "--reuid", "65534", "--regid", "65534", "--clear-groups", str(desk)]
         self.note(f"as nobody: {program.shown(words)}")
-        return subprocess.run([*before, *map(str, words)], cwd=self.room, input=given, capture_output=True, timeout=60, env=program.environment())
+        return subprocess.run([*before, *map(str, words)], cwd=self.room, input=given, capture_output=True, timeout=program.LONGEST, env=program.environment())
 
     def register(self, file="ca.db", lines="", name=program.NAME, key=program.KEY, options=()):
-        """Makes a register, and runs lines over it that are all accepted; its path."""
+        """Makes a register, and runs lines over it, which must all be accepted; returns its path."""
         self.same(self.done("init", file, "--name", name, "--key", key, *options), "created\n")
         if lines:
             told = self.done("script", file, given=lines)
@@ -112,7 +120,7 @@ class Trial(contextlib.ExitStack):
         return self.room / file
 
     def open(self, file="ca.db", *words, command="open", **how):
-        """Opens a register until the test ends. `desk open` wants a counter, which is `counter` where none is named, and a digest alone seals where no signer and no responder is."""
+        """Opens a register until the test ends. `desk open` gets the control socket `counter` if none is named, and --unsigned if no signer and no responder is named."""
         how.setdefault("clock", self._clock)
         if command == "open" and not {"--control", "--counter"} & set(words):
             words = (*words, "--control", "counter")
@@ -125,30 +133,30 @@ class Trial(contextlib.ExitStack):
             raise Failed(f"{program.shown(opened.words)} does not listen: status {ended.status}, {ended.err!r}")
         return opened
 
-    def counter(self, path="counter"):
-        return self.enter_context(program.Counter(self.room / path))
+    def control(self, path="counter"):
+        return self.enter_context(program.Control(self.room / path))
 
     def signer(self, path="ca.sign", answer=None):
-        """What signs at a socket, until the test ends."""
+        """Starts a signer at a socket until the test ends."""
         words = (self.room / path,) if answer is None else (self.room / path, answer)
         return self.enter_context(program.Signer(*words))
 
     def sql(self, file, statement, *values):
-        """Runs a statement over a register that is closed, by Python's own SQLite; its rows."""
+        """Runs a statement of SQL over a closed register, by Python's SQLite; returns its rows."""
         self.note(f"sql {file} {statement}")
         with contextlib.closing(sqlite3.connect(self.room / file)) as it:
             rows = it.execute(statement, values).fetchall()
             it.commit()
         return rows
 
-    def tool(self, *words, given=b"", timeout=60, **how):
-        """Runs another program, as openssl, and wants status 0; what it printed, standard error behind it."""
+    def tool(self, *words, given=b"", timeout=program.LONGEST, **how):
+        """Runs another program, such as openssl, which must end with status 0; returns its output, followed by standard error."""
         ran = self.tried(*words, given=given, timeout=timeout, **how)
         self.same(ran.returncode, 0, f"status of {words[0]}, which printed {(ran.stdout + ran.stderr)[-2000:]!r}")
         return ran.stdout + ran.stderr
 
-    def tried(self, *words, given=b"", timeout=60, **how):
-        """Runs another program, however it ends."""
+    def tried(self, *words, given=b"", timeout=program.LONGEST, **how):
+        """Runs another program, with any exit status."""
         need(str(words[0]))
         words = [str(it) for it in words]
         self.note(" ".join(words))
@@ -156,20 +164,36 @@ class Trial(contextlib.ExitStack):
             given = given.encode()
         return subprocess.run(words, input=given, capture_output=True, cwd=self.room, timeout=timeout, **how)
 
-    # What came of it
+    # Comparisons
 
-    def lying(self):
-        """What lies in the test's folder: of each file by its name the bytes, the mode and the moment of its last change."""
+    def files(self):
+        """The files of the test's folder: for each name the bytes, the mode and the moment of its last change."""
         found = [it for it in self.room.rglob("*") if it.is_file()]
         return {str(it.relative_to(self.room)): (it.read_bytes(), it.stat().st_mode, it.stat().st_mtime_ns) for it in found}
 
     @contextlib.contextmanager
     def untouched(self, what):
-        """Wants that what is done meanwhile leaves each file in the test's folder as it was, and makes and removes none."""
-        before = self.lying()
+        """Fails if the block changes, creates or removes a file in the test's folder."""
+        before = self.files()
         yield
-        after = self.lying()
+        after = self.files()
         self.same(sorted(it for it in {*before, *after} if before.get(it) != after.get(it)), [], f"files that {what} touched")
+
+    @contextlib.contextmanager
+    def at_once(self, what):
+        """Fails if the block waits for a signer or another client."""
+        begun = time.monotonic()
+        yield
+        seconds = time.monotonic() - begun
+        self.true(seconds < AT_ONCE, f"{what} took {seconds:.1f} s")
+
+    @contextlib.contextmanager
+    def ten_seconds(self, what="it"):
+        """Fails if the block does not wait for ten seconds, once."""
+        begun = time.monotonic()
+        yield
+        seconds = time.monotonic() - begun
+        self.true(TEN_SECONDS[0] <= seconds < TEN_SECONDS[1], f"{what} took {seconds:.1f} s in place of ten")
 
     def same(self, got, wanted, what=""):
         if got != wanted:
@@ -185,6 +209,6 @@ class Trial(contextlib.ExitStack):
 
 
 def show(value, most=4_000):
-    """A value as text, of which the middle is left out where it is long."""
+    """A value as text; a long one without its middle."""
     text = repr(value)
     return text if len(text) <= most else f"{text[: most // 2]} .. {text[-most // 2 :]} ({len(text)} characters)"

@@ -1,4 +1,4 @@
-"""Debian's nginx with examples/nginx.conf before a desk, in the test's folder: its own certificates, log and kept answers, and ports of its own."""
+"""Debian's nginx with examples/nginx.conf in front of a desk, in the test's folder, with its own certificates, log, cache and ports."""
 
 import os
 import re
@@ -10,10 +10,10 @@ from . import authority, program
 from .authority import EXAMPLES
 from .trial import need
 
-# Debian has it where not everybody looks.
+# Debian has nginx in /usr/sbin.
 os.environ["PATH"] = os.environ.get("PATH", "") + ":/usr/sbin"
 
-# What a web server of the whole machine has besides a site: all of it in one folder.
+# The main configuration of the server, with all paths in one folder.
 AROUND = """{user}pid {folder}/nginx.pid;
 error_log {folder}/error.log;
 worker_processes 2;
@@ -50,7 +50,7 @@ commonName = supplied
 
 
 def certificates(t):
-    """Those of the server, of the office's authority and two of its clerks, of whom `former` is revoked, and of a stranger; and the office's CRL."""
+    """Makes certificates for the server, the office's CA, two of its clerks (`former` is revoked) and a stranger, and the office's CRL."""
     for name, subject in (("desk", "/CN=localhost"), ("office", "/CN=Office"), ("stranger", "/CN=stranger")):
         authority.certificate(t, name, subject)
     for name, text in (("office.cnf", OFFICE), ("office.txt", ""), ("office.serial", "01\n")):
@@ -63,13 +63,13 @@ def certificates(t):
 
 
 def revoke(t, name):
-    """A clerk's certificate is on the next CRL of the office, office.crl."""
+    """Revokes a clerk's certificate, and issues the next CRL of the office, office.crl."""
     t.tool("openssl", "ca", "-config", "office.cnf", "-revoke", f"{name}.pem")
     t.tool("openssl", "ca", "-config", "office.cnf", "-gencrl", "-out", "office.crl")
 
 
 class Front:
-    """A server before the desk at a port; the example's 60 seconds may be fewer."""
+    """A server in front of the desk at a port. It caches answers for `seconds`, in place of the example's 60."""
 
     def __init__(self, t, desk_port, name="front", seconds=60):
         need("nginx")
@@ -87,10 +87,10 @@ class Front:
         t.note(" ".join(map(str, words)))
         self.process = subprocess.Popen([*map(str, words)], cwd=self.folder, stdin=subprocess.DEVNULL)
         t.callback(authority.end, self.process)
-        authority.until(self.answers, f"nginx at {self.port}: {self.told()}")
+        authority.until(self.answers, f"nginx at {self.port}: {self.error_log()}")
 
     def site(self, desk_port):
-        """The example with names of this folder in the place of the machine's; each must be there."""
+        """The example, with paths of this folder in place of the machine's. Each must occur in it."""
         text = (EXAMPLES / "nginx.conf").read_text()
         for was, now in (
             (r"/var/cache/nginx/desk", f"{self.folder}/cache"), (r"/var/log/nginx", str(self.folder)),
@@ -104,13 +104,13 @@ class Front:
             self.t.true(count, f"examples/nginx.conf has no {was}")
         return text
 
-    def told(self):
+    def error_log(self):
         log = self.folder / "error.log"
         return log.read_text()[-500:] if log.exists() else ""
 
     def answers(self):
         try:
-            urllib.request.urlopen(f"http://127.0.0.1:{self.port}/nowhere", timeout=5).close()
+            urllib.request.urlopen(f"http://127.0.0.1:{self.port}/nowhere", timeout=60).close()
         except urllib.error.HTTPError:
             return True
         except OSError:
@@ -121,7 +121,7 @@ class Front:
         return f"https://127.0.0.1:{self.tls_port}{path}" if tls else f"http://127.0.0.1:{self.port}{path}"
 
     def ask(self, path, *words, tls=False, given=b""):
-        """By curl: the status, the fields of the head by name, and the body."""
+        """A response by curl: the status, the header fields by name, and the body."""
         (self.t.room / "body").unlink(missing_ok=True)
         told = self.t.tool("curl", "-s", "-k", "-D", "head", "-o", "body", "-w", "%{http_code}", *words, self.url(path, tls), given=given)
         lines = (self.t.room / "head").read_bytes().decode("latin-1").split("\r\n")
@@ -130,10 +130,10 @@ class Front:
         return int(told), fields, body.read_bytes() if body.exists() else b""
 
     def state(self, path):
-        """Whether the answer was kept (HIT), or the desk was asked (MISS, EXPIRED)."""
+        """Whether the answer came from the cache (HIT), or from the desk (MISS, EXPIRED)."""
         return self.ask(path)[1].get("X-Cache-Status")
 
     def asked_of_desk(self):
-        """How many requests went to the desk, by the log: each line has what the kept answers said before the seconds."""
+        """How many requests nginx sent to the desk, from its log: each line has the cache status before the seconds."""
         lines = (self.folder / "desk.log").read_text().splitlines()
         return sum(1 for line in lines if line.split()[-2] not in ("HIT", "-"))

@@ -26,17 +26,19 @@ FORMS = {
         "subscriber": r"subscriber \d+", "order": r"order \d+", "registered": "registered", "same": "same", "request": r"request \d+ due .*",
         "declined": "declined", "revoked": "revoked", "revoked late": "revoked late", "crl": r"crl \d+ entries \d+", "unknown": "unknown",
         "good": "good", "expired": "expired", "status revoked": r"revoked .* reason \d", "counts": r"good \d+ revoked \d+ expired \d+",
-        "listing none": "listing none",
+        "listing none": "listing none", "bad-clock": "bad-clock", "clock accepted": "clock accepted",
         "listing first": r"listing first \d+", "listing last": r"listing first \d+ last \d+", "overdue none": "overdue 0",
         "overdue": r"overdue \d+ first \d+", "next-crl": r"next-crl \d.*", "next-crl at once": "next-crl at-once", "ocsp": "ocsp [0-9a-f]+",
     }.items()
 }
-# What is in an OCSP response that refuses, or that tells of a certificate; a nonce of the most bytes that is repeated.
+# Parts of OCSP responses: a refusal, a status of a certificate, and the longest nonce that is repeated.
 OCSP = {
     "malformed": ocsp.MALFORMED, "try later": ocsp.TRY_LATER, "good": b"\x80\x00\x18\x0f", "unknown": b"\x82\x00\x18\x0f",
     "revoked": b"\xa1\x11\x18\x0f", "revoked for a reason": b"\xa1\x16\x18\x0f", "nonce": ocsp.value(0x06, ocsp.NONCE),
     "longest nonce": ocsp.value(0x06, ocsp.NONCE) + b"\x04\x81\x83",
 }
+# The steps of an open register. Any other step closes it, and then the desk forgets its recent requests and the clock that the operator accepted.
+OPEN = ("http", "tell", "at")
 
 
 def policy_of(plan):
@@ -46,6 +48,8 @@ def policy_of(plan):
 def answer(register, step):
     """What a step must be answered, in bytes; the register is as after it."""
     word, *given = step
+    if word not in OPEN:
+        register.closed()
     if word == "script":
         return lines.reply(register, given[0]).encode()
     if word == "tell":
@@ -87,8 +91,9 @@ class Day:
 
     def __init__(self, plan, seed):
         self.plan, self.draws = plan, Draws(seed, plan)
-        # Apart from the others, which so are the same with and without key identifiers.
+        # Apart from the others, which so are the same with and without key identifiers and accepted clocks.
         self.identifiers = random.Random(f"key identifiers {seed}")
+        self.clocks = random.Random(f"accepted clocks {seed}")
         self.register = Register(policy_of(plan))
         self.steps, self.wanted = [], []
         # How often each refusal and each form came; the most of what can be many.
@@ -209,7 +214,7 @@ class Day:
                 self.line(now, f"request {serial} {self.draws.any(list(GROUNDS)).decode()}")
                 self.line(now, f"revoke {len(self.register.requests)}")
 
-    # What comes between two scripts
+    # Steps between two scripts
 
     def between(self, part):
         now = self.draws.moment(self.register)
@@ -225,6 +230,8 @@ class Day:
 
     def exchange(self):
         now = self.draws.moment(self.register)
+        if self.register.is_ahead(now):
+            self.far_ahead(now)
         case = self.draws.below(12)
         if case < 7:
             self.take("http", now, *self.draws.http(self.register, now))
@@ -233,15 +240,30 @@ class Day:
         else:
             self.take("at", now, tuple(self.told(now) for _ in range(1 + self.draws.below(4))))
 
+    def far_ahead(self, now):
+        """A request for revocation, which is refused, and half the time the line that accepts the clock."""
+        serial = self.clocks.choice([*self.register.certificates] or [5])
+        self.take("http", now, *self.draws.post("/requests", f'{{"serial":"{serial:x}","ground":"asked"}}'.encode()))
+        if self.clocks.random() < 0.5:
+            self.take("tell", now, f"accept-clock {text_of(min(now, moments.LAST_SECOND))}".encode())
+
     def told(self, now):
         # An end of a line within it would be two lines.
         return self.draws.words(self.register, now).encode()
 
     # In the end
 
+    def too_many(self, now):
+        """Four requests over HTTP for a good certificate: a fourth open one is refused."""
+        good = [it for it in self.register.certificates if self.register.status_of(now, it) == "good"]
+        for serial in good[:1] * 4:
+            body = f'{{"serial":"{serial:x}","ground":"asked"}}'.encode()
+            self.take("http", now, "POST", "/requests", (f"Content-Length: {len(body)}",), body)
+
     def look_at_all(self):
         """Each CRL, each serial number's status, listing and OCSP answer, and what an audit says."""
         now = min(max(self.register.last, self.plan.start) + self.draws.below(self.plan.pace), moments.CLOCK_END - 1)
+        self.too_many(now)
         for number in range(len(self.register.crls) + 2):
             self.take("http", now, "GET", f"/crl/{number}", (), b"")
         serials = [*self.register.certificates, *(self.draws.new_serial() for _ in range(4))]

@@ -7,7 +7,7 @@ from . import moments
 # The issuer of the examples: common name CA, and a key of three bytes.
 NAME = bytes.fromhex("300D310B300906035504030C024341")
 KEY = b"abc"
-# The AlgorithmIdentifier of SHA-1 with NULL, which the seal names.
+# The AlgorithmIdentifier of SHA-1 with NULL, which the placeholder digest has.
 SHA1 = bytes.fromhex("300906052B0E03021A0500")
 
 

@@ -6,12 +6,12 @@ import re
 from urllib.parse import unquote_to_bytes
 
 from . import crls, lines, moments, ocsp
-from .register import Refused, refuse
+from .register import GROUNDS, Refused, refuse
 
 # Of 413 the older phrase (RFC 7231 6.5.11).
 PHRASES = {
     200: "OK", 400: "Bad Request", 404: "Not Found", 405: "Method Not Allowed", 409: "Conflict", 411: "Length Required", 413: "Payload Too Large",
-    431: "Request Header Fields Too Large",
+    429: "Too Many Requests", 431: "Request Header Fields Too Large", 503: "Service Unavailable",
 }
 BASE64 = re.compile(rb"[A-Za-z0-9+/]*={0,2}")
 LONGEST_BODY = 65_536
@@ -25,7 +25,7 @@ def request(method, target, fields=(), body=b""):
 
 def response(now, status, body, kind="application/json", allow=None):
     head = [f"HTTP/1.1 {status} {PHRASES[status]}", f"Date: {moments.http_date(now)}"]
-    head += [f"Allow: {allow}"] * bool(allow)
+    head += [f"Allow: {allow}"] * bool(allow) + ["Retry-After: 60"] * (status == 429)
     head += [f"Content-Type: {kind}", f"Content-Length: {len(body)}", "Connection: close", "", ""]
     return "\r\n".join(head).encode() + body
 
@@ -131,5 +131,9 @@ def requested(register, now, body):
     texts = [value.get(it) for it in ("serial", "ground")] if isinstance(value, dict) else [None]
     refuse(not all(isinstance(it, str) for it in texts), lines.SYNTAX)
     serial, ground = lines.serial(texts[0].encode()), lines.word(texts[1].encode())
+    # The register refuses a request on an unknown ground.
+    status = register.limit_over_http(now, serial) if ground in GROUNDS else None
+    if status:
+        return error(now, status, status)
     _, number, _, due = register.run(now, "request", serial, ground).split()
     return as_json(now, {"due": due, "request": int(number)})

@@ -64,13 +64,17 @@ def reply(register, line):
 def told_now(register, now, line):
     """The reply to a line that has no moment."""
     text = line[:-1] if line.endswith(b"\r") else line
+    word, _, given = text.partition(b" ")
     try:
-        return told(register, now, text.split(b" "))
+        if word == b"accept-clock":
+            register.accepted = moment(given)
+            return "clock accepted"
+        return told(register, now, text.split(b" "), is_open=True)
     except Refused as refused:
         return str(refused)
 
 
-def told(register, now, fields):
+def told(register, now, fields, is_open=False):
     name, *given = fields
     if name == b"ocsp":
         refuse(len(given) != 1, SYNTAX)
@@ -78,6 +82,8 @@ def told(register, now, fields):
     forms = COMMANDS.get(name, QUERIES.get(name))
     refuse(forms is None or len(forms) != len(given), SYNTAX)
     values = [form(text) for form, text in zip(forms, given)]
+    if is_open and name in COMMANDS and register.is_ahead(now):
+        return "bad-clock"
     call = register.run if name in COMMANDS else register.ask
     return call(now, name.decode().replace("-", "_"), *values)
 

@@ -11,9 +11,8 @@ from . import days, http
 from .moments import text_of
 from .smaller import smaller
 
-# The jobs of a register that is open; a script's lines are run together too.
-OPEN = ("http", "tell", "at")
-KINDS = {"script": "script", **{it: "open" for it in OPEN}}
+# A script's lines are run together, and so are the steps of an open register.
+KINDS = {"script": "script", **{it: "open" for it in days.OPEN}}
 
 
 class Player:
@@ -77,25 +76,25 @@ class Player:
         with program.Opened(["open", "ca.db", "--control", "counter", "--unsigned"], cwd=self.room, clock=self.clock) as desk:
             if not desk.listens:
                 return [ending(desk.wait())] + [None] * (len(steps) - 1)
-            with program.Counter(self.room / "counter") as counter:
+            with program.Control(self.room / "counter") as control:
                 for step in steps:
-                    told.append(self.exchange(desk, counter, *step))
+                    told.append(self.exchange(desk, control, *step))
             ended = desk.end()
             if ended.err or ended.out:
                 told[-1] = ending(ended)
         return told
 
-    def exchange(self, desk, counter, word, now, *given):
+    def exchange(self, desk, control, word, now, *given):
         self.clock.write_text(str(now))
         if word == "http":
             return desk.send(http.request(*given))
         if word == "tell":
             # Words may have any byte, so they go as they are.
-            counter.peer.sendall(given[0] + b"\n")
-            return counter.file.readline().rstrip(b"\n")
+            control.peer.sendall(given[0] + b"\n")
+            return control.file.readline().rstrip(b"\n")
         ran = program.run(["at", "counter"], b"".join(it + b"\n" for it in given[0]), cwd=self.room)
         told = ran.out.split(b"\n")[:-1]
-        refused = any(it[:1] in (b"E", b"F") for it in told)
+        refused = any(it[:1] in (b"E", b"F", b"b") for it in told)
         as_said = (ran.status, ran.err) == ((3, b"refused\n") if refused else (0, b""))
         return b"\n".join(told) if as_said else ending(ran)
 

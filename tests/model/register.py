@@ -20,6 +20,7 @@ GROUNDS = {
     b"nonconforming": (5 * DAY, 4),
     b"inaccurate": (5 * DAY, 9),
 }
+MOST_AHEAD = 30 * DAY
 NAME = re.compile(rb"[A-Za-z0-9._-]{1,64}")
 
 
@@ -93,6 +94,17 @@ class Register:
     crls: list = field(default_factory=list)
     # The issuer's own key identifiers in the order in which they were set, each with the number of the first CRL that has it.
     identifiers: list = field(default_factory=list)
+    # When requests came over HTTP since the register was opened, and the moment that the operator accepted by `accept-clock`.
+    recent: list = field(default_factory=list)
+    accepted: int | None = None
+
+    def closed(self):
+        """An open desk forgets both when it is closed."""
+        self.recent, self.accepted = [], None
+
+    def is_ahead(self, now):
+        """Whether the clock is more than 30 days past the last accepted moment and past the moment that the operator accepted: an open desk refuses commands."""
+        return self.last != 0 and now - self.last > MOST_AHEAD and (self.accepted is None or now - self.accepted > MOST_AHEAD)
 
     def identify(self, octets):
         self.identifiers.append((len(self.crls) + 1, octets))
@@ -154,6 +166,17 @@ class Register:
         self.room(self.requests)
         self.requests.append(Request(serial, ground, now))
         return f"request {len(self.requests)} due {text_of(self.requests[-1].due)}"
+
+    def limit_over_http(self, now, serial):
+        """The status by which an open desk refuses a request over HTTP before the register decides, or None."""
+        left = max(0, self.policy.cap - len(self.requests))
+        if len(self.recent) >= 100 and self.recent[-100] <= now < self.recent[-100] + 60:
+            return 429
+        self.recent.append(now)
+        if self.is_ahead(now) or left < self.policy.cap // 10:
+            return 503
+        waiting = [it for it in self.requests if it.serial == serial and not it.declined]
+        return 429 if len(waiting) >= 3 and self.status_of(now, serial) == "good" else None
 
     def open_request(self, now, number):
         refuse(not 1 <= number <= len(self.requests), "E17 no-request")

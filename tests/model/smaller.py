@@ -5,7 +5,7 @@ import time
 
 from . import days
 
-# What a reply says was made, and the words whose first field is such a number.
+# The words for what a reply numbers, and the commands whose first field is such a number.
 MADE = re.compile(rb"(subscriber|order|request|crl) (\d+)(?: .*)?")
 NAMED_BY = {b"order": b"subscriber", b"register": b"order", b"decline": b"request", b"revoke": b"request"}
 

@@ -16,7 +16,7 @@ use Rattle.reg_audit.specs.declared.fault.AuditFault.{AuditFault}
 use Rattle.reg_audit.specs.declared.fault.AuditFault.TheVariants as audit_fault
 use Rattle.reg_store_opening.specs.Examined.{SaysFound}
 use Rattle.reg_store_opening.specs.Said.{HasVersion, SaysNoRegister}
-use Rattle.reg_store_opening.specs.declared.opening.OlderOffice.{OlderOffice}
+use Rattle.reg_store_opening.specs.declared.version_check.OlderOffice.{OlderOffice}
 use Rattle.reg_audit.specs.Judged.{IsJudged}
 use Rattle.reg_audit.specs.AuditResults.{TellsOf, audit_result_of}
 

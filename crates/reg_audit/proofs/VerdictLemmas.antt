@@ -14,7 +14,7 @@ use Rattle.reg_audit.specs.declared.fault.AuditFault.TheVariants as audit_fault
 use Rattle.reg_audit.specs.Numbers.{AreNumbersOf}
 use Rattle.reg_audit.specs.Faults.{IsDenied}
 use Rattle.reg_store_opening.specs.Examined.{SaysFound}
-use Rattle.reg_store_opening.specs.declared.opening.OlderOffice.{OlderOffice}
+use Rattle.reg_store_opening.specs.declared.version_check.OlderOffice.{OlderOffice}
 use Rattle.reg_audit.specs.AuditResults.{CountedBy, DeniedBy, IsSound, audit_result_of}
 use Rattle.reg_audit_rows.specs.declared.audit_result.AuditResult.{AuditResult}
 

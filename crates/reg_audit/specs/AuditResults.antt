@@ -7,7 +7,7 @@ use Rattle.reg_store_tables.specs.Schema.{register_schema}
 use Rattle.reg_store_tables.specs.declared.fault.StoreFault.{StoreFault}
 use Rattle.reg_store_tables.specs.declared.fault.StoreFault.TheVariants as fault
 use Rattle.reg_store_opening.specs.Examined.{SaysFound}
-use Rattle.reg_store_opening.specs.declared.opening.OlderOffice.{OlderOffice}
+use Rattle.reg_store_opening.specs.declared.version_check.OlderOffice.{OlderOffice}
 use Rattle.reg_audit_rows.specs.declared.audit_result.Audited.{Audited}
 use Rattle.reg_audit.specs.Numbers.{AreNumbersOf}
 use Rattle.reg_audit.specs.Faults.{Denies}

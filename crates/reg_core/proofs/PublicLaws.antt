@@ -4,12 +4,12 @@ pub use Rattle.reg_core.proofs.MomentTexts.{moment_of-some, moment_of-text, read
 pub use Rattle.reg_core.proofs.Schedules.{before_from_test, greatest_at_most_398, test_from_before}
 use Rattle.std.proofs.Common.{arith}
 use Rattle.reg_core.specs.Integer.{integer}
-use Rattle.reg_core.specs.Laws.{OctetsArePlaces, OctetsAreBelow, ZerosCountNothing, OneSpelling, OctetsAreLowest, OctetsInOrder, IntegersAreSpelled, OneInteger, OneNumber, IntegersAreShort, SerialsInOrder, OneSerial, OneMoment, NumbersAreRead, SerialsAreRead}
+use Rattle.reg_core.specs.Laws.{OctetsAreDigits, OctetsAreBelow, ZerosCountNothing, OneSpelling, OctetsAreLowest, OctetsInOrder, IntegersAreSpelled, OneInteger, OneNumber, IntegersAreShort, SerialsInOrder, OneSerial, OneMoment, NumbersAreRead, SerialsAreRead}
 use Rattle.reg_core.proofs.Integers as integers
 use Rattle.reg_core.proofs.Moments as moments
 use Rattle.reg_core.proofs.TextLaws as texts
 
-pub octets_are_places : OctetsArePlaces
+pub octets_are_places : OctetsAreDigits
 octets_are_places = integers.value-cons
 
 pub octets_are_below : OctetsAreBelow

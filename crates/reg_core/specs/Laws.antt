@@ -11,8 +11,8 @@ use Rattle.reg_core.specs.Serial.{IsSerial, IsSerialText, serial_bytes, serial_o
 -- ---- octets
 
 -- each octet counts 256 times what one in the next place does
-abbrev pub OctetsArePlaces : Type 0
-OctetsArePlaces = (octet : ℕ) (octets : List ℕ) → value (octet ∷ octets) ≡ octet * 256 ^ length octets + value octets
+abbrev pub OctetsAreDigits : Type 0
+OctetsAreDigits = (octet : ℕ) (octets : List ℕ) → value (octet ∷ octets) ≡ octet * 256 ^ length octets + value octets
 
 -- octets spell a number below the power of 256 that their count gives
 abbrev pub OctetsAreBelow : Type 0

@@ -84,7 +84,7 @@ pub fn of_io(kind: ErrorKind) -> Option<Cause>
 }
 
 /// The cause that an error tells where a new file is laid.
-pub fn of_laying(kind: ErrorKind) -> Option<Cause>
+pub fn create_cause_of(kind: ErrorKind) -> Option<Cause>
     ensures taken { kind ≡ ErrorKind.AlreadyExists → result ≡ Some Cause.Taken }
     ensures no_right { kind ≡ ErrorKind.PermissionDenied → result ≡ Some Cause.NoRight }
     ensures disk_full { kind ≡ ErrorKind.StorageFull → result ≡ Some Cause.DiskFull }

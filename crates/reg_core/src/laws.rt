@@ -1,13 +1,13 @@
 //! Laws of octets, INTEGERs, serial numbers and texts. The functions do nothing: their contracts are the laws. Proofs above cite them by
 //! `proofs/PublicLaws.antt`.
 
-ghost use Rattle.reg_core.specs.Laws.{OctetsArePlaces, OctetsAreBelow, ZerosCountNothing, OneSpelling, OctetsAreLowest, OctetsInOrder};
+ghost use Rattle.reg_core.specs.Laws.{OctetsAreDigits, OctetsAreBelow, ZerosCountNothing, OneSpelling, OctetsAreLowest, OctetsInOrder};
 ghost use Rattle.reg_core.specs.Laws.{IntegersAreSpelled, OneInteger, OneNumber, IntegersAreShort, SerialsInOrder, OneSerial};
 ghost use Rattle.reg_core.specs.Laws.{OneMoment, NumbersAreRead, SerialsAreRead};
 
 /// What octets, the highest first, say of the number that they spell, and which octets a number is kept in.
 pub fn octets_are_digits()
-    ensures places { OctetsArePlaces }
+    ensures places { OctetsAreDigits }
     ensures below { OctetsAreBelow }
     ensures zeros { ZerosCountNothing }
     ensures one { OneSpelling }

@@ -10,7 +10,7 @@ use Rattle.reg_core.specs.declared.rows.CertRow.{CertRow}
 use Rattle.reg_core.specs.declared.rows.RevocationRow.{RevocationRow}
 use Rattle.reg_core.specs.declared.command.Command.{Command}
 use Rattle.reg_core.specs.declared.command.Reply.TheVariants.{Revoked}
-use Rattle.reg_core_laws.specs.Headline.{lists, NonePastBetween, ToldByCrls, ListsRevoked}
+use Rattle.reg_core_laws.specs.Headline.{lists, NonePastBetween, ListedByCrls, ListsRevoked}
 use Rattle.reg_core_laws.specs.History.{HistoryStands}
 use Rattle.reg_core_laws.proofs.Contents.{next_is, content_kept, cert_list_kept}
 use Rattle.reg_core_laws.proofs.Listed.{on_means, lists_is, RevokedCertificate, certificate_of, due_entries, listed_from_first_to_last}
@@ -42,7 +42,7 @@ told_by_crls : (before after : Records) (revocation : RevocationRow) (more : Lis
     → revocation.first ≡ next_number before.crls
     → after.revocations ≡ (before.revocations ++ revocation ∷ []) ++ more
     → after.crls ≡ before.crls ++ later
-    → (certificate : CertRow) × (certificate_in after.certificates revocation.serial ≡ Some certificate) × ToldByCrls before.crls after certificate revocation
+    → (certificate : CertRow) × (certificate_in after.certificates revocation.serial ≡ Some certificate) × ListedByCrls before.crls after certificate revocation
 told_by_crls before after revocation more later sound_before sound first_is entered issued = (
   its.certificate,
   its.registered,

@@ -139,7 +139,7 @@ NonePastBetween crls first n not_after =
 
 -- a revocation as the CRLs of the records tell it: those issued before it do not list it; each later one lists it
 -- exactly while no later one before that was issued past the certificate's end
-pub record ToldByCrls (earlier : List Crl) (after : Records) (certificate : CertRow) (revocation : RevocationRow) : Type 0 where
+pub record ListedByCrls (earlier : List Crl) (after : Records) (certificate : CertRow) (revocation : RevocationRow) : Type 0 where
   pub stands : revocation_in after.revocations certificate.serial ≡ Some revocation
   pub later : List Crl
   pub issued : after.crls ≡ earlier ++ later
@@ -185,7 +185,7 @@ ListsRevoked signed =
     × (certificate_in after.certificates revocation.serial ≡ Some certificate)
     × (next.revocations ≡ before.revocations ++ revocation ∷ [])
     × IsRevocationBy before now command revocation
-    × ToldByCrls before.crls after certificate revocation)
+    × ListedByCrls before.crls after certificate revocation)
     × ListsNothingElse after
 
 -- a command that is refused, or answers a fault, changes nothing

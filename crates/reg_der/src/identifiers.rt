@@ -2,7 +2,7 @@ ghost use Rattle.std.specs.Prelude.{◌≡◌, ◌<◌, length, IfSome, IsSome, 
 ghost use Rattle.reg_der.specs.Authority as authority;
 ghost use Rattle.reg_der.specs.ValueReading.{Gives};
 
-use crate::reading::take;
+use crate::tlv_reader::take;
 use crate::values::number;
 use reg_core::Label;
 

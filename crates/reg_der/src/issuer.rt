@@ -4,9 +4,9 @@ ghost use Rattle.reg_der.specs.Authority.{IsIssuerName, IsKey, IsKept, IsIssuer,
 ghost use Rattle.reg_der.specs.declared.issuer.IssuerFault.TheVariants.{Memory};
 
 use crate::identifiers::{KEY_IDENTIFIER, are_identifiers, identifier_for, others_than};
-use crate::reading::take;
 use crate::tags::SEQUENCE;
-use crate::writing::{copy_of, put, put_raw};
+use crate::tlv_reader::take;
+use crate::tlv_writer::{copy_of, put, put_raw};
 use reg_core::{Label, Memory};
 use sha1::Sha1;
 use std::alloc::{AllocError, Global};

@@ -4,15 +4,15 @@
 mod identifiers;
 mod issuer;
 pub mod laws;
-mod reading;
 pub mod tags;
 mod times;
+mod tlv_reader;
+mod tlv_writer;
 pub mod values;
-mod writing;
 
 pub use identifiers::KeyIdentifier;
 pub use issuer::{Issuer, IssuerFault};
-pub use reading::{Tlv, take};
-pub use writing::{
+pub use tlv_reader::{Tlv, take};
+pub use tlv_writer::{
     copy_of, put, put_bits, put_general, put_number, put_raw, put_serial, put_utc_or_general,
 };

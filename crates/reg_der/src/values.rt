@@ -6,7 +6,7 @@ ghost use Rattle.reg_der.specs.Der.{tlv};
 ghost use Rattle.reg_der.specs.ValueReading.{Gives};
 ghost use Rattle.reg_der.specs.TaggedValues.{expect_at, last_at, optional_at, whole_at};
 
-use crate::reading::{Tlv, take};
+use crate::tlv_reader::{Tlv, take};
 
 /// The value of the tag at the front, and what follows.
 #[tactic(auto, using(crate::proofs::ValueLemmas::tlv_some), unfolding(crate::specs::TaggedValues::expect_at))]

@@ -1,5 +1,5 @@
 -- The command line of the program in clap's own terms: its commands, and the words and options of each. `--why` stands before a command or behind it.
-use Rattle.std.specs.Prelude.{Some, true, List, [], ◌∷◌, codes}
+use Rattle.std.specs.Prelude.{ℕ, Some, true, List, [], ◌∷◌, codes}
 use Rattle.clap.specs.Lexer.{usize_max}
 use Rattle.clap.specs.Words.{App, Rule, Text, new_app, new_rule, with_rule, with_subcommand}
 use Rattle.clap.specs.declared.builder.action.ArgAction.TheVariants.{SetTrue}
@@ -24,6 +24,10 @@ renamed id older = record (needs id) { aliases = older ∷ [] }
 abbrev pub takes_value : Text → Rule
 takes_value id = record (new_rule id) { long = Some id; value_names = 1 }
 
+-- an option of so many values that may be left out
+abbrev pub takes_several : Text → ℕ → Rule
+takes_several id count = record (new_rule id) { long = Some id; value_names = count }
+
 -- an option `--id` that is given or left out, and takes no value
 abbrev pub flag : Text → Rule
 flag id = record (new_rule id) { long = Some id; action = Some SetTrue }
@@ -43,14 +47,14 @@ init_app = with_rules (new_app (codes "init"))
     (must (codes "file") ∷ needs (codes "name") ∷ needs (codes "key") ∷ takes_value (codes "key-id") ∷ takes_value (codes "days")
     ∷ takes_value (codes "crl-life") ∷ takes_value (codes "ocsp-life") ∷ takes_value (codes "cap") ∷ flag (codes "why") ∷ [])
 
--- `script [FILE] [--signer SOCKET --algorithm NAME] [--clock] [--strict] [--why]`
+-- `script [FILE] [--signer SOCKET --algorithm NAME] [--clock] [--accept-clock] [--strict] [--why]`
 abbrev pub script_app : App
 script_app = with_rules (new_app (codes "script"))
-    (may (codes "file") ∷ takes_value (codes "signer") ∷ takes_value (codes "algorithm") ∷ flag (codes "clock") ∷ flag (codes "strict") ∷ flag (codes "why") ∷ [])
+    (may (codes "file") ∷ takes_value (codes "signer") ∷ takes_value (codes "algorithm") ∷ flag (codes "clock") ∷ flag (codes "accept-clock") ∷ flag (codes "strict") ∷ flag (codes "why") ∷ [])
 
--- `import FILE [--now MOMENT] [--clock] [--strict] [--why]`; that one of `--now` and `--clock` is given says `Jobs.one_moment`
+-- `import FILE [--now MOMENT] [--clock] [--accept-clock] [--strict] [--why]`; that one of `--now` and `--clock` is given says `Jobs.one_moment`
 abbrev pub import_app : App
-import_app = with_rules (new_app (codes "import")) (must (codes "file") ∷ takes_value (codes "now") ∷ flag (codes "clock") ∷ flag (codes "strict") ∷ flag (codes "why") ∷ [])
+import_app = with_rules (new_app (codes "import")) (must (codes "file") ∷ takes_value (codes "now") ∷ flag (codes "clock") ∷ flag (codes "accept-clock") ∷ flag (codes "strict") ∷ flag (codes "why") ∷ [])
 
 -- `crl FILE [--number N] [--why]`
 abbrev pub crl_app : App
@@ -75,10 +79,10 @@ open_app = with_rules (new_app (codes "open"))
     ∷ takes_value (codes "responder") ∷ takes_value (codes "responder-signer") ∷ takes_value (codes "responder-algorithm") ∷ takes_value (codes "embed")
     ∷ takes_value (codes "published") ∷ flag (codes "log") ∷ takes_value (codes "log-file") ∷ flag (codes "why") ∷ [])
 
--- `at SOCKET [--import FILE | --revoke FILE] [--why]`
+-- `at SOCKET [--import FILE [--orders SUBSCRIBER DAYS] | --revoke FILE] [--why]`
 abbrev pub at_app : App
 at_app = with_rules (new_app (codes "at"))
-    (must (codes "counter") ∷ takes_value (codes "import") ∷ takes_value (codes "revoke") ∷ flag (codes "why") ∷ [])
+    (must (codes "counter") ∷ takes_value (codes "import") ∷ takes_several (codes "orders") 2 ∷ takes_value (codes "revoke") ∷ flag (codes "why") ∷ [])
 
 -- `replay SOCKET LOG [--why]`
 abbrev pub replay_app : App
@@ -121,12 +125,12 @@ abbrev pub with_commands : App → List App → App
 with_commands app [] = app
 with_commands app (command ∷ rest) = with_commands (with_subcommand app command.top) rest
 
--- the commands that make, run and serve a register, and those that set, list, copy and audit what it has
+-- the commands that make, run and serve a register, and those that speak to an open desk, or set, list, copy and audit what a register has
 abbrev pub running_apps : List App
-running_apps = init_app ∷ script_app ∷ import_app ∷ crl_app ∷ serve_app ∷ open_app ∷ at_app ∷ replay_app ∷ []
+running_apps = init_app ∷ script_app ∷ import_app ∷ crl_app ∷ serve_app ∷ open_app ∷ []
 
 abbrev pub keeping_apps : List App
-keeping_apps = schedule_app ∷ key_id_app ∷ list_app ∷ copy_app ∷ audit_app ∷ []
+keeping_apps = at_app ∷ replay_app ∷ schedule_app ∷ key_id_app ∷ list_app ∷ copy_app ∷ audit_app ∷ []
 
 -- `desk [--why] COMMAND ..`
 abbrev pub desk_app : App

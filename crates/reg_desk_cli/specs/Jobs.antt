@@ -15,7 +15,7 @@ use Rattle.reg_core_lists.specs.declared.filter.Filter.{Filter}
 use Rattle.reg_core_lists.specs.declared.texts.Form.{Form}
 use Rattle.reg_core_lists.specs.declared.texts.Form.TheVariants.{Csv, Json}
 use Rattle.reg_desk_cli.specs.Desk.{desk_app}
-use Rattle.reg_desk_cli.specs.WordValues.{steps_of, within}
+use Rattle.reg_desk_cli.specs.WordValues.{order_terms_of, steps_of, within}
 use Rattle.reg_crl_signer.specs.Algorithms.{algorithm_named}
 use Rattle.reg_desk_cli.specs.declared.job.Answerer.{Answerer}
 use Rattle.reg_desk_cli.specs.declared.job.Answerer.TheVariants.{Issuer, Delegate}
@@ -23,9 +23,11 @@ use Rattle.reg_desk_cli.specs.declared.job.Endpoint.{Endpoint}
 use Rattle.reg_desk_cli.specs.declared.job.Loopback.{Loopback}
 use Rattle.reg_desk_cli.specs.declared.job.Loopback.TheVariants.{V4, V6}
 use Rattle.reg_desk_cli.specs.declared.job.Job.{Job}
-use Rattle.reg_desk_cli.specs.declared.job.Job.TheVariants.{Init, Script, Lines, Import, Crl, Serve, Open, At, Revoke, Replay, Schedule, KeyId, Listing, Copy, Audit}
+use Rattle.reg_desk_cli.specs.declared.job.Job.TheVariants.{Init, Script, Lines, Import, Crl, Serve, Open, At, EachRow, Replay, Schedule, KeyId, Listing, Copy, Audit}
 use Rattle.reg_desk_cli.specs.declared.job.KeyHolder.{KeyHolder}
 use Rattle.reg_desk_cli.specs.declared.job.Invocation.{Invocation}
+use Rattle.reg_desk_cli.specs.declared.job.OrderTerms.{OrderTerms}
+use Rattle.reg_desk_cli.specs.declared.job.RowTask.TheVariants.{Register, Revoke}
 use Rattle.reg_desk_cli.specs.declared.job.Usage.{Usage}
 use Rattle.reg_desk_cli.specs.declared.job.Way.{Way}
 use Rattle.reg_desk_cli.specs.declared.job.Usage.TheVariants.{Help, Version, Bad, Memory}
@@ -98,7 +100,11 @@ holder_chosen answerer rows = option_and_then (λ signer. chosen signer (is_give
 
 -- how the lines of a script are run
 abbrev pub way_in : List Row → Way
-way_in rows = record { is_clocked = is_given (codes "clock") rows; is_strict = is_given (codes "strict") rows }
+way_in rows = record {
+  is_clocked = is_given (codes "clock") rows;
+  accepts_clock = is_given (codes "accept-clock") rows;
+  is_strict = is_given (codes "strict") rows;
+}
 
 -- a script by its words; only one over a register at a path is run line by line
 abbrev pub script_by : Option Text → Option KeyHolder → Way → Option Job
@@ -169,7 +175,12 @@ unfoldable pub import_of : List Row → Option Job
 import_of rows = do
   file ← first_of (codes "file") rows
   moment ← import_moment rows
-  Some (Import (record { file = file; moment = moment; is_strict = is_given (codes "strict") rows }))
+  Some (Import (record {
+    file = file;
+    moment = moment;
+    accepts_clock = is_given (codes "accept-clock") rows;
+    is_strict = is_given (codes "strict") rows;
+  }))
 
 unfoldable pub crl_job : List Row → Option Job
 crl_job rows = do
@@ -209,16 +220,24 @@ open_of rows = do
     published = first_of (codes "published") rows;
   }))
 
--- lines, or the rows of a file that are imported, or revoked: not both
-abbrev pub at_by : Text → Option Text → Option Text → Option Job
-at_by counter imported None = Some (At counter imported)
-at_by counter None (Some rows) = Some (Revoke counter rows)
-at_by counter (Some imported) (Some rows) = None
+-- the terms of the orders, if they are told
+abbrev pub order_terms_given : List Row → Option (Option OrderTerms)
+order_terms_given rows = option_map_or (λ texts. option_map (λ terms. Some terms) (order_terms_of texts)) (all_of (codes "orders") rows) (Some None)
+
+-- lines, or the rows of a file that are imported, or revoked: not both; only to an import belong orders
+abbrev pub at_by : Text → Option Text → Option Text → Option OrderTerms → Option Job
+at_by counter imported None None = Some (At counter imported)
+at_by counter (Some rows) None (Some terms) = Some (EachRow counter rows (Register terms))
+at_by counter None None (Some terms) = None
+at_by counter None (Some rows) None = Some (EachRow counter rows Revoke)
+at_by counter None (Some rows) (Some terms) = None
+at_by counter (Some imported) (Some rows) orders = None
 
 unfoldable pub at_of : List Row → Option Job
 at_of rows = do
   counter ← first_of (codes "counter") rows
-  at_by counter (first_of (codes "import") rows) (first_of (codes "revoke") rows)
+  orders ← order_terms_given rows
+  at_by counter (first_of (codes "import") rows) (first_of (codes "revoke") rows) orders
 
 unfoldable pub replay_of : List Row → Option Job
 replay_of rows = do

@@ -1,12 +1,12 @@
 -- What the rows of the table say, in clap's own terms.
-use Rattle.std.specs.Prelude.{◌≡◌, false, List, [], ◌∷◌, map}
+use Rattle.std.specs.Prelude.{◌≡◌, false, List, [], ◌∷◌, length, map}
 use Rattle.clap.specs.Words.{App, Rule, app_of, new_app, with_subcommand}
 use Rattle.clap.specs.declared.builder.command.Command.{Command}
 use Rattle.clap.specs.declared.builder.command.Command.TheViews.{out-Command as fields_of}
-use Rattle.reg_desk_cli.specs.Desk.{must, may, needs, renamed, takes_value, flag, some, with_rules}
+use Rattle.reg_desk_cli.specs.Desk.{must, may, needs, renamed, takes_several, takes_value, flag, some, with_rules}
 use Rattle.reg_desk_cli.specs.declared.table.CommandEntry.{CommandEntry}
 use Rattle.reg_desk_cli.specs.declared.table.Part.{Part}
-use Rattle.reg_desk_cli.specs.declared.table.Part.TheVariants.{Must, May, Rest, Needs, Renamed, Takes, Flag}
+use Rattle.reg_desk_cli.specs.declared.table.Part.TheVariants.{Must, May, Rest, Needs, Renamed, Takes, Several, Flag}
 
 -- a word or an option
 abbrev pub rule_told : Part → Rule
@@ -16,6 +16,7 @@ rule_told (Rest id name help) = some id.now
 rule_told (Needs id name help) = needs id.now
 rule_told (Renamed id older name help) = renamed id.now older.now
 rule_told (Takes id name help) = takes_value id.now
+rule_told (Several id names help) = takes_several id.now (length names.now)
 rule_told (Flag id help) = flag id.now
 
 -- a command

@@ -3,6 +3,7 @@ use Rattle.std.specs.Prelude.{ℕ, ◌==◌, ◌&&◌, List, [], ◌∷◌, nat_
 use Rattle.std.specs.List.{before_first, after_first}
 use Rattle.reg_core.specs.Calendar.{moment_of}
 use Rattle.reg_core.specs.Number.{number_of}
+use Rattle.reg_desk_cli.specs.declared.job.OrderTerms.{OrderTerms}
 
 -- the number, where it is within the bounds
 abbrev pub within : ℕ → ℕ → ℕ → Option ℕ
@@ -15,6 +16,14 @@ step_told from days = option_and_then (λ days. option_map (λ from. (from, days
 -- `MOMENT=DAYS` (61 is the code of `=`): a step of a schedule
 unfoldable pub step_of : List ℕ → Option (ℕ × ℕ)
 step_of text = step_told (before_first (λ b. b == 61) text) (after_first (λ b. b == 61) text)
+
+-- the subscriber's number and the days of an order, where the texts are these two
+abbrev pub order_terms_of : List (List ℕ) → Option OrderTerms
+order_terms_of (subscriber ∷ days ∷ []) =
+    option_and_then (λ subscriber. option_map (λ days. record { subscriber = subscriber; days = days }) (number_of days)) (number_of subscriber)
+order_terms_of [] = None
+order_terms_of (text ∷ []) = None
+order_terms_of (first ∷ second ∷ third ∷ rest) = None
 
 -- each of the texts is a step
 abbrev pub steps_of : List (List ℕ) → Option (List (ℕ × ℕ))

@@ -7,11 +7,12 @@ ghost use Rattle.reg_desk_cli.specs.Jobs.{job_in, serving_job_in, keeping_job_in
 
 use crate::given_values::{
     answerer, chosen_holder, filter_if_given, is_set, key_holder, loopback, moment_if_given,
-    number_if_given, number_or, number_within, steps, text_of, way_of, word_of,
+    number_if_given, number_or, number_within, order_terms_if_given, steps, text_of, way_of,
+    word_of,
 };
 use crate::job::{
-    Endpoint, Job, KeptOpen, KeyHolder, LinedScript, ListToWrite, NewRegister, RowsToImport,
-    Serving, Way,
+    Endpoint, Job, KeptOpen, KeyHolder, LinedScript, ListToWrite, NewRegister, OrderTerms, RowTask,
+    RowsToImport, Serving, Way,
 };
 use crate::word::Word;
 use crate::wrong::{LAST_PORT, MOST_REQUESTS};
@@ -146,6 +147,7 @@ fn read_import<'a>(given: &ArgMatches<'a>) -> Option<Job<'a>>
     Some(Job::Import(RowsToImport {
         file: word_of(given, "file")?,
         moment: import_moment(given)?,
+        accepts_clock: is_set(given, "accept-clock"),
         is_strict: is_set(given, "strict"),
     }))
 }
@@ -232,21 +234,34 @@ fn read_at<'a>(given: &ArgMatches<'a>) -> Option<Job<'a>>
     ensures { result ≡ at_of (rows_of (found_of given.now)) }
 {
     let counter = word_of(given, "counter")?;
-    at_job(counter, word_of(given, "import"), word_of(given, "revoke"))
+    let orders = order_terms_if_given(given)?;
+    at_job(
+        counter,
+        word_of(given, "import"),
+        word_of(given, "revoke"),
+        orders,
+    )
 }
 
 fn at_job<'a>(
     counter: Word<'a>,
     imported: Option<Word<'a>>,
     revoked: Option<Word<'a>>,
+    orders: Option<OrderTerms>,
 ) -> Option<Job<'a>>
-    ensures { result ≡ at_by counter.entry imported.entry revoked.entry }
+    ensures { result ≡ at_by counter.entry imported.entry revoked.entry orders }
 {
-    match (imported, revoked) {
-        (rows, None) => Some(Job::At { counter, rows }),
-        (None, Some(rows)) => Some(Job::Revoke { counter, rows }),
-        (Some(_), Some(_)) => None,
-    }
+    let (rows, task) = match (imported, revoked, orders) {
+        (rows, None, None) => return Some(Job::At { counter, rows }),
+        (Some(rows), None, Some(terms)) => (rows, RowTask::Register(terms)),
+        (None, Some(rows), None) => (rows, RowTask::Revoke),
+        _ => return None,
+    };
+    Some(Job::EachRow {
+        counter,
+        rows,
+        task,
+    })
 }
 
 #[tactic(auto, unfolding(crate::specs::Jobs::replay_of))]

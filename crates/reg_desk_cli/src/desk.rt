@@ -123,6 +123,9 @@ fn arg<'a>(alloc: Global, part: &Part) -> Result<Arg<'a>, AllocError>
         Part::Needs(id, name, help) => Ok(needed(alloc, id, name, help)),
         Part::Renamed(id, older, name, help) => needed(alloc, id, name, help).alias(older),
         Part::Takes(id, name, help) => Ok(word(alloc, id, name, help).long(id)),
+        Part::Several(id, names, help) => Ok(
+            Arg::new(alloc, id).long(id).value_names(names).help(help),
+        ),
         Part::Flag(id, help) => Ok(
             Arg::new(alloc, id)
                 .long(id)

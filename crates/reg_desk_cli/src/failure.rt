@@ -18,6 +18,8 @@ pub enum Failure {
     /// The Name or the key is not what an issuer has.
     BadIssuer,
     BadPolicy,
+    /// The clock is more than 30 days past the last accepted moment.
+    BadClock,
     /// The latest CRL was signed under another algorithm, or the issuer's key is none of the algorithm.
     BadSigner,
     /// A certificate that is to stand with OCSP answers is none, or is of another key than it is told for.
@@ -50,6 +52,7 @@ impl Failure {
             Failure::OldVersion => words(b"old-version"),
             Failure::BadIssuer => words(b"bad-issuer"),
             Failure::BadPolicy => words(b"bad-policy"),
+            Failure::BadClock => words(b"bad-clock"),
             Failure::BadSigner => words(b"bad-signer"),
             Failure::BadResponder => words(b"bad-responder"),
             Failure::Refused => words(b"refused"),

@@ -4,10 +4,10 @@ ghost use Rattle.std.specs.Prelude.{◌≡◌, ◌≤◌, ◌==◌, IfOk, IfSome
 ghost use Rattle.reg_core.specs.Calendar.{moment_of};
 ghost use Rattle.reg_core_lists.specs.Asked.{label_of};
 ghost use Rattle.clap.specs.Words.{all_of, first_of, found_of, rows_of};
-ghost use Rattle.reg_desk_cli.specs.Jobs.{answerer_in, answerer_told, given, given_or, chosen, filter_in, has_own_key, holder_by_options, holder_chosen, holder_in, is_given, label_given, loopback_in, loopback_named, moment_given, number_in, prefix_given, way_in};
-ghost use Rattle.reg_desk_cli.specs.WordValues.{step_of, step_told, steps_of, within};
+ghost use Rattle.reg_desk_cli.specs.Jobs.{answerer_in, answerer_told, given, given_or, chosen, filter_in, has_own_key, holder_by_options, holder_chosen, holder_in, is_given, label_given, loopback_in, loopback_named, moment_given, number_in, order_terms_given, prefix_given, way_in};
+ghost use Rattle.reg_desk_cli.specs.WordValues.{order_terms_of, step_of, step_told, steps_of, within};
 
-use crate::job::{Answerer, KeyHolder, Loopback, Way};
+use crate::job::{Answerer, KeyHolder, Loopback, OrderTerms, Way};
 use crate::word::{Steps, Word};
 use clap::ArgMatches;
 use reg_core::{Label, Moment, read_number};
@@ -25,6 +25,12 @@ pub(crate) fn text_of<'a>(matches: &ArgMatches<'a>, id: &str) -> Option<&'a str>
     ensures { option_map (λ text. text.now) result ≡ first_of id.now (rows_of (found_of matches.now)) }
 {
     matches.get_str(id)
+}
+
+fn texts_of<'m, 'a>(matches: &'m ArgMatches<'a>, id: &str) -> Option<&'m [&'a str]>
+    ensures { option_map (λ texts. map (λ text. text.now) texts.now) result ≡ all_of id.now (rows_of (found_of matches.now)) }
+{
+    matches.get_strs(id)
 }
 
 /// The number of an option, or the usual one where the option is left out; `None` where it is no number.
@@ -249,6 +255,7 @@ pub(crate) fn way_of(matches: &ArgMatches<'_>) -> Way
 {
     Way {
         is_clocked: is_set(matches, "clock"),
+        accepts_clock: is_set(matches, "accept-clock"),
         is_strict: is_set(matches, "strict"),
     }
 }
@@ -263,6 +270,28 @@ pub(crate) fn is_set(matches: &ArgMatches<'_>, id: &str) -> bool
     }
 }
 
+/// The terms of `--orders`, if it is given; `None` where it is given and they are not two numbers.
+pub(crate) fn order_terms_if_given(matches: &ArgMatches<'_>) -> Option<Option<OrderTerms>>
+    ensures { result ≡ order_terms_given (rows_of (found_of matches.now)) }
+{
+    match texts_of(matches, "orders") {
+        Some(texts) => Some(Some(read_order_terms(texts)?)),
+        None => Some(None),
+    }
+}
+
+fn read_order_terms(texts: &[&str]) -> Option<OrderTerms>
+    ensures { result ≡ order_terms_of (map (λ text. text.now) texts.now) }
+{
+    let [subscriber, days] = texts else {
+        return None;
+    };
+    Some(OrderTerms {
+        subscriber: read_number(subscriber.as_bytes())?,
+        days: read_number(days.as_bytes())?,
+    })
+}
+
 /// The steps of a schedule; `None` where there are none, or one has another form than MOMENT=DAYS.
 pub(crate) fn steps(
     alloc: Global,
@@ -271,7 +300,7 @@ pub(crate) fn steps(
 ) -> Result<Option<Steps>, AllocError>
     ensures { IfOk result (λ steps. steps ≡ option_and_then steps_of (all_of id.now (rows_of (found_of matches.now)))) }
 {
-    match matches.get_strs(id) {
+    match texts_of(matches, id) {
         Some(texts) => read_steps(alloc, texts),
         None => Ok(None),
     }

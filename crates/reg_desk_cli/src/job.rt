@@ -34,6 +34,8 @@ pub enum Answerer<'a> {
 pub struct Way {
     /// A line has no moment: the machine's clock tells it.
     pub is_clocked: bool,
+    /// The lines run even if the clock is more than 30 days past the last accepted moment.
+    pub accepts_clock: bool,
     /// The script ends at the first refusal or fault, and runs no last line without its end.
     pub is_strict: bool,
 }
@@ -71,6 +73,8 @@ pub struct RowsToImport<'a> {
     pub file: Word<'a>,
     /// The moment of the import, or none if it is the machine's clock's as the import begins.
     pub moment: Option<Moment>,
+    /// As of [`Way`].
+    pub accepts_clock: bool,
     /// The import ends at the first refusal or fault, and registers no last row without its line end.
     pub is_strict: bool,
 }
@@ -128,6 +132,22 @@ pub struct ListToWrite<'a> {
     pub form: Form,
 }
 
+/// The order that is made for a certificate: the number of its subscriber, and its days.
+#[derive(Clone, Copy, PartialEq, Eq)]
+pub struct OrderTerms {
+    pub subscriber: u64,
+    pub days: u64,
+}
+
+/// What is done with the certificate of each row of a file.
+#[derive(Clone, Copy, PartialEq, Eq)]
+pub enum RowTask {
+    /// It is registered under a new order.
+    Register(OrderTerms),
+    /// It is requested and revoked.
+    Revoke,
+}
+
 /// A job of the program, with all that the command line says of it. FILE is the path of a register.
 #[derive(Drop)]
 pub enum Job<'a> {
@@ -156,10 +176,11 @@ pub enum Job<'a> {
         counter: Word<'a>,
         rows: Option<Word<'a>>,
     },
-    /// Revokes the certificate of each row of the file at a path, at the control socket at a path.
-    Revoke {
+    /// Does the task with the certificate of each row of the file at a path, at the control socket at a path.
+    EachRow {
         counter: Word<'a>,
         rows: Word<'a>,
+        task: RowTask,
     },
     /// Sends the accepted commands of the log at a path to the control socket at a path once more.
     Replay {

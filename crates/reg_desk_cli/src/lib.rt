@@ -20,7 +20,7 @@ pub use failure::{Failure, status_of};
 pub use given_values::read_step;
 pub use job::{
     Answerer, Endpoint, Invocation, Job, KeptOpen, KeyHolder, LinedScript, ListToWrite, Loopback,
-    NewRegister, RowsToImport, Serving, Usage, Way,
+    NewRegister, OrderTerms, RowTask, RowsToImport, Serving, Usage, Way,
 };
 pub use reading_words::{no_text, read_words};
 pub use word::{Steps, Word};

@@ -12,6 +12,8 @@ pub(crate) enum Part {
     /// The same, which is also given by an older name that help leaves out: the id, that name, and the rest.
     Renamed(&'static str, &'static str, &'static str, &'static str),
     Takes(&'static str, &'static str, &'static str),
+    /// An option that may be left out and takes several values: its id, what each value is called, and what help says of it.
+    Several(&'static str, &'static [&'static str], &'static str),
     /// An option that may be left out and takes no value.
     Flag(&'static str, &'static str),
 }
@@ -92,6 +94,9 @@ const EMBED: &str =
 const CLOCK: &str =
     "Lines have no moment: each runs at the moment of the machine's clock; needs FILE [default: a line begins with its moment]";
 
+const ACCEPT_CLOCK: &str =
+    "With --clock: run even if the clock is more than 30 days past the last accepted moment [default: bad-clock]";
+
 const STRICT: &str =
     "Stop at the first refusal or fault, and do not run a last line without its line end: exit status 3; needs FILE [default: run all lines]";
 
@@ -108,6 +113,9 @@ const AT_CONTROL: &str = "The control socket of an open desk";
 
 const AT_IMPORT: &str =
     "Instead of standard input: register each certificate of this CSV file, order,serial,notBefore,notAfter";
+
+const AT_ORDERS: &str =
+    "With --import: make an order of DAYS days for each certificate, of the subscriber with this number, as `subscriber NAME` gave it; the rows are serial,notBefore,notAfter; run it again to resume";
 
 const AT_REVOKE: &str =
     "Instead of standard input: request and revoke the certificate of each row of this file, serial,ground; run it again to resume";
@@ -184,6 +192,7 @@ pub(crate) const RUNNING: &[CommandEntry] = &[
             Part::Takes("signer", "SOCKET", SIGNER),
             Part::Takes("algorithm", "NAME", ALGORITHM),
             Part::Flag("clock", CLOCK),
+            Part::Flag("accept-clock", ACCEPT_CLOCK),
             Part::Flag("strict", STRICT),
             Part::Flag("why", CAUSE_OR_REASON),
         ],
@@ -196,6 +205,7 @@ pub(crate) const RUNNING: &[CommandEntry] = &[
             Part::Must("file", "FILE", FILE),
             Part::Takes("now", "MOMENT", NOW),
             Part::Flag("clock", CLOCK_IMPORT),
+            Part::Flag("accept-clock", ACCEPT_CLOCK),
             Part::Flag("strict", STRICT_IMPORT),
             Part::Flag("why", CAUSE_OR_REASON),
         ],
@@ -253,13 +263,18 @@ pub(crate) const RUNNING: &[CommandEntry] = &[
             Part::Flag("why", CAUSE),
         ],
     },
+];
+
+/// The commands that speak to an open desk, and those that set, list, copy and audit what a register has; help lists them after the others.
+pub(crate) const KEEPING: &[CommandEntry] = &[
     CommandEntry {
         name: "at",
         about: "Tell the lines of standard input to an open desk, and write one reply line for each; a line has no moment.",
-        example: "Examples:\n  echo counts | desk at ca.control\n  desk at ca.control --import certificates.csv\n  desk at ca.control --revoke revocations.csv\n\nExit status 3 if a reply is a refusal or a fault, or if the last line has no end: that line does not run.",
+        example: "Examples:\n  echo counts | desk at ca.control\n  desk at ca.control --import certificates.csv\n  desk at ca.control --import new.csv --orders 1 398\n  desk at ca.control --revoke revocations.csv\n\nExit status 3 if a reply is a refusal or a fault, or if the last line has no end: that line does not run.",
         parts: &[
             Part::Must("counter", "SOCKET", AT_CONTROL),
             Part::Takes("import", "FILE", AT_IMPORT),
+            Part::Several("orders", &["SUBSCRIBER", "DAYS"], AT_ORDERS),
             Part::Takes("revoke", "FILE", AT_REVOKE),
             Part::Flag("why", CAUSE),
         ],
@@ -274,10 +289,6 @@ pub(crate) const RUNNING: &[CommandEntry] = &[
             Part::Flag("why", CAUSE),
         ],
     },
-];
-
-/// The commands that set, list, copy and audit what a register has; help lists them after the others.
-pub(crate) const KEEPING: &[CommandEntry] = &[
     CommandEntry {
         name: "schedule",
         about: "Set how many days a certificate may be valid, by the moment from which it is valid.",

@@ -5,6 +5,7 @@ use crate::given_values::{
     read_step, text_of,
 };
 use clap::ArgMatches;
+use reg_core::read_number;
 use std::alloc::Global;
 
 pub(crate) const LAST_PORT: u64 = 65_535;
@@ -66,7 +67,7 @@ const SERIAL_WANTED: &str = "a serial number begins with 1 to 40 hexadecimal dig
 
 const FILE_WANTED: &str = "--clock and --strict need a FILE";
 
-const ROWS_WANTED: &str = "at takes --import or --revoke, and not both";
+const ROWS_WANTED: &str = "at takes --import or --revoke, and not both; --orders needs --import";
 
 const CHOICE_WANTED: &str =
     "open needs --signer SOCKET with --algorithm NAME, or --unsigned for a placeholder digest instead of signatures, and not both; with --responder the first, or neither";
@@ -123,6 +124,9 @@ fn first_wrong<'a>(matches: &ArgMatches<'a>) -> Option<Wrong<'a>> {
     if let Some(wrong) = wrong_step(given) {
         return Some(wrong);
     }
+    if let Some(wrong) = wrong_order(given) {
+        return Some(wrong);
+    }
     if let Some(wrong) = wrong_filter(given) {
         return Some(wrong);
     }
@@ -166,6 +170,16 @@ fn wrong_step<'a>(given: &ArgMatches<'a>) -> Option<Wrong<'a>> {
     for value in given.get_strs("steps")? {
         if read_step(value.as_bytes()).is_none() {
             return Some(Wrong::of("MOMENT=DAYS", value, STEP_WANTED));
+        }
+    }
+    None
+}
+
+/// The value of `--orders` that is no number.
+fn wrong_order<'a>(given: &ArgMatches<'a>) -> Option<Wrong<'a>> {
+    for value in given.get_strs("orders")? {
+        if read_number(value.as_bytes()).is_none() {
+            return Some(Wrong::of("--orders", value, NUMBER_WANTED));
         }
     }
     None

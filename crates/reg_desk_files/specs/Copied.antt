@@ -8,6 +8,6 @@ page_bytes (Some bytes) = bytes
 page_bytes None = []
 
 -- the first pages of a database, each behind the one before it
-abbrev pub laid_out : Pages → ℕ → List ℕ
-laid_out pages zero = []
-laid_out pages (suc n) = laid_out pages n ++ page_bytes (pages (suc n))
+abbrev pub pages_in_order : Pages → ℕ → List ℕ
+pages_in_order pages zero = []
+pages_in_order pages (suc n) = pages_in_order pages n ++ page_bytes (pages (suc n))

@@ -2,8 +2,8 @@
 use Rattle.std.specs.Prelude.{◌≡◌, ◌⊎◌}
 use Rattle.reg_core.specs.declared.refusal.Fault.TheVariants.{Memory, Store}
 use Rattle.reg_desk_files.specs.declared.file_fault.FileFault.{FileFault}
-use Rattle.reg_desk_files.specs.declared.reading.Unread.{Unread}
-use Rattle.reg_desk_files.specs.declared.reading.Unread.TheVariants as unread
+use Rattle.reg_desk_files.specs.declared.read_only.Unread.{Unread}
+use Rattle.reg_desk_files.specs.declared.read_only.Unread.TheVariants as unread
 
 -- out of memory, or the store failed
 abbrev pub IsFileFault : FileFault → Type 0

@@ -9,7 +9,7 @@ ghost use Rattle.sqlite_wal.specs.Files.{image_at};
 ghost use Rattle.reg_desk_files.specs.Reading.{IsFileFault};
 
 use crate::file_fault::{FileFault, with_cause};
-use crate::holding::{held_alone, log_of};
+use crate::file_locks::{locked_alone, log_of};
 use reg_core::{Cause, Fault, of_io};
 use sqlite::{Connection, FileFrom, FileStore, Options};
 use sqlite_disk::Start;
@@ -126,7 +126,7 @@ fn claim_fault_of(kind: ErrorKind) -> ClaimFault
 /// Removes a database's file and its log. It locks them meanwhile, so that files that another program has open stay. Nothing is written
 /// before, so a failing disk does not keep it from that.
 pub fn remove_file(rt: &HostRuntime, path: &str) {
-    let Some(held) = held_alone(rt, path) else {
+    let Some(held) = locked_alone(rt, path) else {
         return;
     };
     drop(fs::remove_file(rt, path));

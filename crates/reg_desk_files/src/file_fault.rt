@@ -3,7 +3,7 @@
 ghost use Rattle.std.specs.Prelude.{◌≡◌};
 ghost use Rattle.reg_desk_files.specs.Reading.{IsFileFault};
 
-use reg_core::{Cause, Fault, of_io, of_laying};
+use reg_core::{Cause, Fault, create_cause_of, of_io};
 use sqlite::{Error, ErrorCode};
 use sqlite_std_file::OpenError;
 use std::alloc::AllocError;
@@ -83,12 +83,12 @@ impl From<AllocError> for FileFault {
 }
 
 /// Why a file is not created where a call of the system failed.
-pub(crate) fn of_lay(kind: ErrorKind) -> FileFault
+pub(crate) fn create_fault_of(kind: ErrorKind) -> FileFault
     ensures { IsFileFault result }
 {
     match kind {
         ErrorKind::OutOfMemory => with_cause(Fault::Memory, None),
-        other => with_cause(Fault::Store, of_laying(other)),
+        other => with_cause(Fault::Store, create_cause_of(other)),
     }
 }
 

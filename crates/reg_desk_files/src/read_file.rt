@@ -5,7 +5,7 @@ ghost use Rattle.std.specs.Fs.{asks_append, asks_create, asks_create_new, asks_t
 ghost use Rattle.reg_desk_files.specs.Reading.{IsFileFault};
 
 use crate::file_fault::{FileFault, with_cause};
-use crate::holding::{beside, lock, look_held};
+use crate::file_locks::{beside, lock, look_at_locked};
 use crate::source::Source;
 use os::RangeLock;
 use reg_core::Fault;
@@ -44,7 +44,7 @@ pub(crate) enum Holder {
 }
 
 #[derive(Drop)]
-pub(crate) struct HeldFiles {
+pub(crate) struct LockedFiles {
     pub(crate) log: Option<ReadFile>,
     pub(crate) db: ReadFile,
 }
@@ -52,7 +52,7 @@ pub(crate) struct HeldFiles {
 /// Opens the files of a database for reading alone, where a link leads, and locks them until they are dropped. Errors: `Memory`; `Store` also
 /// where another program has the file open to write, or this one should and has not; or where SQLite left a rollback journal beside it,
 /// which only SQLite can play back.
-pub(crate) fn hold(rt: &HostRuntime, path: &str, holder: Holder) -> Result<HeldFiles, FileFault>
+pub(crate) fn hold(rt: &HostRuntime, path: &str, holder: Holder) -> Result<LockedFiles, FileFault>
     ensures { IfErr result IsFileFault }
 {
     // A path that SQLite reads as another thing than a file's name is refused.
@@ -63,10 +63,10 @@ pub(crate) fn hold(rt: &HostRuntime, path: &str, holder: Holder) -> Result<HeldF
     let db = open_plain(rt, real.as_str())?;
     match holder {
         Holder::Nobody => lock(&db.file, RangeLock::Shared)?,
-        Holder::Us => look_held(&db.file)?,
+        Holder::Us => look_at_locked(&db.file)?,
     }
     let log = log_at(rt, real.as_str())?;
-    Ok(HeldFiles { log, db })
+    Ok(LockedFiles { log, db })
 }
 
 fn log_at(rt: &HostRuntime, path: &str) -> Result<Option<ReadFile>, FileFault>

@@ -11,8 +11,10 @@ use Rattle.reg_core.specs.declared.memory.Memory.{Memory}
 use Rattle.reg_crl.specs.Signing.{Identity}
 use Rattle.reg_http_head.specs.Collected.{HoldsRequest}
 use Rattle.reg_http_head.specs.Frame.{asked, refused}
+use Rattle.reg_http.specs.Asked.{path_of, asked as asks_for}
 use Rattle.reg_http.specs.Bodies.{http_refusal}
 use Rattle.reg_http.specs.Exchanges.{TellsBegun}
+use Rattle.reg_http.specs.RouteNames.{route_at}
 use Rattle.reg_http.specs.Told.{plain, told}
 use Rattle.reg_http.specs.declared.answered.Answered.{Answered}
 use Rattle.reg_http.specs.declared.exchange.Exchange.{Exchange}
@@ -25,12 +27,27 @@ use Rattle.reg_crl_signer.specs.Forms.{HasForm}
 use Rattle.reg_desk_metrics.specs.declared.tally.Tally.{Tally}
 use Rattle.reg_io.specs.declared.begun.Begun.{Begun}
 use Rattle.reg_io.specs.declared.begun.Begun.TheVariants.{Ready, Unsigned}
-use Rattle.reg_desk_jobs.specs.Beginning.{AnswersBegun, BeginsAt, ready_of}
+use Rattle.reg_desk_jobs.specs.Beginning.{AnswersBegun, BeginsAt, MayLeave, ready_of}
 use Rattle.reg_desk_jobs.specs.Counted.{CountsBegun}
-use Rattle.reg_desk_jobs.specs.Exchanges.{AnswersBy}
+use Rattle.reg_desk_jobs.specs.Admission.{BeginsAdmitted}
+use Rattle.reg_desk_jobs.specs.Exchanges.{AnswersBy, SaysBy, dispatch}
 use Rattle.reg_desk_jobs.specs.Leaving.{FinishesAt, FinishesUnsigned, Meets}
+use Rattle.reg_desk_jobs.specs.declared.admission.Admission.{Admission}
 use Rattle.reg_desk_jobs.specs.declared.unsigned_responses.Unsigned.{Unsigned as UnsignedOf}
+use Rattle.reg_desk_jobs.specs.declared.http_exchanges.Dispatch.{Dispatch}
+use Rattle.reg_desk_jobs.specs.declared.http_exchanges.Dispatch.TheVariants.{ToLimits}
 use Rattle.reg_desk_jobs.proofs.Finishing.{left_exchange}
+
+-- what is begun behind the limits of an open desk is begun there
+pub limited_begins : (admission : Admission) (is_open : Bool) (signs : Signs) (now : ℕ) (who : Signatory) (before : Records) (method target body : List ℕ)
+    (begun : Result (Begun Answered Drafted) Memory) (after : Records) → dispatch is_open (route_at (path_of target)) ≡ ToLimits
+    → BeginsAdmitted admission signs now who before (asks_for method target body) begun after
+    → BeginsAt is_open signs now who before method target body begun after
+limited_begins admission is_open signs now who before method target body (Ok (Ready answered)) after to (says, adds) =
+    let P : Dispatch → Type 0 = λ by. SaysBy signs now who before (told answered) after by method target body in
+    (subst P (sym to) (admission, says), adds)
+limited_begins admission is_open signs now who before method target body (Ok (Unsigned draft)) after to left = (subst MayLeave (sym to) tt, left)
+limited_begins admission is_open signs now who before method target body (Err memory) after to same = same
 
 -- What stands in an office before and after, who signs, and the moment.
 module _ {S : Type 0} (is_clean : S → Type 0) (stands : Signatory → S → Records → Type 0) (signs : Signs) (now : ℕ) (is_open : Bool) (s t : S) where

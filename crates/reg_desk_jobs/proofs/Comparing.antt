@@ -18,7 +18,7 @@ use Rattle.reg_core.specs.declared.refusal.Fault.TheVariants as fault
 use Rattle.reg_crl.specs.Reading.{AreEntries, IsEntryAt, revoked_entry_at}
 use Rattle.reg_desk_cli.specs.declared.failure.Failure.{Failure}
 use Rattle.reg_desk_cli.specs.declared.failure.Failure.TheVariants as failure
-use Rattle.reg_desk_jobs.specs.SignatureRequest.{IsInput}
+use Rattle.reg_desk_jobs.specs.Conversations.{IsInput}
 use Rattle.reg_desk_jobs.specs.Ends.{SaysText}
 use Rattle.reg_office_api.specs.Leads.{Leads, Looks}
 use Rattle.reg_office_api.specs.Signatories.{Signatory}

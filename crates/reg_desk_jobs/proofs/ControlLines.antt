@@ -1,6 +1,6 @@
 -- What a line at the control socket comes to, over an office that keeps records.
 use Rattle.std.proofs.Common.{◌≡◌, ◌<◌, ℕ, List, [], ◌∷◌, ◌++◌, arith, lit<, inl, inr, refl, sym, subst}
-use Rattle.std.specs.Prelude.{codes, decimal, get_or}
+use Rattle.std.specs.Prelude.{Option, codes, decimal, get_or}
 use Rattle.reg_core.specs.Records.{Records}
 use Rattle.reg_core.specs.Lines.{fault_line}
 use Rattle.reg_core.specs.declared.refusal.Fault.{Fault}
@@ -11,12 +11,13 @@ use Rattle.reg_office_api.specs.Leads.{Leads}
 use Rattle.reg_office_api.specs.Signatories.{Signatory}
 use Rattle.reg_office_api.specs.CallSteps.{Signs}
 use Rattle.reg_office_api.proofs.PublicLaws.{follows, stays}
+use Rattle.reg_lines.specs.Script.{IsShortCommand, line_of}
 use Rattle.reg_desk_cli.specs.ExitStatus.{failure_line}
 use Rattle.reg_desk_cli.specs.declared.failure.Failure.TheVariants as failure
 use Rattle.reg_desk_jobs.specs.ControlReplies.{IsOf, IsSaid, ReportsLineOutcome}
 use Rattle.reg_desk_jobs.specs.Copies.{AnswersCopy, copied_text}
 use Rattle.reg_desk_jobs.specs.Reasons.{kept_reason_text}
-use Rattle.reg_desk_jobs.specs.ControlWords.{Saying, AnswersWord, WordAt, copies, helps, said_in}
+use Rattle.reg_desk_jobs.specs.ControlWords.{LineAt, Saying, AnswersWord, WordAt, commands, copies, helps, said_in}
 use Rattle.reg_desk_jobs.specs.Showings.{help_text}
 use Rattle.reg_desk_jobs.specs.declared.control_reply.LineOutcome.{LineOutcome}
 use Rattle.reg_desk_jobs.specs.declared.control_reply.LineOutcome.TheVariants.{Done, Failed}
@@ -63,25 +64,40 @@ row_accepted row = later_accepted (row_text Json row) (lit< tt)
 -- ---- lines
 
 -- a line that says a word, which is told
-pub told_word : {S : Type 0} (is_clean : S → Type 0) (stands : Signatory → S → Records → Type 0) (signs : Signs) (now : ℕ) (s t : S)
+pub told_word : {S : Type 0} (is_clean : S → Type 0) (stands : Signatory → S → Records → Type 0) (accepted : Option ℕ) (signs : Signs) (now : ℕ) (s t : S)
     (line text : List ℕ) (word : Saying) → said_in line ≡ word
-    → Leads is_clean stands (λ identity before after. AnswersWord signs now identity before line word text after) s t
-    → Leads is_clean stands (λ identity before after. WordAt signs now identity before line text after) s t
-told_word is_clean stands signs now s t line text word is told =
+    → Leads is_clean stands (λ identity before after. AnswersWord accepted signs now identity before line word text after) s t
+    → Leads is_clean stands (λ identity before after. WordAt accepted signs now identity before line text after) s t
+told_word is_clean stands accepted signs now s t line text word is told =
     follows is_clean stands
-    (λ identity before after. AnswersWord signs now identity before line word text after)
-    (λ identity before after. WordAt signs now identity before line text after)
-    (λ identity before after made. inl (subst (λ w. AnswersWord signs now identity before line w text after) (sym is) made))
+    (λ identity before after. AnswersWord accepted signs now identity before line word text after)
+    (λ identity before after. WordAt accepted signs now identity before line text after)
+    (λ identity before after made. inl (subst (λ w. AnswersWord accepted signs now identity before line w text after) (sym is) made))
     s
     t
     told
 
+-- a command line, without its end
+pub entered : {S : Type 0} (is_clean : S → Type 0) (stands : Signatory → S → Records → Type 0) (accepted : Option ℕ) (signs : Signs) (now : ℕ) (s t : S)
+    (line text command : List ℕ) → said_in line ≡ commands → command ≡ line_of line → IsShortCommand line
+    → Leads is_clean stands (λ identity before after. LineAt accepted signs now identity before command text after) s t
+    → Leads is_clean stands (λ identity before after. WordAt accepted signs now identity before line text after) s t
+entered is_clean stands accepted signs now s t line text command is same short ran =
+    told_word is_clean stands accepted signs now s t line text commands is
+    (follows is_clean stands
+    (λ identity before after. LineAt accepted signs now identity before command text after)
+    (λ identity before after. AnswersWord accepted signs now identity before line commands text after)
+    (λ identity before after made. inl (short, subst (λ l. LineAt accepted signs now identity before l text after) same made))
+    s
+    t
+    ran)
+
 -- a line that asks for a copy
-pub copied : {S : Type 0} (is_clean : S → Type 0) (stands : Signatory → S → Records → Type 0) (signs : Signs) (now : ℕ) (s t : S) (line text : List ℕ)
+pub copied : {S : Type 0} (is_clean : S → Type 0) (stands : Signatory → S → Records → Type 0) (accepted : Option ℕ) (signs : Signs) (now : ℕ) (s t : S) (line text : List ℕ)
     → said_in line ≡ copies → t ≡ s → AnswersCopy (λ bytes. Unit {0}) text
-    → Leads is_clean stands (λ identity before after. WordAt signs now identity before line text after) s t
-copied is_clean stands signs now s t line text is same told =
-    told_word is_clean stands signs now s t line text copies is
+    → Leads is_clean stands (λ identity before after. WordAt accepted signs now identity before line text after) s t
+copied is_clean stands accepted signs now s t line text is same told =
+    told_word is_clean stands accepted signs now s t line text copies is
     (follows is_clean stands
     (λ identity before after. after ≡ before)
     (λ identity before after. AnswersCopy (λ bytes. Unit {0}) text × (after ≡ before))
@@ -91,11 +107,11 @@ copied is_clean stands signs now s t line text is same told =
     (stays is_clean stands s t same))
 
 -- a line that asks for the words
-pub helped : {S : Type 0} (is_clean : S → Type 0) (stands : Signatory → S → Records → Type 0) (signs : Signs) (now : ℕ) (s t : S) (line text : List ℕ)
+pub helped : {S : Type 0} (is_clean : S → Type 0) (stands : Signatory → S → Records → Type 0) (accepted : Option ℕ) (signs : Signs) (now : ℕ) (s t : S) (line text : List ℕ)
     → said_in line ≡ helps → t ≡ s → IsSaid (help_text ++ 10 ∷ []) text
-    → Leads is_clean stands (λ identity before after. WordAt signs now identity before line text after) s t
-helped is_clean stands signs now s t line text is same told =
-    told_word is_clean stands signs now s t line text helps is
+    → Leads is_clean stands (λ identity before after. WordAt accepted signs now identity before line text after) s t
+helped is_clean stands accepted signs now s t line text is same told =
+    told_word is_clean stands accepted signs now s t line text helps is
     (follows is_clean stands
     (λ identity before after. after ≡ before)
     (λ identity before after. IsSaid (help_text ++ 10 ∷ []) text × (after ≡ before))

@@ -1,6 +1,6 @@
 -- An OCSP response that was left to be signed, once it is finished: an exchange over the records of where it was begun.
 use Rattle.std.proofs.Common.{◌≡◌, ℕ, Bool, List, Global, Vec, ap, inl, refl, sym, subst, ◌∙◌}
-use Rattle.std.specs.Prelude.{Option, Some, None, Result, Ok, Err, IfOk, OnOk}
+use Rattle.std.specs.Prelude.{Option, Some, None, Result, Ok, Err, IfOk, OnOk, replicate}
 use Rattle.reg_core.specs.Records.{Records}
 use Rattle.reg_core.specs.declared.memory.Memory.{Memory as NoMemory}
 use Rattle.reg_office_api.specs.Drafts.{Drafts, IsBy, IsDraft}
@@ -15,23 +15,26 @@ use Rattle.reg_office_api.proofs.PublicLaws.{follows, signed_response, unsigned_
 use Rattle.reg_crl.specs.Signing.{Identity}
 use Rattle.reg_http_head.specs.Collected.{HoldsRequest}
 use Rattle.reg_http_head.specs.Frame.{asked}
-use Rattle.reg_http.specs.Asked.{Asked, ocsp_of, path_of, asked as asks_for}
+use Rattle.reg_http.specs.Asked.{Asked, ocsp_of, path_of, serial_asked, asked as asks_for}
 use Rattle.reg_http.specs.Answers.{Answers}
 use Rattle.reg_http.specs.Bodies.{ocsp_reply}
 use Rattle.reg_http.specs.Exchanges.{AnswersText}
 use Rattle.reg_http.specs.RouteNames.{route_at}
-use Rattle.reg_http.specs.Told.{ocsp_told}
+use Rattle.reg_http.specs.Told.{Told, ocsp_told}
 use Rattle.reg_http.specs.declared.exchange.Exchange.{Exchange}
 use Rattle.reg_http.proofs.PublicLaws.{nothing_added}
 use Rattle.reg_ocsp.specs.Drafts.{Drafted, drafted_response}
 use Rattle.reg_crl_signer.specs.Forms.{HasForm}
 use Rattle.reg_desk_server.specs.Exchange.{Outcome, said, pending, later}
+use Rattle.reg_desk_jobs.specs.Admission.{IsWithin}
+use Rattle.reg_desk_jobs.specs.Beginning.{MayLeave}
 use Rattle.reg_desk_jobs.specs.Exchanges.{AnswersAt, SaysBy, dispatch}
 use Rattle.reg_desk_jobs.specs.Given.{AtTold, GaveAt, WasGiven}
 use Rattle.reg_desk_jobs.specs.Leaving.{FinishesUnsigned, FinishesAt, IsSignatureOf, Meets}
 use Rattle.reg_desk_jobs.specs.declared.unsigned_responses.Unsigned.{Unsigned}
 use Rattle.reg_desk_jobs.specs.declared.http_exchanges.Dispatch.{Dispatch}
-use Rattle.reg_desk_jobs.specs.declared.http_exchanges.Dispatch.TheVariants.{ToRegister}
+use Rattle.reg_desk_jobs.specs.declared.http_exchanges.Dispatch.TheVariants.{ToRegister, ToLimits, ToList, ToHealth, ToMetrics}
+use Rattle.reg_desk_jobs.specs.declared.admission.Admission.{Admission}
 
 -- The signer gave this, and what that is.
 module _ (signs : Signs) (gave : List ℕ → List ℕ → Type 0)
@@ -79,16 +82,31 @@ module _ (signs : Signs) (gave : List ℕ → List ℕ → Type 0)
     told_of signature (Ok bytes) exchange tells = tells
     told_of signature (Err memory) exchange tells = tells
 
+    -- a desk of which nothing was asked
+    unasked : Admission
+    unasked = record { recent = record { moments = replicate 100 None; next = 0 }; accepted = None }
+
+    -- what the register says to an OCSP request is said at a desk, also behind its limits
+    says_left : (by : Dispatch) (method target body request : List ℕ) (it : Told) → MayLeave by → asks_for method target body ≡ ocsp_of request
+        → Answers (Runs signs who) Asks (Replies signs who) Crls now before (asks_for method target body) it after
+        → SaysBy signs now who before it after by method target body
+    says_left ToRegister method target body request it to asks_it answers = answers
+    says_left ToLimits method target body request it to asks_it answers =
+        let P : Asked → Type 0 = λ what. IsWithin unasked before now (serial_asked what) in
+        (unasked, inl (subst P (sym asks_it) tt, answers))
+    says_left ToList method target body request it to asks_it answers = absurd to
+    says_left ToHealth method target body request it to asks_it answers = absurd to
+    says_left ToMetrics method target body request it to asks_it answers = absurd to
+
     -- the exchange of the register
     pub left_exchange : (is_open : Bool) (came method target body request text : List ℕ) (draft : Drafted)
-        → ∥ HoldsRequest came (asked method target body) ∥₁ → dispatch is_open (route_at (path_of target)) ≡ ToRegister
+        → ∥ HoldsRequest came (asked method target body) ∥₁ → MayLeave (dispatch is_open (route_at (path_of target)))
         → asks_for method target body ≡ ocsp_of request → Drafts who before now request draft after
         → FinishesAt gave draft now text → AnswersAt is_open signs now who before came text after
     left_exchange is_open came method target body request text draft holds to asks_it drafted it =
         let given = kinded it.signature it.finished.given in
         let replies = replies_of request draft it.signature it.finished.given drafted it.signed it.finished.made in
         let P : Asked → Type 0 = λ what. Answers (Runs signs who) Asks (Replies signs who) Crls now before what (ocsp_told given) after in
-        let Q : Dispatch → Type 0 = λ by. SaysBy signs now who before (ocsp_told given) after by method target body in
         record {
           exchange = record {
             route = it.exchange.route;
@@ -102,7 +120,8 @@ module _ (signs : Signs) (gave : List ℕ → List ℕ → Type 0)
             asked method target body,
             ocsp_told given,
             holds,
-            subst Q (sym to) (subst P (sym asks_it) (given, replies, refl)),
+            says_left (dispatch is_open (route_at (path_of target))) method target body request (ocsp_told given) to asks_it
+                (subst P (sym asks_it) (given, replies, refl)),
             (refl, refl, refl, told_of it.signature it.finished.given it.exchange it.finished.tells),
           );
           text_is = it.text_is;

@@ -1,3 +1,4 @@
+pub mod Admitting
 pub mod Answering
 pub mod Comparing
 pub mod ControlLines
@@ -11,7 +12,7 @@ pub mod Looks
 pub mod NextLines
 pub mod PageByPage
 pub mod Replaying
-pub mod Revoking
+pub mod EachRow
 pub mod SerialBytes
 pub mod Setting
 pub mod StepWords

@@ -8,7 +8,7 @@ use Rattle.std.proofs.Transfers.{All-of_StopsAt}
 use Rattle.std.proofs.lemmas.Bool.{and_parts, eqb-true, false≢true}
 use Rattle.std.proofs.lemmas.List.{get_or_default, nil_from_length, take_more}
 use Rattle.reg_lines.specs.Script.{HasNoLf, IsWholeLine}
-use Rattle.reg_desk_jobs.specs.SignatureRequest.{IsCutOff, IsInput, IsReadAs, NextIs}
+use Rattle.reg_desk_jobs.specs.Conversations.{IsCutOff, IsInput, IsReadAs, NextIs}
 use Rattle.reg_desk_jobs.specs.declared.at_job.Next.{Next}
 use Rattle.reg_desk_jobs.specs.declared.at_job.Next.TheVariants as next
 

@@ -7,7 +7,7 @@ use Rattle.reg_desk_cli.specs.declared.failure.Failure.{Failure}
 use Rattle.reg_desk_cli.specs.declared.failure.Failure.TheVariants as failure
 use Rattle.reg_lines.proofs.PublicLaws.{concat_push}
 use Rattle.reg_lines.specs.Script.{IsWholeLine}
-use Rattle.reg_desk_jobs.specs.SignatureRequest.{AreWhole, IsCutOff, IsInput}
+use Rattle.reg_desk_jobs.specs.Conversations.{AreWhole, IsCutOff, IsInput}
 use Rattle.reg_desk_jobs.specs.Replays.{LineEnds, LineReplayed, Replayed, ReplayState, Replays, ReplaysLog, state_of}
 use Rattle.reg_desk_jobs.specs.declared.replay_job.Renumbered.{Renumbered}
 use Rattle.reg_desk_jobs.proofs.Talking.{input_is, whole_push}

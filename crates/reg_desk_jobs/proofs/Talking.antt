@@ -11,7 +11,7 @@ use Rattle.reg_desk_cli.specs.declared.failure.Failure.TheVariants as failure
 use Rattle.reg_lines.specs.Accepted.{IsAccepted}
 use Rattle.reg_lines.proofs.PublicLaws.{concat_push}
 use Rattle.reg_lines.specs.Script.{IsWholeLine}
-use Rattle.reg_desk_jobs.specs.SignatureRequest.{AreWhole, IsCutOff, IsInput, Talked, Talks, TalksOnce}
+use Rattle.reg_desk_jobs.specs.Conversations.{AreWhole, IsCutOff, IsInput, Talked, Talks, TalksOnce}
 use Rattle.reg_desk_jobs.specs.declared.at_job.Step.TheVariants as step
 
 -- one line more that ends with its LF

@@ -18,12 +18,19 @@ use Rattle.reg_io.specs.declared.begun.Begun.{Begun}
 use Rattle.reg_io.specs.declared.begun.Begun.TheVariants.{Ready, Unsigned}
 use Rattle.reg_desk_jobs.specs.Exchanges.{AnswersAt, IsExchange, IsRouteOf, Says, dispatch}
 use Rattle.reg_desk_jobs.specs.Leaving.{FinishesAt}
-use Rattle.reg_desk_jobs.specs.declared.http_exchanges.Dispatch.TheVariants.{ToRegister}
+use Rattle.reg_desk_jobs.specs.declared.http_exchanges.Dispatch.{Dispatch}
+use Rattle.reg_desk_jobs.specs.declared.http_exchanges.Dispatch.TheVariants.{ToRegister, ToLimits}
 
 -- an answer that is ready, or out of memory
 abbrev pub ready_of : Result Answered Memory → Result (Begun Answered Drafted) Memory
 ready_of (Ok answered) = Ok (Ready answered)
 ready_of (Err memory) = Err memory
+
+-- the register alone leaves a response to be signed, also behind the limits of an open desk
+abbrev pub MayLeave : Dispatch → Type 0
+MayLeave ToRegister = Unit {0}
+MayLeave ToLimits = Unit {0}
+MayLeave other = ⊥
 
 -- what a request that was read comes to: it is told; or what is left to be signed for it, by the register alone; or out of memory
 abbrev pub BeginsAt
@@ -31,7 +38,7 @@ abbrev pub BeginsAt
 BeginsAt is_open signs now who before method target body (Ok (Ready answered)) after =
     Says signs now who before (told answered) after is_open (asked method target body) × AddsARequestAtMost now before after
 BeginsAt is_open signs now who before method target body (Ok (Unsigned draft)) after =
-    (dispatch is_open (route_at (path_of target)) ≡ ToRegister)
+    MayLeave (dispatch is_open (route_at (path_of target)))
     × ((request : List ℕ) × (asks_for method target body ≡ ocsp_of request) × Drafts who before now request draft after)
 BeginsAt is_open signs now who before method target body (Err memory) after = after ≡ before
 

@@ -1,39 +1,47 @@
 -- What a line at the control socket says: a word of its own, or a command line.
-use Rattle.std.specs.Prelude.{◌≡◌, ◌⊎◌, ℕ, List, [], ◌∷◌, ◌++◌, codes, bytes_eq, if◌then◌else◌, MatchOption, Option, Some, None, option_map}
+use Rattle.std.specs.Prelude.{◌≡◌, ◌⊎◌, ℕ, List, [], ◌∷◌, ◌++◌, codes, bytes_eq, if◌then◌else◌, IsFalse, IsTrue, MatchOption, Option, Some, None, option_map}
 use Rattle.std.specs.Option.{option_map_or}
+use Rattle.reg_core.specs.Calendar.{moment_of}
 use Rattle.reg_core.specs.Number.{number_of}
 use Rattle.reg_core.specs.Sequence.{◌>>=◌}
 use Rattle.reg_core.specs.Serial.{serial_of}
+use Rattle.reg_core.specs.declared.command.Command.{Command}
 use Rattle.reg_core.specs.declared.command.Command.TheVariants.{Decline, Revoke}
 use Rattle.reg_core_lists.specs.Asked.{label_of}
 use Rattle.reg_core.specs.Records.{Records}
+use Rattle.reg_core.specs.declared.refusal.Fault.{Fault}
 use Rattle.reg_core.specs.declared.refusal.Fault.TheVariants as fault
+use Rattle.reg_office_api.specs.LookUps.{IsOfStore}
 use Rattle.reg_office_api.specs.Signatories.{Signatory}
 use Rattle.reg_office_api.specs.CallSteps.{Signs}
 use Rattle.reg_lines.specs.Answer.{ComesTo, Replied}
 use Rattle.reg_lines.specs.ByCalls.{Lines}
 use Rattle.reg_lines.specs.Fields.{fields_of}
+use Rattle.reg_lines.specs.Meaning.{LineMeans, tells}
 use Rattle.reg_lines.specs.Script.{IsShortCommand, line_of}
 use Rattle.reg_desk_cli.specs.WordValues.{steps_of}
+use Rattle.reg_desk_metrics.specs.Ahead.{is_ahead}
 use Rattle.reg_desk_jobs.specs.ControlReplies.{IsSaid, ReportsFault}
 use Rattle.reg_desk_jobs.specs.Copies.{AnswersCopy, asks_copy}
 use Rattle.reg_desk_jobs.specs.Schedules.{SetAt}
 use Rattle.reg_desk_jobs.specs.Settlings.{SettlesAt}
 use Rattle.reg_desk_jobs.specs.Showings.{AnswersShown, help_text}
+use Rattle.reg_desk_jobs.specs.declared.control_reply.ControlReply.{ControlReply}
 use Rattle.reg_desk_jobs.specs.declared.words.ControlWord.{ControlWord}
-use Rattle.reg_desk_jobs.specs.declared.words.ControlWord.TheVariants.{Help, Why, Copy, Show, Settle, Schedule, Line}
+use Rattle.reg_desk_jobs.specs.declared.words.ControlWord.TheVariants.{Help, Why, Copy, Show, Settle, AcceptClock, Schedule, Line}
 use Rattle.reg_desk_jobs.specs.declared.words.Settling.{Settling}
 use Rattle.reg_desk_jobs.specs.declared.words.Shown.{Shown}
 use Rattle.reg_desk_jobs.specs.declared.words.Shown.TheVariants.{Request, Certificate, Subscriber}
 
 -- the words of the control socket: its words, why the last refused line was refused, a copy, a row that is shown, a decision of a request that is
--- for a serial number, a schedule of steps; any other line is a command line
+-- for a serial number, a clock that the operator accepts, a schedule of steps; any other line is a command line
 pub data Saying : Type 0 where
   helps : Saying
   why : Saying
   copies : Saying
   shows : Shown → Saying
   settles : Settling → Saying
+  accepts : ℕ → Saying
   schedules : List (ℕ × ℕ) → Saying
   commands : Saying
 
@@ -67,6 +75,15 @@ settling_in (word ∷ request ∷ serial ∷ []) = do
   settling_by word request serial
 settling_in other = None
 
+-- the moment behind the word `accept-clock`
+abbrev pub accepted_by_word : List ℕ → List ℕ → Option ℕ
+accepted_by_word word moment = if bytes_eq word (codes "accept-clock") then moment_of moment else None
+
+-- the moment of `accept-clock MOMENT`
+abbrev pub accepted_in : List (List ℕ) → Option ℕ
+accepted_in (word ∷ moment ∷ []) = accepted_by_word word moment
+accepted_in other = None
+
 -- the steps of a schedule that fields set: one at least, each `MOMENT=DAYS`, behind the word
 abbrev pub steps_set : List (List ℕ) → Option (List (ℕ × ℕ))
 steps_set [] = None
@@ -75,7 +92,9 @@ steps_set (word ∷ step ∷ rest) = if bytes_eq word (codes "schedule") then st
 
 -- what the fields of a line say
 abbrev pub said_by_fields : List (List ℕ) → Saying
-said_by_fields fields = option_map_or shows (shown_in fields) (option_map_or settles (settling_in fields) (option_map_or schedules (steps_set fields) commands))
+said_by_fields fields =
+    option_map_or shows (shown_in fields) (option_map_or settles (settling_in fields)
+    (option_map_or accepts (accepted_in fields) (option_map_or schedules (steps_set fields) commands)))
 
 -- what a line says
 abbrev pub said_in : List ℕ → Saying
@@ -92,6 +111,7 @@ IsWord line Why = said_in line ≡ why
 IsWord line (Copy path) = said_in line ≡ copies
 IsWord line (Show shown) = said_in line ≡ shows shown
 IsWord line (Settle settling) = said_in line ≡ settles settling
+IsWord line (AcceptClock clock) = said_in line ≡ accepts clock.moment
 IsWord line (Schedule steps) = said_in line ≡ schedules steps
 IsWord line (Line command) = (said_in line ≡ commands)
     × MatchOption command (¬ IsShortCommand line) (λ text. (text.now ≡ line_of line) × IsShortCommand line)
@@ -101,28 +121,69 @@ abbrev pub CommandAt : Signs → ℕ → Signatory → Records → List ℕ → 
 CommandAt signs now identity before line text after =
     Replied (ComesTo (Lines signs identity) now) before line text after ⊎ (ReportsFault fault.Memory text × (after ≡ before))
 
+-- a command is refused, as the clock is too far ahead of the last accepted moment and the moment that the operator accepted
+abbrev pub RefusesClock : Option ℕ → ℕ → Records → List ℕ → Type 0
+RefusesClock accepted now before text =
+    IsTrue (is_ahead now before.last accepted) × IsSaid (codes "bad-clock\n") text
+
+-- the fault of a store that could not tell the last accepted moment
+abbrev pub TellsStoreFault : List ℕ → Type 0
+TellsStoreFault text = (why : Fault) × IsOfStore why × ReportsFault why text
+
+-- a command at a moment: it is refused if the clock is too far ahead; or it runs; or the store could not tell the last accepted moment
+abbrev pub AtClock : Option ℕ → ℕ → Records → Type 0 → List ℕ → Records → Type 0
+AtClock accepted now before Runs text after =
+    (RefusesClock accepted now before text × (after ≡ before))
+    ⊎ (IsFalse (is_ahead now before.last accepted) × Runs)
+    ⊎ (TellsStoreFault text × (after ≡ before))
+
+-- whether a command is refused before it runs
+abbrev pub MeetsClock : Option ℕ → ℕ → Records → Option ControlReply → Type 0
+MeetsClock accepted now before None = IsFalse (is_ahead now before.last accepted)
+MeetsClock accepted now before (Some reply) = RefusesClock accepted now before reply.text.items ⊎ TellsStoreFault reply.text.items
+
+-- a line has a command, and no query
+abbrev pub HasCommand : List ℕ → Type 0
+HasCommand line = (command : Command) × LineMeans line (tells command)
+
+-- a command line without its end: a command at the clock; any other line runs whatever the clock tells
+abbrev pub LineAt : Option ℕ → Signs → ℕ → Signatory → Records → List ℕ → List ℕ → Records → Type 0
+LineAt accepted signs now identity before line text after =
+    (HasCommand line × AtClock accepted now before (CommandAt signs now identity before line text after) text after)
+    ⊎ ((¬ HasCommand line) × CommandAt signs now identity before line text after)
+
 -- a command line with its end; or it has too many bytes, and nothing ran
-abbrev pub EntryAt : Signs → ℕ → Signatory → Records → List ℕ → List ℕ → Records → Type 0
-EntryAt signs now identity before line text after =
-    (IsShortCommand line × CommandAt signs now identity before (line_of line) text after)
+abbrev pub EntryAt : Option ℕ → Signs → ℕ → Signatory → Records → List ℕ → List ℕ → Records → Type 0
+EntryAt accepted signs now identity before line text after =
+    (IsShortCommand line × LineAt accepted signs now identity before (line_of line) text after)
     ⊎ ((¬ IsShortCommand line) × ReportsFault fault.Read text × (after ≡ before))
 
--- what each word is told: the words, why a line was refused, of a copy, and a row, and the records stay; of a decision; of a schedule that is
--- set; and a command line's reply
-abbrev pub AnswersWord : Signs → ℕ → Signatory → Records → List ℕ → Saying → List ℕ → Records → Type 0
-AnswersWord signs now identity before line helps text after = IsSaid (help_text ++ 10 ∷ []) text × (after ≡ before)
-AnswersWord signs now identity before line why text after = after ≡ before
-AnswersWord signs now identity before line copies text after = AnswersCopy (λ bytes. Unit {0}) text × (after ≡ before)
-AnswersWord signs now identity before line (shows shown) text after = AnswersShown before now shown text × (after ≡ before)
-AnswersWord signs now identity before line (settles settling) text after = SettlesAt signs now identity before settling text after
-AnswersWord signs now identity before line (schedules steps) text after = SetAt steps before text after
-AnswersWord signs now identity before line commands text after = EntryAt signs now identity before line text after
+-- what each word is told: the words, why a line was refused, of a copy, a row, and that the clock is accepted, and the records stay; of a decision;
+-- of a schedule that is set; and a command line's reply
+abbrev pub AnswersWord : Option ℕ → Signs → ℕ → Signatory → Records → List ℕ → Saying → List ℕ → Records → Type 0
+AnswersWord accepted signs now identity before line helps text after = IsSaid (help_text ++ 10 ∷ []) text × (after ≡ before)
+AnswersWord accepted signs now identity before line why text after = after ≡ before
+AnswersWord accepted signs now identity before line copies text after = AnswersCopy (λ bytes. Unit {0}) text × (after ≡ before)
+AnswersWord accepted signs now identity before line (shows shown) text after = AnswersShown before now shown text × (after ≡ before)
+AnswersWord accepted signs now identity before line (settles settling) text after =
+    AtClock accepted now before (SettlesAt signs now identity before settling text after) text after
+AnswersWord accepted signs now identity before line (accepts moment) text after = IsSaid (codes "clock accepted\n") text × (after ≡ before)
+AnswersWord accepted signs now identity before line (schedules steps) text after = SetAt steps before text after
+AnswersWord accepted signs now identity before line commands text after = EntryAt accepted signs now identity before line text after
+
+-- the moment that the operator accepted, after a line; it stays if there was no memory to read the line
+abbrev pub accepted_by : Saying → Option ℕ → Option ℕ
+accepted_by (accepts moment) accepted = Some moment
+accepted_by other accepted = accepted
+
+abbrev pub IsAcceptedAfter : List ℕ → Option ℕ → Option ℕ → Type 0
+IsAcceptedAfter line accepted accepted' = (accepted' ≡ accepted_by (said_in line) accepted) ⊎ (accepted' ≡ accepted)
 
 -- a line of an open register at a moment; or there was no memory to read it, which is told, and the records stay
-abbrev pub WordAt : Signs → ℕ → Signatory → Records → List ℕ → List ℕ → Records → Type 0
-WordAt signs now identity before line text after =
-    AnswersWord signs now identity before line (said_in line) text after ⊎ (ReportsFault fault.Memory text × (after ≡ before))
+abbrev pub WordAt : Option ℕ → Signs → ℕ → Signatory → Records → List ℕ → List ℕ → Records → Type 0
+WordAt accepted signs now identity before line text after =
+    AnswersWord accepted signs now identity before line (said_in line) text after ⊎ (ReportsFault fault.Memory text × (after ≡ before))
 
--- the same at a moment that a clock told
+-- the same at a moment that a clock told, whatever moment the operator accepted, if any
 abbrev pub Word : Signs → (ℕ → Type 0) → Signatory → Records → List ℕ → List ℕ → Records → Type 0
-Word signs told identity before line text after = (now : ℕ) × told now × WordAt signs now identity before line text after
+Word signs told identity before line text after = (accepted : Option ℕ) × (now : ℕ) × told now × WordAt accepted signs now identity before line text after

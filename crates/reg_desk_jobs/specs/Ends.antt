@@ -1,5 +1,5 @@
 -- How a job of the program ends.
-use Rattle.std.specs.Prelude.{◌≡◌, ◌≢◌, ◌⊎◌, ℕ, Bool, true, false, List, codes, is_some, IsFalse, IsTrue, Result, Ok, Err, Some, None}
+use Rattle.std.specs.Prelude.{◌≡◌, ◌≢◌, ◌⊎◌, ℕ, Bool, true, false, List, codes, is_some, not, IsFalse, IsTrue, Result, Ok, Err, Some, None}
 use Rattle.std.specs.declared.option.Option.{Option}
 use Rattle.std.specs.Io.KnownBytes.{Appends}
 use Rattle.reg_core.specs.Issuer.{Issuer}
@@ -25,7 +25,7 @@ use Rattle.reg_audit_rows.specs.AuditLines.{broken_text, sound_text}
 use Rattle.reg_audit_rows.specs.declared.lines.TheConstants.{OTHER_SCHEMA}
 use Rattle.reg_audit_rows.specs.declared.audit_result.AuditResult.{AuditResult}
 use Rattle.reg_audit_rows.specs.declared.audit_result.AuditResult.TheVariants as audit_result
-use Rattle.reg_io.specs.Put.{AppendsFront}
+use Rattle.reg_io.specs.Put.{AppendsPrefix}
 use Rattle.reg_desk_cli.specs.declared.job.Job.{Job}
 use Rattle.reg_desk_cli.specs.declared.job.Job.TheVariants as job
 use Rattle.reg_desk_cli.specs.declared.job.Answerer.{Answerer}
@@ -35,8 +35,12 @@ use Rattle.reg_desk_cli.specs.declared.job.KeyHolder.{KeyHolder}
 use Rattle.reg_desk_cli.specs.declared.job.LinedScript.{LinedScript}
 use Rattle.reg_desk_cli.specs.declared.job.ListToWrite.{ListToWrite}
 use Rattle.reg_desk_cli.specs.declared.job.NewRegister.{NewRegister}
+use Rattle.reg_desk_cli.specs.declared.job.RowsToImport.{RowsToImport}
 use Rattle.reg_desk_cli.specs.declared.job.Serving.{Serving}
-use Rattle.reg_desk_jobs.specs.SignatureRequest.{AtControlSocket, RowsAtControlSocket}
+use Rattle.reg_desk_cli.specs.declared.job.Way.{Way}
+use Rattle.reg_lines.specs.declared.answered.Ended.{Ended}
+use Rattle.reg_desk_metrics.specs.Ahead.{is_ahead}
+use Rattle.reg_desk_jobs.specs.Conversations.{AtControlSocket, RowsAtControlSocket}
 use Rattle.reg_desk_jobs.specs.Copies.{copied_text}
 use Rattle.reg_desk_jobs.specs.Digest.{digest_alone, digests}
 use Rattle.reg_desk_jobs.specs.RegisterFailures.{IsMaking, IsOpening}
@@ -46,7 +50,7 @@ use Rattle.reg_desk_jobs.specs.Given.{GaveAt}
 use Rattle.reg_desk_jobs.specs.Published.{Compares, HasAll}
 use Rattle.reg_desk_jobs.specs.Sample.{sample_records}
 use Rattle.reg_desk_jobs.specs.Replays.{ReplaysAt}
-use Rattle.reg_desk_jobs.specs.Revokes.{RevokesAt}
+use Rattle.reg_desk_jobs.specs.RowTasks.{SendsRowsAt}
 use Rattle.reg_desk_jobs.specs.Registers.{Audits, Unaudited}
 use Rattle.reg_desk_jobs.specs.Serving.{IsBound, Serves, ServedAt}
 use Rattle.reg_desk_jobs.specs.Told.{Explains}
@@ -58,7 +62,7 @@ use Rattle.reg_desk_jobs.specs.declared.machine.Machine.{Ghosts as Machine}
 -- a text is said and the job is done; or a front of it, where the writer fails
 abbrev pub SaysText : List ℕ → Option (List ℕ) → Option (List ℕ) → Result (Unit {0}) Failure → Type 0
 SaysText text out out' (Ok done) = Appends out out' text
-SaysText text out out' (Err why) = (why ≡ failure.Fault fault.Write) × AppendsFront out out' text
+SaysText text out out' (Err why) = (why ≡ failure.Fault fault.Write) × AppendsPrefix out out' text
 
 -- what is given is said, or why nothing is given is the end
 abbrev pub SaysGiven : {W : Type 0} → (W → Option (List ℕ)) → W → W → Result (List ℕ) Fault → Result (Unit {0}) Failure → Type 0
@@ -80,7 +84,7 @@ PrintsLine text contents writer writer' result =
 abbrev pub TellsBroken : {W : Type 0} → List ℕ → (W → Option (List ℕ)) → W → W → Result (Unit {0}) Failure → Type 0
 TellsBroken text contents writer writer' result =
     ((result ≡ Err failure.Broken) × Appends (contents writer) (contents writer') text)
-    ⊎ (((result ≡ Err (failure.Fault fault.Write)) × AppendsFront (contents writer) (contents writer') text)
+    ⊎ (((result ≡ Err (failure.Fault fault.Write)) × AppendsPrefix (contents writer) (contents writer') text)
     ⊎ ((result ≡ Err (failure.Fault fault.Memory)) × (writer' ≡ writer)))
 
 -- what an audit found, as it is told
@@ -193,6 +197,11 @@ ScriptInMemory remaining contents reader reader' writer writer' result =
     ⊎ ((ran : Result (Unit {0}) Fault) × (result ≡ exit_of ran) × ((after : Records)
     × ScriptEnds (Lines digests digest_alone) remaining contents sample_records after reader reader' writer writer' ran))
 
+-- lines run at the machine's clock, which is too far ahead and which the operator does not accept
+abbrev pub IsClockRefused : Way → (ℕ → Type 0) → Records → Type 0
+IsClockRefused way told records =
+    IsTrue way.is_clocked × IsFalse way.accepts_clock × ((now : ℕ) × told now × IsTrue (is_ahead now records.last None))
+
 -- A job over a machine that reads and writes.
 module _ {M O D S R E W : Type 0} (machines : Machine M O D S R) (offices : Office O)
     (remaining : E → Option (List ℕ)) (contents : W → Option (List ℕ))
@@ -208,29 +217,56 @@ module _ {M O D S R E W : Type 0} (machines : Machine M O D S R) (offices : Offi
   ScriptAt path signer = RunsAt exit_of path (signing_told signer by_itself) (λ ran identity before after.
       ScriptEnds (Lines offices.signs identity) remaining contents before after reader reader' writer writer' ran)
 
-  -- a script over the register at a path, run line by line
-  abbrev pub LinesAt : LinedScript → Result (Unit {0}) Failure → Type 0
-  LinesAt it = RunsAt exit_of_run it.file (signing_told it.signer by_itself) (λ ran identity before after.
+  -- no line of a script runs, as the clock is too far ahead
+  abbrev pub ClockRefusedAt : LinedScript → Result (Unit {0}) Failure → Type 0
+  ClockRefusedAt it result =
+      (result ≡ Err failure.BadClock) × (reader' ≡ reader) × (writer' ≡ writer)
+      × Visits machines offices machine machine' it.file (signing_told it.signer by_itself) (λ identity before after.
+      IsClockRefused it.way machines.told before × (after ≡ before))
+
+  -- the lines of a script run over the register at a path
+  abbrev pub LinesRunAt : LinedScript → Result (Unit {0}) Failure → Type 0
+  LinesRunAt it = RunsAt exit_of_run it.file (signing_told it.signer by_itself) (λ ran identity before after.
       LinesEnd (Lines offices.signs identity) remaining contents before after reader reader' writer writer' machines.told
       it.way.is_clocked it.way.is_strict ran)
 
-  -- a strict import into the register at a path, at a moment
-  abbrev pub StrictImportAt : List ℕ → ℕ → Result (Unit {0}) Failure → Type 0
-  StrictImportAt path now = RunsAt exit_of_run path unsigned (λ ran identity before after.
+  -- a script over the register at a path, run line by line
+  abbrev pub LinesAt : LinedScript → Result (Unit {0}) Failure → Type 0
+  LinesAt it result = ClockRefusedAt it result ⊎ LinesRunAt it result
+
+  -- the rows of an import ran at a moment; it is strict or is not
+  abbrev pub ImportRan : Bool → List ℕ → ℕ → Result (Unit {0}) Failure → Type 0
+  ImportRan false path now result = (ran : Result (Unit {0}) Fault) × (result ≡ exit_of ran)
+      × Visits machines offices machine machine' path unsigned (λ identity before after.
+      ImportEnds (Lines offices.signs identity) remaining contents now before after reader reader' writer writer' ran)
+  ImportRan true path now result = (ran : Result Ended Fault) × (result ≡ exit_of_run ran)
+      × Visits machines offices machine machine' path unsigned (λ identity before after.
       StrictEnds (Lines offices.signs identity) remaining contents now before after reader reader' writer writer' ran)
 
-  -- an import into the register at a path, at a moment, which is strict or is not
+  -- an import into the register at a path, which could not be opened, or whose rows ran
   abbrev pub ImportAt : Bool → List ℕ → ℕ → Result (Unit {0}) Failure → Type 0
-  ImportAt false path now = RunsAt exit_of path unsigned (λ ran identity before after.
-      ImportEnds (Lines offices.signs identity) remaining contents now before after reader reader' writer writer' ran)
-  ImportAt true path now = StrictImportAt path now
+  ImportAt is_strict path now result =
+      (NotOpened machines machine machine' path unsigned result × (reader' ≡ reader) × (writer' ≡ writer)) ⊎ ImportRan is_strict path now result
+
+  -- no row is imported at a moment, as that is too far ahead
+  abbrev pub ImportRefusedAt : List ℕ → ℕ → Result (Unit {0}) Failure → Type 0
+  ImportRefusedAt path now result =
+      (result ≡ Err failure.BadClock) × (reader' ≡ reader) × (writer' ≡ writer)
+      × Visits machines offices machine machine' path unsigned (λ identity before after. IsTrue (is_ahead now before.last None) × (after ≡ before))
+
+  -- an import at a moment, which is refused for that only if it is checked
+  abbrev pub ImportChecked : Bool → Bool → List ℕ → ℕ → Result (Unit {0}) Failure → Type 0
+  ImportChecked is_checked is_strict path now result = (IsTrue is_checked × ImportRefusedAt path now result) ⊎ ImportAt is_strict path now result
 
   -- the same at the moment that is told; or else at one that the clock told as it began, and nothing is done where the clock can't be read
-  abbrev pub ImportByClock : Option ℕ → Bool → List ℕ → Result (Unit {0}) Failure → Type 0
-  ImportByClock (Some now) is_strict path result = ImportAt is_strict path now result
-  ImportByClock None is_strict path result =
+  abbrev pub ImportAtMoment : Option ℕ → Bool → Bool → List ℕ → Result (Unit {0}) Failure → Type 0
+  ImportAtMoment (Some now) accepts is_strict path result = ImportAt is_strict path now result
+  ImportAtMoment None accepts is_strict path result =
       ((result ≡ Err (failure.Fault fault.Read)) × (machine' ≡ machine) × (reader' ≡ reader) × (writer' ≡ writer))
-      ⊎ ((now : ℕ) × machines.told now × ImportAt is_strict path now result)
+      ⊎ ((now : ℕ) × machines.told now × ImportChecked (not accepts) is_strict path now result)
+
+  abbrev pub ImportByClock : RowsToImport → Result (Unit {0}) Failure → Type 0
+  ImportByClock it = ImportAtMoment it.moment it.accepts_clock it.is_strict it.file
 
   -- HTTP requests over the register at a path (RFC 9112), which is opened before the port is bound, and lines where there is a control socket.
   -- A published CRL that is told can stop it: it could not be compared, or the register lacks something of it, and nothing is served. Else the
@@ -268,7 +304,7 @@ module _ {M O D S R E W : Type 0} (machines : Machine M O D S R) (offices : Offi
   Ends (job.Script None (Some holder)) = λ result.
       (machine' ≡ machine) × (reader' ≡ reader) × (writer' ≡ writer) × (result ≡ Err failure.BadSigner)
   Ends (job.Lines it) = LinesAt it
-  Ends (job.Import it) = ImportByClock it.moment it.is_strict it.file
+  Ends (job.Import it) = ImportByClock it
   Ends (job.Crl file number) = Writes (CrlAt machines offices contents machine machine' writer writer' file number)
   Ends (job.Schedule file steps) = Writes (ScheduleAt machines offices contents machine machine' writer writer' file steps)
   Ends (job.KeyId file key_id) = Writes (KeyIdAt machines offices contents machine machine' writer writer' file key_id)
@@ -281,8 +317,8 @@ module _ {M O D S R E W : Type 0} (machines : Machine M O D S R) (offices : Offi
       (machine' ≡ machine) × AtControlSocket (machines.met counter) (remaining reader) (contents writer) (contents writer') result
   Ends (job.At counter (Some file)) = λ result. (machine' ≡ machine)
       × RowsAtControlSocket (machines.met counter) (remaining reader) (remaining reader') (contents writer) (contents writer') result
-  Ends (job.Revoke counter rows) = λ result.
-      (machine' ≡ machine) × RevokesAt (machines.met counter) (remaining reader) (contents writer) (contents writer') result
+  Ends (job.EachRow counter rows task) = λ result.
+      (machine' ≡ machine) × SendsRowsAt task (machines.met counter) (remaining reader) (contents writer) (contents writer') result
   Ends (job.Replay counter log) = λ result.
       (machine' ≡ machine) × ReplaysAt (machines.met counter) (remaining reader) (contents writer) (contents writer') result
 

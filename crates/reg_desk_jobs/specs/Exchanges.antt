@@ -16,15 +16,18 @@ use Rattle.reg_http.specs.RouteNames.{named_route, route_at}
 use Rattle.reg_http.specs.Told.{Told, plain}
 use Rattle.reg_http.specs.declared.exchange.Exchange.{Exchange as HttpExchange}
 use Rattle.reg_http.specs.declared.route.Route.{Route}
-use Rattle.reg_http.specs.declared.route.Route.TheVariants.{List as ListOf, Health, Metrics}
+use Rattle.reg_http.specs.declared.route.Route.TheVariants.{Requests, List as ListOf, Health, Metrics}
+use Rattle.reg_desk_jobs.specs.Admission.{AnswersLimited}
 use Rattle.reg_desk_jobs.specs.Watched.{ByGet, SaysHealth, SaysMetrics}
 use Rattle.reg_desk_jobs.specs.declared.http_exchanges.Dispatch.{Dispatch}
-use Rattle.reg_desk_jobs.specs.declared.http_exchanges.Dispatch.TheVariants.{ToRegister, ToList, ToHealth, ToMetrics}
+use Rattle.reg_desk_jobs.specs.declared.http_exchanges.Dispatch.TheVariants.{ToRegister, ToLimits, ToList, ToHealth, ToMetrics}
 
 -- ---- requests
 
--- what answers a request: the register; or an open desk, with a page of a list, its health or its metrics
+-- what answers a request: the register; or an open desk, which refuses requests for revocation beyond its limits, or gives a page of a list, its health
+-- or its metrics
 abbrev pub dispatch : Bool → Route → Dispatch
+dispatch true Requests = ToLimits
 dispatch true ListOf = ToList
 dispatch true Health = ToHealth
 dispatch true Metrics = ToMetrics
@@ -36,6 +39,7 @@ module _ (signs : Signs) (now : ℕ) (who : Signatory) (before : Records) (it : 
   -- by what answers it
   abbrev pub SaysBy : Dispatch → List ℕ → List ℕ → List ℕ → Type 0
   SaysBy ToRegister method target body = Answers (Runs signs who) Asks (Replies signs who) Crls now before (asks_for method target body) it after
+  SaysBy ToLimits method target body = AnswersLimited signs now who before (asks_for method target body) it after
   SaysBy ToList method target body = RespondsList before now (list_asked method target) it × (after ≡ before)
   SaysBy ToHealth method target body = ByGet method (SaysHealth now before) it × (after ≡ before)
   SaysBy ToMetrics method target body = ByGet method (SaysMetrics now before) it × (after ≡ before)

@@ -1,4 +1,5 @@
-pub mod SignatureRequest
+pub mod Admission
+pub mod Conversations
 pub mod Beginning
 pub mod Clocks
 pub mod ControlReplies
@@ -19,7 +20,7 @@ pub mod Reasons
 pub mod RegisterFailures
 pub mod Registers
 pub mod Replays
-pub mod Revokes
+pub mod RowTasks
 pub mod Sample
 pub mod Schedules
 pub mod Sealing

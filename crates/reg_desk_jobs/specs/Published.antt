@@ -11,8 +11,8 @@ use Rattle.reg_core.specs.declared.rows.CrlRow.{CrlRow}
 use Rattle.reg_crl.specs.Reading.{AreEntries, IsPublished}
 use Rattle.reg_desk_cli.specs.declared.failure.Failure.{Failure}
 use Rattle.reg_desk_cli.specs.declared.failure.Failure.TheVariants as failure
-use Rattle.reg_desk_jobs.specs.SignatureRequest.{IsInput}
-use Rattle.reg_io.specs.Put.{AppendsFront}
+use Rattle.reg_desk_jobs.specs.Conversations.{IsInput}
+use Rattle.reg_io.specs.Put.{AppendsPrefix}
 
 -- the number of the latest CRL, 0 before the first
 abbrev pub latest_number : Option CrlRow → ℕ
@@ -71,7 +71,7 @@ abbrev pub TellsMissing : Option (List ℕ) → Option (List ℕ) → Result (Li
 TellsMissing out out' (Ok []) result = (result ≡ Ok tt) × (out' ≡ out)
 TellsMissing out out' (Ok (first ∷ rest)) result =
     ((result ≡ Err failure.LacksPublished) × Appends out out' (first ∷ rest))
-    ⊎ ((result ≡ Err (failure.Fault fault.Write)) × AppendsFront out out' (first ∷ rest))
+    ⊎ ((result ≡ Err (failure.Fault fault.Write)) × AppendsPrefix out out' (first ∷ rest))
 TellsMissing out out' (Err why) result = (result ≡ Err why) × (out' ≡ out)
 
 -- the CRL in an input is compared with the records, and what they lack of it is told

@@ -3,7 +3,7 @@ use Rattle.std.specs.Prelude.{◌≡◌, ℕ, ◌+◌, ◌-◌, ◌*◌, List, [
 use Rattle.reg_core.specs.Calendar.{moment_text}
 use Rattle.reg_core.specs.Serial.{serial_text}
 use Rattle.reg_desk_jobs.specs.declared.reasons.Reason.{Reason}
-use Rattle.reg_desk_jobs.specs.declared.reasons.Reason.TheVariants.{NoOrder, Filled, Latest, OtherSerial, Unsigned, Wrong}
+use Rattle.reg_desk_jobs.specs.declared.reasons.Reason.TheVariants.{NoOrder, Filled, Latest, OtherSerial, ClockAhead, Unsigned, Wrong}
 use Rattle.reg_desk_jobs.specs.Syntax.{wrong_text}
 
 -- what is told: what was noted, or nothing
@@ -19,6 +19,10 @@ last_second not_before days = not_before + (days * 86400 - 1)
 unfoldable pub latest_text : ℕ → List ℕ
 latest_text at = codes "notAfter at most " ++ moment_text at
 
+-- what is told of a clock that is too far ahead: the last accepted moment
+unfoldable pub ahead_text : ℕ → List ℕ
+ahead_text last = codes "the clock is more than 30 days past " ++ moment_text last
+
 -- what is told of an order
 abbrev pub order_text : List ℕ → ℕ → List ℕ → List ℕ
 order_text front order end = front ++ decimal order ++ end
@@ -33,6 +37,7 @@ reason_text (NoOrder order) = order_text (codes "no order ") order []
 reason_text (Filled order) = order_text (codes "order ") order (codes " has its certificate")
 reason_text (Latest at) = latest_text at
 reason_text (OtherSerial request serial) = other_text request serial
+reason_text (ClockAhead last) = ahead_text last
 reason_text (Wrong wrong) = wrong_text wrong
 reason_text (Unsigned number) = order_text (codes "CRL ") number (codes " has a placeholder digest: the next one is due at once")
 

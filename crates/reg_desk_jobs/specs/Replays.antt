@@ -9,7 +9,7 @@ use Rattle.reg_core.specs.declared.refusal.Fault.TheVariants as fault
 use Rattle.reg_desk_cli.specs.declared.failure.Failure.{Failure}
 use Rattle.reg_desk_cli.specs.declared.failure.Failure.TheVariants as failure
 use Rattle.reg_lines.specs.Script.{IsWholeLine, line_of}
-use Rattle.reg_desk_jobs.specs.SignatureRequest.{AreWhole, IsCutOff, IsInput, IsOfTalk, TalksLine}
+use Rattle.reg_desk_jobs.specs.Conversations.{AreWhole, IsCutOff, IsInput, IsOfTalk, TalksLine}
 use Rattle.reg_desk_jobs.specs.LogEntries.{LoggedExchange, Tells, TellsNothing, TellsPart, first_word, second_word}
 use Rattle.reg_desk_jobs.specs.declared.log_entries.Entry.{Entry}
 use Rattle.reg_desk_jobs.specs.declared.log_entries.Entry.TheVariants.{Line, Request, Decision}

@@ -15,7 +15,7 @@ use Rattle.reg_desk_jobs.specs.Exchanges.{AnswersBy, Unmoved}
 use Rattle.reg_desk_jobs.specs.Leaving.{FinishesUnsigned, Meets}
 use Rattle.reg_desk_jobs.specs.ControlWords.{Word}
 use Rattle.reg_desk_jobs.specs.declared.unsigned_responses.Unsigned.{Unsigned}
-use Rattle.reg_io.specs.Put.{AppendsFront}
+use Rattle.reg_io.specs.Put.{AppendsPrefix}
 use Rattle.reg_io.specs.RunsOfAnswers.{Answered}
 
 -- What came of a request at a desk that is open or is not: its text is that of an exchange; or its answer was left to be signed, and whatever text
@@ -55,7 +55,7 @@ Unbound inputs result = (inputs ≡ []) × ((result ≡ Err (failure.Fault fault
 abbrev pub Served : ℕ → ℕ → List Input → Option (List ℕ) → Option (List ℕ) → Result (Unit {0}) Failure → Type 0
 Served port requests inputs out out' (Ok done) = (asked_in inputs ≡ requests) × Appends out out' (listening port)
 Served port requests inputs out out' (Err (failure.Fault fault.Read)) = (asked_in inputs ≢ requests) × Appends out out' (listening port)
-Served port requests inputs out out' (Err (failure.Fault fault.Write)) = (inputs ≡ []) × AppendsFront out out' (listening port)
+Served port requests inputs out out' (Err (failure.Fault fault.Write)) = (inputs ≡ []) × AppendsPrefix out out' (listening port)
 Served port requests inputs out out' (Err other) = ⊥
 
 -- nothing was bound and nothing was written; or this was, and that was served there

@@ -9,11 +9,11 @@ use Rattle.reg_desk_cli.specs.ExitStatus.{failure_line, exit_status}
 use Rattle.reg_desk_cli.specs.declared.failure.Failure.{Failure}
 use Rattle.reg_desk_jobs.specs.Reasons.{reason_text}
 use Rattle.reg_desk_jobs.specs.declared.reasons.Reason.{Reason}
-use Rattle.reg_io.specs.Put.{AppendsFront}
+use Rattle.reg_io.specs.Put.{AppendsPrefix}
 
 -- the bytes were written, or only a front of them, where the device failed
 abbrev pub IsWritten : Option (List ℕ) → Option (List ℕ) → List ℕ → Type 0
-IsWritten old new bytes = Appends old new bytes ⊎ AppendsFront old new bytes
+IsWritten old new bytes = Appends old new bytes ⊎ AppendsPrefix old new bytes
 
 -- the line was written with its LF, or a front of that
 abbrev pub IsAnsweredLine : Option (List ℕ) → Option (List ℕ) → List ℕ → Type 0

@@ -146,10 +146,10 @@ metrics_response text = record { status = 200; kind = codes "text/plain; version
 abbrev pub ByGet : List ℕ → (Told → Type 0) → Told → Type 0
 ByGet method Says it = MatchBool (bytes_eq method (codes "GET")) (Says it) (it ≡ plain (only (codes "GET")))
 
--- its health: by what was found at a moment, with what was counted
+-- its health: by what was found at a moment, with what was counted, and the moment that the operator accepted
 abbrev pub SaysHealth : ℕ → Records → Told → Type 0
 SaysHealth now records it = (tally : Tally) × (found : Result Numbers Fault) × HasFound tally records now found
-    × ((tally' : Tally) × (it ≡ plain (health_response (health_of now found tally'))))
+    × ((tally' : Tally) × (accepted : Option ℕ) × (it ≡ plain (health_response (health_of now found tally' accepted))))
 
 -- its metrics: by what was found at a moment, with what was counted, and what was heard of connections
 abbrev pub SaysMetrics : ℕ → Records → Told → Type 0

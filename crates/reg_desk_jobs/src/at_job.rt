@@ -4,7 +4,7 @@ ghost use Rattle.std.specs.Prelude.{◌≡◌, ◌⊎◌, ◌↔◌, IsFalse, Is
 ghost use Rattle.std.specs.Io.{StopsAt};
 ghost use Rattle.std.specs.Io.BufRead.{ends_with_byte};
 ghost use Rattle.std.specs.Io.KnownBytes.{Appends, Consumes};
-ghost use Rattle.reg_desk_jobs.specs.SignatureRequest.{AtControlSocket, IsOfTalk, IsReadAs, NextIs, RowsAtControlSocket, Talks, TalksLine, TalksOnce, TalksOver};
+ghost use Rattle.reg_desk_jobs.specs.Conversations.{AtControlSocket, IsOfTalk, IsReadAs, NextIs, RowsAtControlSocket, Talks, TalksLine, TalksOnce, TalksOver};
 
 use crate::machine::Machine;
 use crate::output_lines::say;

@@ -1,12 +1,13 @@
 //! Lines at the control socket, as an open desk answers them.
 
-ghost use Rattle.std.specs.Prelude.{◌≡◌, ◌⊎◌, ◌↔◌, ◌<◌, ◌≤◌, [], IsTrue, vec_capacity};
+ghost use Rattle.std.specs.Prelude.{◌≡◌, ◌⊎◌, ◌↔◌, ◌<◌, ◌≤◌, [], IfSome, IsTrue, Some, codes, vec_capacity};
 ghost use Rattle.reg_lines.specs.Answer.{reply_of};
-ghost use Rattle.reg_office_api.specs.Leads.{Leads};
-ghost use Rattle.reg_desk_jobs.specs.ControlReplies.{ReportsLineOutcome, line_outcome_of};
+ghost use Rattle.reg_office_api.specs.Leads.{Leads, Looks};
+ghost use Rattle.reg_desk_jobs.specs.ControlReplies.{IsSaid, ReportsLineOutcome, line_outcome_of};
 ghost use Rattle.reg_desk_jobs.specs.Counted.{CountsLine, SignatureFailed};
-ghost use Rattle.reg_desk_jobs.specs.ControlWords.{CommandAt, WordAt};
+ghost use Rattle.reg_desk_jobs.specs.ControlWords.{AtClock, CommandAt, HasCommand, IsAcceptedAfter, LineAt, MeetsClock, WordAt};
 ghost use Rattle.reg_desk_jobs.specs.Schedules.{SetAt, SetsSteps, TellsSetting};
+ghost use Rattle.reg_desk_jobs.specs.Settlings.{SettlesAt};
 
 use crate::control_reply::{ControlReply, LineOutcome};
 use crate::copy_job::answer_copy;
@@ -15,38 +16,42 @@ use crate::exchange_log::log_line;
 use crate::health_routes::note_due;
 use crate::jobs::ended;
 use crate::machine::Machine;
-use crate::reasons::{keep_reply_reason, note, note_syntax, told_why};
+use crate::reasons::{
+    Reason, keep_reason_text, keep_reply_reason, note, note_syntax, reason_line, told_why,
+};
 use crate::show::{answer_help, answer_shown};
-use crate::words::{ControlWord, read_word};
+use crate::words::{AcceptedClock, ControlWord, Settling, read_word};
 use reg_core::{Fault, Moment};
 use reg_desk_cli::{Failure, Steps, schedule_of};
-use reg_desk_metrics::Tally;
-use reg_lines::{Answered, LONGEST_REPLY, run_line};
+use reg_desk_metrics::{Tally, is_ahead};
+use reg_lines::{Answered, CommandLine, LONGEST_REPLY, read_line, run_line};
 use reg_office_api::{LineReply, Office};
 use std::alloc::Global;
 
 /// Answers a line at the control socket, which began at these microseconds, at a moment, counts it, and puts it into the log, where there is
-/// one.
+/// one. The operator may accept the clock by it.
 pub(crate) fn answer_counted<M: Machine>(
     alloc: Global,
     office: &mut M::Office,
     machine: &M,
     file: &str,
     tally: &mut Tally,
+    accepted: &mut Option<Moment>,
     began: u64,
     now: Moment,
     line: &[u8],
     noted: &mut Vec<u8>,
 ) -> Vec<u8>
     ensures moves { Leads M.Office.is_clean M.Office.stands
-        (λ identity before after. WordAt M.Office.signs now identity before line.now result.items after)
+        (λ identity before after. WordAt accepted.old M.Office.signs now identity before line.now result.items after)
         office.old office.new }
+    ensures accepted { IsAcceptedAfter line.now accepted.old accepted.new }
     ensures counted { CountsLine (SignatureFailed M.Office.failures M.Office.answer_failures office.old office.new)
         now result.items tally.old tally.new }
 {
     let failures = office.failure_counts();
     let named = named_before::<M>(alloc, office, machine, now, line);
-    let reply = answer_word::<M>(alloc, office, machine, file, now, line, noted);
+    let reply = answer_word::<M>(alloc, office, machine, file, accepted, now, line, noted);
     note_due::<M>(alloc, office, tally, &reply.came, noted);
     let is_unsigned = has_failed::<M>(office, failures);
     let micros = machine.micros().saturating_sub(began);
@@ -70,13 +75,15 @@ fn answer_word<M: Machine>(
     office: &mut M::Office,
     machine: &M,
     file: &str,
+    accepted: &mut Option<Moment>,
     now: Moment,
     line: &[u8],
     noted: &mut Vec<u8>,
 ) -> ControlReply
     ensures moves { Leads M.Office.is_clean M.Office.stands
-        (λ identity before after. WordAt M.Office.signs now identity before line.now result.text.items after)
+        (λ identity before after. WordAt accepted.old M.Office.signs now identity before line.now result.text.items after)
         office.old office.new }
+    ensures accepted { IsAcceptedAfter line.now accepted.old accepted.new }
     ensures came { ReportsLineOutcome result.came result.text.items }
 {
     match read_word(alloc, line) {
@@ -85,14 +92,106 @@ fn answer_word<M: Machine>(
         Ok(ControlWord::Copy(path)) => answer_copy(alloc, machine, file, path, noted),
         Ok(ControlWord::Show(shown)) => answer_shown::<M>(alloc, office, now, shown, noted),
         Ok(ControlWord::Settle(settling)) => {
-            answer_settling::<M>(alloc, office, now, settling, noted)
+            settle_by_clock::<M>(alloc, office, *accepted, now, settling, noted)
         }
+        Ok(ControlWord::AcceptClock(clock)) => accept_clock(alloc, clock, accepted),
         Ok(ControlWord::Schedule(steps)) => answer_schedule::<M>(alloc, office, &steps, noted),
         Ok(ControlWord::Line(Some(command))) => {
-            answer_command_line::<M>(alloc, office, now, command, noted)
+            answer_by_clock::<M>(alloc, office, *accepted, now, command, noted)
         }
         Ok(ControlWord::Line(None)) => ControlReply::fault(alloc, Fault::Read),
         Err(_) => ControlReply::fault(alloc, Fault::Memory),
+    }
+}
+
+fn accept_clock(alloc: Global, clock: AcceptedClock, accepted: &mut Option<Moment>) -> ControlReply
+    ensures accepted { accepted.new ≡ Some clock.moment }
+    ensures said { IsSaid (codes "clock accepted\n") result.text.items }
+    ensures came { ReportsLineOutcome result.came result.text.items }
+{
+    *accepted = Some(clock.moment);
+    ControlReply::line(alloc, b"clock accepted", LineOutcome::Done)
+}
+
+/// The refusal of a command, as the clock is too far ahead; `None` if it is not.
+fn refusal_by_clock<M: Machine>(
+    alloc: Global,
+    office: &mut M::Office,
+    accepted: Option<Moment>,
+    now: Moment,
+    noted: &mut Vec<u8>,
+) -> Option<ControlReply>
+    ensures looks { Looks M.Office.is_clean M.Office.stands (λ records. MeetsClock accepted now records result) office.old office.new }
+    ensures came { IfSome result (λ reply. ReportsLineOutcome reply.came reply.text.items) }
+{
+    match office.standing() {
+        Ok(standing) if is_ahead(now, standing.last, accepted) => {
+            let reply = clock_refused(alloc);
+            let reason = Some(Reason::ClockAhead(standing.last));
+            keep_reason_text(reason_line(alloc, b"", reason), &reply.text, noted);
+            Some(reply)
+        }
+        Ok(_) => None,
+        Err(fault) => Some(ControlReply::fault(alloc, fault)),
+    }
+}
+
+fn clock_refused(alloc: Global) -> ControlReply
+    ensures said { IsSaid (codes "bad-clock\n") result.text.items }
+    ensures came { ReportsLineOutcome result.came result.text.items }
+{
+    ControlReply::line(alloc, b"bad-clock", LineOutcome::Failed(Failure::BadClock))
+}
+
+fn settle_by_clock<M: Machine>(
+    alloc: Global,
+    office: &mut M::Office,
+    accepted: Option<Moment>,
+    now: Moment,
+    settling: Settling,
+    noted: &mut Vec<u8>,
+) -> ControlReply
+    ensures moves { Leads M.Office.is_clean M.Office.stands (λ identity before after. AtClock accepted now before
+        (SettlesAt M.Office.signs now identity before settling result.text.items after) result.text.items after)
+        office.old office.new }
+    ensures came { ReportsLineOutcome result.came result.text.items }
+{
+    match refusal_by_clock::<M>(alloc, office, accepted, now, noted) {
+        Some(refused) => refused,
+        None => answer_settling::<M>(alloc, office, now, settling, noted),
+    }
+}
+
+fn answer_by_clock<M: Machine>(
+    alloc: Global,
+    office: &mut M::Office,
+    accepted: Option<Moment>,
+    now: Moment,
+    line: &[u8],
+    noted: &mut Vec<u8>,
+) -> ControlReply
+    ensures moves { Leads M.Office.is_clean M.Office.stands
+        (λ identity before after. LineAt accepted M.Office.signs now identity before line.now result.text.items after)
+        office.old office.new }
+    ensures came { ReportsLineOutcome result.came result.text.items }
+{
+    if !has_command(line) {
+        return answer_command_line::<M>(alloc, office, now, line, noted);
+    }
+    match refusal_by_clock::<M>(alloc, office, accepted, now, noted) {
+        Some(refused) => refused,
+        None => answer_command_line::<M>(alloc, office, now, line, noted),
+    }
+}
+
+fn has_command(line: &[u8]) -> bool
+    ensures { IsTrue result ↔ HasCommand line.now }
+{
+    match read_line(line) {
+        Some(CommandLine::Command(_)) => true,
+        Some(CommandLine::Query(_)) => false,
+        Some(CommandLine::Ocsp(_)) => false,
+        None => false,
     }
 }
 

@@ -14,6 +14,7 @@ use crate::unsigned_responses::received_answer;
 use reg_core::{Command, Memory, Moment};
 use reg_crl_signer::{Backoff, PresetSignature, SignatureRequest};
 use reg_desk_cli::{Answerer, KeyHolder};
+use reg_desk_metrics::is_ahead;
 use reg_desk_server::{Deferred, EventLoopFault};
 use reg_io::Begun;
 use reg_lines::CommandLine;
@@ -222,6 +223,10 @@ impl<'a, 'w, M: Machine> Desk<'a, 'w, M> {
             });
         }
         let moment = self.machine.moment().ok()?;
+        if wanted == Wanted::Crl && self.is_ahead(moment) {
+            // The command is refused, so nothing is signed for it.
+            return None;
+        }
         let looked = Looked {
             wanted,
             moment,
@@ -229,6 +234,18 @@ impl<'a, 'w, M: Machine> Desk<'a, 'w, M> {
             is_backed_off: false,
         };
         look_at::<M>(self.alloc, &mut self.office, looked, said)
+    }
+
+    /// Whether commands are refused at a moment, as the clock is too far ahead.
+    fn is_ahead(&mut self, moment: Moment) -> bool
+        ensures open { self.new.is_open ≡ self.old.is_open }
+        ensures moves { Leads M.Office.is_clean M.Office.stands (λ identity before after. after ≡ before)
+            self.old.office self.new.office }
+    {
+        match self.office.standing() {
+            Ok(standing) => is_ahead(moment, standing.last, self.admission.accepted),
+            Err(_) => false,
+        }
     }
 
     /// The back-off of lines from the signer of OCSP answers, once it was asked for one, or for a CRL, and has answered or not.
@@ -273,6 +290,7 @@ impl<'a, 'w, M: Machine> Desk<'a, 'w, M> {
             self.machine,
             self.file,
             &mut tally,
+            &mut self.admission.accepted,
             looked.began,
             moment,
             line,

@@ -2,6 +2,7 @@
 
 ghost use Rattle.std.specs.Prelude.{◌≡◌, IfOk, MatchOption, OnErr};
 
+use crate::admission::Admission;
 use crate::control_lines::answer_counted;
 use crate::deferred_commands::{Looked, Wanted, known_of, socket_of};
 use crate::exchange_log::log_lost;
@@ -39,6 +40,7 @@ pub(crate) struct Desk<'a, 'w, M: Machine> {
     /// is finished, at which the desk stays as it is.
     pub(crate) tally: &'a Cell<Tally>,
     pub(crate) heard: &'a Cell<ConnectionTotals>,
+    pub(crate) admission: Admission,
 }
 
 impl<'a, 'w, M: Machine> Handler for Desk<'a, 'w, M> {
@@ -85,6 +87,7 @@ impl<'a, 'w, M: Machine> Handler for Desk<'a, 'w, M> {
             self.machine,
             self.is_open,
             &mut tally,
+            &mut self.admission,
             self.heard.get(),
             now,
             peer,
@@ -134,6 +137,7 @@ impl<'a, 'w, M: Machine> Handler for Desk<'a, 'w, M> {
             self.machine,
             self.file,
             &mut tally,
+            &mut self.admission.accepted,
             began,
             now,
             line,

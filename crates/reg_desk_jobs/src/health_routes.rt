@@ -37,13 +37,14 @@ use std::alloc::Global;
 
 const PROMETHEUS: &str = "text/plain; version=0.0.4; charset=utf-8";
 
-/// Tells whether all is well, at a moment.
+/// Tells whether all is well, at a moment, with the moment that the operator accepted.
 pub(crate) fn answer_health<M: Machine>(
     alloc: Global,
     office: &mut M::Office,
     method: &Method,
     now: Moment,
     tally: &mut Tally,
+    accepted: Option<Moment>,
 ) -> Result<Answered, Memory>
     ensures moves { Looks M.Office.is_clean M.Office.stands
         (λ records. IfOk result (λ answered. ByGet method.now (SaysHealth now records) (told answered))) office.old office.new }
@@ -52,7 +53,7 @@ pub(crate) fn answer_health<M: Machine>(
     if method.as_str() != "GET" {
         return only_get(alloc);
     }
-    health_at::<M>(alloc, office, now, tally)
+    health_at::<M>(alloc, office, now, tally, accepted)
 }
 
 fn health_at<M: Machine>(
@@ -60,13 +61,14 @@ fn health_at<M: Machine>(
     office: &mut M::Office,
     now: Moment,
     tally: &mut Tally,
+    accepted: Option<Moment>,
 ) -> Result<Answered, Memory>
     ensures moves { Looks M.Office.is_clean M.Office.stands
         (λ records. IfOk result (λ answered. SaysHealth now records (told answered))) office.old office.new }
     ensures recounted { IsRecounted tally.old tally.new }
 {
     let found = found_at::<M>(alloc, office, now, tally);
-    health_answer(alloc, &Health::of(now, &found, tally))
+    health_answer(alloc, &Health::of(now, &found, tally, accepted))
 }
 
 /// Tells the metrics, at a moment. Requests for revocation that were not counted for a minute are counted for them.

@@ -17,6 +17,7 @@ ghost use Rattle.reg_desk_jobs.specs.Watched.{IsRecounted};
 ghost use Rattle.reg_desk_metrics.specs.declared.tally.Tally.{Tally as Tallies};
 ghost use Rattle.reg_io.specs.declared.begun.Begun.{Begun as BegunOf};
 
+use crate::admission::{Admission, begin_admitted};
 use crate::exchange_log::log_exchange;
 use crate::health_routes::{answer_health, answer_metrics};
 use crate::machine::Machine;
@@ -39,6 +40,8 @@ use std::net::SocketAddr;
 pub(crate) enum Dispatch {
     /// The register.
     ToRegister,
+    /// An open desk, which refuses requests for revocation beyond its limits, and then the register.
+    ToLimits,
     /// An open desk, with a page of a list.
     ToList,
     /// An open desk, with its health.
@@ -55,6 +58,7 @@ fn dispatch_of(is_open: bool, route: Route) -> Dispatch
         return Dispatch::ToRegister;
     }
     match route {
+        Route::Requests => Dispatch::ToLimits,
         Route::List => Dispatch::ToList,
         Route::Health => Dispatch::ToHealth,
         Route::Metrics => Dispatch::ToMetrics,
@@ -70,6 +74,7 @@ pub(crate) fn visit<M: Machine>(
     machine: &M,
     is_open: bool,
     tally: &mut Tally,
+    admission: &mut Admission,
     heard: ConnectionTotals,
     now: Moment,
     peer: SocketAddr,
@@ -82,7 +87,9 @@ pub(crate) fn visit<M: Machine>(
         × CountsBegun now (collected_bytes request.now) begun (outcome_of result) asked tally.new }
 {
     let began = machine.micros();
-    match exchange_at::<M>(alloc, office, is_open, tally, heard, now, request) {
+    match exchange_at::<M>(
+        alloc, office, is_open, tally, admission, heard, now, request,
+    ) {
         Begun::Ready(exchange) => {
             let micros = machine.micros().saturating_sub(began);
             tally.count_exchange(now, &exchange, micros);
@@ -109,6 +116,7 @@ fn exchange_at<M: Machine>(
     office: &mut M::Office,
     is_open: bool,
     tally: &mut Tally,
+    admission: &mut Admission,
     heard: ConnectionTotals,
     now: Moment,
     request: &Collected,
@@ -132,7 +140,7 @@ fn exchange_at<M: Machine>(
         ) => {
             let route = Route::of(target);
             let begun = begin_at::<M>(
-                alloc, office, is_open, tally, heard, now, route, &method, target, body,
+                alloc, office, is_open, tally, admission, heard, now, route, &method, target, body,
             );
             begun_exchange(route, room, begun, now)
         }
@@ -172,6 +180,7 @@ fn begin_at<M: Machine>(
     office: &mut M::Office,
     is_open: bool,
     tally: &mut Tally,
+    admission: &mut Admission,
     heard: ConnectionTotals,
     now: Moment,
     route: Route,
@@ -187,8 +196,14 @@ fn begin_at<M: Machine>(
 {
     match dispatch_of(is_open, route) {
         Dispatch::ToRegister => begin(alloc, method, target, body, now, office),
+        Dispatch::ToLimits => {
+            begin_admitted::<M>(alloc, office, admission, now, method, target, body)
+        }
         Dispatch::ToList => ready(answer_list(alloc, method, target, now, office)),
-        Dispatch::ToHealth => ready(answer_health::<M>(alloc, office, method, now, tally)),
+        Dispatch::ToHealth => {
+            let accepted = admission.accepted;
+            ready(answer_health::<M>(alloc, office, method, now, tally, accepted))
+        }
         Dispatch::ToMetrics => {
             ready(answer_metrics::<M>(alloc, office, method, now, tally, heard))
         }

@@ -1,17 +1,18 @@
 //! The jobs but `serve`.
 
-ghost use Rattle.std.specs.Prelude.{◌≡◌, Result, IfErr, false};
+ghost use Rattle.std.specs.Prelude.{◌≡◌, Result, IfErr, IsTrue, None};
 ghost use Rattle.reg_office_api.specs.Items.{items_of};
-ghost use Rattle.reg_office_api.specs.Leads.{Leads};
+ghost use Rattle.reg_office_api.specs.Leads.{Leads, Looks};
+ghost use Rattle.reg_desk_metrics.specs.Ahead.{is_ahead};
 ghost use Rattle.reg_lines.specs.ByCalls.{Lines};
 ghost use Rattle.reg_lines.specs.Strict.{StrictEnds};
-ghost use Rattle.reg_desk_jobs.specs.Ends.{AuditAt, CrlAt, ImportAt, ImportByClock, InitAt, KeyIdAt, MakesAt, ScheduleAt, ScriptAt, StrictImportAt};
+ghost use Rattle.reg_desk_jobs.specs.Ends.{AuditAt, CrlAt, ImportByClock, ImportChecked, InitAt, KeyIdAt, MakesAt, ScheduleAt, ScriptAt};
 ghost use Rattle.reg_desk_jobs.specs.Ends.{SaysGiven, TellsBroken, PrintsLine, TellsSet, ReportsAuditResult};
 ghost use Rattle.reg_desk_jobs.specs.Visits.{exit_of, exit_of_run};
 ghost use Rattle.reg_office_api.specs.LookUps.{IsOfStore};
 ghost use Rattle.reg_audit_rows.specs.AuditLines.{broken_text, sound_text};
 
-use crate::lines_job::run_script_over;
+use crate::lines_job::{is_ahead_of, run_script_over};
 use crate::machine::Machine;
 use crate::output_lines::say;
 use crate::reasons::{Reason, keep_reason};
@@ -112,8 +113,9 @@ pub fn script<M: Machine, R: Read, W: Write>(
     ended(ran)
 }
 
-/// Imports standard input into the register at a path, at one moment: the one that is told, or the clock's as it begins. A strict import ends at
-/// the first refusal or fault, and runs no last row without its line end; why its last row was refused, if it was, is kept.
+/// Imports standard input into the register at a path, at one moment: the one that is told, or the clock's as it begins, which is refused if it
+/// is too far ahead and the operator does not accept it. A strict import ends at the first refusal or fault, and runs no last row without its
+/// line end; why its last row was refused, if it was, is kept.
 pub fn import_rows<M: Machine, R: Read, W: Write>(
     alloc: Global,
     machine: &mut M,
@@ -123,12 +125,17 @@ pub fn import_rows<M: Machine, R: Read, W: Write>(
     writer: &mut W,
 ) -> Result<(), Failure>
     ensures { ImportByClock M.Machine M.Office.Office R.remaining W.contents machine.old machine.new
-        reader.old reader.new writer.old writer.new rows.now.moment rows.now.is_strict rows.now.file result }
+        reader.old reader.new writer.old writer.new rows.now result }
 {
     match rows.moment {
-        Some(now) => import_at(alloc, machine, rows, now, reason, reader, writer),
+        Some(now) => import_at(alloc, machine, rows, now, false, reason, reader, writer),
         None => match machine.moment() {
-            Ok(now) => import_at(alloc, machine, rows, now, reason, reader, writer),
+            Ok(now) => {
+                let is_checked = !rows.accepts_clock;
+                import_at(
+                    alloc, machine, rows, now, is_checked, reason, reader, writer,
+                )
+            }
             Err(_) => Err(Failure::Fault(Fault::Read)),
         },
     }
@@ -139,36 +146,39 @@ fn import_at<M: Machine, R: Read, W: Write>(
     machine: &mut M,
     rows: &RowsToImport<'_>,
     now: Moment,
+    is_checked: bool,
     reason: &Cell<Option<Reason>>,
     reader: &mut R,
     writer: &mut W,
 ) -> Result<(), Failure>
-    ensures { ImportAt M.Machine M.Office.Office R.remaining W.contents machine.old machine.new
-        reader.old reader.new writer.old writer.new rows.now.is_strict rows.now.file now result }
+    ensures { ImportChecked M.Machine M.Office.Office R.remaining W.contents machine.old machine.new
+        reader.old reader.new writer.old writer.new is_checked rows.now.is_strict rows.now.file now result }
 {
     let path = rows.file.as_str();
-    if rows.is_strict {
-        return import_to_refusal(alloc, machine, path, now, reason, reader, writer);
+    let mut office = open_unsigned(machine, path)?;
+    if refuses_import::<M>(&mut office, now, is_checked) {
+        machine.close(path, office);
+        return Err(Failure::BadClock);
     }
-    import_all(alloc, machine, path, now, reader, writer)
+    if rows.is_strict {
+        let imported = import_kept::<M, R, W>(alloc, &mut office, now, reason, reader, writer);
+        machine.close(path, office);
+        return run_ended(imported);
+    }
+    let imported = import(alloc, reader, writer, now, &mut office);
+    machine.close(path, office);
+    ended(imported)
 }
 
-fn import_to_refusal<M: Machine, R: Read, W: Write>(
-    alloc: Global,
-    machine: &mut M,
-    path: &str,
-    now: Moment,
-    reason: &Cell<Option<Reason>>,
-    reader: &mut R,
-    writer: &mut W,
-) -> Result<(), Failure>
-    ensures { StrictImportAt M.Machine M.Office.Office R.remaining W.contents machine.old machine.new
-        reader.old reader.new writer.old writer.new path.now now result }
+/// Whether the moment of an import is checked, and too far ahead.
+fn refuses_import<M: Machine>(office: &mut M::Office, now: Moment, is_checked: bool) -> bool
+    ensures checked { IsTrue result → IsTrue is_checked }
+    ensures looks { Looks M.Office.is_clean M.Office.stands (λ records. IsTrue result → IsTrue (is_ahead now records.last None)) office.old office.new }
 {
-    let mut office = open_unsigned(machine, path)?;
-    let imported = import_kept::<M, R, W>(alloc, &mut office, now, reason, reader, writer);
-    machine.close(path, office);
-    run_ended(imported)
+    if !is_checked {
+        return false;
+    }
+    is_ahead_of::<M>(office, now)
 }
 
 fn import_kept<M: Machine, R: Read, W: Write>(
@@ -197,23 +207,6 @@ pub(crate) fn run_ended(ran: Result<Ended, Fault>) -> Result<(), Failure>
         Ok(Ended::NoLineEnd) => Err(Failure::NoLineEnd),
         Err(fault) => Err(Failure::Fault(fault)),
     }
-}
-
-fn import_all<M: Machine, R: Read, W: Write>(
-    alloc: Global,
-    machine: &mut M,
-    path: &str,
-    now: Moment,
-    reader: &mut R,
-    writer: &mut W,
-) -> Result<(), Failure>
-    ensures { ImportAt M.Machine M.Office.Office R.remaining W.contents machine.old machine.new
-        reader.old reader.new writer.old writer.new false path.now now result }
-{
-    let mut office = open_unsigned(machine, path)?;
-    let imported = import(alloc, reader, writer, now, &mut office);
-    machine.close(path, office);
-    ended(imported)
 }
 
 /// Writes the bytes of a CRL of the register at a path.

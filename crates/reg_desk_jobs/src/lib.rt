@@ -1,6 +1,7 @@
 //! The jobs of the program `desk`: each over any machine.
 #![tactic(auto)]
 
+mod admission;
 mod at_job;
 mod clock;
 mod control_lines;
@@ -26,7 +27,7 @@ mod published;
 mod reasons;
 mod registers;
 mod replay_job;
-mod revoke_job;
+mod row_job;
 mod serve_job;
 mod show;
 mod syntax;
@@ -46,6 +47,6 @@ pub use open_job::hold_open;
 pub use output_lines::report_exit;
 pub use reasons::Reason;
 pub use replay_job::replay;
-pub use revoke_job::revoke_rows;
+pub use row_job::each_row;
 pub use serve_job::serve;
 pub use unsigned_responses::Unsigned;

@@ -1,10 +1,11 @@
 //! The job `script`: lines of standard input over a register.
 
-ghost use Rattle.std.specs.Prelude.{◌↔◌, IsTrue};
-ghost use Rattle.reg_office_api.specs.Leads.{Leads};
+ghost use Rattle.std.specs.Prelude.{◌↔◌, IsTrue, None};
+ghost use Rattle.reg_office_api.specs.Leads.{Leads, Looks};
 ghost use Rattle.reg_lines.specs.ByCalls.{Lines};
 ghost use Rattle.reg_lines.specs.Script.{LinesEnd, ScriptEnds};
-ghost use Rattle.reg_desk_jobs.specs.Ends.{LinesAt};
+ghost use Rattle.reg_desk_jobs.specs.Ends.{IsClockRefused, LinesAt};
+ghost use Rattle.reg_desk_metrics.specs.Ahead.{is_ahead as ahead};
 ghost use Rattle.reg_desk_jobs.specs.Sealing.{IsFirstCrl, sealed_line};
 
 use crate::jobs::run_ended;
@@ -13,7 +14,9 @@ use crate::reasons::{Reason, keep_reason};
 use crate::registers::open_signed;
 use reg_core::{Fault, Moment, Reply};
 use reg_desk_cli::{Answerer, Failure, LinedScript, Way};
+use reg_desk_metrics::is_ahead;
 use reg_lines::{Answered, Ended, Host, run_lines, run_script_for};
+use reg_office_api::Office;
 use std::alloc::Global;
 use std::cell::Cell;
 use std::io::{Read, Write};
@@ -50,7 +53,7 @@ impl<'a, M: Machine> Host for ScriptHost<'a, M> {
 
 /// Runs the script of standard input over the register at a path, line by line. A strict one ends at the first refusal or fault, and runs
 /// no last line without its end; why its last line was refused, if that was a registration, is kept. Where a digest seals its first CRL, that
-/// is said on standard error.
+/// is said on standard error. No line runs if the clock is too far ahead and the operator does not accept it.
 pub fn script_by_lines<M: Machine, R: Read, W: Write>(
     alloc: Global,
     machine: &mut M,
@@ -65,6 +68,10 @@ pub fn script_by_lines<M: Machine, R: Read, W: Write>(
     let path = script.file.as_str();
     let answerer = Answerer::Issuer { certificate: None };
     let mut office = open_signed(machine, path, &script.signer, &answerer)?;
+    if refuses_clock::<M>(machine, &mut office, script.way) {
+        machine.close(path, office);
+        return Err(Failure::BadClock);
+    }
     let is_unsigned = script.signer.is_none();
     let ran = run_over::<M, R, W>(
         alloc,
@@ -78,6 +85,29 @@ pub fn script_by_lines<M: Machine, R: Read, W: Write>(
     keep_reason::<M>(&mut office, &ran, reason);
     machine.close(path, office);
     run_ended(ran)
+}
+
+/// Whether the lines run at the machine's clock, which is too far ahead and which the operator does not accept.
+fn refuses_clock<M: Machine>(machine: &M, office: &mut M::Office, way: Way) -> bool
+    ensures { Looks M.Office.is_clean M.Office.stands (λ records. IsTrue result → IsClockRefused way M.told records) office.old office.new }
+{
+    if !way.is_clocked || way.accepts_clock {
+        return false;
+    }
+    let Ok(now) = machine.moment() else {
+        return false;
+    };
+    is_ahead_of::<M>(office, now)
+}
+
+/// Whether a moment is more than 30 days past the last accepted one of the register; a register that can't tell it is left to the job.
+pub(crate) fn is_ahead_of<M: Machine>(office: &mut M::Office, now: Moment) -> bool
+    ensures { Looks M.Office.is_clean M.Office.stands (λ records. IsTrue result → IsTrue (ahead now records.last None)) office.old office.new }
+{
+    match office.standing() {
+        Ok(standing) => is_ahead(now, standing.last, None),
+        Err(_) => false,
+    }
 }
 
 pub(crate) fn run_script_over<M: Machine, R: Read, W: Write>(

@@ -7,7 +7,7 @@ ghost use Rattle.reg_core.specs.declared.command.Query.TheVariants.{Status as As
 ghost use Rattle.reg_office_api.specs.Answered.{IsAnswered};
 ghost use Rattle.reg_office_api.specs.Items.{items_of};
 ghost use Rattle.reg_office_api.specs.Leads.{Looks};
-ghost use Rattle.reg_desk_jobs.specs.SignatureRequest.{IsInput};
+ghost use Rattle.reg_desk_jobs.specs.Conversations.{IsInput};
 ghost use Rattle.reg_desk_jobs.specs.Published.{AppendsMissing, Compares, FindsMissing, latest_number, missing_at, missing_crl, missing_revocation};
 
 use crate::output_lines::say;

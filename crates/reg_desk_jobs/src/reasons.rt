@@ -3,7 +3,7 @@
 ghost use Rattle.std.specs.Prelude.{◌≡◌, ◌++◌, ◌∷◌, [], IfOk, IfSome};
 ghost use Rattle.reg_office_api.specs.Leads.{Leads};
 ghost use Rattle.reg_desk_jobs.specs.ControlReplies.{ReportsLineOutcome};
-ghost use Rattle.reg_desk_jobs.specs.Reasons.{IsReasonLine, last_second, latest_text, order_text, other_text, reason_text, kept_reason_text};
+ghost use Rattle.reg_desk_jobs.specs.Reasons.{IsReasonLine, ahead_text, last_second, latest_text, order_text, other_text, reason_text, kept_reason_text};
 
 use crate::control_reply::{ControlReply, LineOutcome};
 use crate::machine::Machine;
@@ -27,6 +27,8 @@ pub enum Reason {
     Latest(Moment),
     /// The request of this number is for this serial number, and not for the one that was told.
     OtherSerial(u64, Serial),
+    /// The clock is more than 30 days past this last accepted moment.
+    ClockAhead(Moment),
     /// The line can't be read, for this.
     Wrong(WrongField),
     /// The CRL of this number has a placeholder digest, and the next one will be signed.
@@ -177,6 +179,7 @@ fn reason_words(alloc: Global, reason: Reason) -> Result<Vec<u8>, AllocError>
         Reason::Filled(order) => order_text_of(alloc, b"order ", order, b" has its certificate"),
         Reason::Latest(at) => latest_text_of(alloc, at),
         Reason::OtherSerial(request, serial) => other_text_of(alloc, request, serial),
+        Reason::ClockAhead(last) => ahead_text_of(alloc, last),
         Reason::Wrong(wrong) => wrong_words(alloc, wrong),
         Reason::Unsigned(number) => order_text_of(
             alloc,
@@ -193,6 +196,15 @@ fn latest_text_of(alloc: Global, at: Moment) -> Result<Vec<u8>, AllocError>
 {
     let mut text = Vec::from_slice(alloc, b"notAfter at most ")?;
     text.extend_from_slice(&at.text())?;
+    Ok(text)
+}
+
+#[tactic(auto, unfolding(crate::specs::Reasons::ahead_text))]
+fn ahead_text_of(alloc: Global, last: Moment) -> Result<Vec<u8>, AllocError>
+    ensures { IfOk result (λ text. text.items ≡ ahead_text last) }
+{
+    let mut text = Vec::from_slice(alloc, b"the clock is more than 30 days past ")?;
+    text.extend_from_slice(&last.text())?;
     Ok(text)
 }
 

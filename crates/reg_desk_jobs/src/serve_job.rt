@@ -12,6 +12,7 @@ ghost use Rattle.reg_desk_jobs.specs.declared.unsigned_responses.Unsigned.{Unsig
 ghost use Rattle.reg_desk_jobs.specs.Serving.{IsBound, Served, ServedAt, Serves, listening, loopback};
 ghost use Rattle.reg_io.specs.RunsOfAnswers.{Answered};
 
+use crate::admission::Admission;
 use crate::control_socket::create_control_socket;
 use crate::crl_signer::CrlSigner;
 use crate::desks::Desk;
@@ -143,6 +144,7 @@ fn serve_desk<'a, 'w, M: Machine, W: Write>(
         backoff: Backoff::none(),
         tally: &tally,
         heard: &heard,
+        admission: Admission::new(),
     };
     let ending = run_event_loop(rt, event_loop, &mut desk, endpoint.port, requests, writer);
     (desk.office, ending)

@@ -23,7 +23,7 @@ const SUBSCRIBERS: u64 = 250;
 const SERIAL_BYTES: usize = 20;
 
 const WORDS: &[u8] =
-    b"help: subscriber NAME | order SUBSCRIBER DAYS | register ORDER SERIAL NOTBEFORE NOTAFTER | request SERIAL GROUND | decline REQUEST [SERIAL] | revoke REQUEST [SERIAL] | crl | status SERIAL | counts | listing SERIAL | overdue | next-crl | ocsp HEX | show request REQUEST | show SERIAL | show subscriber NAME | why | schedule MOMENT=DAYS .. | copy PATH | help";
+    b"help: subscriber NAME | order SUBSCRIBER DAYS | register ORDER SERIAL NOTBEFORE NOTAFTER | request SERIAL GROUND | decline REQUEST [SERIAL] | revoke REQUEST [SERIAL] | crl | status SERIAL | counts | listing SERIAL | overdue | next-crl | ocsp HEX | show request REQUEST | show SERIAL | show subscriber NAME | why | accept-clock MOMENT | schedule MOMENT=DAYS .. | copy PATH | help";
 
 pub(crate) fn answer_help(alloc: Global) -> ControlReply
     ensures told { IsSaid (help_text ++ 10 ∷ []) result.text.items }

@@ -127,7 +127,7 @@ fn is_moment(text: &[u8]) -> bool
     read_moment(text).is_some()
 }
 
-fn read_moment(text: &[u8]) -> Option<Moment>
+pub(crate) fn read_moment(text: &[u8]) -> Option<Moment>
     ensures { result ≡ moment_of text.now }
 {
     Moment::read(text)

@@ -1,13 +1,14 @@
 //! What a line at the control socket says.
 
 ghost use Rattle.std.specs.Prelude.{◌≡◌, IfOk};
+ghost use Rattle.reg_core.specs.Calendar.{moment_of};
 ghost use Rattle.reg_core_lists.specs.Asked.{label_of};
 ghost use Rattle.reg_desk_cli.specs.WordValues.{steps_of};
-ghost use Rattle.reg_desk_jobs.specs.ControlWords.{IsWord, settling_by, settling_in, shown_by, shown_in, steps_set};
+ghost use Rattle.reg_desk_jobs.specs.ControlWords.{IsWord, accepted_by_word, accepted_in, settling_by, settling_in, shown_by, shown_in, steps_set};
 ghost use Rattle.reg_lines.specs.Fields.{fields_of};
 
 use crate::copy_job::{asks_copy, path_in};
-use reg_core::{Command, Label, Serial, read_number};
+use reg_core::{Command, Label, Moment, Serial, read_number};
 use reg_desk_cli::{Steps, read_step};
 use reg_lines::{Fields, command_in, without_end};
 use std::alloc::{AllocError, Global};
@@ -25,6 +26,8 @@ pub(crate) enum ControlWord<'a> {
     Show(Shown),
     /// It revokes or declines a request that it names with its serial number.
     Settle(Settling),
+    /// It accepts the clock.
+    AcceptClock(AcceptedClock),
     /// It sets another schedule, of these steps.
     Schedule(Steps),
     /// It is a command line, without its end; `None` where it has too many bytes.
@@ -40,6 +43,12 @@ pub(crate) enum Shown {
     Certificate(Serial),
     /// The subscriber of a name.
     Subscriber(Label),
+}
+
+/// The moment until 30 days past which the operator accepts the clock.
+#[derive(Clone, Copy)]
+pub(crate) struct AcceptedClock {
+    pub(crate) moment: Moment,
 }
 
 /// A command that decides a request, and the serial number that the request is to be for.
@@ -68,6 +77,9 @@ pub(crate) fn read_word(alloc: Global, line: &[u8]) -> Result<ControlWord<'_>, A
     }
     if let Some(settling) = settling_in(text) {
         return Ok(ControlWord::Settle(settling));
+    }
+    if let Some(moment) = accepted_in(text) {
+        return Ok(ControlWord::AcceptClock(AcceptedClock { moment }));
     }
     match steps_in(alloc, text) {
         Ok(Some(steps)) => Ok(ControlWord::Schedule(steps)),
@@ -142,6 +154,36 @@ fn read_settling(word: &[u8], request: u64, serial: Serial) -> Option<Settling>
         request,
         serial,
     })
+}
+
+/// The moment of `accept-clock MOMENT`.
+fn accepted_in(text: &[u8]) -> Option<Moment>
+    ensures { result ≡ accepted_in (fields_of text.now) }
+{
+    let mut fields = Fields::of(text);
+    let word = fields.next()?;
+    let moment = fields.next()?;
+    if fields.is_empty() {
+        read_accepted(word, moment)
+    } else {
+        None
+    }
+}
+
+fn read_accepted(word: &[u8], moment: &[u8]) -> Option<Moment>
+    ensures { result ≡ accepted_by_word word.now moment.now }
+{
+    if word == b"accept-clock".as_slice() {
+        read_moment(moment)
+    } else {
+        None
+    }
+}
+
+fn read_moment(text: &[u8]) -> Option<Moment>
+    ensures { result ≡ moment_of text.now }
+{
+    Moment::read(text)
 }
 
 fn steps_in(alloc: Global, text: &[u8]) -> Result<Option<Steps>, AllocError>

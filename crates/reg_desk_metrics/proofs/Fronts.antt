@@ -28,6 +28,11 @@ pub parts_5 : (t0 t1 t2 t3 t4 t5 a b c d e : List ℕ) → t1 ≡ t0 ++ a → t2
 parts_5 t0 t1 t2 t3 t4 t5 a b c d e one two three four five =
     one_more t0 (((a ++ b) ++ c) ++ d) t4 e t5 (parts_4 t0 t1 t2 t3 t4 a b c d one two three four) five
 
+pub parts_6 : (t0 t1 t2 t3 t4 t5 t6 a b c d e f : List ℕ) → t1 ≡ t0 ++ a → t2 ≡ t1 ++ b → t3 ≡ t2 ++ c → t4 ≡ t3 ++ d → t5 ≡ t4 ++ e
+    → t6 ≡ t5 ++ f → t6 ≡ t0 ++ (((((a ++ b) ++ c) ++ d) ++ e) ++ f)
+parts_6 t0 t1 t2 t3 t4 t5 t6 a b c d e f one two three four five six =
+    one_more t0 ((((a ++ b) ++ c) ++ d) ++ e) t5 f t6 (parts_5 t0 t1 t2 t3 t4 t5 a b c d e one two three four five) six
+
 -- the latest CRL, by the numbers that were told
 pub issued_is : (t0 t1 t2 t3 t4 : List ℕ) (now : ℕ) (crl : CrlRow) (life at next age : ℕ) → t1 ≡ t0 ++ sample CRL_NUMBER.now crl.number
     → t2 ≡ t1 ++ sample THIS_UPDATE.now at → t3 ≡ t2 ++ sample NEXT_UPDATE.now next → t4 ≡ t3 ++ sample CRL_AGE.now age

@@ -1,11 +1,14 @@
 -- Whether all is well with an open register, and the text that tells it.
-use Rattle.std.specs.Prelude.{ℕ, Bool, true, false, cond, not, ◌&&◌, nat_lt, List, [], ◌∷◌, ◌++◌, codes, Some, None, Result, Ok, Err}
+use Rattle.std.specs.Prelude.{ℕ, Bool, true, false, cond, not, ◌&&◌, ◌-◌, ◌/◌, max, nat_lt, List, [], ◌∷◌, ◌++◌, codes, Some, None, Result, Ok, Err}
 use Rattle.std.specs.Option.{option_or}
 use Rattle.std.specs.declared.option.Option.{Option}
 use Rattle.reg_core.specs.Calendar.{moment_text}
 use Rattle.reg_core.specs.declared.refusal.Fault.{Fault}
 use Rattle.reg_core.specs.declared.refusal.Fault.TheVariants.{Refused}
 use Rattle.reg_core.specs.declared.refusal.Refusal.TheVariants.{ClockBack}
+use Rattle.reg_office_api.specs.declared.register_summary.Rows.{Rows}
+use Rattle.reg_office_api.specs.declared.register_summary.Standing.{Standing}
+use Rattle.reg_desk_metrics.specs.Ahead.{is_ahead}
 use Rattle.reg_desk_metrics.specs.declared.health.Health.{Health}
 use Rattle.reg_desk_metrics.specs.declared.numbers.Numbers.{Numbers}
 use Rattle.reg_desk_metrics.specs.declared.tally.Tally.{Tally}
@@ -15,11 +18,12 @@ abbrev pub is_none : Option ℕ → Bool
 is_none (Some at) = false
 is_none None = true
 
--- up to when the clock is behind the last command; now, where the register refuses it for another cause: it is past its end
-abbrev pub clock_of : ℕ → Result Numbers Fault → Option ℕ
-clock_of now (Err (Refused (ClockBack last))) = Some last
-clock_of now (Err (Refused other)) = Some now
-clock_of now other = None
+-- up to when the clock is behind the last command; now, if it is too far ahead, or the register refuses it for another cause, as it is past its end
+abbrev pub clock_of : ℕ → Result Numbers Fault → Option ℕ → Option ℕ
+clock_of now (Ok numbers) accepted = cond (is_ahead now numbers.standing.last accepted) (Some now) None
+clock_of now (Err (Refused (ClockBack last))) accepted = Some last
+clock_of now (Err (Refused other)) accepted = Some now
+clock_of now other accepted = None
 
 -- whether there is no CRL yet: the next is due at once
 abbrev pub has_no_crl : Result Numbers Fault → Bool
@@ -36,27 +40,41 @@ abbrev pub crl_since : ℕ → Result Numbers Fault → Option ℕ
 crl_since now (Ok numbers) = if_past now numbers.due
 crl_since now (Err fault) = None
 
+-- the number of rows of the largest table
+abbrev pub most_rows : Rows → ℕ
+most_rows rows = max (max (max (max rows.subscribers rows.orders) rows.certificates) rows.requests) rows.crls
+
+-- whether less than a fifth of the cap is left in a table
+abbrev pub is_filling : Standing → Bool
+is_filling standing = nat_lt (standing.cap - most_rows standing.rows) (standing.cap / 5)
+
+-- now, if less than a fifth of the cap is left in a table
+abbrev pub rows_since : ℕ → Result Numbers Fault → Option ℕ
+rows_since now (Ok numbers) = cond (is_filling numbers.standing) (Some now) None
+rows_since now (Err fault) = None
+
 -- since when the store fails: as was counted, or now, where it tells nothing
 abbrev pub store_since_at : ℕ → Result Numbers Fault → Option ℕ → Option ℕ
 store_since_at now (Ok numbers) since = since
 store_since_at now (Err (Refused why)) since = since
 store_since_at now (Err other) since = option_or since (Some now)
 
--- the health of a register at a moment, by what was found there and what was counted
-abbrev pub health_of : ℕ → Result Numbers Fault → Tally → Health
-health_of now found tally = record {
-  clock = clock_of now found;
+-- the health of a register at a moment, by what was found there, what was counted, and the moment that the operator accepted
+abbrev pub health_of : ℕ → Result Numbers Fault → Tally → Option ℕ → Health
+health_of now found tally accepted = record {
+  clock = clock_of now found accepted;
   has_no_crl = has_no_crl found;
   crl = crl_since now found;
   crl_signer = tally.crls.failing_since;
   ocsp_signer = tally.ocsp.failing_since;
+  rows = rows_since now found;
   store = store_since_at now found tally.store_since;
 }
 
--- all is well: no clock that is behind, a CRL that is not due, signers and a store that do not fail
+-- all is well: no clock that is behind or ahead, a CRL that is not due, signers that do not fail, room in each table, and a store that does not fail
 abbrev pub is_well : Health → Bool
 is_well health =
-    is_none health.clock && (not health.has_no_crl && (is_none health.crl && (is_none health.crl_signer && (is_none health.ocsp_signer && is_none health.store))))
+    is_none health.clock && (not health.has_no_crl && (is_none health.crl && (is_none health.crl_signer && (is_none health.ocsp_signer && (is_none health.rows && is_none health.store)))))
 
 -- a moment in quotation marks, or null
 abbrev pub since_text : Option ℕ → List ℕ
@@ -79,8 +97,8 @@ signers_text crl ocsp = member (codes ",\"crl_signer\":") crl ++ member (codes "
 unfoldable pub health_member : Bool → List ℕ
 health_member is_well = cond is_well (codes ",\"status\":\"ok\",\"store\":") (codes ",\"status\":\"failing\",\"store\":")
 
--- the text: `{"clock":null,"crl":null,"crl_signer":null,"ocsp_signer":null,"status":"ok","store":null}`, where all is well
+-- the text: `{"clock":null,"crl":null,"crl_signer":null,"ocsp_signer":null,"rows":null,"status":"ok","store":null}`, where all is well
 unfoldable pub health_text : Health → List ℕ
 health_text health =
     codes "{\"clock\":" ++ since_text health.clock ++ crl_text health.has_no_crl health.crl ++ signers_text health.crl_signer health.ocsp_signer
-    ++ health_member (is_well health) ++ since_text health.store ++ 125 ∷ []
+    ++ member (codes ",\"rows\":") health.rows ++ health_member (is_well health) ++ since_text health.store ++ 125 ∷ []

@@ -1,3 +1,4 @@
+pub mod Ahead
 pub mod Healths
 pub mod Metrics
 pub mod Samples

@@ -7,9 +7,10 @@ use Rattle.reg_core.specs.declared.refusal.Fault.{Fault}
 use Rattle.reg_core.specs.declared.refusal.Fault.TheVariants.{Refused}
 use Rattle.reg_core.specs.declared.refusal.Refusal.TheVariants.{ClockBack}
 use Rattle.reg_core.specs.declared.rows.CrlRow.{CrlRow}
+use Rattle.reg_office_api.specs.declared.register_summary.Rows.{Rows}
 use Rattle.reg_desk_metrics.specs.Samples.{moment_or_none, sample, sample_of_seconds}
 use Rattle.reg_desk_metrics.specs.Tallies.{greatest}
-use Rattle.reg_desk_metrics.specs.declared.names.TheConstants.{ACCEPTED, ACCEPTED_LINES, ANSWER, ANSWER_CODE, ANSWERED, BEHIND, BROKEN, BUILD, CLOCK, COUNTED, COUNTERS, CRL_AGE, CRL_DUE, CRL_FAILING, CRL_LAST, CRL_LAST_FAILED, CRL_NUMBER, CRL_SIGNED, CRL_UNSIGNED, EVICTED, EXPIRED, FAULTS, GOOD, LABEL_END, LAST_COMMAND, LATE, NEXT_UPDATE, NO_MEMORY, OCSP_BY_SIGNER, OCSP_BY_STORE, OCSP_FAILING, OCSP_LAST, OCSP_LAST_FAILED, OCSP_SIGNED, OCSP_UNSIGNED, OPEN, OVERDUE, PEERS, READABLE, REFUSED_LINES, RESPONDER_ENDS, REVOKED, ROUTE_COUNT, ROUTE_SECONDS, ROUTE_SUM, SECONDS, SECONDS_COUNT, SECONDS_SUM, SECONDS_TO, STORE_FAILING, THIS_UPDATE}
+use Rattle.reg_desk_metrics.specs.declared.names.TheConstants.{ACCEPTED, ACCEPTED_LINES, ANSWER, ANSWER_CODE, ANSWERED, BEHIND, BROKEN, BUILD, CAP, CERTIFICATE_ROWS, CLOCK, COUNTED, COUNTERS, CRL_AGE, CRL_DUE, CRL_FAILING, CRL_LAST, CRL_LAST_FAILED, CRL_NUMBER, CRL_ROWS, CRL_SIGNED, CRL_UNSIGNED, EVICTED, EXPIRED, FAULTS, GOOD, LABEL_END, LAST_COMMAND, LATE, NEXT_UPDATE, NO_MEMORY, OCSP_BY_SIGNER, OCSP_BY_STORE, OCSP_FAILING, OCSP_LAST, OCSP_LAST_FAILED, OCSP_SIGNED, OCSP_UNSIGNED, OPEN, ORDER_ROWS, OVERDUE, PEERS, READABLE, REFUSED_LINES, REQUEST_ROWS, RESPONDER_ENDS, REVOKED, ROUTE_COUNT, ROUTE_SECONDS, ROUTE_SUM, SECONDS, SECONDS_COUNT, SECONDS_SUM, SECONDS_TO, STORE_FAILING, SUBSCRIBER_ROWS, THIS_UPDATE}
 use Rattle.reg_desk_metrics.specs.declared.numbers.ConnectionTotals.{ConnectionTotals}
 use Rattle.reg_desk_metrics.specs.declared.numbers.Numbers.{Numbers}
 use Rattle.reg_desk_metrics.specs.declared.numbers.Requests.{Requests}
@@ -44,10 +45,17 @@ abbrev pub crl_text : ℕ → Option CrlRow → ℕ → List ℕ
 crl_text now (Some crl) life = issued_text now crl life
 crl_text now None life = sample CRL_NUMBER.now 0
 
+-- how many rows each table has, and may have
+unfoldable pub rows_text : Rows → ℕ → List ℕ
+rows_text rows cap =
+    sample SUBSCRIBER_ROWS.now rows.subscribers ++ sample ORDER_ROWS.now rows.orders ++ sample CERTIFICATE_ROWS.now rows.certificates
+    ++ sample REQUEST_ROWS.now rows.requests ++ sample CRL_ROWS.now rows.crls ++ sample CAP.now cap
+
 -- what a register has
 unfoldable pub numbers_text : ℕ → Numbers → List ℕ
 numbers_text now numbers =
-    sample READABLE.now 1 ++ certificates_text numbers.counts ++ sample LAST_COMMAND.now numbers.standing.last
+    sample READABLE.now 1 ++ certificates_text numbers.counts ++ rows_text numbers.standing.rows numbers.standing.cap
+    ++ sample LAST_COMMAND.now numbers.standing.last
     ++ crl_text now numbers.standing.latest numbers.standing.crl_life ++ sample CRL_DUE.now (moment_or_none numbers.due)
 
 -- the same, or that it tells nothing
@@ -84,16 +92,17 @@ code_name place =
     else if place == 4 then codes "409"
     else if place == 5 then codes "411"
     else if place == 6 then codes "413"
-    else if place == 7 then codes "431"
-    else if place == 8 then codes "500"
-    else if place == 9 then codes "503"
+    else if place == 7 then codes "429"
+    else if place == 8 then codes "431"
+    else if place == 9 then codes "500"
+    else if place == 10 then codes "503"
     else codes "none"
 
 -- how often there was an answer of the route and the status of a place; nothing of one that there was not
 abbrev pub answer_text : ℕ → ℕ → List ℕ
 answer_text place count =
     if count == 0 then []
-    else ANSWER.now ++ route_name (place / 11) ++ ANSWER_CODE.now ++ code_name (place % 11) ++ sample LABEL_END.now count
+    else ANSWER.now ++ route_name (place / 12) ++ ANSWER_CODE.now ++ code_name (place % 12) ++ sample LABEL_END.now count
 
 -- the first so many places, in their order
 unfoldable pub answers_prefix : List ℕ → ℕ → List ℕ
@@ -102,7 +111,7 @@ answers_prefix answers (suc place) = answers_prefix answers place ++ answer_text
 
 -- the answers, by route and status
 abbrev pub answers_text : List ℕ → List ℕ
-answers_text answers = ANSWERED.now ++ answers_prefix answers 121
+answers_text answers = ANSWERED.now ++ answers_prefix answers 132
 
 -- the lines at the counter
 unfoldable pub lines_text : Tally → List ℕ

@@ -51,7 +51,7 @@ route_number routes.Other = 10
 
 -- the last place is that of no answer, and of a status that no answer has
 unfoldable pub code_number : Option ℕ → ℕ
-code_number None = 10
+code_number None = 11
 code_number (Some code) =
     if code == 200 then 0
     else if code == 400 then 1
@@ -60,10 +60,11 @@ code_number (Some code) =
     else if code == 409 then 4
     else if code == 411 then 5
     else if code == 413 then 6
-    else if code == 431 then 7
-    else if code == 500 then 8
-    else if code == 503 then 9
-    else 10
+    else if code == 429 then 7
+    else if code == 431 then 8
+    else if code == 500 then 9
+    else if code == 503 then 10
+    else 11
 
 -- the range of so many microseconds: the first whose end is not below it
 unfoldable pub bucket_of : ℕ → ℕ
@@ -102,7 +103,7 @@ store_after store.Failed now since = option_or since (Some now)
 -- nothing was counted yet, at a desk whose CRLs are signed so, and whose responder's certificate ends then
 abbrev pub is_new : CrlSigning → Option ℕ → Tally → Type 0
 is_new signing ends tally =
-    (tally.answers ≡ replicate 121 0) × (tally.accepted ≡ 0) × (tally.refused ≡ 0) × (tally.faults ≡ 0) × (tally.buckets ≡ replicate 12 0)
+    (tally.answers ≡ replicate 132 0) × (tally.accepted ≡ 0) × (tally.refused ≡ 0) × (tally.faults ≡ 0) × (tally.buckets ≡ replicate 12 0)
     × (tally.micros ≡ 0) × (tally.route_counts ≡ replicate 11 0) × (tally.route_micros ≡ replicate 11 0) × (tally.ocsp_unsigned ≡ 0) × (tally.ocsp_unread ≡ 0)
     × (tally.crls ≡ nothing_signed) × (tally.ocsp ≡ nothing_signed) × (tally.store_since ≡ None) × (tally.requests ≡ None)
     × (tally.crl_signing ≡ signing) × (tally.responder_ends ≡ ends) × (tally.read ≡ None)
@@ -163,7 +164,7 @@ outcomes_counted now crl ocsp effect tally = record tally {
 -- an answer of a route and a status
 abbrev pub with_answer : Route → Option ℕ → ℕ → Tally → Tally
 with_answer route status micros tally =
-    with_seconds micros (with_route (route_number route) micros (record tally { answers = bumped tally.answers (route_number route * 11 + code_number status) }))
+    with_seconds micros (with_route (route_number route) micros (record tally { answers = bumped tally.answers (route_number route * 12 + code_number status) }))
 
 -- an exchange of a moment is counted: by its route and its status, how long it took, and what became of its signature and of the store
 abbrev pub with_exchange : ℕ → Exchange → ℕ → Tally → Tally

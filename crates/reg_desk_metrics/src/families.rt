@@ -1,22 +1,24 @@
 //! The metrics of an open register, in the text form of Prometheus, version 0.0.4.
 
 ghost use Rattle.std.specs.Prelude.{◌≡◌, ◌++◌, IfOk, OnOk};
-ghost use Rattle.reg_desk_metrics.specs.Metrics.{answer_text, answers_text, seconds_behind as behind_told, bucket_name as bucket_named, bucket_text, buckets_text, certificates_text, clock_text, code_name as code_named, connections_text, crl_text as crl_told, issued_text, last_text, lines_text, lost_text, metrics_text, numbers_text, register_text, requests_text, route_name as route_named, route_text, routes_text, build_text, failures_text, responder_text, seconds_text, signers_text, signed_text, sum_of};
+ghost use Rattle.reg_desk_metrics.specs.Metrics.{answer_text, answers_text, seconds_behind as behind_told, bucket_name as bucket_named, bucket_text, buckets_text, certificates_text, clock_text, code_name as code_named, connections_text, crl_text as crl_told, issued_text, last_text, lines_text, lost_text, metrics_text, numbers_text, register_text, requests_text, rows_text, route_name as route_named, route_text, routes_text, build_text, failures_text, responder_text, seconds_text, signers_text, signed_text, sum_of};
 
 use crate::names::{
-    ACCEPTED, ACCEPTED_LINES, ANSWER, ANSWER_CODE, ANSWERED, BEHIND, BROKEN, BUILD, CLOCK, COUNTED,
-    COUNTERS, CRL_AGE, CRL_DUE, CRL_FAILING, CRL_LAST, CRL_LAST_FAILED, CRL_NUMBER, CRL_SIGNED,
-    CRL_UNSIGNED, EVICTED, EXPIRED, FAULTS, GOOD, LABEL_END, LAST_COMMAND, LATE, NEXT_UPDATE,
-    NO_MEMORY, OCSP_BY_SIGNER, OCSP_BY_STORE, OCSP_FAILING, OCSP_LAST, OCSP_LAST_FAILED,
-    OCSP_SIGNED, OCSP_UNSIGNED, OPEN, OVERDUE, PEERS, READABLE, REFUSED_LINES, RESPONDER_ENDS,
-    REVOKED, ROUTE_COUNT, ROUTE_SECONDS, ROUTE_SUM, SECONDS, SECONDS_COUNT, SECONDS_SUM,
-    SECONDS_TO, STORE_FAILING, THIS_UPDATE,
+    ACCEPTED, ACCEPTED_LINES, ANSWER, ANSWER_CODE, ANSWERED, BEHIND, BROKEN, BUILD, CAP,
+    CERTIFICATE_ROWS, CLOCK, COUNTED, COUNTERS, CRL_AGE, CRL_DUE, CRL_FAILING, CRL_LAST,
+    CRL_LAST_FAILED, CRL_NUMBER, CRL_ROWS, CRL_SIGNED, CRL_UNSIGNED, EVICTED, EXPIRED, FAULTS,
+    GOOD, LABEL_END, LAST_COMMAND, LATE, NEXT_UPDATE, NO_MEMORY, OCSP_BY_SIGNER, OCSP_BY_STORE,
+    OCSP_FAILING, OCSP_LAST, OCSP_LAST_FAILED, OCSP_SIGNED, OCSP_UNSIGNED, OPEN, ORDER_ROWS,
+    OVERDUE, PEERS, READABLE, REFUSED_LINES, REQUEST_ROWS, RESPONDER_ENDS, REVOKED, ROUTE_COUNT,
+    ROUTE_SECONDS, ROUTE_SUM, SECONDS, SECONDS_COUNT, SECONDS_SUM, SECONDS_TO, STORE_FAILING,
+    SUBSCRIBER_ROWS, THIS_UPDATE,
 };
 use crate::numbers::{ConnectionTotals, Found, Numbers, Requests};
 use crate::samples::{put_moment, put_sample, put_seconds};
 use crate::signature_outcomes::Signing;
 use crate::tally::{ANSWERS, BUCKETS, CODES, ROUTES, Tally};
 use reg_core::{Counts, CrlRow, Fault, Moment, Refusal};
+use reg_office_api::Rows;
 use std::alloc::{AllocError, Global};
 
 /// The bytes of room that are made for the text.
@@ -99,6 +101,7 @@ fn put_numbers(text: &mut Vec<u8>, now: Moment, numbers: &Numbers) -> Result<(),
 {
     put_sample(text, READABLE, 1)?;
     put_certificates(text, numbers.counts)?;
+    put_rows(text, numbers.standing.rows, numbers.standing.cap)?;
     put_moment(text, LAST_COMMAND, Some(numbers.standing.last))?;
     put_crl(
         text,
@@ -117,6 +120,18 @@ fn put_certificates(text: &mut Vec<u8>, counts: Counts) -> Result<(), AllocError
     put_sample(text, GOOD, counts.good)?;
     put_sample(text, REVOKED, counts.revoked)?;
     put_sample(text, EXPIRED, counts.expired)
+}
+
+#[tactic(auto, unfolding(crate::specs::Metrics::rows_text))]
+fn put_rows(text: &mut Vec<u8>, rows: Rows, cap: u64) -> Result<(), AllocError>
+    ensures { OnOk result (text.new.items ≡ text.old.items ++ rows_text rows cap) }
+{
+    put_sample(text, SUBSCRIBER_ROWS, rows.subscribers)?;
+    put_sample(text, ORDER_ROWS, rows.orders)?;
+    put_sample(text, CERTIFICATE_ROWS, rows.certificates)?;
+    put_sample(text, REQUEST_ROWS, rows.requests)?;
+    put_sample(text, CRL_ROWS, rows.crls)?;
+    put_sample(text, CAP, cap)
 }
 
 fn put_crl(
@@ -189,9 +204,10 @@ fn code_name(place: usize) -> &'static str
         4 => "409",
         5 => "411",
         6 => "413",
-        7 => "431",
-        8 => "500",
-        9 => "503",
+        7 => "429",
+        8 => "431",
+        9 => "500",
+        10 => "503",
         _ => "none",
     }
 }

@@ -1,17 +1,19 @@
 //! Whether all is well with an open register, and since when what is not.
 
 ghost use Rattle.std.specs.Prelude.{◌≡◌, ◌++◌, IfOk, OnOk};
-ghost use Rattle.reg_desk_metrics.specs.Healths.{clock_of as clock_told, crl_since as crl_told, crl_text as crl_said, has_no_crl as lacks_crl, health_of, health_text, is_none as is_without, is_well as all_well, if_past as past_told, member, signers_text, since_text, health_member, store_since_at as store_told};
+ghost use Rattle.reg_desk_metrics.specs.Healths.{clock_of as clock_told, crl_since as crl_told, crl_text as crl_said, has_no_crl as lacks_crl, health_of, health_text, is_none as is_without, is_filling as fills, is_well as all_well, if_past as past_told, member, rows_since as rows_told, signers_text, since_text, health_member, store_since_at as store_told};
 
+use crate::ahead::is_ahead;
 use crate::numbers::Found;
 use crate::tally::Tally;
 use reg_core::{Fault, Moment, Refusal};
+use reg_office_api::{Rows, Standing};
 use std::alloc::{AllocError, Global};
 
 /// What is not well with an open register; nothing where each is none.
 #[derive(Clone, Copy, PartialEq, Eq)]
 pub struct Health {
-    /// Up to when the clock is behind the last command.
+    /// Up to when the clock is behind the last command; now, if it is too far ahead or past its end.
     pub(crate) clock: Option<Moment>,
     /// There is no CRL yet.
     pub(crate) has_no_crl: bool,
@@ -21,21 +23,24 @@ pub struct Health {
     pub(crate) crl_signer: Option<Moment>,
     /// Since when no OCSP answer is signed.
     pub(crate) ocsp_signer: Option<Moment>,
+    /// Now, if less than a fifth of the cap is left in a table.
+    pub(crate) rows: Option<Moment>,
     /// Since when the store fails.
     pub(crate) store: Option<Moment>,
 }
 
 impl Health {
-    /// The health of a register at a moment, by what was found there and by what was counted.
-    pub fn of(now: Moment, found: &Found, tally: &Tally) -> Health
-        ensures { result ≡ health_of now found.now tally.now }
+    /// The health of a register at a moment, by what was found there, what was counted, and the moment that the operator accepted.
+    pub fn of(now: Moment, found: &Found, tally: &Tally, accepted: Option<Moment>) -> Health
+        ensures { result ≡ health_of now found.now tally.now accepted }
     {
         Health {
-            clock: clock_of(now, found),
+            clock: clock_of(now, found, accepted),
             has_no_crl: has_no_crl(found),
             crl: crl_since(now, found),
             crl_signer: tally.crls.failing_since,
             ocsp_signer: tally.ocsp.failing_since,
+            rows: rows_of(now, found),
             store: store_of(now, found, tally.store_since),
         }
     }
@@ -49,6 +54,7 @@ impl Health {
             && is_none(self.crl)
             && is_none(self.crl_signer)
             && is_none(self.ocsp_signer)
+            && is_none(self.rows)
             && is_none(self.store)
     }
 
@@ -65,6 +71,7 @@ impl Health {
         put_since(&mut text, self.clock)?;
         put_crl(&mut text, self.has_no_crl, self.crl)?;
         put_signers(&mut text, self.crl_signer, self.ocsp_signer)?;
+        put_member(&mut text, b",\"rows\":", self.rows)?;
         put_status(&mut text, self.is_well())?;
         put_since(&mut text, self.store)?;
         text.push(b'}')?;
@@ -81,11 +88,11 @@ fn is_none(moment: Option<Moment>) -> bool
     }
 }
 
-/// Up to when the clock is behind the last command; now, where it is past its end.
-fn clock_of(now: Moment, found: &Found) -> Option<Moment>
-    ensures { result ≡ clock_told now found.now }
+fn clock_of(now: Moment, found: &Found, accepted: Option<Moment>) -> Option<Moment>
+    ensures { result ≡ clock_told now found.now accepted }
 {
     match *found {
+        Ok(numbers) if is_ahead(now, numbers.standing.last, accepted) => Some(now),
         Err(Fault::Refused(Refusal::ClockBack { last })) => Some(last),
         Err(Fault::Refused(_)) => Some(now),
         _ => None,
@@ -118,6 +125,33 @@ fn past(now: Moment, due: Option<Moment>) -> Option<Moment>
         Some(at) => { if at < now { Some(at) } else { None } }
         None => None,
     }
+}
+
+fn rows_of(now: Moment, found: &Found) -> Option<Moment>
+    ensures { result ≡ rows_told now found.now }
+{
+    match found {
+        Ok(numbers) if is_filling(&numbers.standing) => Some(now),
+        _ => None,
+    }
+}
+
+fn is_filling(standing: &Standing) -> bool
+    ensures { result ≡ fills standing.now }
+{
+    let Rows {
+        subscribers,
+        orders,
+        certificates,
+        requests,
+        crls,
+    } = standing.rows;
+    let most = subscribers
+        .max(orders)
+        .max(certificates)
+        .max(requests)
+        .max(crls);
+    standing.cap.saturating_sub(most) < standing.cap / 5
 }
 
 /// Since when the store fails, as was counted; or now, where it tells nothing.

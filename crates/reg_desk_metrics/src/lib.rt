@@ -1,6 +1,7 @@
 //! What an open register tells of itself: what was counted, its health, and its metrics.
 #![tactic(auto)]
 
+mod ahead;
 mod families;
 mod health;
 mod names;
@@ -9,6 +10,7 @@ mod samples;
 mod signature_outcomes;
 mod tally;
 
+pub use ahead::is_ahead;
 pub use families::metrics;
 pub use health::Health;
 pub use numbers::{ConnectionTotals, CrlSigning, Found, Numbers, ReadCrl, Requests};

@@ -19,6 +19,20 @@ pub(crate) const REVOKED: &str = "desk_certificates{status=\"revoked\"} ";
 
 pub(crate) const EXPIRED: &str = "desk_certificates{status=\"expired\"} ";
 
+pub(crate) const SUBSCRIBER_ROWS: &str =
+    "# HELP desk_rows Rows by table. No table has more than desk_rows_cap.\n# TYPE desk_rows gauge\ndesk_rows{table=\"subscribers\"} ";
+
+pub(crate) const ORDER_ROWS: &str = "desk_rows{table=\"orders\"} ";
+
+pub(crate) const CERTIFICATE_ROWS: &str = "desk_rows{table=\"certificates\"} ";
+
+pub(crate) const REQUEST_ROWS: &str = "desk_rows{table=\"requests\"} ";
+
+pub(crate) const CRL_ROWS: &str = "desk_rows{table=\"crls\"} ";
+
+pub(crate) const CAP: &str =
+    "# HELP desk_rows_cap The greatest number of rows of a table (desk init --cap).\n# TYPE desk_rows_cap gauge\ndesk_rows_cap ";
+
 pub(crate) const LAST_COMMAND: &str =
     "# HELP desk_last_command_timestamp_seconds The last accepted moment of the register.\n# TYPE desk_last_command_timestamp_seconds gauge\ndesk_last_command_timestamp_seconds ";
 

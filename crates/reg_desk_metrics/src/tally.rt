@@ -10,9 +10,9 @@ use reg_http::{Exchange, Route};
 use reg_office_api::{LineEffects, LineReply, SignatureFate, StoreEffect};
 
 /// How many statuses answers are counted by, how many pairs of a route and a status there are, how many ranges of seconds, and how many routes.
-pub(crate) const CODES: usize = 11;
+pub(crate) const CODES: usize = 12;
 
-pub(crate) const ANSWERS: usize = 121;
+pub(crate) const ANSWERS: usize = 132;
 
 pub(crate) const BUCKETS: usize = 12;
 
@@ -106,10 +106,10 @@ fn route_number(route: Route) -> usize
 #[tactic(auto, unfolding(crate::specs::Tallies::code_number))]
 fn code_number(status: Option<u16>) -> usize
     ensures number { result ≡ number_of_code status }
-    ensures within { result < 11 }
+    ensures within { result < 12 }
 {
     let Some(code) = status else {
-        return 10;
+        return 11;
     };
     match code {
         200 => 0,
@@ -119,10 +119,11 @@ fn code_number(status: Option<u16>) -> usize
         409 => 4,
         411 => 5,
         413 => 6,
-        431 => 7,
-        500 => 8,
-        503 => 9,
-        _ => 10,
+        429 => 7,
+        431 => 8,
+        500 => 9,
+        503 => 10,
+        _ => 11,
     }
 }
 

@@ -30,8 +30,8 @@ use Rattle.reg_crl.specs.Signing.{Identity}
 use Rattle.reg_crl.specs.declared.signer.Signer.{Ghosts as Signer}
 use Rattle.reg_desk_cli.specs.declared.failure.Failure.{Failure}
 use Rattle.reg_desk_cli.specs.declared.failure.Failure.TheVariants as failure
-use Rattle.reg_desk_files.specs.declared.reading.Unread.{Unread}
-use Rattle.reg_desk_files.specs.declared.reading.Unread.TheVariants as unread
+use Rattle.reg_desk_files.specs.declared.read_only.Unread.{Unread}
+use Rattle.reg_desk_files.specs.declared.read_only.Unread.TheVariants as unread
 use Rattle.reg_office.specs.AfterStoppedCommand.{LeavesThese, LeavesReported}
 use Rattle.reg_office.specs.Calls.{seen}
 use Rattle.reg_office.specs.Stands.{Stands}

@@ -6,8 +6,8 @@ use crate::memory::script_in_memory;
 use reg_core::{Cause, of_terms};
 use reg_desk_cli::{Failure, Job, status_of};
 use reg_desk_jobs::{
-    Machine, Reason, at, at_rows, audit, copy, crl, hold_open, import_rows, init, key_identifier,
-    list, replay, report_exit, revoke_rows, schedule, script, script_by_lines, serve,
+    Machine, Reason, at, at_rows, audit, copy, crl, each_row, hold_open, import_rows, init,
+    key_identifier, list, replay, report_exit, schedule, script, script_by_lines, serve,
 };
 use std::cell::Cell;
 use std::io::{Read, Write};
@@ -97,8 +97,8 @@ fn run<M: Machine, R: Read, W: Write>(
             counter,
             rows: Some(_),
         } => at_rows(alloc, &*machine, counter.as_str(), reader, writer),
-        Job::Revoke { counter, .. } => {
-            revoke_rows(alloc, &*machine, counter.as_str(), reader, writer)
+        Job::EachRow { counter, task, .. } => {
+            each_row(alloc, &*machine, counter.as_str(), *task, reader, writer)
         }
         Job::Replay { counter, .. } => replay(alloc, &*machine, counter.as_str(), reader, writer),
         Job::Schedule { file, steps } => schedule(alloc, machine, file.as_str(), steps, writer),

@@ -1,12 +1,12 @@
 //! The office of a register in a file.
 
-use reg_core::{Command, Fault, Label, Memory, Moment, Outcome, Query, Schedule};
+use reg_core::{Command, Fault, Label, Memory, Moment, Outcome, Query, Schedule, Serial};
 use reg_core_lists::{Cursor, Page};
 use reg_crl_signer::{BackoffDevice, KeyOrDigest, SocketDevice, UnixConnection};
 use reg_io::Begun;
 use reg_ocsp::Draft;
 use reg_office::Office;
-use reg_office_api::{OcspResponse, Standing};
+use reg_office_api::{Intake, OcspResponse, Standing};
 use sqlite::{FileFrom, FileStore};
 use sqlite_disk::Unknown;
 use std::alloc::Global;
@@ -77,6 +77,10 @@ impl reg_office_api::Office for FileOffice {
 
     fn open_count(&mut self, now: Moment) -> Result<u64, Fault> {
         self.office.open_count(now)
+    }
+
+    fn intake(&mut self, now: Moment, serial: Serial, most: u64) -> Result<Intake, Fault> {
+        self.office.intake(now, serial, most)
     }
 
     fn longest(&mut self, order: u64, not_before: Moment) -> Result<Option<u64>, Fault> {

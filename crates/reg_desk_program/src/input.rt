@@ -18,7 +18,7 @@ impl Input {
                 rows: Some(path),
                 ..
             }
-            | Job::Revoke { rows: path, .. }
+            | Job::EachRow { rows: path, .. }
             | Job::Replay { log: path, .. }
             | Job::Serve(
                 Serving {

@@ -108,7 +108,7 @@ fn is_long(job: &Job<'_>) -> bool {
             | Job::Lines(_)
             | Job::Import(_)
             | Job::At { rows: Some(_), .. }
-            | Job::Revoke { .. }
+            | Job::EachRow { .. }
             | Job::Replay { .. }
     )
 }
@@ -128,6 +128,6 @@ fn file_of<'a>(job: &Job<'a>) -> Option<&'a str> {
         // It is read as it lies, and not opened.
         Job::Copy { .. } => None,
         Job::Init(_) => None,
-        Job::At { .. } | Job::Revoke { .. } | Job::Replay { .. } => None,
+        Job::At { .. } | Job::EachRow { .. } | Job::Replay { .. } => None,
     }
 }

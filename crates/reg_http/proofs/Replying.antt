@@ -20,7 +20,7 @@ use Rattle.reg_http.specs.Told.{Told, ocsp_told}
 use Rattle.reg_http.specs.declared.parts.Call.{Call}
 use Rattle.reg_http.specs.declared.parts.Call.TheVariants as call
 use Rattle.reg_http.specs.Served.{ReplyEnds}
-use Rattle.reg_io.specs.Put.{AppendsFront}
+use Rattle.reg_io.specs.Put.{AppendsPrefix}
 
 module _ {S : Type 0} (runs : S → ℕ → Command → Result Reply Fault → S → Type 0)
     (asks : S → ℕ → Query → Result Reply Fault → S → Type 0)
@@ -29,7 +29,7 @@ module _ {S : Type 0} (runs : S → ℕ → Command → Result Reply Fault → S
   pub reply_ends : (now : ℕ) (s t : S) (method target body : List ℕ) (response : Response) (out written : Option (List ℕ)) (result : Result (Unit {0}) Fault)
       → RespondsTo runs asks ocsps crls now s (asks_for method target body) response t
       → OnOk result ((text : List ℕ) × IsText response now text × Appends out written text)
-      → IfErr result (λ fault. (fault ≡ Write) × ((text : List ℕ) × IsText response now text × AppendsFront out written text))
+      → IfErr result (λ fault. (fault ≡ Write) × ((text : List ℕ) × IsText response now text × AppendsPrefix out written text))
       → ReplyEnds runs asks ocsps crls now s t (asked method target body) out written result
   reply_ends now s t method target body response out written (Ok done) made sent failed = (sent.0, inl (response, made, sent.1), sent.2)
   reply_ends now s t method target body response out written (Err Write) made sent failed =

@@ -9,6 +9,7 @@ use Rattle.percent_encoding.specs.Percent.{percent_decode}
 use Rattle.serde_json.specs.Data.{Data}
 use Rattle.serde_json.specs.Find.{get, as_str}
 use Rattle.serde_json.specs.Read.{read}
+use Rattle.reg_core.specs.Grounds.{ground_named}
 use Rattle.reg_core.specs.Number.{number_of}
 use Rattle.reg_core.specs.Serial.{serial_of}
 use Rattle.reg_core_lists.specs.Asked.{label_of}
@@ -28,6 +29,11 @@ pub data Asked : Type 0 where
   status_of : ℕ → Asked
   counts_of : Asked
   request_of : ℕ → List ℕ → Asked
+
+-- the serial number of a request for revocation whose ground has a known word
+abbrev pub serial_asked : Asked → Option ℕ
+serial_asked (request_of serial word) = option_map (λ ground. serial) (ground_named word)
+serial_asked other = None
 
 -- the target begins with a slash (origin-form, RFC 9112 3.2.1)
 abbrev pub is_rooted : List ℕ → Bool

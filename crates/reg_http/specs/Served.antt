@@ -7,7 +7,7 @@ use Rattle.reg_core.specs.declared.command.Reply.{Reply}
 use Rattle.reg_core.specs.declared.memory.Memory.{Memory as NoMemory}
 use Rattle.reg_core.specs.declared.refusal.Fault.{Fault}
 use Rattle.reg_core.specs.declared.refusal.Fault.TheVariants.{Memory, Read, Write}
-use Rattle.reg_io.specs.Put.{AppendsFront}
+use Rattle.reg_io.specs.Put.{AppendsPrefix}
 use Rattle.reg_http_head.specs.Frame.{Part, refused, asked, Framed, IsUnfinished}
 use Rattle.reg_http_head.specs.Head.{longest_head, longest_body}
 use Rattle.reg_http_head.specs.Response.{Response, IsText, memory_text}
@@ -35,7 +35,7 @@ module _ {S : Type 0} (runs : S → ℕ → Command → Result Reply Fault → S
   -- the response to a request that was read was written whole; cut short where the writer failed; or there was no memory for it
   abbrev pub ReplyEnds : ℕ → S → S → Part → Option (List ℕ) → Option (List ℕ) → Result (Unit {0}) Fault → Type 0
   ReplyEnds now s t part out written (Ok done) = (text : List ℕ) × Responds now s part text t × Appends out written text
-  ReplyEnds now s t part out written (Err Write) = (text : List ℕ) × Responds now s part text t × AppendsFront out written text
+  ReplyEnds now s t part out written (Err Write) = (text : List ℕ) × Responds now s part text t × AppendsPrefix out written text
   ReplyEnds now s t part out written (Err Memory) = Unit {0}
   ReplyEnds now s t part out written (Err other) = ⊥
 
@@ -53,7 +53,7 @@ module _ {S : Type 0} (runs : S → ℕ → Command → Result Reply Fault → S
   -- for it
   abbrev pub ServingEnds : ℕ → S → S → Option (List ℕ) → Option (List ℕ) → Option (List ℕ) → Option (List ℕ) → Result (Unit {0}) Fault → Type 0
   ServingEnds now s t input left out written (Ok done) = Served (Appends out written) now s t input left
-  ServingEnds now s t input left out written (Err Write) = Served (AppendsFront out written) now s t input left
+  ServingEnds now s t input left out written (Err Write) = Served (AppendsPrefix out written) now s t input left
   ServingEnds now s t input left out written (Err Read) = (took : List ℕ) × TakesRequest input left took × IsUnfinished took
   ServingEnds now s t input left out written (Err Memory) = (took : List ℕ) × TakesRequest input left took
   ServingEnds now s t input left out written (Err other) = ⊥

@@ -18,5 +18,5 @@ pub use exchange::{Exchange, Left, begun_exchange, text_room};
 pub use lists::answer_list;
 pub use reg_http_head::Answer;
 pub use route::Route;
-pub use routes::{begin, only_get, refuse};
+pub use routes::{begin, only_get, refuse, report_fault, serial_of};
 pub use serve::serve_one;

@@ -8,16 +8,17 @@ ghost use Rattle.reg_office_api.specs.Responses.{Replies};
 ghost use Rattle.reg_http_head.specs.Response.{shown};
 ghost use Rattle.reg_http.specs.Added.{AddsARequestAtMost};
 ghost use Rattle.reg_http.specs.Answers.{BeginsTo, RespondsTo};
-ghost use Rattle.reg_http.specs.Asked.{asked};
+ghost use Rattle.reg_http.specs.Asked.{asked, serial_asked};
 ghost use Rattle.reg_http.specs.Bodies.{http_refusal, only as only_response};
-ghost use Rattle.reg_http.specs.Told.{plain, told};
+ghost use Rattle.reg_http.specs.Parts.{call_asks};
+ghost use Rattle.reg_http.specs.Told.{fault_told, plain, told};
 
-use crate::answered::{Answered, begun_answer, ocsp_answer};
+use crate::answered::{Answered, answer_of_fault, begun_answer, ocsp_answer};
 use crate::bodies::{json_room, only, refusal};
-use crate::parts::{Part, read_part};
+use crate::parts::{Call, Part, read_part};
 use crate::respond::respond;
 use http::Method;
-use reg_core::{Memory, Moment};
+use reg_core::{Fault, Ground, Memory, Moment, Serial};
 use reg_http_head::Answer;
 use reg_io::Begun;
 use reg_ocsp::Draft;
@@ -79,7 +80,44 @@ pub fn begin<O: Office>(
     }
 }
 
-/// The answer to a request that is refused by this status before any route.
+/// The serial number of a request for revocation whose ground has a known word; `None` for any other request.
+/// [`Memory`] where memory is refused.
+pub fn serial_of(
+    alloc: Global,
+    method: &Method,
+    target: &str,
+    body: &[u8],
+) -> Result<Option<Serial>, Memory>
+    ensures { IfOk result (λ serial. serial ≡ serial_asked (asked method.now target.now body.now)) }
+{
+    let part = read_part(alloc, method, target, body)?;
+    match &part {
+        Part::Other(call) => Ok(serial_in(*call)),
+        _ => Ok(None),
+    }
+}
+
+fn serial_in(call: Call) -> Option<Serial>
+    ensures { result ≡ serial_asked (call_asks call) }
+{
+    let Call::Request { serial, word } = call else {
+        return None;
+    };
+    match Ground::read(word.as_bytes()) {
+        Ok(_) => Some(serial),
+        Err(_) => None,
+    }
+}
+
+/// The response to a request that met this fault, with its line.
+/// [`Memory`] where memory is refused.
+pub fn report_fault(alloc: Global, fault: Fault) -> Result<Answered, Memory>
+    ensures { IfOk result (λ answered. told answered ≡ fault_told fault) }
+{
+    Ok(answer_of_fault(json_room(alloc)?, fault))
+}
+
+/// The answer to a request that is refused by this status before the office is asked.
 /// [`Memory`] where memory is refused.
 pub fn refuse(alloc: Global, status: u16) -> Result<Answered, Memory>
     ensures { IfOk result (λ answered. told answered ≡ plain (http_refusal status)) }

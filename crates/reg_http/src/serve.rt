@@ -2,7 +2,7 @@
 
 ghost use Rattle.std.specs.Prelude.{◌≡◌, ◌≢◌, ◌≤◌, ◌⊎◌, [], ℕ, List, IfErr, OnOk, vec_capacity};
 ghost use Rattle.std.specs.Io.KnownBytes.{Appends};
-ghost use Rattle.reg_io.specs.Put.{AppendsFront};
+ghost use Rattle.reg_io.specs.Put.{AppendsPrefix};
 ghost use Rattle.reg_office_api.specs.CallSteps.{Runs, Asks, Ocsps, Crls};
 ghost use Rattle.reg_office_api.specs.Leads.{Leads};
 ghost use Rattle.reg_http_head.specs.Frame.{part_of};
@@ -26,7 +26,7 @@ fn send<W: Write>(writer: &mut W, room: Vec<u8>, answer: &Answer, now: Moment) -
     ensures ok { OnOk result ((text : List ℕ) × IsText (shown answer.now) now text
         × Appends (W.contents writer.old) (W.contents writer.new) text) }
     ensures err { IfErr result (λ fault. (fault ≡ Fault.Write) × ((text : List ℕ) × IsText (shown answer.now) now text
-        × AppendsFront (W.contents writer.old) (W.contents writer.new) text)) }
+        × AppendsPrefix (W.contents writer.old) (W.contents writer.new) text)) }
 {
     write_answer(writer, room, answer, now).map_err(|_| Fault::Write)
 }
@@ -35,7 +35,7 @@ fn send<W: Write>(writer: &mut W, room: Vec<u8>, answer: &Answer, now: Moment) -
 fn send_memory_fault<W: Write>(writer: &mut W) -> Result<(), Fault>
     ensures ok { OnOk result (Appends (W.contents writer.old) (W.contents writer.new) memory_text) }
     ensures err { IfErr result (λ fault. (fault ≡ Fault.Write)
-        × AppendsFront (W.contents writer.old) (W.contents writer.new) memory_text) }
+        × AppendsPrefix (W.contents writer.old) (W.contents writer.new) memory_text) }
 {
     match write_whole(writer, memory_fault()) {
         Ok(()) => Ok(()),
@@ -55,7 +55,7 @@ fn refuse<W: Write>(
     ensures ok { OnOk result ((text : List ℕ) × IsText (refusal_of status) now text
         × Appends (W.contents writer.old) (W.contents writer.new) text) }
     ensures err { IfErr result (λ fault. ((fault ≡ Fault.Write) × ((text : List ℕ) × IsText (refusal_of status) now text
-        × AppendsFront (W.contents writer.old) (W.contents writer.new) text))
+        × AppendsPrefix (W.contents writer.old) (W.contents writer.new) text))
         ⊎ ((fault ≡ Fault.Memory) × (writer.new ≡ writer.old))) }
 {
     match json_room(alloc) {

@@ -31,9 +31,10 @@ phrase status =
     else (if status == 409 then codes "Conflict"
     else (if status == 411 then codes "Length Required"
     else (if status == 413 then codes "Payload Too Large"
+    else (if status == 429 then codes "Too Many Requests"
     else (if status == 431 then codes "Request Header Fields Too Large"
     else (if status == 500 then codes "Internal Server Error"
-    else (if status == 503 then codes "Service Unavailable" else [])))))))))
+    else (if status == 503 then codes "Service Unavailable" else []))))))))))
 
 -- a line of a start and a value, with its CR LF
 unfoldable pub field_line : List ℕ → List ℕ → List ℕ
@@ -48,12 +49,17 @@ unfoldable pub allow_line : Option (List ℕ) → List ℕ
 allow_line None = []
 allow_line (Some method) = field_line (codes "Allow: ") method
 
+-- a 429 asks the client to wait a minute (RFC 6585 4, RFC 9110 10.2.3)
+unfoldable pub retry_line : ℕ → List ℕ
+retry_line status = if status == 429 then field_line (codes "Retry-After: ") (codes "60") else []
+
 -- the status line and the fields, up to and with the empty line; the connection is closed after each response (RFC 9112 9.6)
 unfoldable pub head_text : List ℕ → Response → List ℕ
 head_text date response =
     status_line response.status
     ++ field_line (codes "Date: ") date
     ++ allow_line response.allow
+    ++ retry_line response.status
     ++ field_line (codes "Content-Type: ") response.kind
     ++ field_line (codes "Content-Length: ") (decimal (length response.body))
     ++ field_line (codes "Connection: close") []

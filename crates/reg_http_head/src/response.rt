@@ -2,9 +2,9 @@
 
 ghost use Rattle.std.specs.Prelude.{◌≡◌, ◌+◌, ◌≤◌, ◌++◌, ℕ, List, [], length, OnOk, OnErr, option_map, vec_capacity};
 ghost use Rattle.std.specs.Io.KnownBytes.{Appends};
-ghost use Rattle.reg_io.specs.Put.{AppendsFront};
+ghost use Rattle.reg_io.specs.Put.{AppendsPrefix};
 ghost use Rattle.reg_http_head.specs.Allow.{allowed};
-ghost use Rattle.reg_http_head.specs.Response.{shown, phrase, field_line, status_line, allow_line, head_text, IsDateOf, IsText, memory_text};
+ghost use Rattle.reg_http_head.specs.Response.{shown, phrase, field_line, status_line, allow_line, retry_line, head_text, IsDateOf, IsText, memory_text};
 
 use crate::answer::Answer;
 use crate::status;
@@ -51,6 +51,7 @@ fn phrase(code: u16) -> &'static [u8]
         status::CONFLICT => b"Conflict",
         status::LENGTH_REQUIRED => b"Length Required",
         status::PAYLOAD_TOO_LARGE => b"Payload Too Large",
+        status::TOO_MANY_REQUESTS => b"Too Many Requests",
         status::HEADERS_TOO_LARGE => b"Request Header Fields Too Large",
         status::INTERNAL_SERVER_ERROR => b"Internal Server Error",
         status::SERVICE_UNAVAILABLE => b"Service Unavailable",
@@ -84,6 +85,19 @@ fn put_allow(out: &mut Vec<u8>, allow: Option<&'static str>)
     }
 }
 
+/// Appends the field that asks the client to wait a minute, in a 429 alone (RFC 9110 10.2.3).
+#[tactic(auto, unfolding(crate::specs::Response::retry_line))]
+fn put_retry(out: &mut Vec<u8>, code: u16)
+    requires { length out.old.items + 32 ≤ vec_capacity out.old }
+    ensures items { out.new.items ≡ out.old.items ++ retry_line code }
+    ensures room { vec_capacity out.old ≤ vec_capacity out.new }
+    ensures length { length out.new.items ≤ length out.old.items + 32 }
+{
+    if code == status::TOO_MANY_REQUESTS {
+        put_line(out, b"Retry-After: ", b"60");
+    }
+}
+
 #[tactic(auto, unfolding(crate::specs::Response::head_text))]
 fn put_head(out: &mut Vec<u8>, answer: &Answer, date: &[u8])
     requires empty { out.old.items ≡ [] }
@@ -95,6 +109,7 @@ fn put_head(out: &mut Vec<u8>, answer: &Answer, date: &[u8])
     put_status_line(out, answer.status);
     put_line(out, b"Date: ", date);
     put_allow(out, answer.allow);
+    put_retry(out, answer.status);
     put_line(out, b"Content-Type: ", answer.kind.as_bytes());
     let length = answer.body.as_slice().len() as u64;
     put_line(out, b"Content-Length: ", Decimal::of(length).as_bytes());
@@ -144,7 +159,7 @@ pub fn write_answer<W: Write>(
     ensures ok { OnOk result ((text : List ℕ) × IsText (shown answer.now) now text
         × Appends (W.contents writer.old) (W.contents writer.new) text) }
     ensures err { OnErr result ((text : List ℕ) × IsText (shown answer.now) now text
-        × AppendsFront (W.contents writer.old) (W.contents writer.new) text) }
+        × AppendsPrefix (W.contents writer.old) (W.contents writer.new) text) }
 {
     put_head(&mut room, answer, &date_of(now));
     match write_whole(writer, room.as_slice()) {

@@ -14,9 +14,11 @@ pub const CONFLICT: u16 = 409;
 pub const LENGTH_REQUIRED: u16 = 411;
 /// 413: the body is longer than 65,536 bytes.
 pub const PAYLOAD_TOO_LARGE: u16 = 413;
+/// 429: the desk takes no more requests of this kind for now, and `Retry-After` says when to try again (RFC 6585 4).
+pub const TOO_MANY_REQUESTS: u16 = 429;
 /// 431: the head is longer than 8,192 bytes, or has more than 64 fields (RFC 6585 5).
 pub const HEADERS_TOO_LARGE: u16 = 431;
 /// 500: a fault of the desk.
 pub const INTERNAL_SERVER_ERROR: u16 = 500;
-/// 503: all is not well with the desk, which an open one tells of itself.
+/// 503: the open desk is not healthy, or it keeps the rest of the requests table for the control socket.
 pub const SERVICE_UNAVAILABLE: u16 = 503;

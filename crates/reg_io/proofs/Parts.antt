@@ -3,10 +3,10 @@ use Rattle.std.proofs.Common.{ℕ, ◌+◌, ◌≤◌, List, ◌++◌, length, t
 use Rattle.std.specs.Io.KnownBytes.{Appends}
 use Rattle.std.proofs.KnownBytes.{Appends-trans}
 use Rattle.std.proofs.Math.Seq.{take-append-le, take-append-add}
-use Rattle.reg_io.specs.Put.{AppendsFront}
+use Rattle.reg_io.specs.Put.{AppendsPrefix}
 
 -- a front of the first part is a front of the whole
-pub front_of_first : (old new : Option (List ℕ)) (first second : List ℕ) → AppendsFront old new first → AppendsFront old new (first ++ second)
+pub front_of_first : (old new : Option (List ℕ)) (first second : List ℕ) → AppendsPrefix old new first → AppendsPrefix old new (first ++ second)
 front_of_first old new first second f = record {
   count = f.count;
   short = omega (arith, length-append first second, f.short);
@@ -17,8 +17,8 @@ front_of_first old new first second f = record {
 }
 
 -- the first part whole, and a front of the second
-pub front_of_second : (old middle new : Option (List ℕ)) (first second : List ℕ) → Appends old middle first → AppendsFront middle new second
-    → AppendsFront old new (first ++ second)
+pub front_of_second : (old middle new : Option (List ℕ)) (first second : List ℕ) → Appends old middle first → AppendsPrefix middle new second
+    → AppendsPrefix old new (first ++ second)
 front_of_second old middle new first second a f = record {
   count = length first + f.count;
   short = omega (arith, length-append first second, f.short);

@@ -1,7 +1,7 @@
 -- The laws, for proofs above: they cite these alone. Each is stated in specs/, and is what a function of `laws` ensures.
 use Rattle.reg_io.specs.Fill.{HoldsWhatCame, PartsAtMark}
-use Rattle.reg_io.specs.Mark.{OneFirstMark, FirstMarkGoesOn, FirstMarkInFront, NoMarkInFront, FirstMarkOfByte, NoMarkOfByte}
-use Rattle.reg_io.specs.Put.{FrontOfFirst, FrontOfSecond}
+use Rattle.reg_io.specs.Mark.{OneFirstMark, FirstMarkGoesOn, FirstMarkInPrefix, NoMarkInPrefix, FirstMarkOfByte, NoMarkOfByte}
+use Rattle.reg_io.specs.Put.{PrefixOfFirst, PrefixOfSecond}
 use Rattle.reg_io.specs.RunsOfAnswers.{RunsGoOn, RunsStepOn}
 use Rattle.reg_io.proofs.Marks as marks
 use Rattle.reg_io.proofs.Parts as parts
@@ -14,10 +14,10 @@ one_first_mark = marks.FirstMark-unique
 pub first_mark_goes_on : FirstMarkGoesOn
 first_mark_goes_on = marks.FirstMark-append
 
-pub first_mark_in_front : FirstMarkInFront
+pub first_mark_in_front : FirstMarkInPrefix
 first_mark_in_front = marks.FirstMark-take
 
-pub no_mark_in_front : NoMarkInFront
+pub no_mark_in_front : NoMarkInPrefix
 no_mark_in_front = marks.no_mark_of_fronts
 
 pub byte_first : FirstMarkOfByte
@@ -32,10 +32,10 @@ held_now = searches.held_now
 pub cut_at_mark : PartsAtMark
 cut_at_mark = searches.cut_at_mark
 
-pub front_of_first : FrontOfFirst
+pub front_of_first : PrefixOfFirst
 front_of_first = parts.front_of_first
 
-pub front_of_second : FrontOfSecond
+pub front_of_second : PrefixOfSecond
 front_of_second = parts.front_of_second
 
 pub answered_append : {S Q A : Type 0} (answers : S → Q → A → S → Type 0) → RunsGoOn answers

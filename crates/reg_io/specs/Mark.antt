@@ -27,12 +27,12 @@ abbrev pub FirstMarkGoesOn : Type 0
 FirstMarkGoesOn = (mark bytes more : List ℕ) (end : ℕ) → FirstMark mark bytes end → FirstMark mark (bytes ++ more) end
 
 -- and in each front of the bytes that it is in
-abbrev pub FirstMarkInFront : Type 0
-FirstMarkInFront = (mark bytes : List ℕ) (end count : ℕ) → FirstMark mark bytes end → end ≤ count → FirstMark mark (take count bytes) end
+abbrev pub FirstMarkInPrefix : Type 0
+FirstMarkInPrefix = (mark bytes : List ℕ) (end count : ℕ) → FirstMark mark bytes end → end ≤ count → FirstMark mark (take count bytes) end
 
 -- no mark is in a front of the bytes where none of the fronts up to its end ends with it
-abbrev pub NoMarkInFront : Type 0
-NoMarkInFront =
+abbrev pub NoMarkInPrefix : Type 0
+NoMarkInPrefix =
     (mark bytes : List ℕ) (count : ℕ) → ((n : ℕ) → n ≤ count → ¬ EndsWith (take n bytes) mark) → HasNoMark mark (take count bytes)
 
 -- up to the first mark of one byte stand other bytes, and then that byte

@@ -1,16 +1,16 @@
 //! The functions do nothing: their contracts are laws, which proofs above cite by `proofs/PublicLaws.antt`.
 
 ghost use Rattle.reg_io.specs.Fill.{HoldsWhatCame, PartsAtMark};
-ghost use Rattle.reg_io.specs.Mark.{OneFirstMark, FirstMarkGoesOn, FirstMarkInFront, NoMarkInFront, FirstMarkOfByte, NoMarkOfByte};
-ghost use Rattle.reg_io.specs.Put.{FrontOfFirst, FrontOfSecond};
+ghost use Rattle.reg_io.specs.Mark.{OneFirstMark, FirstMarkGoesOn, FirstMarkInPrefix, NoMarkInPrefix, FirstMarkOfByte, NoMarkOfByte};
+ghost use Rattle.reg_io.specs.Put.{PrefixOfFirst, PrefixOfSecond};
 ghost use Rattle.reg_io.specs.RunsOfAnswers.{RunsGoOn, RunsStepOn};
 
 /// Bytes have one first mark. It stays the first where the bytes go on, and where they end anywhere behind it.
 pub fn one_first_mark()
     ensures one { OneFirstMark }
     ensures longer { FirstMarkGoesOn }
-    ensures shorter { FirstMarkInFront }
-    ensures none { NoMarkInFront }
+    ensures shorter { FirstMarkInPrefix }
+    ensures none { NoMarkInPrefix }
 {}
 
 /// A mark of one byte is the first of these bytes, and no such byte stands where no mark is.
@@ -26,9 +26,9 @@ pub fn held_is_what_came()
 {}
 
 /// A writing of two parts that broke off left a front of the first part, or that part and a front of the second.
-pub fn fronts_of_two_parts()
-    ensures first { FrontOfFirst }
-    ensures second { FrontOfSecond }
+pub fn prefixes_of_two_parts()
+    ensures first { PrefixOfFirst }
+    ensures second { PrefixOfSecond }
 {}
 
 /// What is asked one thing after the other. No type implements it: the law of runs needs a relation to range over.

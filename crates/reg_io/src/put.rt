@@ -2,7 +2,7 @@
 
 ghost use Rattle.std.specs.Prelude.{OnErr, OnOk};
 ghost use Rattle.std.specs.Io.KnownBytes.{Appends};
-ghost use Rattle.reg_io.specs.Put.{AppendsFront};
+ghost use Rattle.reg_io.specs.Put.{AppendsPrefix};
 
 use std::io::Write;
 
@@ -15,7 +15,7 @@ pub struct WriteFault;
 pub fn write_whole<W: Write>(writer: &mut W, bytes: &[u8]) -> Result<(), WriteFault>
     ensures ok { OnOk result (Appends (W.contents writer.old) (W.contents writer.new) bytes.now) }
     ensures err { OnErr result
-        (AppendsFront (W.contents writer.old) (W.contents writer.new) bytes.now) }
+        (AppendsPrefix (W.contents writer.old) (W.contents writer.new) bytes.now) }
 {
     let mut written: usize = 0;
     while written < bytes.len() {

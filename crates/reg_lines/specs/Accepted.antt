@@ -10,7 +10,7 @@ use Rattle.reg_lines.specs.Replies.{with_lf}
 use Rattle.reg_lines.specs.declared.answered.Passed.{Passed}
 use Rattle.reg_lines.specs.declared.answered.Passed.TheVariants.{On, Refused}
 use Rattle.reg_lines.specs.declared.answered.RefusedCommand.{RefusedCommand}
-use Rattle.reg_io.specs.Put.{AppendsFront}
+use Rattle.reg_io.specs.Put.{AppendsPrefix}
 use Rattle.reg_io.specs.declared.put.WriteFault.{WriteFault}
 
 -- a reply that is accepted: a refusal begins with E and a fault with F (69 and 70), and that steps are no schedule with b (98)
@@ -38,12 +38,12 @@ GoesOn is_strict reply (Refused refused) = IsTrue is_strict × (¬ IsAccepted re
 -- the bytes were written, or at a fault a front of them
 abbrev pub Wrote : Option (List ℕ) → Option (List ℕ) → List ℕ → Result (Unit {0}) WriteFault → Type 0
 Wrote out out' bytes (Ok done) = Appends out out' bytes
-Wrote out out' bytes (Err fault) = AppendsFront out out' bytes
+Wrote out out' bytes (Err fault) = AppendsPrefix out out' bytes
 
 -- a reply was written, and whether the run goes on behind it; or a front of it was
 abbrev pub Said : Bool → Option (List ℕ) → Option (List ℕ) → List ℕ → Result Passed WriteFault → Type 0
 Said is_strict out out' reply (Ok passed) = Appends out out' reply × GoesOn is_strict reply passed
-Said is_strict out out' reply (Err fault) = AppendsFront out out' reply
+Said is_strict out out' reply (Err fault) = AppendsPrefix out out' reply
 
 -- how a run ends, wherever it ended that met no fault
 abbrev pub done_of : {A : Type 0} → Result A Fault → Result (Unit {0}) Fault

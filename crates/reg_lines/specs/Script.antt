@@ -6,7 +6,7 @@ use Rattle.std.specs.Io.KnownBytes.{Appends, Consumes, IsAtEnd}
 use Rattle.std.specs.List.{All, AllByRecursion, concat}
 use Rattle.reg_core.specs.declared.refusal.Fault.{Fault}
 use Rattle.reg_core.specs.declared.refusal.Fault.TheVariants.{Memory, Read, Write}
-use Rattle.reg_io.specs.Put.{AppendsFront}
+use Rattle.reg_io.specs.Put.{AppendsPrefix}
 use Rattle.reg_io.specs.RunsOfAnswers.{Answered}
 use Rattle.reg_lines.specs.Accepted.{EndsRefused, GoesOn, IsAccepted, TellsWhy, done_of}
 use Rattle.reg_lines.specs.Answer.{LineReplies}
@@ -168,7 +168,7 @@ module _ {S : Type 0} (runs : S → List ℕ → List ℕ → S → Type 0) (s t
   abbrev pub LineEnds : Bool → Bool → List ℕ → Result Passed Fault → Type 0
   LineEnds is_clocked is_strict line (Ok passed) =
       (reply : List ℕ) × runs s line reply t × Appends out out' reply × GoesOn is_strict reply passed
-  LineEnds is_clocked is_strict line (Err Write) = (reply : List ℕ) × runs s line reply t × AppendsFront out out' reply
+  LineEnds is_clocked is_strict line (Err Write) = (reply : List ℕ) × runs s line reply t × AppendsPrefix out out' reply
   LineEnds is_clocked is_strict line (Err Read) = IsTrue is_clocked × (t ≡ s) × Appends out out' []
   LineEnds is_clocked is_strict line (Err other) = ⊥
 
@@ -216,7 +216,7 @@ module _ {S : Type 0} (runs : S → List ℕ → List ℕ → S → Type 0) (s t
       pub ends : IsWholeLine piece ⊎ (IsCut piece × (rest ≡ []) × IsAtEnd input')
       pub short : IsShort longest piece
       pub replied : runs s (line_of piece) reply t
-      pub wrote : AppendsFront out out' reply
+      pub wrote : AppendsPrefix out out' reply
 
     -- how a step ends: with a number of bytes held at the front of the buffer, or with the run, or at a fault
     abbrev pub NextEnds : Bool → Bool → List ℕ → Result Next Fault → Type 0

@@ -2,19 +2,19 @@
 #![tactic(auto)]
 
 mod asked;
+mod cert_id_match;
 mod certificate;
 mod draft;
 mod extensions;
 mod fault;
 pub mod laws;
-mod matching;
 mod ocsp_request;
 mod response;
 
 pub use asked::{Asked, CertId};
+pub use cert_id_match::matches;
 pub use certificate::{Certificate, CertificateFault, CertifiedKey, certified_key};
 pub use draft::{Draft, slice_of};
 pub use fault::AskFault;
-pub use matching::matches;
 pub use ocsp_request::read_request;
 pub use response::{RefusalStatus, basic, basic_with, refusal, response_data, response_data_by};

@@ -1,5 +1,5 @@
 pub mod Agreeing
-pub mod SignatureRequest
+pub mod QueryLemmas
 pub mod Beginning
 pub mod Composing
 pub mod CommandsRun

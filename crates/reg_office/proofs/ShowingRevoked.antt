@@ -19,7 +19,7 @@ use Rattle.reg_core.specs.declared.rows.CertRow.{CertRow}
 use Rattle.reg_core.specs.declared.rows.Entry.{Entry}
 use Rattle.reg_core.specs.declared.rows.RevocationRow.{RevocationRow}
 use Rattle.reg_crl.specs.Signing.{Identity, sealed_until}
-use Rattle.reg_core_laws.specs.Headline.{ListsRevoked, lists, ToldByCrls, IsDueEntry}
+use Rattle.reg_core_laws.specs.Headline.{ListsRevoked, lists, ListedByCrls, IsDueEntry}
 use Rattle.reg_core_laws.specs.Revocations.{IsRevocationBy}
 use Rattle.reg_core_laws.proofs.PublicLaws.{all_weaker, all_found, key_found, some_at}
 use Rattle.reg_office.specs.Agreement.{OcspAgrees}
@@ -65,7 +65,7 @@ shown_of
     → (certificate : CertRow) (revocation : RevocationRow)
     → certificate_in run.after.certificates revocation.serial ≡ Some certificate
     → IsRevocationBy its.before its.at (Revoke its.id) revocation
-    → ToldByCrls its.before.crls run.after certificate revocation
+    → ListedByCrls its.before.crls run.after certificate revocation
     → ((n : ℕ) → AllByRecursion (IsDueEntry run.after n) (entries run.after n))
     → IsShownEverywhere its
 shown_of signs identity agree run its sound certificate revocation found by tells due = record {

@@ -9,14 +9,14 @@ use crate::identifiers::set_key_identifier;
 use crate::ocsp_answer::{begin_ocsp, sign_draft};
 use crate::pages::page;
 use crate::queries::answer;
-use crate::register_state::{longest_in, open_count_in, standing_in};
+use crate::register_state::{intake_in, longest_in, open_count_in, standing_in};
 use crate::responder::{Responder, failures_in};
-use reg_core::{Command, Fault, Label, Memory, Moment, Outcome, Query, Refusal, Schedule};
+use reg_core::{Command, Fault, Label, Memory, Moment, Outcome, Query, Refusal, Schedule, Serial};
 use reg_core_lists::{Cursor, Page};
 use reg_crl::Signer;
 use reg_io::Begun;
 use reg_ocsp::Draft;
-use reg_office_api::{OcspResponse, Standing};
+use reg_office_api::{Intake, OcspResponse, Standing};
 use reg_store::Store;
 use sqlite::Alter;
 use std::alloc::Global;
@@ -245,6 +245,10 @@ impl<C: Alter, S: Signer> reg_office_api::Office for Office<C, S> {
 
     fn open_count(&mut self, now: Moment) -> Result<u64, Fault> {
         open_count_in(&mut self.store, now)
+    }
+
+    fn intake(&mut self, now: Moment, serial: Serial, most: u64) -> Result<Intake, Fault> {
+        intake_in(&mut self.store, now, serial, most)
     }
 
     fn longest(&mut self, order: u64, not_before: Moment) -> Result<Option<u64>, Fault> {

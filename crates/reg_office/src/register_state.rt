@@ -1,12 +1,12 @@
 //! What stands in a store beside its counts.
 
-ghost use Rattle.std.specs.Prelude.{IfErr};
-ghost use Rattle.reg_office_api.specs.LookUps.{HasLongest, HasOpen, HasStanding, IsOfStore};
-ghost use Rattle.reg_store_tables.specs.LookUps.{LooksUp};
+ghost use Rattle.std.specs.Prelude.{◌≡◌, ◌<◌, ◌^◌, IfErr};
+ghost use Rattle.reg_office_api.specs.LookUps.{HasIntake, HasLongest, HasOpen, HasStanding, IsOfStore, rows_in};
+ghost use Rattle.reg_store_tables.specs.LookUps.{Learns, LooksUp};
 
-use reg_core::{Fault, Moment};
-use reg_office_api::Standing;
-use reg_store::Tables;
+use reg_core::{Fault, Moment, Serial};
+use reg_office_api::{Intake, Rows, Standing};
+use reg_store::{DatabaseFault, Table, Tables};
 use sqlite::Alter;
 
 #[tactic(auto, using(crate::proofs::Composing::answer_of_fault))]
@@ -17,10 +17,53 @@ pub(crate) fn standing_in<C: Alter>(tables: &mut Tables<C>) -> Result<Standing, 
     let last = tables.last()?;
     let latest = tables.latest_crl()?;
     let policy = tables.policy()?;
+    let rows = table_rows(tables)?;
     Ok(Standing {
         last,
         latest,
         crl_life: policy.crl_life(),
+        cap: policy.cap(),
+        rows,
+    })
+}
+
+fn table_rows<C: Alter>(tables: &mut Tables<C>) -> Result<Rows, DatabaseFault>
+    ensures { Learns C.Store tables.old tables.new result (λ records rows. rows ≡ rows_in records) }
+{
+    let subscribers = tables.held(Table::Subscribers)?;
+    let orders = tables.held(Table::Orders)?;
+    let certificates = tables.held(Table::Certs)?;
+    let requests = tables.held(Table::Requests)?;
+    let crls = tables.held(Table::Crls)?;
+    Ok(Rows {
+        subscribers,
+        orders,
+        certificates,
+        requests,
+        crls,
+    })
+}
+
+#[tactic(auto, using(crate::proofs::Composing::answer_of_fault))]
+pub(crate) fn intake_in<C: Alter>(
+    tables: &mut Tables<C>,
+    now: Moment,
+    serial: Serial,
+    most: u64,
+) -> Result<Intake, Fault>
+    requires { most < 2 ^ 63 }
+    ensures looks { LooksUp C.Store tables.old tables.new (λ records. HasIntake records now serial most result) }
+    ensures faults { IfErr result IsOfStore }
+{
+    let last = tables.last()?;
+    let policy = tables.policy()?;
+    let requests = tables.held(Table::Requests)?;
+    let waiting = tables.open_of(serial, now, most)?;
+    Ok(Intake {
+        last,
+        cap: policy.cap(),
+        requests,
+        waiting,
     })
 }
 

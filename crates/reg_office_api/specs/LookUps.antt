@@ -1,5 +1,5 @@
 -- What an office tells of its records that is no query.
-use Rattle.std.specs.Prelude.{◌≡◌, ℕ, min, filter, length, Option, option_map, Result, IfOk}
+use Rattle.std.specs.Prelude.{◌≡◌, ℕ, ◌==◌, ◌&&◌, min, filter, length, Option, option_map, Result, IfOk}
 use Rattle.reg_core.specs.Crls.{latest, row_of}
 use Rattle.reg_core.specs.Due.{is_open}
 use Rattle.reg_core.specs.Records.{Records, order_in}
@@ -10,6 +10,8 @@ use Rattle.reg_core_lists.specs.Pages.{Pages}
 use Rattle.reg_core_lists.specs.declared.cursor.Cursor.{Cursor}
 use Rattle.reg_core_lists.specs.declared.rows.Page.{Page}
 use Rattle.reg_office_api.specs.Signatories.{Signatory}
+use Rattle.reg_office_api.specs.declared.register_summary.Intake.{Intake}
+use Rattle.reg_office_api.specs.declared.register_summary.Rows.{Rows}
 use Rattle.reg_office_api.specs.declared.register_summary.Standing.{Standing}
 
 -- want of memory, or a failure of the store
@@ -18,10 +20,21 @@ IsOfStore Memory = Unit {0}
 IsOfStore Store = Unit {0}
 IsOfStore other = ⊥
 
--- the last accepted moment, the latest CRL without its bytes, and the life of CRLs
+-- how many rows the tables have
+abbrev pub rows_in : Records → Rows
+rows_in records = record {
+  subscribers = length records.subscribers;
+  orders = length records.orders;
+  certificates = length records.certificates;
+  requests = length records.requests;
+  crls = length records.crls;
+}
+
+-- the last accepted moment, the latest CRL without its bytes, the life of CRLs, the cap of each table, and how many rows the tables have
 abbrev pub IsStanding : Records → Standing → Type 0
 IsStanding records standing =
     (standing.last ≡ records.last) × (standing.latest ≡ option_map row_of (latest records.crls)) × (standing.crl_life ≡ records.policy.crl_life)
+    × (standing.cap ≡ records.policy.cap) × (standing.rows ≡ rows_in records)
 
 -- the same, where it was had
 abbrev pub HasStanding : Records → Result Standing Fault → Type 0
@@ -30,6 +43,20 @@ HasStanding records result = IfOk result (IsStanding records)
 -- how many requests for revocation are open, where that was had
 abbrev pub HasOpen : Records → ℕ → Result ℕ Fault → Type 0
 HasOpen records now result = IfOk result (λ count. count ≡ length (filter (is_open records now) records.requests))
+
+-- the state of the requests at a moment: the last accepted moment, the cap, how many requests there are, and how many for a serial number
+-- are open, at most `most` of them
+abbrev pub intake_in : Records → ℕ → ℕ → ℕ → Intake
+intake_in records now serial most = record {
+  last = records.last;
+  cap = records.policy.cap;
+  requests = length records.requests;
+  waiting = min most (length (filter (λ row. (row.serial == serial) && is_open records now row) records.requests));
+}
+
+-- the same, where the call succeeds
+abbrev pub HasIntake : Records → ℕ → ℕ → ℕ → Result Intake Fault → Type 0
+HasIntake records now serial most result = IfOk result (λ intake. intake ≡ intake_in records now serial most)
 
 -- the longest validity in days that an order and the policy allow from a moment on; none where there is no such order
 abbrev pub longest_allowed : Records → ℕ → ℕ → Option ℕ

@@ -8,5 +8,5 @@ mod response;
 
 pub use effects::{LineEffects, LineReply, SignatureFate, StoreEffect};
 pub use office::Office;
-pub use register_summary::Standing;
+pub use register_summary::{Intake, Rows, Standing};
 pub use response::{OcspResponse, ResponseKind};

@@ -1,8 +1,8 @@
 //! An office that keeps the records of a register.
 
-use crate::register_summary::Standing;
+use crate::register_summary::{Intake, Standing};
 use crate::response::OcspResponse;
-use reg_core::{Command, Fault, Label, Memory, Moment, Outcome, Query, Schedule};
+use reg_core::{Command, Fault, Label, Memory, Moment, Outcome, Query, Schedule, Serial};
 use reg_core_lists::{Cursor, Page};
 use reg_io::Begun;
 use reg_ocsp::Draft;
@@ -11,12 +11,12 @@ use std::alloc::Global;
 /// An office that keeps the records of a register, and those who sign for it. Each call leads from whatever records stand in it to those
 /// that stand afterwards, where the medium has returned all that was written to it ([`Leads`](crate::specs::Leads)).
 pub trait Office {
-    ghost use Rattle.std.specs.Prelude.{◌≡◌, ◌≤◌, ◌<◌, ◌↔◌, ℕ, List, IfErr, IfOk, IsErrOf};
+    ghost use Rattle.std.specs.Prelude.{◌≡◌, ◌≤◌, ◌<◌, ◌↔◌, ◌^◌, ℕ, List, IfErr, IfOk, IsErrOf};
     ghost use Rattle.reg_office_api.specs.CallSteps.{CommandStep, QueryStep, OcspStep, CrlStep};
     ghost use Rattle.reg_office_api.specs.Drafts.{BeginStep, IsSignerFailure};
     ghost use Rattle.reg_office_api.specs.Items.{items_of};
     ghost use Rattle.reg_office_api.specs.Leads.{Leads, Looks};
-    ghost use Rattle.reg_office_api.specs.LookUps.{HasLongest, HasOpen, HasStanding, IsOfStore, PageStep};
+    ghost use Rattle.reg_office_api.specs.LookUps.{HasIntake, HasLongest, HasOpen, HasStanding, IsOfStore, PageStep};
     ghost use Rattle.reg_office_api.specs.Settings.{Identifies, Reschedules};
     ghost use Rattle.reg_office_api.specs.Signatories.{Signatory};
     ghost use Rattle.reg_core.specs.Records.{Records};
@@ -79,7 +79,7 @@ pub trait Office {
     fn page(&mut self, alloc: Global, now: Moment, from: Cursor, most: u64) -> Result<Page, Fault>
         ensures { Leads is_clean stands (PageStep now most from result) self.old self.new };
 
-    /// What stands beside the counts: the last accepted moment, the latest CRL, and the life of CRLs.
+    /// What stands beside the counts: the last accepted moment, the latest CRL, the life of CRLs, the cap, and how many rows the tables have.
     fn standing(&mut self) -> Result<Standing, Fault>
         ensures looks { Looks is_clean stands (λ records. HasStanding records result) self.old self.new }
         ensures faults { IfErr result IsOfStore };
@@ -87,6 +87,13 @@ pub trait Office {
     /// How many requests for revocation are open at a moment, by a walk over all requests.
     fn open_count(&mut self, now: Moment) -> Result<u64, Fault>
         ensures looks { Looks is_clean stands (λ records. HasOpen records now result) self.old self.new }
+        ensures faults { IfErr result IsOfStore };
+
+    /// How full the requests table is, and how many requests for a serial number are open at a moment, at most `most` of them.
+    /// It walks the requests. Errors: `Memory`, `Store`.
+    fn intake(&mut self, now: Moment, serial: Serial, most: u64) -> Result<Intake, Fault>
+        requires { most < 2 ^ 63 }
+        ensures looks { Looks is_clean stands (λ records. HasIntake records now serial most result) self.old self.new }
         ensures faults { IfErr result IsOfStore };
 
     /// The longest validity in days that an order and the policy allow from a moment on; `None` where there is no such order.

@@ -21,7 +21,7 @@ use Rattle.reg_core.specs.declared.rows.RequestRow.{RequestRow}
 use Rattle.reg_core.specs.declared.rows.RevocationRow.{RevocationRow}
 use Rattle.reg_core_laws.proofs.PublicLaws.{all_push, numbered_push}
 use Rattle.reg_store_tables.specs.Schema.{register_schema, subscriber, orders, cert, request, revocation, crl, standing, listed}
-use Rattle.reg_store_tables.specs.Rows.{number, serial_value, ground_place, counted_rows, stored_subscriber, stored_order, stored_certificate, stored_request, stored_revocation, stored_crl}
+use Rattle.reg_store_tables.specs.Rows.{number, serial_value, ground_index, counted_rows, stored_subscriber, stored_order, stored_certificate, stored_request, stored_revocation, stored_crl}
 use Rattle.reg_store_tables.specs.Columns.{good, Standing, Listed, stored_standing, stored_listed}
 use Rattle.reg_store_tables.specs.Shows.{HaveSerials}
 use Rattle.reg_store_tables.specs.Stays.{Ran}
@@ -71,11 +71,11 @@ module _ (old new : State) (count : ℕ) where
       (refl, refl, here, refl, refl, refl, refl, refl) both.shown.rows.policy (refl, refl, refl, refl)
 
   pub puts_request : (row : RequestRow) {id ground received declined : ValueRef} {serial : List ℕ} → Ran PUT_REQUEST.now (lends id ∷ Blob serial ∷ lends ground ∷ lends received ∷ lends declined ∷ []) old new count → id ≡ lent.Int (pos row.id)
-      → serial ≡ serial_bytes row.serial → ground ≡ lent.Int (pos (ground_place row.ground)) → received ≡ lent.Int (pos row.received) → declined ≡ lent.Int (pos (cond row.declined 1 0)) → IsSerial row.serial
+      → serial ≡ serial_bytes row.serial → ground ≡ lent.Int (pos (ground_index row.ground)) → received ≡ lent.Int (pos row.received) → declined ≡ lent.Int (pos (cond row.declined 1 0)) → IsSerial row.serial
       → TurnsWhere (λ records. row.id ≡ length records.requests + 1) (λ records. with_request records records.last row) (λ columns. columns) old.now new.now
   unfolding register_schema
   puts_request row given is0 is1 is2 is3 is4 its records columns next both =
-      let params = number row.id ∷ serial_value row.serial ∷ number (ground_place row.ground) ∷ number row.received ∷ number (cond row.declined 1 0) ∷ [] in
+      let params = number row.id ∷ serial_value row.serial ∷ number (ground_index row.ground) ∷ number row.received ∷ number (cond row.declined 1 0) ∷ [] in
       let ran = subst (λ params. Ran PUT_REQUEST.now params old new count) (λ i. lends (is0 i) ∷ Blob (is1 i) ∷ lends (is2 i) ∷ lends (is3 i) ∷ lends (is4 i) ∷ []) given in
       let puts = puts_row PUT_REQUEST.now params old new count ran both.shown.schema 4 request refl (col 0 0 ∷ lit Null ∷ col 0 1 ∷ col 0 2 ∷ col 0 3 ∷ col 0 4 ∷ []) 6 put_request_means refl refl refl in
       let here = numbered_in stored_request (λ (row : RequestRow). row.id) (λ row. refl) row records.requests request _ puts (simp (cast_int, cast_null)) refl both.shown.rows.requests both.shown.rows.requests_numbered next in

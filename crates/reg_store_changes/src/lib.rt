@@ -1,13 +1,13 @@
 //! The changes of the register in SQL tables: each is one transaction.
 #![tactic(auto)]
 
-mod applying;
-mod entering;
-mod naming;
-mod scheduling;
+mod change_statements;
+mod issuer_change;
+mod schedule_change;
 mod sql;
 pub mod statements;
+mod transaction;
 
-pub use applying::apply;
-pub use naming::set_issuer;
-pub use scheduling::set_schedule;
+pub use issuer_change::set_issuer;
+pub use schedule_change::set_schedule;
+pub use transaction::apply;

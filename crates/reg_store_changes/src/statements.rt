@@ -12,7 +12,9 @@ use reg_core::{
     CertRow, CrlRow, Moment, OrderRow, RequestRow, RevocationRow, Serial, SubscriberRow,
 };
 use reg_store_tables::DatabaseFault;
-use reg_store_tables::writing::{sql_flag, sql_ground, sql_moment, sql_number, sql_reason, write};
+use reg_store_tables::write_statements::{
+    sql_flag, sql_ground, sql_moment, sql_number, sql_reason, write,
+};
 use sqlite::types::ValueRef;
 use sqlite::{Alter, Transaction};
 

@@ -1,16 +1,16 @@
 //! A register's file of an older version, made one of the program's version.
 #![tactic(auto)]
 
-mod asking;
-mod beginning;
-mod counting;
-pub mod making;
-mod migrating;
-mod refilling;
-mod relisting;
+mod derived_listings;
+mod derived_tables;
+mod initial_rows;
+mod migration;
+pub mod missing_tables;
+mod record_reader;
 pub mod sql;
+mod status_counts;
 mod version;
 
-pub use beginning::put_counts;
-pub use migrating::migrate;
+pub use initial_rows::put_counts;
+pub use migration::migrate;
 pub use version::OlderVersion;

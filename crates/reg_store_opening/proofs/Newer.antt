@@ -21,7 +21,7 @@ use Rattle.reg_store_opening.specs.AfterStoppedOpening.{IsOpened}
 use Rattle.reg_store_opening.specs.Examined.{IsFoundOf}
 use Rattle.reg_store_opening.specs.Opens.{Opens}
 use Rattle.reg_store_opening.specs.Said.{IsCurrent, IsOlder, ShowsAs}
-use Rattle.reg_store_opening.specs.declared.opening.OlderOffice.{OlderOffice}
+use Rattle.reg_store_opening.specs.declared.version_check.OlderOffice.{OlderOffice}
 
 never_some : {A : Type 0} (x : A) → Some x ≡ None → ⊥
 never_some x e = absurd (cc)

@@ -11,7 +11,7 @@ use Rattle.reg_store_migration.specs.Older.{older_schema}
 use Rattle.reg_store_migration.specs.declared.version.OlderVersion.{OlderVersion}
 use Rattle.reg_store_opening.specs.Examined.{SaysFound, IsFoundOf, found_version}
 use Rattle.reg_store_opening.specs.Said.{version_of, schema_of, HasVersion, HasOthers, IsOlder, IsShownAs, TellsVersion, version_told}
-use Rattle.reg_store_opening.specs.declared.opening.OlderOffice.{OlderOffice}
+use Rattle.reg_store_opening.specs.declared.version_check.OlderOffice.{OlderOffice}
 
 has_found : (db : Database) (found : Option OlderOffice) → SaysFound db found → HasVersion db (version_of (found_version found))
 has_found db None it = it.0

@@ -13,7 +13,7 @@ use Rattle.reg_store_tables.specs.Steps.{WhileOpen}
 use Rattle.reg_store_migration.specs.Older.{version_number}
 use Rattle.reg_store_migration.specs.declared.version.OlderVersion.{OlderVersion}
 use Rattle.reg_store_opening.specs.Said.{HasVersion, InRange, IsCurrent, IsNewer, ReadsOlder}
-use Rattle.reg_store_opening.specs.declared.opening.OlderOffice.{OlderOffice}
+use Rattle.reg_store_opening.specs.declared.version_check.OlderOffice.{OlderOffice}
 
 -- the tables say the program's version and an office, or an older version and its office
 abbrev pub SaysFound : Database → Option OlderOffice → Type 0

@@ -1,14 +1,14 @@
 //! A register's tables, made new, and tested before they are used.
 #![tactic(auto)]
 
-mod comparing;
-mod creating;
-mod filling;
-mod making;
+mod creation;
+mod empty_tables;
+mod initial_rows;
 mod office_rows;
-mod opening;
-mod peeking;
+mod read_only_queries;
+mod schema_check;
 pub mod sql;
+mod version_check;
 
-pub use creating::create;
-pub use opening::{OlderOffice, examine, open};
+pub use creation::create;
+pub use version_check::{OlderOffice, examine, open};

@@ -1,7 +1,7 @@
 //! Which version's a schema is: that of a register, of the program's version or of an older one.
 #![tactic(auto)]
 
-mod making;
+mod expected_schema;
 mod same;
 mod schemas;
 mod terms;

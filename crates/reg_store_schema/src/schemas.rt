@@ -4,7 +4,7 @@ ghost use Rattle.std.specs.Prelude.{◌≡◌, ◌↔◌, Some, IfOk, IsTrue};
 ghost use Rattle.reg_store_tables.specs.Schema.{register_schema};
 ghost use Rattle.reg_store_schema.specs.Versions.{version_schema};
 
-use crate::making::{add_kept, add_records, add_schedule_and_indexes};
+use crate::expected_schema::{add_kept, add_records, add_schedule_and_indexes};
 use crate::same::Same;
 use crate::versions::Version;
 use sqlite_schema::schema::Schema;

@@ -43,3 +43,4 @@ pub mod Resting
 pub mod Spared
 pub mod Stages
 pub mod Turning
+pub mod WaitingLemmas

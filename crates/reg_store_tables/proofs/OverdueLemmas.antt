@@ -60,7 +60,7 @@ id_of row = row.id
 abbrev out : RequestRow → Output
 out row = (number row.id ∷ [], shown_request row)
 
-flag_is : (declined : Bool) → (cond declined 1 0 == 0) ≡ not declined
+pub flag_is : (declined : Bool) → (cond declined 1 0 == 0) ≡ not declined
 flag_is true = refl
 flag_is false = refl
 

@@ -18,7 +18,7 @@ use Rattle.reg_core.specs.declared.rows.RequestRow.{RequestRow}
 use Rattle.reg_core.specs.declared.rows.RevocationRow.{RevocationRow}
 use Rattle.reg_core.specs.declared.rows.CrlRow.{CrlRow}
 use Rattle.reg_core.specs.declared.rows.Entry.{Entry}
-use Rattle.reg_store_tables.specs.Rows.{number, serial_value, ground_place}
+use Rattle.reg_store_tables.specs.Rows.{number, serial_value, ground_index}
 use Rattle.reg_store_tables.specs.Schema.{register_schema}
 
 -- the command that a text means
@@ -53,7 +53,7 @@ abbrev pub shown_certificate : CertRow → Row
 shown_certificate row = serial_value row.serial ∷ number row.order ∷ number row.not_before ∷ number row.not_after ∷ []
 
 abbrev pub shown_request : RequestRow → Row
-shown_request row = number row.id ∷ serial_value row.serial ∷ number (ground_place row.ground) ∷ number row.received ∷ number (cond row.declined 1 0) ∷ []
+shown_request row = number row.id ∷ serial_value row.serial ∷ number (ground_index row.ground) ∷ number row.received ∷ number (cond row.declined 1 0) ∷ []
 
 abbrev pub shown_revocation : RevocationRow → Row
 shown_revocation row = serial_value row.serial ∷ number row.at ∷ number row.reason ∷ number row.request ∷ number row.first ∷ []

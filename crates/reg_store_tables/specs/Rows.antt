@@ -34,18 +34,18 @@ abbrev pub counted_rows : List Row → List Row
 counted_rows = behind_rowids 1
 
 -- a ground is kept as its place in the list of grounds
-abbrev pub ground_place : Ground → ℕ
-ground_place Asked = 1
-ground_place Unauthorized = 2
-ground_place KeyCompromise = 3
-ground_place ControlLost = 4
-ground_place Affiliation = 5
-ground_place Superseded = 6
-ground_place Cessation = 7
-ground_place Misuse = 8
-ground_place NameNotPermitted = 9
-ground_place Nonconforming = 10
-ground_place Inaccurate = 11
+abbrev pub ground_index : Ground → ℕ
+ground_index Asked = 1
+ground_index Unauthorized = 2
+ground_index KeyCompromise = 3
+ground_index ControlLost = 4
+ground_index Affiliation = 5
+ground_index Superseded = 6
+ground_index Cessation = 7
+ground_index Misuse = 8
+ground_index NameNotPermitted = 9
+ground_index Nonconforming = 10
+ground_index Inaccurate = 11
 
 -- the version of the tables
 abbrev pub version : ℕ
@@ -71,7 +71,7 @@ stored_certificate row = serial_value row.serial ∷ number row.order ∷ number
 -- request: id, serial, ground, received, declined
 abbrev pub stored_request : RequestRow → Row
 stored_request row =
-    number row.id ∷ Null ∷ serial_value row.serial ∷ number (ground_place row.ground) ∷ number row.received ∷ number (cond row.declined 1 0) ∷ []
+    number row.id ∷ Null ∷ serial_value row.serial ∷ number (ground_index row.ground) ∷ number row.received ∷ number (cond row.declined 1 0) ∷ []
 
 -- revocation: serial, at, reason, request, first_crl
 abbrev pub stored_revocation : RevocationRow → Row

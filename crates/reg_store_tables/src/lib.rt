@@ -2,7 +2,6 @@
 #![tactic(auto)]
 
 mod certificates;
-mod counting;
 mod crls;
 mod fault;
 mod listed;
@@ -14,20 +13,21 @@ mod read_statements;
 mod requests;
 mod revocations;
 pub mod rows;
-mod scheduling;
+mod schedule_rows;
 pub mod schema;
 mod sizes;
 pub mod sql;
 pub mod sql_values;
+mod status_counts;
 mod subscribers;
 mod tables;
-pub mod writing;
+pub mod write_statements;
 
-pub use counting::kept_counts;
 pub use crls::crl;
 pub use fault::{DatabaseFault, StoreFault, Unshown};
 pub use office::{issuer, policy};
-pub use scheduling::put_schedule_steps;
+pub use schedule_rows::put_schedule_steps;
 pub use sizes::Table;
+pub use status_counts::kept_counts;
 pub use tables::Tables;
-pub use writing::set_counts;
+pub use write_statements::set_counts;

@@ -1,23 +1,42 @@
 //! The look-up of the requests whose limit has passed.
 
-ghost use Rattle.std.specs.Prelude.{◌≡◌, ◌≤◌, ◌+◌, ◌^◌, ◌&&◌, ◌++◌, List, [], ◌∷◌, length, not, filter, nat_lt, IfOk, IsSome, OnErr};
+ghost use Rattle.std.specs.Prelude.{◌≡◌, ◌≤◌, ◌+◌, ◌^◌, ◌&&◌, ◌<◌, ◌==◌, ◌++◌, List, [], ◌∷◌, length, min, not, filter, nat_lt, IfOk, IsSome, OnErr};
 ghost use Rattle.reg_core.specs.Due.{deadline, is_open, overdue, overdue_report};
 ghost use Rattle.reg_core.specs.Records.{certificate_in};
 ghost use Rattle.reg_core.specs.Status.{status, is_good};
 ghost use Rattle.reg_store_tables.specs.LookUps.{Finds, FindsIf};
 
 use crate::fault::DatabaseFault;
-use crate::read_statements::look_up_all;
-use crate::sql::UNDECLINED;
+use crate::read_statements::{look_up_all, read};
+use crate::sql::{UNDECLINED, UNDECLINED_OF};
+use crate::sql_values::sql_number;
 use crate::tables::Tables;
 use reg_core::{Moment, Overdue, RequestRow, Serial, Status, status_of};
-use sqlite::{Alter, Connection};
+use sqlite::{Alter, Connection, params};
 
 fn undeclined<S: Alter>(conn: &mut Connection<S>) -> Result<Vec<RequestRow>, DatabaseFault>
     ensures { Finds S.Store conn.old conn.new result (λ records found.
         found.items ≡ filter (λ row. not row.declined) records.requests) }
 {
     look_up_all::<S, RequestRow>(conn, UNDECLINED, &[])
+}
+
+/// How many requests for a serial number are not declined, at most `most` of them.
+fn undeclined_of<S: Alter>(
+    conn: &mut Connection<S>,
+    serial: Serial,
+    most: u64,
+) -> Result<u64, DatabaseFault>
+    ensures { FindsIf (λ _. most < 2 ^ 63) S.Store conn.old conn.new result (λ records count.
+        count ≡ min most (length (filter (λ row. not row.declined && (row.serial == serial)) records.requests))) }
+{
+    let limit = sql_number(most)?;
+    let newest = read(
+        conn,
+        UNDECLINED_OF,
+        params![serial.bytes20().as_slice(), &limit],
+    )?;
+    Ok(newest.len() as u64)
 }
 
 /// The report with one request more, whose id is above those in it.
@@ -91,5 +110,18 @@ impl<S: Alter> Tables<S> {
             }
         }
         Ok(count)
+    }
+
+    /// How many requests for a serial number are open at a moment, at most `most` of them. `Store` too for a `most` above 2^63 - 1.
+    pub fn open_of(&mut self, serial: Serial, now: Moment, most: u64) -> Result<u64, DatabaseFault>
+        ensures { FindsIf (λ _. most < 2 ^ 63) S.Store self.old self.new result (λ records count.
+            count ≡ min most (length (filter (λ row. (row.serial == serial) && is_open records now row) records.requests))) }
+    {
+        let certificate = self.cert(serial)?;
+        let revoked = self.revocation(serial)?;
+        match status_of(now, certificate, revoked) {
+            Status::Good => undeclined_of(&mut self.connection, serial, most),
+            _ => Ok(0),
+        }
     }
 }

@@ -40,6 +40,9 @@ pub(crate) const REQUEST_BY_ID: &str =
 /// The requests that are not declined, by their ids. It walks the requests.
 pub(crate) const UNDECLINED: &str =
     "SELECT id, serial, ground, received, declined FROM request WHERE declined = 0 ORDER BY id";
+/// The newest requests for a serial number that are not declined: at most as many as are wanted. It walks the requests from the last one back.
+pub(crate) const UNDECLINED_OF: &str =
+    "SELECT id FROM request WHERE declined = 0 AND serial = ?1 ORDER BY id DESC LIMIT ?2";
 
 pub(crate) const REVOCATION_BY_SERIAL: &str =
     "SELECT serial, at, reason, request, first_crl FROM revocation WHERE serial = ?1";

@@ -8,7 +8,7 @@ ghost use Rattle.reg_core.specs.Calendar.{IsMoment, clock_end};
 ghost use Rattle.reg_core.specs.Label.{IsLabel};
 ghost use Rattle.reg_core.specs.Serial.{IsSerial};
 ghost use Rattle.reg_store_tables.specs.Columns.{number_or_null};
-ghost use Rattle.reg_store_tables.specs.Rows.{number, serial_value, ground_place};
+ghost use Rattle.reg_store_tables.specs.Rows.{number, serial_value, ground_index};
 
 use crate::fault::DatabaseFault;
 use reg_core::{Ground, Label, Moment, Serial};
@@ -130,8 +130,8 @@ pub fn label_at(row: &Row, at: usize) -> Option<Label>
 
 /// The ground in a column, which has its place in the list of grounds.
 pub fn ground_at(row: &Row, at: usize) -> Option<Ground>
-    ensures read { (cause : Ground) → column row.now at ≡ number (ground_place cause) → result ≡ Some cause }
-    ensures told { IfSome result (λ cause. column row.now at ≡ number (ground_place cause)) }
+    ensures read { (cause : Ground) → column row.now at ≡ number (ground_index cause) → result ≡ Some cause }
+    ensures told { IfSome result (λ cause. column row.now at ≡ number (ground_index cause)) }
 {
     match number_at(row, at)? {
         1 => Some(Ground::Asked),

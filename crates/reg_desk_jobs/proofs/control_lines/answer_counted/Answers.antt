@@ -9,7 +9,7 @@ use Rattle.reg_desk_jobs.proofs.control_lines.answer_counted.Goals as goal
 pub returns-clause-moves : goal.returns-clause-moves
 returns-clause-moves g c =
     let step : Signatory → Records → Records → Type 0 = λ who before after.
-    WordAt g.M.Office.Office.signs c.args.now who before c.args.line.now c.answer_word-reply.result.text.items after in
+    WordAt c.args.accepted.now g.M.Office.Office.signs c.args.now who before c.args.line.now c.answer_word-reply.result.text.items after in
     still_then g.M.Office.Office.is_clean g.M.Office.Office.stands step _ _ _
     (follows g.M.Office.Office.is_clean g.M.Office.Office.stands _ (λ who before after. after ≡ before) (λ who before after looked. looked.1) _ _
     c.named_before-named.ensures)

@@ -1,18 +1,24 @@
 use Rattle.std.proofs.Common.{refl}
 use Rattle.reg_core.specs.declared.refusal.Fault.TheVariants.{Memory, Read}
 use Rattle.reg_desk_jobs.specs.ControlWords.{settles}
-use Rattle.reg_desk_jobs.proofs.ControlLines.{copied, fault_came, told_word}
+use Rattle.reg_desk_jobs.proofs.ControlLines.{copied, entered, fault_came, told_word}
 use Rattle.reg_desk_jobs.proofs.control_lines.answer_word.Goals as goal
 
 pub returns-in-Ok-Copy-clause-moves : goal.returns-in-Ok-Copy-clause-moves
 returns-in-Ok-Copy-clause-moves g c =
-    copied g.M.Office.Office.is_clean g.M.Office.Office.stands g.M.Office.Office.signs c.args.now _ _ c.args.line.now _
+    copied g.M.Office.Office.is_clean g.M.Office.Office.stands c.args.accepted.now g.M.Office.Office.signs c.args.now _ _ c.args.line.now _
     (rw c.in-Ok-Copy.field-0-is at c.in-Ok-Copy.ensures) refl c.answer_copy.ensures.told
 
 pub returns-in-Ok-Settle-clause-moves : goal.returns-in-Ok-Settle-clause-moves
 returns-in-Ok-Settle-clause-moves g c =
-    told_word g.M.Office.Office.is_clean g.M.Office.Office.stands g.M.Office.Office.signs c.args.now _ _ c.args.line.now _ (settles c.in-Ok-Settle.settling)
-    (rw c.in-Ok-Settle.field-0-is at c.in-Ok-Settle.ensures) c.answer_settling.ensures.moves
+    told_word g.M.Office.Office.is_clean g.M.Office.Office.stands c.args.accepted.now g.M.Office.Office.signs c.args.now _ _ c.args.line.now _ (settles c.in-Ok-Settle.settling)
+    (rw c.in-Ok-Settle.field-0-is at c.in-Ok-Settle.ensures) c.settle_by_clock.ensures.moves
+
+pub returns-in-Ok-Line-Some-clause-moves : goal.returns-in-Ok-Line-Some-clause-moves
+returns-in-Ok-Line-Some-clause-moves g c =
+    let word = rw (c.in-Ok-Line-Some.field-0-is, c.in-Ok-Line-Some.field-0-0-is) at c.in-Ok-Line-Some.ensures in
+    entered g.M.Office.Office.is_clean g.M.Office.Office.stands c.args.accepted.now g.M.Office.Office.signs c.args.now _ _ c.args.line.now _
+    c.in-Ok-Line-Some.command.now word.0 word.1.0 word.1.1 c.answer_by_clock.ensures.moves
 
 pub returns-in-Ok-Line-None-clause-came : goal.returns-in-Ok-Line-None-clause-came
 returns-in-Ok-Line-None-clause-came g c = fault_came Read _ _ c.fault.ensures

@@ -12,7 +12,7 @@ returns-clause-moves g c =
     (λ records. HasFound c.args.tally.now records c.args.now c.found_at-found.result)
     (λ records. IfOk c.health_answer.result (λ answered. SaysHealth c.args.now records (told answered)))
     (λ records found. IfOk-weaker c.health_answer.result _ _
-    (λ answered is. (c.args.tally.now, c.found_at-found.result, found, (c.found_at-found.new.tally, is ∙ ap (λ it. plain (health_response it)) c.of.ensures)))
+    (λ answered is. (c.args.tally.now, c.found_at-found.result, found, (c.found_at-found.new.tally, c.args.accepted, is ∙ ap (λ it. plain (health_response it)) c.of.ensures)))
     c.health_answer.ensures)
     _
     _

@@ -1,7 +1,58 @@
+use Rattle.std.proofs.Common.{◌≡◌, rules, inl, inr, refl}
+use Rattle.reg_office_api.proofs.PublicLaws.{follows}
+use Rattle.reg_desk_jobs.proofs.LookedAt.{still_then}
 use Rattle.reg_desk_jobs.proofs.jobs.import_at.Goals as goal
 
+pub returns-in_err-office : goal.returns-in_err-office
+returns-in_err-office g c = let unopened = rw c.as_str-path.ensures at c.in_err-office.ensures.err in inr (search rules)
+
+pub returns-then-refuses_import : goal.returns-then-refuses_import
+returns-then-refuses_import g c = inl (
+  c.refuses_import.ensures.checked c.if-refuses_import.true,
+  (
+    refl,
+    refl,
+    refl,
+    record {
+      first = c.in_ok-office.office;
+      last = c.refuses_import.new.office;
+      between = c.open_unsigned.new.machine;
+      opened = rw c.as_str-path.ensures at c.in_ok-office.ensures.ok;
+      moves = follows g.M.Office.Office.is_clean g.M.Office.Office.stands _ _ (λ who before after seen. (seen.0 c.if-refuses_import.true, seen.1)) _ _
+          c.refuses_import.ensures.looks;
+      closed = rw c.as_str-path.ensures at c.close.ensures;
+    },
+  ),
+)
+
 pub returns-then-rows : goal.returns-then-rows
-returns-then-rows g c = rw c.if-rows.true (rw c.as_str-path.ensures at c.import_to_refusal.ensures)
+returns-then-rows g c = rw c.if-rows.true (inr (inr (
+  c.import_kept-imported.result,
+  c.run_ended.ensures,
+  record {
+    first = c.in_ok-office.office;
+    last = c.import_kept-imported.new.office;
+    between = c.open_unsigned.new.machine;
+    opened = rw c.as_str-path.ensures at c.in_ok-office.ensures.ok;
+    moves = still_then g.M.Office.Office.is_clean g.M.Office.Office.stands _ _ _ _
+        (follows g.M.Office.Office.is_clean g.M.Office.Office.stands _ (λ who before after. after ≡ before) (λ who before after seen. seen.1) _ _ c.refuses_import.ensures.looks)
+        c.import_kept-imported.ensures;
+    closed = rw c.as_str-path.ensures at c.close-then-rows.ensures;
+  },
+)))
 
 pub returns : goal.returns
-returns g c = rw c.if-rows.false (rw c.as_str-path.ensures at c.import_all.ensures)
+returns g c = rw c.if-rows.false (inr (inr (
+  c.import-imported.result,
+  c.ended.ensures,
+  record {
+    first = c.in_ok-office.office;
+    last = c.import-imported.new.office;
+    between = c.open_unsigned.new.machine;
+    opened = rw c.as_str-path.ensures at c.in_ok-office.ensures.ok;
+    moves = still_then g.M.Office.Office.is_clean g.M.Office.Office.stands _ _ _ _
+        (follows g.M.Office.Office.is_clean g.M.Office.Office.stands _ (λ who before after. after ≡ before) (λ who before after seen. seen.1) _ _ c.refuses_import.ensures.looks)
+        c.import-imported.ensures;
+    closed = rw c.as_str-path.ensures at c.close-2.ensures;
+  },
+)))

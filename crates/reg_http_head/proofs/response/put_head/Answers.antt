@@ -14,6 +14,7 @@ returns-clause-items c =
       c.as_slice.ensures.value,
       c.put_line-2.ensures.items,
       c.as_bytes.ensures.value,
+      c.put_retry.ensures.items,
       c.put_allow.ensures.items,
       c.put_line.ensures.items,
       c.put_status_line.ensures.items,

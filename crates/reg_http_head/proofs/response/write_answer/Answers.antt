@@ -2,7 +2,7 @@ use Rattle.std.proofs.Common.{◌++◌, refl, ◌∙◌}
 use Rattle.std.proofs.lemmas.Result.{on_ok_weaker, on_err_weaker}
 use Rattle.std.proofs.KnownBytes.{Appends-trans}
 use Rattle.std.specs.Io.KnownBytes.{Appends}
-use Rattle.reg_io.specs.Put.{AppendsFront}
+use Rattle.reg_io.specs.Put.{AppendsPrefix}
 use Rattle.reg_io.proofs.PublicLaws.{front_of_first, front_of_second}
 use Rattle.reg_http_head.specs.Response.{head_text, shown}
 use Rattle.reg_http_head.proofs.response.write_answer.Goals as goal
@@ -24,7 +24,7 @@ returns-in-Ok-clause-err g c =
     let went = rw head at c.in-Ok.ensures.ok in
     on_err_weaker
     c.write_whole-in-Ok.result
-    (λ (more : AppendsFront (g.W.Write.contents c.write_whole.new.writer) (g.W.Write.contents c.write_whole-in-Ok.new.writer) c.as_slice-in-Ok.result.now).
+    (λ (more : AppendsPrefix (g.W.Write.contents c.write_whole.new.writer) (g.W.Write.contents c.write_whole-in-Ok.new.writer) c.as_slice-in-Ok.result.now).
     let body = rw c.as_slice-in-Ok.ensures.value at more in
     (_, (c.date_of.result, c.date_of.ensures, refl), front_of_second _ _ _ _ _ went body))
     c.write_whole-in-Ok.ensures.err

@@ -1,5 +1,5 @@
 use Rattle.std.proofs.Common.{ℕ, ◌+◌, is_some, ap, ◌∙◌}
-use Rattle.reg_office.proofs.SignatureRequest.{clock_refuses, passes}
+use Rattle.reg_office.proofs.QueryLemmas.{clock_refuses, passes}
 use Rattle.reg_office.proofs.Beginning.{refused_by_clock}
 use Rattle.reg_store_tables.proofs.PublicLaws.{by_finding, so}
 use Rattle.reg_office.proofs.ocsp_answer.responding.Goals as goal

@@ -1,5 +1,5 @@
 use Rattle.reg_store_tables.proofs.PublicLaws.{and_so, by_finding, looked_then, so}
-use Rattle.reg_office.proofs.SignatureRequest.{clock_refuses, passes}
+use Rattle.reg_office.proofs.QueryLemmas.{clock_refuses, passes}
 use Rattle.reg_office.proofs.Looking.{decided_against, decided_for, not_decided}
 use Rattle.reg_office.proofs.pages.page.Goals as goal
 

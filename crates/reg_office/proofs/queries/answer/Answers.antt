@@ -1,5 +1,5 @@
 use Rattle.reg_store_tables.proofs.PublicLaws.{by_finding, so}
-use Rattle.reg_office.proofs.SignatureRequest.{after_clock, passes, refused_by_clock}
+use Rattle.reg_office.proofs.QueryLemmas.{after_clock, passes, refused_by_clock}
 use Rattle.reg_office.proofs.Looking.{decided_against, not_decided}
 use Rattle.reg_office.proofs.queries.answer.Goals as goal
 

@@ -2,7 +2,7 @@ use Rattle.std.proofs.Common.{refl, sym, subst, Option, ◌∙◌}
 use Rattle.std.specs.Option.{IsSome}
 use Rattle.reg_core.specs.declared.rows.CertRow.{CertRow}
 use Rattle.reg_store_tables.proofs.PublicLaws.{and_so, by_finding, by_finding_kept, looked_then, so}
-use Rattle.reg_office.proofs.SignatureRequest.{unknown_serial}
+use Rattle.reg_office.proofs.QueryLemmas.{unknown_serial}
 use Rattle.reg_office.proofs.Looking.{decided_against, decided_for, not_decided}
 use Rattle.reg_office.proofs.queries.listing.Goals as goal
 

@@ -2,7 +2,7 @@ use Rattle.std.proofs.Common.{refl, sym, ap}
 use Rattle.reg_core.specs.declared.command.Query.TheVariants.{Status as AskStatus, Counts as AskCounts, Listing as AskListing, Overdue as AskOverdue, NextCrl as AskNextCrl}
 use Rattle.reg_core.specs.declared.command.Reply.TheVariants.{Status as StatusIs, Counts as CountsAre, Listing as ListingIs, Overdue as OverdueAre, NextCrl as NextCrlIs}
 use Rattle.reg_store_tables.proofs.PublicLaws.{by_finding, by_finding_kept, so}
-use Rattle.reg_office.proofs.SignatureRequest.{asked_as, known_serial, replied}
+use Rattle.reg_office.proofs.QueryLemmas.{asked_as, known_serial, replied}
 use Rattle.reg_office.proofs.Looking.{decided_as, not_decided}
 use Rattle.reg_office.proofs.queries.reply_to.Goals as goal
 

@@ -5,7 +5,7 @@ use Rattle.reg_core.specs.declared.refusal.Fault.TheVariants.{Refused}
 use Rattle.reg_core.specs.declared.refusal.Refusal.TheVariants.{ClockEnd}
 use Rattle.reg_office_api.specs.Answered.{IsAnswered}
 use Rattle.reg_office_api.specs.CallSteps.{Asks}
-use Rattle.reg_office.proofs.SignatureRequest.{is_answered}
+use Rattle.reg_office.proofs.QueryLemmas.{is_answered}
 use Rattle.reg_store_tables.proofs.PublicLaws.{looked_none}
 use Rattle.reg_office.proofs.Leading.{office_leads, office_looks, table_fault}
 use Rattle.reg_office.proofs.Looking.{lent}

@@ -1,0 +1,75 @@
+//! Files that are locked, so that no other program opens them meanwhile, and what lies beside them.
+
+ghost use Rattle.std.specs.Prelude.{◌≡◌, ◌++◌, codes, string_bytes, IfErr, IfOk};
+ghost use Rattle.reg_desk_files.specs.Reading.{IsFileFault};
+
+use crate::file_fault::{FileFault, in_use, with_cause};
+use os::RangeLock;
+use reg_core::{Cause, Fault};
+use std::alloc::AllocError;
+use std::fs::OpenOptions;
+use std::io::ErrorKind;
+use std::os::fd::AsRawFd;
+use std::{fs, io};
+
+/// Where SQLite's locks lie in a database file: its pending, reserved and shared ones.
+const LOCKS: u64 = 1_073_741_824;
+
+const LOCKS_LENGTH: u64 = 512;
+
+/// Takes the locks of a database's file, as SQLite does. They end with the file.
+pub(crate) fn lock(file: &fs::File, kind: RangeLock) -> Result<(), FileFault>
+    ensures { IfErr result IsFileFault }
+{
+    if os::try_lock_range(file.as_raw_fd(), kind, LOCKS, LOCKS_LENGTH) == 0 {
+        return Ok(());
+    }
+    let error = io::Error::from_raw_os_error(os::errno());
+    match error.kind() {
+        ErrorKind::WouldBlock => Err(in_use()),
+        _ => Err(FileFault::from(error)),
+    }
+}
+
+/// Looks that a database's file is locked to be written, as this program locks what it has open. Where nobody locks it, what this program
+/// opened at its path lies there no more.
+pub(crate) fn look_at_locked(file: &fs::File) -> Result<(), FileFault>
+    ensures { IfErr result IsFileFault }
+{
+    match lock(file, RangeLock::Shared) {
+        Ok(()) => Err(with_cause(Fault::Store, Some(Cause::NoFile))),
+        Err(why) if why == in_use() => Ok(()),
+        Err(why) => Err(why),
+    }
+}
+
+pub(crate) fn locked_alone(rt: &HostRuntime, path: &str) -> Option<fs::File> {
+    let mut options = OpenOptions::new();
+    options.read(true).write(true);
+    match options.open(rt, path) {
+        Ok(file) => alone(file),
+        Err(_) => None,
+    }
+}
+
+fn alone(file: fs::File) -> Option<fs::File> {
+    match lock(&file, RangeLock::Exclusive) {
+        Ok(()) => Some(file),
+        Err(_) => None,
+    }
+}
+
+pub(crate) fn log_of(rt: &HostRuntime, path: &str) -> Result<String, AllocError>
+    ensures { IfOk result (λ log. string_bytes log ≡ path.now ++ codes "-wal") }
+{
+    beside(rt, path, "-wal")
+}
+
+pub(crate) fn beside(rt: &HostRuntime, path: &str, end: &str) -> Result<String, AllocError>
+    ensures { IfOk result (λ other. string_bytes other ≡ path.now ++ end.now) }
+{
+    let mut other = String::new(rt.alloc());
+    other.push_str(path)?;
+    other.push_str(end)?;
+    Ok(other)
+}

@@ -1,0 +1,178 @@
+//! A register's files, opened as a database that is read alone.
+
+ghost use Rattle.std.specs.Prelude.{◌≡◌, false, length, IfErr, IfOk, IsTrue, OnOk};
+ghost use Rattle.sqlite.specs.Files.{file_state, image_of, IsNothing, IsOpened};
+ghost use Rattle.sqlite.specs.Held.{IsNew};
+ghost use Rattle.sqlite.specs.Start.{FindsIn};
+ghost use Rattle.sqlite.specs.State.{HasCleanDisk};
+ghost use Rattle.sqlite_wal.specs.Reads.{AreClean, OnlyReads};
+ghost use Rattle.reg_desk_files.specs.Overlaid.{image};
+ghost use Rattle.reg_desk_files.specs.Reading.{IsFileFault, IsUnread};
+
+use crate::file::options_for;
+use crate::file_check::{Found, look};
+use crate::file_fault::{FileFault, damaged};
+use crate::overlay::{Overlay, overlaid};
+use crate::read_file::{Holder, LockedFiles, ReadFile, hold};
+use crate::source::Source;
+use reg_core::Fault;
+use sqlite::{Connection, FileStore, Options};
+use sqlite_disk::{Disk, Files};
+use std::alloc::{AllocError, Global};
+use std::hash::{BuildHasher, RandomState};
+
+/// More bytes than an opening writes behind those of a log.
+const ROOM: usize = 64;
+
+/// Why files can't be read.
+#[derive(Clone, Copy, PartialEq, Eq)]
+pub enum Unread {
+    /// There is no database yet: an opening to write would make one.
+    Nothing,
+    /// They can't be opened.
+    Fault(FileFault),
+}
+
+impl From<FileFault> for Unread {
+    ghost use Rattle.reg_desk_files.specs.declared.read_only.Unread.TheVariants.{Fault as IsFault};
+
+    ghost from_gives = { λ fault why. why ≡ IsFault fault };
+
+    fn from(fault: FileFault) -> Unread {
+        Unread::Fault(fault)
+    }
+}
+
+/// The files of a database, which are only read, and how it is to be opened.
+#[derive(Drop)]
+pub struct Sources<F: Source> {
+    /// The bytes of the log.
+    pub log: Vec<u8>,
+    /// The database's file.
+    pub db: F,
+    /// The key of digests.
+    pub key: u64,
+    /// How much is kept in memory.
+    pub options: Options,
+}
+
+/// Opens the files at a path for reading alone, where a link leads. None is made, and the log is copied into memory. Until they are dropped
+/// no program may open them to write. Errors: `Memory`; `Store` where the files can't be opened, with the cause.
+pub fn read_at(rt: &HostRuntime, path: &str) -> Result<Sources<ReadFile>, FileFault>
+    ensures { IfErr result IsFileFault }
+{
+    sources_at(rt, path, Holder::Nobody)
+}
+
+/// The same of files that this program may have open.
+pub(crate) fn sources_at(
+    rt: &HostRuntime,
+    path: &str,
+    holder: Holder,
+) -> Result<Sources<ReadFile>, FileFault>
+    ensures { IfErr result IsFileFault }
+{
+    let options = options_for(rt, path)?;
+    let LockedFiles { log, db } = hold(rt, path, holder)?;
+    let log = match &log {
+        Some(log) => copy_of(rt.alloc(), log)?,
+        None => Vec::new(rt.alloc()),
+    };
+    let key = RandomState::new(rt)?.hash_one(&0u8);
+    Ok(Sources {
+        log,
+        db,
+        key,
+        options,
+    })
+}
+
+/// Looks whether a database was begun in the files at a path, which are only read. Errors: `Nothing` where none was begun; `Memory`; `Store`
+/// where the files can't be opened or hold something else, with the cause.
+pub fn look_at(rt: &HostRuntime, path: &str) -> Result<(), Unread>
+    ensures { IfErr result IsUnread }
+{
+    look_into(rt.alloc(), read_at(rt, path)?)
+}
+
+fn look_into<F: Source + Drop>(alloc: Global, sources: Sources<F>) -> Result<(), Unread>
+    ensures { IfErr result IsUnread }
+{
+    let mut files = overlaid(alloc, sources.log, sources.db, sources.key);
+    is_begun(alloc, &mut files)
+}
+
+/// Opens a database over files that have no call that writes, so no use of the connection changes them: an opening writes into the copy of the
+/// log. Errors as of [`open_begun`].
+pub fn open_sources<F: Source + Drop>(
+    alloc: Global,
+    sources: Sources<F>,
+) -> Result<Connection<FileStore<Overlay<F>>>, Unread>
+    ensures opened { IfOk result (λ connection. HasCleanDisk (file_state connection) → IsOpened connection) }
+    ensures found { IfOk result (λ connection. HasCleanDisk (file_state connection)
+        → FindsIn (image sources.log.items (F.Source.bytes sources.db)) (file_state connection)) }
+    ensures begun { IfOk result (λ connection. HasCleanDisk (file_state connection) → ¬ IsNothing (image sources.log.items (F.Source.bytes sources.db))) }
+    ensures fresh { IfOk result IsNew }
+    ensures idle { IfOk result (λ connection. connection.in_transaction ≡ false) }
+    ensures faults { IfErr result IsUnread }
+{
+    let options = sources.options;
+    let files = overlaid(alloc, sources.log, sources.db, sources.key);
+    open_begun(alloc, files, options)
+}
+
+/// Opens files in which a database was begun. Errors: `Nothing` where none was; `Memory`; `Store` where they hold none or a call failed.
+pub fn open_begun<D: Disk + Drop>(
+    alloc: Global,
+    mut files: Files<D>,
+    options: Options,
+) -> Result<Connection<FileStore<D>>, Unread>
+    requires log { IsTrue (D.Disk.is_usable files.log) }
+    requires db { IsTrue (D.Disk.is_usable files.db) }
+    ensures opened { IfOk result (λ connection. HasCleanDisk (file_state connection) → IsOpened connection) }
+    ensures found { IfOk result (λ connection. HasCleanDisk (file_state connection) → FindsIn (image_of D.Disk files) (file_state connection)) }
+    ensures begun { IfOk result (λ connection. HasCleanDisk (file_state connection) → ¬ IsNothing (image_of D.Disk files)) }
+    ensures fresh { IfOk result IsNew }
+    ensures idle { IfOk result (λ connection. connection.in_transaction ≡ false) }
+    ensures faults { IfErr result IsUnread }
+{
+    is_begun(alloc, &mut files)?;
+    match Connection::open_files_with(alloc, files, options, false) {
+        Ok(connection) => Ok(connection),
+        Err((error, _)) => Err(Unread::Fault(FileFault::from(error))),
+    }
+}
+
+pub(crate) fn is_begun<D: Disk>(alloc: Global, files: &mut Files<D>) -> Result<(), Unread>
+    requires log { IsTrue (D.Disk.is_usable files.old.log) }
+    requires db { IsTrue (D.Disk.is_usable files.old.db) }
+    ensures begun { OnOk result (AreClean D.Disk files.new.log files.new.db → ¬ IsNothing (image_of D.Disk files.old)) }
+    ensures log { OnlyReads D.Disk files.old.log files.new.log }
+    ensures db { OnlyReads D.Disk files.old.db files.new.db }
+    ensures faults { IfErr result IsUnread }
+{
+    match look(alloc, files)? {
+        Found::Begun => Ok(()),
+        Found::Nothing => Err(Unread::Nothing),
+        Found::Other => Err(Unread::Fault(damaged())),
+    }
+}
+
+/// A copy of all bytes of a file, with room for what an opening writes behind them. Errors: `Memory`; `Store` where a call failed.
+pub fn copy_of<F: Source>(alloc: Global, file: &F) -> Result<Vec<u8>, FileFault>
+    ensures bytes { IfOk result (λ copy. IsTrue (F.Source.is_honest file.now) → copy.items ≡ F.Source.bytes file.now) }
+    ensures faults { IfErr result IsFileFault }
+{
+    let size = file.size()?;
+    let mut copy = zeros(alloc, size)?;
+    file.fill(0, &mut copy)?;
+    Ok(copy)
+}
+
+fn zeros(alloc: Global, size: usize) -> Result<Vec<u8>, AllocError>
+    ensures { IfOk result (λ all. length all.items ≡ size) }
+{
+    let mut all = Vec::with_capacity(alloc, size.saturating_add(ROOM))?;
+    all.resize(size, 0)?;
+    Ok(all)
+}

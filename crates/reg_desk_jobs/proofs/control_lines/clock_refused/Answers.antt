@@ -1,0 +1,11 @@
+use Rattle.std.proofs.Common.{refl}
+use Rattle.std.specs.Prelude.{codes}
+use Rattle.reg_desk_cli.specs.ExitStatus.{failure_line}
+use Rattle.reg_desk_cli.specs.declared.failure.Failure.TheVariants.{BadClock}
+use Rattle.reg_desk_jobs.specs.declared.control_reply.LineOutcome.TheVariants.{Failed}
+use Rattle.reg_desk_jobs.proofs.ControlLines.{came_told}
+use Rattle.reg_desk_jobs.proofs.control_lines.clock_refused.Goals as goal
+
+pub returns-clause-came : goal.returns-clause-came
+unfolding failure_line
+returns-clause-came c = came_told (codes "bad-clock\n") (Failed BadClock) _ _ c.line.ensures refl

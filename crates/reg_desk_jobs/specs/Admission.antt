@@ -1,0 +1,108 @@
+-- Which requests for revocation an open desk takes over HTTP.
+use Rattle.std.specs.Prelude.{◌≡◌, ◌⊎◌, ℕ, Bool, true, false, ◌&&◌, ◌||◌, ◌+◌, ◌-◌, ◌/◌, ◌%◌, nat_lt, nat_le, slice_set, slice_index_or, if◌then◌else◌, Some, None, Result, Ok, Err}
+use Rattle.std.specs.declared.option.Option.{Option}
+use Rattle.reg_core.specs.Records.{Records}
+use Rattle.reg_core.specs.declared.memory.Memory.{Memory}
+use Rattle.reg_core.specs.declared.refusal.Fault.{Fault}
+use Rattle.reg_office_api.specs.CallSteps.{Signs, Runs, Asks, Crls}
+use Rattle.reg_office_api.specs.Drafts.{Drafts}
+use Rattle.reg_office_api.specs.LookUps.{IsOfStore, intake_in}
+use Rattle.reg_office_api.specs.Responses.{Replies}
+use Rattle.reg_office_api.specs.Signatories.{Signatory}
+use Rattle.reg_office_api.specs.declared.register_summary.Intake.{Intake}
+use Rattle.reg_http.specs.Added.{AddsARequestAtMost}
+use Rattle.reg_http.specs.Answers.{Answers, BeginsTo}
+use Rattle.reg_http.specs.Asked.{Asked, serial_asked}
+use Rattle.reg_http.specs.Bodies.{http_refusal}
+use Rattle.reg_http.specs.Told.{Told, fault_told, plain, told}
+use Rattle.reg_http.specs.declared.answered.Answered.{Answered}
+use Rattle.reg_desk_metrics.specs.Ahead.{is_ahead}
+use Rattle.reg_ocsp.specs.Drafts.{Drafted}
+use Rattle.reg_io.specs.declared.begun.Begun.{Begun}
+use Rattle.reg_io.specs.declared.begun.Begun.TheVariants.{Ready, Unsigned}
+use Rattle.reg_desk_jobs.specs.declared.admission.Admission.{Admission}
+use Rattle.reg_desk_jobs.specs.declared.admission.RecentRequests.{RecentRequests}
+
+-- ---- a hundred requests a minute
+
+-- a moment is within the minute up to another
+abbrev pub is_recent : ℕ → Option ℕ → Bool
+is_recent now (Some at) = nat_le at now && nat_lt (now - at) 60
+is_recent now None = false
+
+-- a hundred requests came within the minute up to a moment: the oldest of the last hundred did
+abbrev pub is_rate_reached : ℕ → RecentRequests → Bool
+is_rate_reached now recent = is_recent now (slice_index_or recent.moments (recent.next % 100) None)
+
+-- one request more, in the place of the oldest
+abbrev pub after_one_more : ℕ → RecentRequests → RecentRequests
+after_one_more now recent = record { moments = slice_set recent.moments (recent.next % 100) (Some now); next = recent.next % 100 + 1 }
+
+-- a request for a serial number is counted, unless there were a hundred within the minute
+abbrev pub after_request : ℕ → Admission → Admission
+after_request now admission =
+    if is_rate_reached now admission.recent then admission
+    else record { recent = after_one_more now admission.recent; accepted = admission.accepted }
+
+-- no other request is counted
+abbrev pub after_request_if : ℕ → Option ℕ → Admission → Admission
+after_request_if now (Some serial) admission = after_request now admission
+after_request_if now None admission = admission
+
+-- ---- the limits
+
+-- 503 if the clock is too far ahead, or less than a tenth of the cap is left, which is for the control socket (RFC 9110 15.6.4);
+-- 429 with three open requests for the serial number (RFC 6585 4)
+abbrev pub limit_by : Intake → Bool → Option ℕ
+limit_by intake ahead =
+    if ahead || nat_lt (intake.cap - intake.requests) (intake.cap / 10) then Some 503
+    else if nat_le 3 intake.waiting then Some 429
+    else None
+
+-- the status that refuses a request for a serial number at a moment: 429 if a hundred came within the minute, or by the records
+abbrev pub limit_at : Admission → Records → ℕ → ℕ → Option ℕ
+limit_at admission records now serial =
+    if is_rate_reached now admission.recent then Some 429
+    else limit_by (intake_in records now serial 3) (is_ahead now records.last admission.accepted)
+
+-- a request is within the limits, if it is one for a serial number
+abbrev pub IsWithin : Admission → Records → ℕ → Option ℕ → Type 0
+IsWithin admission records now None = Unit {0}
+IsWithin admission records now (Some serial) = limit_at admission records now serial ≡ None
+
+-- a request for a serial number is refused: with the status of a limit, or with the fault of the store that could not tell what there is
+abbrev pub RefusesSerial : Admission → Records → ℕ → ℕ → Told → Type 0
+RefusesSerial admission records now serial it =
+    ((status : ℕ) × (limit_at admission records now serial ≡ Some status) × (it ≡ plain (http_refusal status)))
+    ⊎ ((fault : Fault) × IsOfStore fault × (is_rate_reached now admission.recent ≡ false) × (it ≡ fault_told fault))
+
+abbrev pub RefusesAtLimit : Admission → Records → ℕ → Option ℕ → Told → Type 0
+RefusesAtLimit admission records now None it = ⊥
+RefusesAtLimit admission records now (Some serial) it = RefusesSerial admission records now serial it
+
+-- how a request for a serial number is refused, or that it is within the limits
+abbrev pub MeetsLimits : Admission → Records → ℕ → ℕ → Option Answered → Type 0
+MeetsLimits admission records now serial (Some answered) = RefusesSerial admission records now serial (told answered)
+MeetsLimits admission records now serial None = limit_at admission records now serial ≡ None
+
+abbrev pub IsRefusedBy : ℕ → Option Answered → Type 0
+IsRefusedBy status (Some answered) = told answered ≡ plain (http_refusal status)
+IsRefusedBy status None = ⊥
+
+-- the register answers a request within the limits; any other is refused, and the records stay
+abbrev pub AnswersAdmitted : Admission → Signs → ℕ → Signatory → Records → Asked → Told → Records → Type 0
+AnswersAdmitted admission signs now who before what it after =
+    (IsWithin admission before now (serial_asked what) × Answers (Runs signs who) Asks (Replies signs who) Crls now before what it after)
+    ⊎ (RefusesAtLimit admission before now (serial_asked what) it × (after ≡ before))
+
+-- the same as it is begun
+abbrev pub BeginsAdmitted : Admission → Signs → ℕ → Signatory → Records → Asked → Result (Begun Answered Drafted) Memory → Records → Type 0
+BeginsAdmitted admission signs now who before what (Ok (Ready answered)) after =
+    AnswersAdmitted admission signs now who before what (told answered) after × AddsARequestAtMost now before after
+BeginsAdmitted admission signs now who before what (Ok (Unsigned draft)) after =
+    BeginsTo (Runs signs who) Asks (Replies signs who) Crls (Drafts who) now before what (Unsigned draft) after
+BeginsAdmitted admission signs now who before what (Err memory) after = after ≡ before
+
+-- by whatever the desk admits requests
+abbrev pub AnswersLimited : Signs → ℕ → Signatory → Records → Asked → Told → Records → Type 0
+AnswersLimited signs now who before what it after = (admission : Admission) × AnswersAdmitted admission signs now who before what it after

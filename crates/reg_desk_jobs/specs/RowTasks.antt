@@ -1,0 +1,167 @@
+-- The rows of a file, of which each has a task done with its certificate at a control socket.
+use Rattle.std.specs.Prelude.{◌≡◌, ◌⊎◌, ◌↔◌, ℕ, ◌+◌, ◌==◌, Bool, ◌||◌, List, [], ◌∷◌, ◌++◌, take, drop, codes, bytes_eq, decimal, option_map, position, IsFalse, IsTrue, Option, Some, None, Result, Ok, Err}
+use Rattle.std.specs.Io.KnownBytes.{Appends, Consumes}
+use Rattle.std.specs.List.{AllByRecursion, concat}
+use Rattle.reg_core.specs.Calendar.{moment_of, moment_text}
+use Rattle.reg_core.specs.Sequence.{◌>>=◌}
+use Rattle.reg_core.specs.Serial.{serial_of, serial_text}
+use Rattle.reg_core.specs.declared.refusal.Fault.TheVariants as fault
+use Rattle.reg_core_lists.specs.Asked.{label_of}
+use Rattle.reg_desk_cli.specs.declared.failure.Failure.{Failure}
+use Rattle.reg_desk_cli.specs.declared.failure.Failure.TheVariants as failure
+use Rattle.reg_desk_cli.specs.declared.job.OrderTerms.{OrderTerms}
+use Rattle.reg_desk_cli.specs.declared.job.RowTask.{RowTask}
+use Rattle.reg_desk_cli.specs.declared.job.RowTask.TheVariants.{Register, Revoke}
+use Rattle.reg_lines.specs.Accepted.{IsAccepted}
+use Rattle.reg_lines.specs.Script.{line_of}
+use Rattle.reg_desk_jobs.specs.Conversations.{AreWhole, IsInput, IsOfTalk, IsWhyBy}
+use Rattle.reg_desk_jobs.specs.LogEntries.{first_word, second_word}
+use Rattle.reg_desk_jobs.specs.declared.row_job.RegistrationRow.{RegistrationRow}
+use Rattle.reg_desk_jobs.specs.declared.row_job.RevocationRow.{RevocationRow}
+
+-- ---- a row
+
+-- the header of a file
+abbrev pub header_of : RowTask → List ℕ
+header_of (Register terms) = codes "serial,notBefore,notAfter"
+header_of Revoke = codes "serial,ground"
+
+-- no row: an empty line, and the header
+abbrev pub is_passed_over : RowTask → List ℕ → Bool
+is_passed_over task text = bytes_eq text [] || bytes_eq text (header_of task)
+
+-- a text up to its first comma, and behind it
+unfoldable pub parted_by_comma : List ℕ → Option (List ℕ × List ℕ)
+parted_by_comma text = option_map (λ comma. (take comma text, drop (comma + 1) text)) (position (λ byte. byte == 44) text)
+
+-- the row `SERIAL,GROUND`
+unfoldable pub revocation_row_in : List ℕ → Option RevocationRow
+revocation_row_in text = do
+  fields ← parted_by_comma text
+  serial ← serial_of fields.0
+  word ← label_of fields.1
+  Some (record { serial = serial; word = word })
+
+-- the row `SERIAL,NOTBEFORE,NOTAFTER`
+unfoldable pub registration_row_in : List ℕ → Option RegistrationRow
+registration_row_in text = do
+  fields ← parted_by_comma text
+  moments ← parted_by_comma fields.1
+  serial ← serial_of fields.0
+  not_before ← moment_of moments.0
+  not_after ← moment_of moments.1
+  Some (record { serial = serial; not_before = not_before; not_after = not_after })
+
+-- ---- what is sent for a row
+
+-- the request of a row, and its revocation under the number that a reply gives to the request
+abbrev pub row_request : RevocationRow → List ℕ
+row_request row = codes "request" ++ (32 ∷ serial_text row.serial) ++ (32 ∷ row.word) ++ 10 ∷ []
+
+abbrev pub row_revocation : RevocationRow → List ℕ → List ℕ
+row_revocation row reply = codes "revoke" ++ (32 ∷ second_word (line_of reply)) ++ (32 ∷ serial_text row.serial) ++ 10 ∷ []
+
+-- the query of a row's status, its order, and its registration under the number that a reply gives to the order
+abbrev pub row_status : RegistrationRow → List ℕ
+row_status row = codes "status" ++ (32 ∷ serial_text row.serial) ++ 10 ∷ []
+
+abbrev pub row_order : OrderTerms → List ℕ
+row_order terms = codes "order" ++ (32 ∷ decimal terms.subscriber) ++ (32 ∷ decimal terms.days) ++ 10 ∷ []
+
+abbrev pub row_registration : RegistrationRow → List ℕ → List ℕ
+row_registration row reply =
+    codes "register" ++ (32 ∷ second_word (line_of reply)) ++ (32 ∷ serial_text row.serial) ++ (32 ∷ moment_text row.not_before)
+    ++ (32 ∷ moment_text row.not_after) ++ 10 ∷ []
+
+-- a connection to the control socket: what was sent, and what is left of the replies
+pub record Link : Type 0 where
+  pub sent : Option (List ℕ)
+  pub came : Option (List ℕ)
+
+abbrev pub link_of : Option (List ℕ) → Option (List ℕ) → Link
+link_of sent came = record { sent = sent; came = came }
+
+-- what is sent from one state of the connection to another, and the reply that the row has
+abbrev pub Exchange : Type 1
+Exchange = Link → Link → List ℕ → Type 0
+
+-- a line is sent, and its reply is read
+abbrev pub Sends : List ℕ → Exchange
+Sends line s t reply = Appends s.sent t.sent line × Consumes s.came t.came reply
+
+-- whether a reply begins with a word
+abbrev pub has_first_word : List ℕ → List ℕ → Bool
+has_first_word reply word = bytes_eq (first_word (line_of reply)) word
+
+-- a line is sent, and more if its reply begins with the word
+abbrev pub SendsThen : List ℕ → List ℕ → (List ℕ → Exchange) → Exchange
+SendsThen line word Next s t reply =
+    (Sends line s t reply × IsFalse (has_first_word reply word))
+    ⊎ ((m : Link) × (first : List ℕ) × Sends line s m first × IsTrue (has_first_word first word) × Next first m t reply)
+
+-- a row's request, and its revocation if the request is entered; a line that is no row is sent as `request` alone
+abbrev pub RevokesRow : Option RevocationRow → Exchange
+RevokesRow None = Sends (codes "request\n")
+RevokesRow (Some row) = SendsThen (row_request row) (codes "request") (λ entered. Sends (row_revocation row entered))
+
+-- a row's order, and its registration if the order is made
+abbrev pub OrdersRow : OrderTerms → RegistrationRow → Exchange
+OrdersRow terms row = SendsThen (row_order terms) (codes "order") (λ ordered. Sends (row_registration row ordered))
+
+-- a row's status, and its order if no certificate has the serial number; a line that is no row is sent as `register` alone
+abbrev pub RegistersRow : OrderTerms → Option RegistrationRow → Exchange
+RegistersRow terms None = Sends (codes "register\n")
+RegistersRow terms (Some row) = SendsThen (row_status row) (codes "unknown") (λ unknown. OrdersRow terms row)
+
+abbrev pub AnswersRow : RowTask → List ℕ → Exchange
+AnswersRow (Register terms) text = RegistersRow terms (registration_row_in text)
+AnswersRow Revoke text = RevokesRow (revocation_row_in text)
+
+-- the reply to a row that is done: no refusal and no fault, or the certificate was revoked before
+abbrev pub IsRowDone : List ℕ → Type 0
+IsRowDone reply = IsAccepted reply ⊎ (first_word (line_of reply) ≡ codes "E19")
+
+-- ---- the rows of a file
+
+-- The task of each row.
+module _ (task : RowTask) where
+  -- the reply to a line of the file, which has none where it is passed over
+  abbrev pub LineAnswered : Link → Link → List ℕ → List ℕ → Type 0
+  LineAnswered s t line reply = (IsTrue (is_passed_over task (line_of line)) × (reply ≡ []) × (t ≡ s))
+      ⊎ (IsFalse (is_passed_over task (line_of line)) × AnswersRow task (line_of line) s t reply)
+
+  -- the same, with the reply written, and whether the line is done
+  abbrev pub LineTold : Link → Link → Option (List ℕ) → Option (List ℕ) → List ℕ → Bool → Type 0
+  LineTold s t out out' line done = (reply : List ℕ) × LineAnswered s t line reply × Appends out out' reply × (IsTrue done ↔ IsRowDone reply)
+
+  -- the replies to lines of the file, one for each, in their order
+  abbrev pub LinesAnswered : Link → Link → List (List ℕ) → List (List ℕ) → Type 0
+  LinesAnswered s t [] [] = t ≡ s
+  LinesAnswered s t (line ∷ lines) (reply ∷ replies) = (m : Link) × LineAnswered s m line reply × LinesAnswered m t lines replies
+  LinesAnswered s t [] (reply ∷ replies) = ⊥
+  LinesAnswered s t (line ∷ lines) [] = ⊥
+
+  -- these lines of the file were answered, and all their replies written
+  pub record RepliesWritten (s t : Link) (out out' : Option (List ℕ)) (lines replies : List (List ℕ)) : Type 0 where
+    pub whole : AreWhole lines
+    pub answered : LinesAnswered s t lines replies
+    pub wrote : Appends out out' (concat replies)
+
+  -- the rows of an input: each is done; or one is not, or a last line without its end is left, for which nothing was sent; where the connection, the
+  -- input or the output failed, how far it came is not said
+  abbrev pub SendsRows : Option (List ℕ) → Link → Link → Option (List ℕ) → Option (List ℕ) → Result (Unit {0}) Failure → Type 0
+  SendsRows input s t out out' (Ok done) =
+      (lines replies : List (List ℕ)) × RepliesWritten s t out out' lines replies × IsInput input (concat lines) × AllByRecursion IsRowDone replies
+  SendsRows input s t out out' (Err why) = IsOfTalk why
+      ⊎ ((lines replies : List (List ℕ)) × (left : List ℕ) × RepliesWritten s t out out' lines replies
+      × IsInput input (concat lines ++ left) × IsWhyBy IsRowDone replies left why)
+
+  -- over a connection, of which nothing more is known: it ended early with nothing written, or as it says
+  abbrev pub SendsRowsOver : Option (List ℕ) → Option (List ℕ) → Option (List ℕ) → Result (Unit {0}) Failure → Type 0
+  SendsRowsOver input out out' result =
+      ((why : Failure) × (result ≡ Err why) × IsOfTalk why × (out' ≡ out))
+      ⊎ ((s t : Link) × SendsRows input s t out out' result)
+
+  -- at the control socket at a path: no program listened there, or the rows were sent to the one that did
+  abbrev pub SendsRowsAt : Type 0 → Option (List ℕ) → Option (List ℕ) → Option (List ℕ) → Result (Unit {0}) Failure → Type 0
+  SendsRowsAt met input out out' result = ((result ≡ Err (failure.Fault fault.Read)) × (out' ≡ out)) ⊎ (met × SendsRowsOver input out out' result)

@@ -1,0 +1,141 @@
+//! Which requests for revocation an open desk takes over HTTP. Commands at the control socket have no such limits, so that the office can
+//! revoke while clients flood the port.
+
+ghost use Rattle.std.specs.Prelude.{◌≡◌, IfOk, None, replicate};
+ghost use Rattle.reg_office_api.specs.Leads.{Leads, Looks};
+ghost use Rattle.reg_http.specs.Asked.{asked, serial_asked};
+ghost use Rattle.reg_desk_jobs.specs.Admission.{BeginsAdmitted, IsRefusedBy, MeetsLimits, after_request, after_request_if, is_rate_reached as reached_at, limit_by, after_one_more};
+
+use crate::machine::Machine;
+use http::Method;
+use reg_core::{Memory, Moment, Serial};
+use reg_desk_metrics::is_ahead;
+use reg_http::{Answered, begin, refuse, report_fault, serial_of};
+use reg_http_head::status;
+use reg_io::Begun;
+use reg_ocsp::Draft;
+use reg_office_api::{Intake, Office};
+use std::alloc::Global;
+
+/// The greatest number of open requests for one serial number.
+const MOST_OPEN: u64 = 3;
+
+/// The greatest number of requests within a minute.
+const MOST_RECENT: usize = 100;
+
+const MINUTE: u64 = 60;
+
+/// When the last hundred requests for revocation came over HTTP, as a ring: the oldest is at `next`.
+#[derive(Clone, Copy)]
+pub(crate) struct RecentRequests {
+    pub(crate) moments: [Option<Moment>; MOST_RECENT],
+    pub(crate) next: usize,
+}
+
+impl RecentRequests {
+    /// Whether a hundred requests came within the minute up to a moment.
+    fn is_rate_reached(&self, now: Moment) -> bool
+        ensures { result ≡ reached_at now self.now }
+    {
+        match self.moments[self.next % MOST_RECENT] {
+            Some(oldest) => oldest <= now && now.secs().saturating_sub(oldest.secs()) < MINUTE,
+            None => false,
+        }
+    }
+
+    fn note(&mut self, now: Moment)
+        ensures { self.new ≡ after_one_more now self.old }
+    {
+        let place = self.next % MOST_RECENT;
+        self.moments[place] = Some(now);
+        self.next = place + 1;
+    }
+}
+
+/// By what an open desk admits a request for revocation, beside the records.
+#[derive(Clone, Copy)]
+pub(crate) struct Admission {
+    pub(crate) recent: RecentRequests,
+    /// The moment that the operator accepted by `accept-clock`.
+    pub(crate) accepted: Option<Moment>,
+}
+
+impl Admission {
+    pub(crate) fn new() -> Admission {
+        Admission {
+            recent: RecentRequests {
+                moments: [None; MOST_RECENT],
+                next: 0,
+            },
+            accepted: None,
+        }
+    }
+}
+
+/// Answers a request at the route of requests for revocation, or leaves what is to be signed for it. A request beyond the limits is refused
+/// with 429 or 503, and the register does not decide it.
+pub(crate) fn begin_admitted<M: Machine>(
+    alloc: Global,
+    office: &mut M::Office,
+    admission: &mut Admission,
+    now: Moment,
+    method: &Method,
+    target: &str,
+    body: &[u8],
+) -> Result<Begun<Answered, Draft>, Memory>
+    ensures moves { Leads M.Office.is_clean M.Office.stands
+        (λ who before after. BeginsAdmitted admission.old M.Office.signs now who before (asked method.now target.now body.now) result after)
+        office.old office.new }
+    ensures counted { IfOk result (λ begun. admission.new ≡ after_request_if now (serial_asked (asked method.now target.now body.now)) admission.old) }
+{
+    let Some(serial) = serial_of(alloc, method, target, body)? else {
+        return begin(alloc, method, target, body, now, office);
+    };
+    match refusal_of::<M>(alloc, office, admission, now, serial)? {
+        Some(refused) => Ok(Begun::Ready(refused)),
+        None => begin(alloc, method, target, body, now, office),
+    }
+}
+
+/// The refusal of a request for the revocation of a serial number; `None` if it is within the limits.
+fn refusal_of<M: Machine>(
+    alloc: Global,
+    office: &mut M::Office,
+    admission: &mut Admission,
+    now: Moment,
+    serial: Serial,
+) -> Result<Option<Answered>, Memory>
+    ensures looks { Looks M.Office.is_clean M.Office.stands
+        (λ records. IfOk result (MeetsLimits admission.old records now serial)) office.old office.new }
+    ensures counted { admission.new ≡ after_request now admission.old }
+{
+    if admission.recent.is_rate_reached(now) {
+        return refused(alloc, status::TOO_MANY_REQUESTS);
+    }
+    admission.recent.note(now);
+    match office.intake(now, serial, MOST_OPEN) {
+        Ok(intake) => match limit_of(intake, is_ahead(now, intake.last, admission.accepted)) {
+            Some(status) => refused(alloc, status),
+            None => Ok(None),
+        },
+        Err(fault) => Ok(Some(report_fault(alloc, fault)?)),
+    }
+}
+
+fn refused(alloc: Global, status: u16) -> Result<Option<Answered>, Memory>
+    ensures { IfOk result (IsRefusedBy status) }
+{
+    Ok(Some(refuse(alloc, status)?))
+}
+
+fn limit_of(intake: Intake, is_ahead: bool) -> Option<u16>
+    ensures { result ≡ limit_by intake is_ahead }
+{
+    if is_ahead || intake.cap.saturating_sub(intake.requests) < intake.cap / 10 {
+        return Some(status::SERVICE_UNAVAILABLE);
+    }
+    if intake.waiting >= MOST_OPEN {
+        return Some(status::TOO_MANY_REQUESTS);
+    }
+    None
+}

@@ -1,0 +1,356 @@
+//! The job `at` with a task for each row of a file: its certificate is registered under a new order, or is requested and revoked, at the control
+//! socket of an open desk.
+
+ghost use Rattle.std.specs.Prelude.{◌≡◌, ◌<◌, ◌==◌, ◌↔◌, IfErr, IfOk, IfSome, IsTrue, length, option_map, position};
+ghost use Rattle.reg_core_lists.specs.Asked.{label_of};
+ghost use Rattle.reg_desk_jobs.specs.Conversations.{IsOfTalk};
+ghost use Rattle.reg_desk_jobs.specs.RowTasks.{AnswersRow, IsRowDone, LineTold, OrdersRow, RegistersRow, RevokesRow, SendsRows, SendsRowsAt, SendsRowsOver, has_first_word, header_of, is_passed_over, link_of, parted_by_comma, registration_row_in, revocation_row_in, row_order, row_registration, row_request, row_revocation, row_status};
+
+use crate::at_job::{Next, ask, both, cut_off, ended, next_line};
+use crate::log_entries::{first_word, second_word};
+use crate::log_lines::{put_number, put_word};
+use crate::machine::Machine;
+use crate::output_lines::say;
+use crate::syntax::read_moment;
+use reg_core::{Fault, Label, Moment, Serial};
+use reg_desk_cli::{Failure, OrderTerms, RowTask};
+use reg_lines::{is_accepted, without_end};
+use std::alloc::{AllocError, Global};
+use std::io::{BufRead, BufReader, Read, Write};
+use std::os::unix::net::UnixStream;
+
+/// A row of a file of certificates that are to be revoked: one of them, and the word of its ground.
+#[derive(Clone, Copy)]
+struct RevocationRow {
+    serial: Serial,
+    word: Label,
+}
+
+/// A row of a file of certificates that are to be registered.
+#[derive(Clone, Copy)]
+struct RegistrationRow {
+    serial: Serial,
+    not_before: Moment,
+    not_after: Moment,
+}
+
+/// Does a task with the certificate of each row at the control socket at a path, in the rows' order, and writes one reply for each: that to the
+/// last line sent for it. A row is `SERIAL,GROUND` to revoke, and `SERIAL,NOTBEFORE,NOTAFTER` to register. An empty line and a header are passed
+/// over. Errors: as of [`at`](crate::at), where the reply to a certificate that was revoked before is no refusal.
+pub fn each_row<M: Machine, R: Read, W: Write>(
+    alloc: Global,
+    machine: &M,
+    counter: &str,
+    task: RowTask,
+    reader: &mut R,
+    writer: &mut W,
+) -> Result<(), Failure>
+    ensures { SendsRowsAt task (M.met counter.now) (R.remaining reader.old) (W.contents writer.old) (W.contents writer.new) result }
+{
+    match machine.meet(counter) {
+        Ok(link) => send_over(alloc, task, &link, reader, writer),
+        Err(_) => Err(Failure::Fault(Fault::Read)),
+    }
+}
+
+fn send_over<R: Read, W: Write>(
+    alloc: Global,
+    task: RowTask,
+    link: &UnixStream,
+    reader: &mut R,
+    writer: &mut W,
+) -> Result<(), Failure>
+    ensures { SendsRowsOver task (R.remaining reader.old) (W.contents writer.old) (W.contents writer.new) result }
+{
+    let Ok(mut came) = BufReader::new(alloc, link) else {
+        return Err(Failure::Fault(Fault::Memory));
+    };
+    let mut sent = link;
+    match BufReader::new(alloc, reader) {
+        Ok(mut rows) => send_each(alloc, task, &mut rows, writer, &mut came, &mut sent),
+        Err(_) => Err(Failure::Fault(Fault::Memory)),
+    }
+}
+
+fn send_each<R: BufRead, W: Write, C: BufRead, S: Write>(
+    alloc: Global,
+    task: RowTask,
+    rows: &mut R,
+    writer: &mut W,
+    came: &mut C,
+    sent: &mut S,
+) -> Result<(), Failure>
+    ensures { SendsRows task (R.remaining rows.old) (link_of (S.contents sent.old) (C.remaining came.old))
+        (link_of (S.contents sent.new) (C.remaining came.new)) (W.contents writer.old) (W.contents writer.new) result }
+{
+    let mut is_done = true;
+    for _ in 0..u64::MAX {
+        match next_line(alloc, rows)? {
+            Next::Line(line) => match send_line(alloc, task, &line, writer, came, sent) {
+                Ok(done) => is_done = both(is_done, done),
+                Err(why) => return Err(why),
+            },
+            Next::Cut => return Err(cut_off(is_done)),
+            Next::End => return ended(is_done),
+        }
+    }
+    Err(Failure::Fault(Fault::Read))
+}
+
+/// Does the task with the certificate of a line, if it is a row, and writes the reply. Whether no reply was a refusal or a fault.
+fn send_line<W: Write, C: BufRead, S: Write>(
+    alloc: Global,
+    task: RowTask,
+    line: &[u8],
+    writer: &mut W,
+    came: &mut C,
+    sent: &mut S,
+) -> Result<bool, Failure>
+    ensures ok { IfOk result (LineTold task (link_of (S.contents sent.old) (C.remaining came.old))
+        (link_of (S.contents sent.new) (C.remaining came.new)) (W.contents writer.old) (W.contents writer.new) line.now) }
+    ensures err { IfErr result IsOfTalk }
+{
+    let text = without_end(line);
+    if is_passed_over(task, text) {
+        return Ok(true);
+    }
+    let reply = answer_row(alloc, task, text, came, sent)?;
+    say(writer, &reply)?;
+    Ok(is_done(&reply))
+}
+
+fn answer_row<C: BufRead, S: Write>(
+    alloc: Global,
+    task: RowTask,
+    text: &[u8],
+    came: &mut C,
+    sent: &mut S,
+) -> Result<Vec<u8>, Failure>
+    ensures ok { IfOk result (λ reply. AnswersRow task text.now (link_of (S.contents sent.old) (C.remaining came.old))
+        (link_of (S.contents sent.new) (C.remaining came.new)) reply.items) }
+    ensures err { IfErr result IsOfTalk }
+{
+    match task {
+        RowTask::Register(terms) => register_row(
+            alloc,
+            terms,
+            registration_row_in(text),
+            came,
+            sent,
+        ),
+        RowTask::Revoke => revoke_row(alloc, revocation_row_in(text), came, sent),
+    }
+}
+
+/// Registers the certificate of a row under a new order, if no certificate has its serial number. The last reply.
+fn register_row<C: BufRead, S: Write>(
+    alloc: Global,
+    terms: OrderTerms,
+    row: Option<RegistrationRow>,
+    came: &mut C,
+    sent: &mut S,
+) -> Result<Vec<u8>, Failure>
+    ensures ok { IfOk result (λ reply. RegistersRow terms row (link_of (S.contents sent.old) (C.remaining came.old))
+        (link_of (S.contents sent.new) (C.remaining came.new)) reply.items) }
+    ensures err { IfErr result IsOfTalk }
+{
+    let Some(row) = row else {
+        return ask(alloc, b"register\n", came, sent);
+    };
+    let Ok(query) = status_line(alloc, &row) else {
+        return Err(Failure::Fault(Fault::Memory));
+    };
+    let status = ask(alloc, &query, came, sent)?;
+    if !has_first_word(&status, b"unknown") {
+        return Ok(status);
+    }
+    order_row(alloc, terms, &row, came, sent)
+}
+
+/// Makes an order, and registers the certificate of a row under it if the reply gives the order a number. The last reply.
+fn order_row<C: BufRead, S: Write>(
+    alloc: Global,
+    terms: OrderTerms,
+    row: &RegistrationRow,
+    came: &mut C,
+    sent: &mut S,
+) -> Result<Vec<u8>, Failure>
+    ensures ok { IfOk result (λ reply. OrdersRow terms row.now (link_of (S.contents sent.old) (C.remaining came.old))
+        (link_of (S.contents sent.new) (C.remaining came.new)) reply.items) }
+    ensures err { IfErr result IsOfTalk }
+{
+    let Ok(order) = order_line(alloc, terms) else {
+        return Err(Failure::Fault(Fault::Memory));
+    };
+    let ordered = ask(alloc, &order, came, sent)?;
+    if !has_first_word(&ordered, b"order") {
+        return Ok(ordered);
+    }
+    let Ok(registration) = registration_line(alloc, row, &ordered) else {
+        return Err(Failure::Fault(Fault::Memory));
+    };
+    ask(alloc, &registration, came, sent)
+}
+
+/// Requests that a certificate be revoked, and revokes it if the reply gives the request a number. The last reply.
+fn revoke_row<C: BufRead, S: Write>(
+    alloc: Global,
+    row: Option<RevocationRow>,
+    came: &mut C,
+    sent: &mut S,
+) -> Result<Vec<u8>, Failure>
+    ensures ok { IfOk result (λ reply. RevokesRow row (link_of (S.contents sent.old) (C.remaining came.old))
+        (link_of (S.contents sent.new) (C.remaining came.new)) reply.items) }
+    ensures err { IfErr result IsOfTalk }
+{
+    let Some(row) = row else {
+        return ask(alloc, b"request\n", came, sent);
+    };
+    let Ok(request) = request_line(alloc, &row) else {
+        return Err(Failure::Fault(Fault::Memory));
+    };
+    let entered = ask(alloc, &request, came, sent)?;
+    if !has_first_word(&entered, b"request") {
+        return Ok(entered);
+    }
+    let Ok(revocation) = revocation_line(alloc, &row, &entered) else {
+        return Err(Failure::Fault(Fault::Memory));
+    };
+    ask(alloc, &revocation, came, sent)
+}
+
+fn is_passed_over(task: RowTask, text: &[u8]) -> bool
+    ensures { result ≡ is_passed_over task text.now }
+{
+    text.is_empty() || text == header_of(task)
+}
+
+fn header_of(task: RowTask) -> &'static [u8]
+    ensures { result.now ≡ header_of task }
+{
+    match task {
+        RowTask::Register(_) => b"serial,notBefore,notAfter",
+        RowTask::Revoke => b"serial,ground",
+    }
+}
+
+/// The row `SERIAL,GROUND`; `None` where a text is none.
+#[tactic(auto, unfolding(crate::specs::RowTasks::revocation_row_in))]
+fn revocation_row_in(text: &[u8]) -> Option<RevocationRow>
+    ensures { result ≡ revocation_row_in text.now }
+{
+    let (serial, word) = parted_by_comma(text)?;
+    let serial = Serial::read(serial)?;
+    let word = read_label(word)?;
+    Some(RevocationRow { serial, word })
+}
+
+/// The row `SERIAL,NOTBEFORE,NOTAFTER`; `None` where a text is none.
+#[tactic(auto, unfolding(crate::specs::RowTasks::registration_row_in))]
+fn registration_row_in(text: &[u8]) -> Option<RegistrationRow>
+    ensures { result ≡ registration_row_in text.now }
+{
+    let (serial, moments) = parted_by_comma(text)?;
+    let (not_before, not_after) = parted_by_comma(moments)?;
+    Some(RegistrationRow {
+        serial: Serial::read(serial)?,
+        not_before: read_moment(not_before)?,
+        not_after: read_moment(not_after)?,
+    })
+}
+
+/// A text up to its first comma, and behind it.
+#[tactic(auto, unfolding(crate::specs::RowTasks::parted_by_comma))]
+fn parted_by_comma(text: &[u8]) -> Option<(&[u8], &[u8])>
+    ensures { option_map (λ p. (p.0.now, p.1.now)) result ≡ parted_by_comma text.now }
+{
+    let comma = first_comma(text)?;
+    Some((&text[..comma], &text[comma + 1..]))
+}
+
+fn first_comma(text: &[u8]) -> Option<usize>
+    ensures place { result ≡ position (λ byte. byte == 44) text.now }
+    ensures within { IfSome result (λ comma. comma < length text.now) }
+{
+    text.iter().position(|byte| *byte == b',')
+}
+
+fn read_label(text: &[u8]) -> Option<Label>
+    ensures { result ≡ label_of text.now }
+{
+    Label::of(text)
+}
+
+fn request_line(alloc: Global, row: &RevocationRow) -> Result<Vec<u8>, AllocError>
+    ensures { IfOk result (λ line. line.items ≡ row_request row.now) }
+{
+    let mut line = Vec::from_slice(alloc, b"request")?;
+    put_word(&mut line, &row.serial.text())?;
+    put_word(&mut line, row.word.as_bytes())?;
+    line.push(b'\n')?;
+    Ok(line)
+}
+
+/// The line that revokes, under the number that a reply gives to the request.
+fn revocation_line(
+    alloc: Global,
+    row: &RevocationRow,
+    entered: &[u8],
+) -> Result<Vec<u8>, AllocError>
+    ensures { IfOk result (λ line. line.items ≡ row_revocation row.now entered.now) }
+{
+    let mut line = Vec::from_slice(alloc, b"revoke")?;
+    put_word(&mut line, second_word(without_end(entered)))?;
+    put_word(&mut line, &row.serial.text())?;
+    line.push(b'\n')?;
+    Ok(line)
+}
+
+fn status_line(alloc: Global, row: &RegistrationRow) -> Result<Vec<u8>, AllocError>
+    ensures { IfOk result (λ line. line.items ≡ row_status row.now) }
+{
+    let mut line = Vec::from_slice(alloc, b"status")?;
+    put_word(&mut line, &row.serial.text())?;
+    line.push(b'\n')?;
+    Ok(line)
+}
+
+fn order_line(alloc: Global, terms: OrderTerms) -> Result<Vec<u8>, AllocError>
+    ensures { IfOk result (λ line. line.items ≡ row_order terms) }
+{
+    let mut line = Vec::from_slice(alloc, b"order")?;
+    put_number(&mut line, terms.subscriber)?;
+    put_number(&mut line, terms.days)?;
+    line.push(b'\n')?;
+    Ok(line)
+}
+
+/// The line that registers, under the number that a reply gives to the order.
+fn registration_line(
+    alloc: Global,
+    row: &RegistrationRow,
+    ordered: &[u8],
+) -> Result<Vec<u8>, AllocError>
+    ensures { IfOk result (λ line. line.items ≡ row_registration row.now ordered.now) }
+{
+    let mut line = Vec::from_slice(alloc, b"register")?;
+    put_word(&mut line, second_word(without_end(ordered)))?;
+    put_word(&mut line, &row.serial.text())?;
+    put_word(&mut line, &row.not_before.text())?;
+    put_word(&mut line, &row.not_after.text())?;
+    line.push(b'\n')?;
+    Ok(line)
+}
+
+fn has_first_word(reply: &[u8], word: &[u8]) -> bool
+    ensures { result ≡ has_first_word reply.now word.now }
+{
+    first_word(without_end(reply)) == word
+}
+
+/// Whether a reply is no refusal and no fault, or says that the certificate was revoked before.
+fn is_done(reply: &[u8]) -> bool
+    ensures { IsTrue result ↔ IsRowDone reply.now }
+{
+    is_accepted(reply) || first_word(without_end(reply)) == b"E19".as_slice()
+}

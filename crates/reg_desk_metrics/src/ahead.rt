@@ -1,0 +1,29 @@
+//! Whether the clock is too far ahead of the register.
+
+ghost use Rattle.std.specs.Prelude.{◌≡◌};
+ghost use Rattle.reg_desk_metrics.specs.Ahead.{is_ahead as ahead, is_far as far};
+
+use reg_core::Moment;
+
+/// 30 days, in seconds.
+const MOST_AHEAD: u64 = 2_592_000;
+
+/// Whether the clock is more than 30 days past the last accepted moment and past the moment that the operator accepted.
+/// A register without an accepted moment has nothing to compare the clock with.
+pub fn is_ahead(now: Moment, last: Moment, accepted: Option<Moment>) -> bool
+    ensures { result ≡ ahead now last accepted }
+{
+    if last.secs() == 0 || !is_far(now, last) {
+        return false;
+    }
+    match accepted {
+        Some(moment) => is_far(now, moment),
+        None => true,
+    }
+}
+
+fn is_far(now: Moment, moment: Moment) -> bool
+    ensures { result ≡ far now moment }
+{
+    now.secs().saturating_sub(moment.secs()) > MOST_AHEAD
+}

@@ -1,0 +1,34 @@
+//! What is kept of the issuer's Name, written anew: the Name, and behind it the issuer's own key identifiers.
+
+ghost use Rattle.std.specs.Prelude.{◌≡◌, false};
+ghost use Rattle.reg_store_tables.specs.Stays.{Stepped};
+ghost use Rattle.reg_store_changes.specs.ChangeSteps.{Renames};
+ghost use Rattle.reg_store_changes.specs.MadeChanges.{SetsIssuer};
+ghost use Rattle.reg_store_tables.specs.Steps.{MakesRows};
+
+use crate::sql;
+use reg_der::Issuer;
+use reg_store_tables::DatabaseFault;
+use reg_store_tables::write_statements::{commit, write};
+use sqlite::types::ValueRef;
+use sqlite::{Alter, Connection, Transaction};
+
+fn set_name<S: Alter>(tx: &mut Transaction<'_, S>, issuer: &Issuer) -> Result<(), DatabaseFault>
+    ensures made { MakesRows S.Store tx.old tx.new result (Renames issuer.now) }
+    ensures stepped { Stepped S.Store tx.old tx.new }
+{
+    write(tx, sql::SET_NAME, &[ValueRef::Blob(issuer.kept())])?;
+    Ok(())
+}
+
+/// Sets the issuer, which has the key that it had: another Name, or other key identifiers of its own. It is no command: no
+/// record, nothing that is kept beside them and not the last accepted moment changes. Where it fails nothing has changed.
+pub fn set_issuer<S: Alter>(conn: &mut Connection<S>, issuer: &Issuer) -> Result<(), DatabaseFault>
+    requires { conn.old.in_transaction ≡ false }
+    ensures sets { SetsIssuer S.Store conn.old conn.new issuer.now result }
+    ensures idle { conn.new.in_transaction ≡ false }
+{
+    let mut tx = conn.transaction();
+    set_name(&mut tx, issuer)?;
+    commit(tx)
+}

@@ -1,0 +1,47 @@
+//! The schedule of longest validities, written anew.
+
+ghost use Rattle.std.specs.Prelude.{◌≡◌, false};
+ghost use Rattle.reg_store_tables.specs.Stays.{Stepped};
+ghost use Rattle.reg_store_changes.specs.ChangeSteps.{ClearsSteps, WritesSchedule};
+ghost use Rattle.reg_store_changes.specs.MadeChanges.{SetsSchedule};
+ghost use Rattle.reg_store_tables.specs.Steps.{Makes, MakesRows};
+
+use crate::sql;
+use reg_core::Schedule;
+use reg_store_tables::write_statements::{commit, write};
+use reg_store_tables::{DatabaseFault, put_schedule_steps};
+use sqlite::{Alter, Connection, Transaction};
+
+fn clear_schedule_steps<S: Alter>(tx: &mut Transaction<'_, S>) -> Result<(), DatabaseFault>
+    ensures made { MakesRows S.Store tx.old tx.new result ClearsSteps }
+    ensures stepped { Stepped S.Store tx.old tx.new }
+{
+    write(tx, sql::CLEAR_STEPS, &[])?;
+    Ok(())
+}
+
+fn write_schedule<S: Alter>(
+    tx: &mut Transaction<'_, S>,
+    schedule: &Schedule,
+) -> Result<(), DatabaseFault>
+    ensures made { Makes S.Store tx.old tx.new result (WritesSchedule schedule.now) }
+    ensures stepped { Stepped S.Store tx.old tx.new }
+{
+    clear_schedule_steps(tx)?;
+    put_schedule_steps(tx, schedule.steps())
+}
+
+/// Sets the schedule of longest validities. It is no command: no record, nothing that is kept beside them and not the
+/// last accepted moment changes; the office keeps the days that it was made with. Where it fails nothing has changed.
+pub fn set_schedule<S: Alter>(
+    conn: &mut Connection<S>,
+    schedule: &Schedule,
+) -> Result<(), DatabaseFault>
+    requires { conn.old.in_transaction ≡ false }
+    ensures sets { SetsSchedule S.Store conn.old conn.new schedule.now result }
+    ensures idle { conn.new.in_transaction ≡ false }
+{
+    let mut tx = conn.transaction();
+    write_schedule(&mut tx, schedule)?;
+    commit(tx)
+}

@@ -1,0 +1,41 @@
+//! The one call for changes, which assumes nothing of the decision: that the decision allowed a change is a condition of what
+//! its contract says.
+
+ghost use Rattle.std.specs.Prelude.{◌≡◌, false};
+ghost use Rattle.reg_store_changes.specs.ChangeSteps.{Enters};
+ghost use Rattle.reg_store_changes.specs.MadeChanges.{MakesChange};
+ghost use Rattle.reg_store_tables.specs.Commits.{Commits};
+
+use crate::change_statements::enter;
+use reg_core::{Change, Counts, Moment};
+use reg_store_tables::{DatabaseFault, kept_counts, write_statements};
+use sqlite::{Alter, Connection};
+
+/// Makes a change at a moment, in one transaction. `Store` too where a count is missing or too small, or where what is revoked
+/// is not good. Nothing has changed then.
+pub fn apply<S: Alter>(
+    conn: &mut Connection<S>,
+    now: Moment,
+    change: &Change<'_>,
+) -> Result<(), DatabaseFault>
+    requires { conn.old.in_transaction ≡ false }
+    ensures makes { MakesChange S.Store conn.old conn.new now change.now result }
+    ensures idle { conn.new.in_transaction ≡ false }
+{
+    let counts = kept_counts(conn)?;
+    commit(conn, now, change, counts)
+}
+
+fn commit<S: Alter>(
+    conn: &mut Connection<S>,
+    now: Moment,
+    change: &Change<'_>,
+    counts: Counts,
+) -> Result<(), DatabaseFault>
+    requires { conn.old.in_transaction ≡ false }
+    ensures { Commits S.Store conn.old conn.new result (Enters now change.now counts) }
+{
+    let mut tx = conn.transaction();
+    enter(&mut tx, now, change, counts)?;
+    write_statements::commit(tx)
+}

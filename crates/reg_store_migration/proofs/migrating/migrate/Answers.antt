@@ -1,9 +1,0 @@
-use Rattle.std.proofs.Common.{rules}
-use Rattle.reg_store_tables.proofs.PublicLaws.{commits}
-use Rattle.reg_store_migration.specs.Rebuilds.{MakesNewer}
-use Rattle.reg_store_migration.proofs.migrating.migrate.Goals as goal
-
-pub returns : goal.returns
-returns g c =
-    commits g.S.Store c.args.conn.now _ _ _ c.transaction-tx.ensures.begun c.make_newer.ensures.stepped (MakesNewer c.args.version c.args.days c.args.last) c.in_ok-make_newer.ensures.made _ c.commit.result c.commit.ensures
-    (search rules)

@@ -1,0 +1,103 @@
+//! What CRLs list of each revocation, made anew.
+
+ghost use Rattle.std.specs.Prelude.{◌≡◌, ◌&&◌, nat_le, nat_lt, IfOk};
+ghost use Rattle.sqlite_value.specs.Value.{owned};
+ghost use Rattle.sqlite.specs.Values.{bound_value};
+ghost use Rattle.reg_store_tables.specs.Columns.{number_or_null};
+ghost use Rattle.reg_store_tables.specs.Stays.{Stepped};
+ghost use Rattle.reg_store_tables.specs.Steps.{ContinuesRows, MakesRows};
+ghost use Rattle.reg_store_migration.specs.Rebuilds.{ListsOne, Relists, RelistsEach, RelistsOne};
+ghost use Rattle.reg_store_migration.specs.Refilled.{AreIssued, last_in};
+
+use crate::record_reader::{crls, end_of, revocations};
+use crate::sql;
+use reg_core::{CrlRow, Moment, RevocationRow};
+use reg_store_tables::DatabaseFault;
+use reg_store_tables::write_statements::{sql_moment, sql_number, sql_reason, write};
+use sqlite::types::ValueRef;
+use sqlite::{Alter, Transaction};
+
+fn is_past(crl: &CrlRow, first: u64, not_after: Moment) -> bool
+    ensures { result ≡ (nat_le first crl.now.number && nat_lt not_after crl.now.this_update) }
+{
+    first <= crl.number && not_after < crl.this_update
+}
+
+/// The number of the first CRL from a number on whose thisUpdate is past a moment. The numbers rise and the thisUpdates
+/// do not fall, so that it is found by halves.
+fn last_listing(crls: &[CrlRow], first: u64, not_after: Moment) -> Option<u64>
+    ensures { AreIssued crls.now → result ≡ last_in crls.now first not_after }
+{
+    let at = crls.partition_point(|crl| !is_past(crl, first, not_after));
+    match crls.get(at) {
+        Some(crl) => Some(crl.number),
+        None => None,
+    }
+}
+
+fn sql_number_or_null(number: Option<u64>) -> Result<ValueRef<'static>, DatabaseFault>
+    ensures value { IfOk result (λ value. bound_value (owned value) ≡ number_or_null number) }
+{
+    match number {
+        Some(number) => sql_number(number),
+        None => Ok(ValueRef::Null),
+    }
+}
+
+fn put_listing<S: Alter>(
+    tx: &mut Transaction<'_, S>,
+    row: RevocationRow,
+    crls: &[CrlRow],
+    not_after: Moment,
+) -> Result<(), DatabaseFault>
+    ensures made { MakesRows S.Store tx.old tx.new result (ListsOne row crls.now not_after) }
+    ensures stepped { Stepped S.Store tx.old tx.new }
+{
+    let last = sql_number_or_null(last_listing(crls, row.first, not_after))?;
+    let serial = row.serial.bytes20();
+    let at = sql_moment(row.at);
+    let reason = sql_reason(row.reason);
+    let first = sql_number(row.first)?;
+    let not_after = sql_moment(not_after);
+    write(
+        tx,
+        sql::PUT_LISTING,
+        &[ValueRef::Blob(&serial), at, reason, first, not_after, last],
+    )?;
+    Ok(())
+}
+
+fn relist_one<S: Alter>(
+    tx: &mut Transaction<'_, S>,
+    revocation: RevocationRow,
+    crls: &[CrlRow],
+) -> Result<(), DatabaseFault>
+    ensures made { MakesRows S.Store tx.old tx.new result (RelistsOne revocation crls.now) }
+    ensures stepped { Stepped S.Store tx.old tx.new }
+{
+    let not_after = end_of(tx, revocation.serial)?;
+    put_listing(tx, revocation, crls, not_after)
+}
+
+fn relist_each<S: Alter>(
+    tx: &mut Transaction<'_, S>,
+    revocations: &[RevocationRow],
+    crls: &[CrlRow],
+) -> Result<(), DatabaseFault>
+    ensures made { ContinuesRows S.Store tx.old tx.new result (RelistsEach revocations.now crls.now) }
+    ensures stepped { Stepped S.Store tx.old tx.new }
+{
+    for revocation in revocations {
+        relist_one(tx, *revocation, crls)?;
+    }
+    Ok(())
+}
+
+pub(crate) fn relist<S: Alter>(tx: &mut Transaction<'_, S>) -> Result<(), DatabaseFault>
+    ensures made { ContinuesRows S.Store tx.old tx.new result Relists }
+    ensures stepped { Stepped S.Store tx.old tx.new }
+{
+    let crls = crls(tx)?;
+    let revocations = revocations(tx)?;
+    relist_each(tx, &revocations, &crls)
+}

@@ -1,0 +1,34 @@
+//! What is kept beside the records, made anew from them.
+
+ghost use Rattle.reg_store_tables.specs.Stays.{Stepped};
+ghost use Rattle.reg_store_tables.specs.Steps.{Makes, MakesRows};
+ghost use Rattle.reg_store_migration.specs.Rebuilds.{FillsLetters, Refills};
+
+use crate::derived_listings::relist;
+use crate::sql;
+use crate::status_counts::counts;
+use reg_core::Moment;
+use reg_store_tables::write_statements::{sql_moment, write};
+use reg_store_tables::{DatabaseFault, set_counts};
+use sqlite::{Alter, Transaction};
+
+fn fill_letters<S: Alter>(tx: &mut Transaction<'_, S>, last: Moment) -> Result<(), DatabaseFault>
+    ensures made { MakesRows S.Store tx.old tx.new result (FillsLetters last) }
+    ensures stepped { Stepped S.Store tx.old tx.new }
+{
+    write(tx, sql::FILL_LETTERS, &[sql_moment(last)])?;
+    Ok(())
+}
+
+pub(crate) fn refill<S: Alter>(
+    tx: &mut Transaction<'_, S>,
+    last: Moment,
+) -> Result<(), DatabaseFault>
+    ensures made { Makes S.Store tx.old tx.new result (Refills last) }
+    ensures stepped { Stepped S.Store tx.old tx.new }
+{
+    fill_letters(tx, last)?;
+    relist(tx)?;
+    let counts = counts(tx)?;
+    set_counts(tx, counts)
+}

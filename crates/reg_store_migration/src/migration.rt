@@ -1,0 +1,45 @@
+//! A register of an older version, made one of the program's version.
+
+ghost use Rattle.std.specs.Prelude.{◌≡◌, false};
+ghost use Rattle.reg_store_tables.specs.Stays.{Stepped};
+ghost use Rattle.reg_store_tables.specs.Commits.{Commits};
+ghost use Rattle.reg_store_tables.specs.Steps.{Makes};
+ghost use Rattle.reg_store_migration.specs.Rebuilds.{MakesNewer};
+
+use crate::derived_tables::refill;
+use crate::initial_rows::begin;
+use crate::version::OlderVersion;
+use reg_core::Moment;
+use reg_store_tables::DatabaseFault;
+use reg_store_tables::write_statements::commit;
+use sqlite::{Alter, Connection, Transaction};
+
+fn make_newer<S: Alter>(
+    tx: &mut Transaction<'_, S>,
+    version: OlderVersion,
+    days: u64,
+    last: Moment,
+) -> Result<(), DatabaseFault>
+    ensures made { Makes S.Store tx.old tx.new result (MakesNewer version days last) }
+    ensures stepped { Stepped S.Store tx.old tx.new }
+{
+    begin(tx, version, days)?;
+    refill(tx, last)
+}
+
+/// Makes a register of an older version one of the program's version, in one transaction: the records stay, and what is kept
+/// beside them is made anew. `Store` too where a table or an index of a newer version stands there already, or a row is one
+/// that no register writes. The tables are as they were then.
+pub fn migrate<S: Alter>(
+    conn: &mut Connection<S>,
+    version: OlderVersion,
+    days: u64,
+    last: Moment,
+) -> Result<(), DatabaseFault>
+    requires { conn.old.in_transaction ≡ false }
+    ensures { Commits S.Store conn.old conn.new result (MakesNewer version days last) }
+{
+    let mut tx = conn.transaction();
+    make_newer(&mut tx, version, days, last)?;
+    commit(tx)
+}

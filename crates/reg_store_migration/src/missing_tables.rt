@@ -1,0 +1,78 @@
+//! The tables and indexes that an older version lacks.
+
+ghost use Rattle.reg_store_tables.specs.Schema.{register_schema};
+ghost use Rattle.reg_store_tables.specs.Stays.{Stepped};
+ghost use Rattle.reg_store_tables.specs.Steps.{Makes};
+ghost use Rattle.reg_store_migration.specs.Older.{kept_tables};
+ghost use Rattle.reg_store_migration.specs.Rebuilds.{AddsKept, AddsSchedule, Defines, Rebuilds};
+
+use crate::sql;
+use crate::version::OlderVersion;
+use reg_store_tables::write_statements::write;
+use reg_store_tables::{DatabaseFault, schema};
+use sqlite::{Alter, Transaction};
+
+/// Makes one table or index. `Store` too where the database has the name already.
+pub fn define<S: Alter>(tx: &mut Transaction<'_, S>, sql: &str) -> Result<(), DatabaseFault>
+    ensures made { Makes S.Store tx.old tx.new result (Defines sql.now) }
+    ensures stepped { Stepped S.Store tx.old tx.new }
+{
+    write(tx, sql, &[])?;
+    Ok(())
+}
+
+/// Makes the tables that are kept beside those of the records.
+pub fn make_kept_tables<S: Alter>(tx: &mut Transaction<'_, S>) -> Result<(), DatabaseFault>
+    ensures made { Makes S.Store tx.old tx.new result AddsKept }
+    ensures stepped { Stepped S.Store tx.old tx.new }
+{
+    define(tx, schema::STANDING)?;
+    define(tx, schema::KEPT)?;
+    define(tx, schema::LISTED)
+}
+
+fn clear_kept_tables<S: Alter>(tx: &mut Transaction<'_, S>) -> Result<(), DatabaseFault>
+    ensures made { Makes S.Store tx.old tx.new result (Rebuilds OlderVersion.Second kept_tables) }
+    ensures stepped { Stepped S.Store tx.old tx.new }
+{
+    write(tx, sql::CLEAR_LISTED, &[])?;
+    write(tx, sql::CLEAR_STANDING, &[])?;
+    write(tx, sql::CLEAR_KEPT, &[])?;
+    Ok(())
+}
+
+/// Makes the tables beside those of the records, or takes their rows out.
+fn make_beside<S: Alter>(
+    tx: &mut Transaction<'_, S>,
+    version: OlderVersion,
+) -> Result<(), DatabaseFault>
+    ensures made { Makes S.Store tx.old tx.new result (Rebuilds version kept_tables) }
+    ensures stepped { Stepped S.Store tx.old tx.new }
+{
+    match version {
+        OlderVersion::First => make_kept_tables(tx),
+        OlderVersion::Second => clear_kept_tables(tx),
+    }
+}
+
+/// Makes the table of the schedule, and the indexes.
+pub fn make_schedule_and_indexes<S: Alter>(tx: &mut Transaction<'_, S>) -> Result<(), DatabaseFault>
+    ensures made { Makes S.Store tx.old tx.new result AddsSchedule }
+    ensures stepped { Stepped S.Store tx.old tx.new }
+{
+    define(tx, schema::LONGEST)?;
+    define(tx, schema::CRL_AT)?;
+    define(tx, schema::STANDING_DUE)
+}
+
+/// Makes all tables and indexes that the version lacks; what is kept beside the records is empty then.
+pub(crate) fn make_missing<S: Alter>(
+    tx: &mut Transaction<'_, S>,
+    version: OlderVersion,
+) -> Result<(), DatabaseFault>
+    ensures made { Makes S.Store tx.old tx.new result (Rebuilds version register_schema) }
+    ensures stepped { Stepped S.Store tx.old tx.new }
+{
+    make_beside(tx, version)?;
+    make_schedule_and_indexes(tx)
+}

@@ -1,0 +1,67 @@
+//! A register's tables, made new.
+
+ghost use Rattle.std.specs.Prelude.{◌≡◌, ◌↔◌, false, IsTrue, OnOk, IfErr};
+ghost use Rattle.reg_store_tables.specs.Schema.{no_schema};
+ghost use Rattle.reg_store_tables.specs.Stays.{Stepped};
+ghost use Rattle.reg_store_tables.specs.Commits.{Commits};
+ghost use Rattle.reg_store_tables.specs.Steps.{Makes};
+ghost use Rattle.reg_store_opening.specs.Blank.{Founds};
+ghost use Rattle.reg_store_opening.specs.Opens.{Creates, IsUncreated};
+
+use crate::empty_tables::make;
+use crate::initial_rows::fill;
+use reg_core::Policy;
+use reg_der::Issuer;
+use reg_store_tables::write_statements::commit;
+use reg_store_tables::{DatabaseFault, StoreFault};
+use sqlite::{Alter, Connection, Transaction};
+
+fn is_empty<S: Alter>(conn: &Connection<S>) -> bool
+    ensures { IsTrue result ↔ conn.now.schema ≡ no_schema }
+{
+    let schema = conn.schema();
+    schema.tables.is_empty() && schema.indexes.is_empty() && schema.views.is_empty()
+}
+
+fn make_register<S: Alter>(
+    tx: &mut Transaction<'_, S>,
+    issuer: &Issuer,
+    policy: &Policy,
+) -> Result<(), DatabaseFault>
+    ensures made { Makes S.Store tx.old tx.new result (Founds no_schema issuer.now policy.now) }
+    ensures stepped { Stepped S.Store tx.old tx.new }
+{
+    make(tx)?;
+    fill(tx, issuer, policy)
+}
+
+fn found<S: Alter>(
+    conn: &mut Connection<S>,
+    issuer: &Issuer,
+    policy: &Policy,
+) -> Result<(), DatabaseFault>
+    requires { conn.old.in_transaction ≡ false }
+    ensures { Commits S.Store conn.old conn.new result (Founds no_schema issuer.now policy.now) }
+{
+    let mut tx = conn.transaction();
+    make_register(&mut tx, issuer, policy)?;
+    commit(tx)
+}
+
+/// Makes the tables of a register with no records, of this issuer and under this policy, at moment 0.
+/// `NotEmpty` where the database has a table, an index or a view. Nothing has changed where it fails.
+pub fn create<S: Alter>(
+    conn: &mut Connection<S>,
+    issuer: &Issuer,
+    policy: &Policy,
+) -> Result<(), StoreFault>
+    requires { conn.old.in_transaction ≡ false }
+    ensures creates { OnOk result (Creates S.Store conn.old conn.new issuer.now policy.now) }
+    ensures uncreated { IfErr result (IsUncreated S.Store conn.old conn.new issuer.now policy.now) }
+    ensures idle { conn.new.in_transaction ≡ false }
+{
+    if !is_empty(conn) {
+        return Err(StoreFault::NotEmpty);
+    }
+    Ok(found(conn, issuer, policy)?)
+}

@@ -1,0 +1,177 @@
+//! The tables of an opened database, tested before they are used, and made newer where they are of an older version.
+
+ghost use Rattle.std.specs.Prelude.{◌≡◌, ◌≢◌, ◌⊎◌, Option, Some, false, IsTrue, MatchResult, OnOk, IfOk, IfErr};
+ghost use Rattle.sqlite.specs.Held.{state};
+ghost use Rattle.sqlite.specs.State.{HasCleanDisk};
+ghost use Rattle.reg_core.specs.Records.{Records};
+ghost use Rattle.reg_core.specs.Schedule.{one_step};
+ghost use Rattle.reg_store_tables.specs.Shows.{IsShownBy};
+ghost use Rattle.reg_store_tables.specs.Stays.{IsDatabaseFault, LeavesNothing, Stays, Stepped};
+ghost use Rattle.reg_store_migration.specs.Older.{IsShownByOlder};
+ghost use Rattle.reg_store_tables.specs.Steps.{Asks, WhileOpen};
+ghost use Rattle.reg_store_opening.specs.Said.{version_of, IsOfVersion, HasVersion, InRange, IsShownAs, ShowsAs, SaysOffice, ReadsOlder, SaysNoVersion, SaysNoOffice, SaysNoOlder, SaysNoRegister, version_told};
+ghost use Rattle.reg_store_opening.specs.Examined.{Tells, TellsNewer, TellsNone, Finds, SaysFound, IsFoundOf, found_version};
+ghost use Rattle.reg_store_opening.specs.Opens.{Opens, IsUnopened};
+
+use crate::office_rows::{judge_office, judge_older, judge_version};
+use crate::read_only_queries::peek;
+use crate::schema_check::{is_same, look};
+use crate::sql;
+use reg_core::Moment;
+use reg_store_migration::{OlderVersion, migrate};
+use reg_store_schema::Version;
+use reg_store_tables::StoreFault;
+use reg_store_tables::sql::STEPS;
+use sqlite::{Alter, Connection, Transaction};
+use std::alloc::Global;
+
+/// What the office of an older version says: its version, the longest validity in days, and the last accepted moment.
+#[derive(Clone, Copy)]
+pub struct OlderOffice {
+    version: OlderVersion,
+    days: u64,
+    last: Moment,
+}
+
+/// The version of the tables where it is older than the program's, and none where it is the program's.
+fn test_version<S: Alter>(tx: &mut Transaction<'_, S>) -> Result<Option<OlderVersion>, StoreFault>
+    ensures asked { Asks S.Store tx.old tx.new result (λ found db. HasVersion db (version_of found)) }
+    ensures newer { TellsNewer S.Store tx.old.conn.now tx.new.conn.now result }
+    ensures none { TellsNone S.Store tx.old.conn.now tx.new.conn.now result SaysNoVersion }
+    ensures version { HasCleanDisk (state S.Store tx.new.conn.now) → (version : Option OlderVersion)
+        → WhileOpen (state S.Store tx.old.conn.now) (IsOfVersion version)
+        → MatchResult result (λ found. found ≡ version) IsDatabaseFault }
+    ensures stepped { Stepped S.Store tx.old tx.new }
+    ensures faults { IfErr result (λ fault. fault ≢ StoreFault.NotEmpty) }
+{
+    let rows = peek(tx, sql::VERSION)?;
+    judge_version(&rows)
+}
+
+fn test_office<S: Alter>(tx: &mut Transaction<'_, S>) -> Result<(), StoreFault>
+    ensures told { Tells S.Store tx.old.conn.now tx.new.conn.now result (λ _ db. SaysOffice db) }
+    ensures none { TellsNone S.Store tx.old.conn.now tx.new.conn.now result SaysNoOffice }
+    ensures shown { Finds S.Store tx.old.conn.now tx.new.conn.now result IsShownBy (λ _ _. Unit {0}) }
+    ensures stepped { Stepped S.Store tx.old tx.new }
+    ensures faults { IfErr result (λ fault. IsDatabaseFault fault ⊎ (fault ≡ StoreFault.NotARegister)) }
+{
+    let office = peek(tx, sql::OFFICE)?;
+    let steps = peek(tx, STEPS)?;
+    judge_office(&office, &steps)
+}
+
+fn test_older<S: Alter>(tx: &mut Transaction<'_, S>) -> Result<(u64, Moment), StoreFault>
+    ensures told { Tells S.Store tx.old.conn.now tx.new.conn.now result
+        (λ found db. ReadsOlder db found.0 found.1) }
+    ensures none { TellsNone S.Store tx.old.conn.now tx.new.conn.now result SaysNoOlder }
+    ensures shown { (version : OlderVersion)
+        → Finds S.Store tx.old.conn.now tx.new.conn.now result (IsShownByOlder version) (λ found records.
+        (records.policy.schedule ≡ one_step found.0) × (records.last ≡ found.1)) }
+    ensures stepped { Stepped S.Store tx.old tx.new }
+    ensures faults { IfErr result (λ fault. IsDatabaseFault fault ⊎ (fault ≡ StoreFault.NotARegister)) }
+{
+    let rows = peek(tx, sql::OLDER_OFFICE)?;
+    judge_older(&rows)
+}
+
+/// Tests the tables, the version first: what an older office says, or none where they are of the program's version.
+fn test_tables<S: Alter>(tx: &mut Transaction<'_, S>) -> Result<Option<OlderOffice>, StoreFault>
+    ensures told { Tells S.Store tx.old.conn.now tx.new.conn.now result (λ found db. SaysFound db found) }
+    ensures newer { TellsNewer S.Store tx.old.conn.now tx.new.conn.now result }
+    ensures none { TellsNone S.Store tx.old.conn.now tx.new.conn.now result SaysNoRegister }
+    ensures shown { (version : Option OlderVersion)
+        → Finds S.Store tx.old.conn.now tx.new.conn.now result (IsShownAs version)
+        (λ found records. IsFoundOf version records found) }
+    ensures stepped { Stepped S.Store tx.old tx.new }
+    ensures faults { IfErr result (λ fault. fault ≢ StoreFault.NotEmpty) }
+{
+    let older = test_version(tx)?;
+    match older {
+        None => {
+            test_office(tx)?;
+            Ok(None)
+        }
+        Some(version) => {
+            let (days, last) = test_older(tx)?;
+            Ok(Some(OlderOffice {
+                version,
+                days,
+                last,
+            }))
+        }
+    }
+}
+
+/// Tests whether the tables are a register's, and tells what an older office says; none where they are of the program's
+/// version. Nothing is changed, whatever they are.
+///
+/// # Errors
+/// `NotARegister` where the row of the office can't be read, or its version or other values are out of range; `NewVersion` above 3;
+/// `Memory`; `Store` where the database fails.
+pub fn examine<S: Alter>(conn: &mut Connection<S>) -> Result<Option<OlderOffice>, StoreFault>
+    requires { conn.old.in_transaction ≡ false }
+    ensures ok { HasCleanDisk (state S.Store conn.new)
+        → IfOk result (λ found. SaysFound (state S.Store conn.old).now found) }
+    ensures live { HasCleanDisk (state S.Store conn.new)
+        → OnOk result (IsTrue (state S.Store conn.old).is_open) }
+    ensures newer { TellsNewer S.Store conn.old conn.new result }
+    ensures none { TellsNone S.Store conn.old conn.new result SaysNoRegister }
+    ensures shown { (version : Option OlderVersion) → (records : Records)
+        → ShowsAs version S.Store conn.old records → HasCleanDisk (state S.Store conn.new)
+        → MatchResult result (IsFoundOf version records) (λ fault. InRange records → IsDatabaseFault fault) }
+    ensures same { Stays (state S.Store conn.old) (state S.Store conn.new) }
+    ensures saved { HasCleanDisk (state S.Store conn.new) → IsTrue (state S.Store conn.new).is_open
+        → (state S.Store conn.new).now ≡ (state S.Store conn.new).committed }
+    ensures survives { LeavesNothing (state S.Store conn.old) (state S.Store conn.new) }
+    ensures idle { conn.new.in_transaction ≡ false }
+    ensures faults { IfErr result (λ fault. fault ≢ StoreFault.NotEmpty) }
+{
+    let mut tx = conn.transaction();
+    let tested = test_tables(&mut tx);
+    tx.rollback();
+    tested
+}
+
+fn version_in(found: Option<OlderOffice>) -> Option<OlderVersion>
+    ensures { result ≡ found_version found }
+{
+    match found {
+        None => None,
+        Some(older) => Some(older.version),
+    }
+}
+
+fn test_schema(tables: Option<Version>, found: Option<OlderOffice>) -> Result<(), StoreFault>
+    ensures ok { OnOk result (tables ≡ Some (version_told (found_version found))) }
+    ensures err { IfErr result (λ fault. (fault ≡ StoreFault.NotARegister)
+        × (tables ≢ Some (version_told (found_version found)))) }
+{
+    if is_same(tables, version_in(found)) {
+        return Ok(());
+    }
+    Err(StoreFault::NotARegister)
+}
+
+/// Tests whether the tables are a register's, and changes nothing where they are of the program's version. Where they are
+/// of version 1 or 2 they are made ones of the program's version, in one transaction: the records stay, and what is kept
+/// beside them is made anew from them. The schema is looked at before the office is read: nothing is written in between.
+///
+/// # Errors
+/// As of [`examine`]; `NotARegister` too where the tables, their columns, keys and indexes, or what stands beside them, are others
+/// than those of its version; `Store` too where an older register can't be made newer. The tables are as they were then.
+pub fn open<S: Alter>(alloc: Global, conn: &mut Connection<S>) -> Result<(), StoreFault>
+    requires { conn.old.in_transaction ≡ false }
+    ensures opens { OnOk result (Opens S.Store conn.old conn.new) }
+    ensures unopened { IfErr result (IsUnopened S.Store conn.old conn.new) }
+    ensures idle { conn.new.in_transaction ≡ false }
+{
+    let Ok(tables) = look(alloc, conn) else {
+        return Err(StoreFault::Memory);
+    };
+    let found = examine(conn)?;
+    test_schema(tables, found)?;
+    match found {
+        None => Ok(()),
+        Some(older) => Ok(migrate(conn, older.version, older.days, older.last)?),
+    }
+}

@@ -1,0 +1,39 @@
+//! The steps of the schedule of longest validities, put in inside a transaction.
+
+ghost use Rattle.reg_store_tables.specs.Stays.{Stepped};
+ghost use Rattle.reg_store_tables.specs.Staged.{AddsStep, AddsSteps};
+ghost use Rattle.reg_store_tables.specs.Steps.{ContinuesRows, MakesRows};
+
+use crate::DatabaseFault;
+use crate::sql::PUT_STEP;
+use crate::write_statements::{sql_moment, sql_number, write};
+use reg_core::Moment;
+use sqlite::{Alter, Transaction};
+
+fn put_schedule_step<S: Alter>(
+    tx: &mut Transaction<'_, S>,
+    from: Moment,
+    days: u64,
+) -> Result<(), DatabaseFault>
+    ensures made { MakesRows S.Store tx.old tx.new result (AddsStep from days) }
+    ensures stepped { Stepped S.Store tx.old tx.new }
+{
+    let from = sql_moment(from);
+    let days = sql_number(days)?;
+    write(tx, PUT_STEP, &[from, days])?;
+    Ok(())
+}
+
+/// Puts the steps in, into a table that has none.
+pub fn put_schedule_steps<S: Alter>(
+    tx: &mut Transaction<'_, S>,
+    steps: &[(Moment, u64)],
+) -> Result<(), DatabaseFault>
+    ensures made { ContinuesRows S.Store tx.old tx.new result (AddsSteps steps.now) }
+    ensures stepped { Stepped S.Store tx.old tx.new }
+{
+    for step in steps {
+        put_schedule_step(tx, step.0, step.1)?;
+    }
+    Ok(())
+}
