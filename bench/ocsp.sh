@@ -16,7 +16,9 @@ commands=20000
 desk="$(pwd)/desk"
 words="$(pwd)/examples/issuer-words.sh"
 client="$(pwd)/bench/ocsp_client.py"
-signer=$(realpath "${SIGNER:-examples/signer.py}")
+default=signer/desk-signer
+[ -x "$default" ] || default=examples/signer.py
+signer=$(realpath "${SIGNER:-$default}")
 work=$(mktemp -d /tmp/desk-ocsp.XXXXXX)
 # shellcheck disable=SC2086 # an empty one adds no word
 trap 'kill $theirs $ours $holder 2>/dev/null || true; rm -rf "$work"' EXIT

@@ -206,7 +206,7 @@ def slow(count, port, files):
 def hung(port, counter, files):
     """The longest wait of requests that need no signature, while OCSP answers wait for a signer that hangs."""
     few = [whole(open(name, "rb").read()) for name in files]
-    waiting, took = [], {"GET /counts": [], "a line at the counter": []}
+    waiting, took = [], {"GET /counts": [], "a line at the control socket": []}
     with socket.socket(socket.AF_UNIX) as teller:
         teller.connect(counter)
         for at in range(10 * ROUNDS):
@@ -219,7 +219,7 @@ def hung(port, counter, files):
             start = time.perf_counter()
             teller.sendall(b"subscriber hung%d\n" % at)
             teller.recv(65536)
-            took["a line at the counter"].append(time.perf_counter() - start)
+            took["a line at the control socket"].append(time.perf_counter() - start)
     for peer in waiting:
         peer.close()
     told = ", ".join(f"{name} {max(times) * 1e3:.1f} ms at the longest" for name, times in took.items())

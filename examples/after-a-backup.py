@@ -45,6 +45,8 @@ LINE = re.compile(
     r'(\d{4}-\d\d-\d\dT\d\d:\d\d:\d\dZ) (\S+) "([^"]*)" "([^"]*)" \d+ \d+(?: request (\d+) ([0-9a-f]{40})(?: ([a-z-]+))?)?(?: signer)?'
 )
 LOST = re.compile(r"\S+ \S+ lost \w+")
+# The log's names of the control socket: older desks write the second.
+CONTROL = ("control", "counter")
 # The commands at the control socket, with their accepted replies.
 COMMANDS = {
     "subscriber": re.compile(r"subscriber (\d+)"),
@@ -121,7 +123,7 @@ def read_line(place, source, text):
             report(f"{source}: no line of a log")
         return None
     moment, who, asked, answered, request, serial, ground = found.groups()
-    if who != "counter" and not ground:
+    if who not in CONTROL and not ground:
         if asked.startswith("POST /requests") and answered.startswith("HTTP/1.1 200 "):
             report(f"{source}: left out: the log does not name the request")
         return None

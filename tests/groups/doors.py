@@ -192,9 +192,9 @@ def the_log_has_each_exchange_also_revocations_and_refusals(t):
         [
             f'{at} PEER "POST /requests HTTP/1.1" "HTTP/1.1 200 OK" request 1 {serial} superseded',
             f'{at} PEER "GET /nowhere HTTP/1.1" "HTTP/1.1 404 Not Found"',
-            f'{at} counter "revoke 1" "revoked" request 1 {serial}',
-            f'{at} counter "revoke 1" "E19 revoked-before {at}"',
-            f'{at} counter "nonsense" "E22 syntax"',
+            f'{at} control "revoke 1" "revoked" request 1 {serial}',
+            f'{at} control "revoke 1" "E19 revoked-before {at}"',
+            f'{at} control "nonsense" "E22 syntax"',
             f'{at} PEER "GET /status/05 HTTP/1.1" "HTTP/1.1 200 OK"',
         ],
         "the log",

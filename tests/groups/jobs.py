@@ -220,10 +220,10 @@ def a_log_has_each_exchange(t):
     serial = f"{5:040x}"
     named = {"request 05 asked": f" request 1 {serial} asked", "revoke 1": f" request 1 {serial}"}
     for line, reply in zip(asked, replies):
-        wanted = rf'{DAY} counter "{line}" "{reply}" {len(reply) + 1} \d+{named.get(line, "")}'
+        wanted = rf'{DAY} control "{line}" "{reply}" {len(reply) + 1} \d+{named.get(line, "")}'
         t.same(sum(1 for it in told if re.fullmatch(wanted, it)), 1, f"lines of {line!r} in {told}")
     wanted = rf'{DAY} 127\.0\.0\.1:\d+ "GET /counts HTTP/1\.1" "HTTP/1\.1 200 OK" {len(response)} \d+'
-    t.same([bool(re.fullmatch(wanted, it)) for it in told if "counter" not in it], [True], f"lines of the request in {told}")
+    t.same([bool(re.fullmatch(wanted, it)) for it in told if " control " not in it], [True], f"lines of the request in {told}")
 
 
 @test

@@ -33,7 +33,7 @@ def an_exchange_has_its_first_lines_and_its_bytes(t):
 def no_client_can_inject_a_line(t):
     lines = log_of(t, b'GET /"\\\x00\x7f\xff~ HTTP/1.1\r\n\r\n', b"\nGET /x HTTP/1.1\r\n\r\n", lines=["status \x1b[31m", 'x"'])
     t.same(lines[0].split('" "')[0], f'{DAY} PEER "GET /\\x22\\x5c\\x00\\x7f\\xff~ HTTP/1.1')
-    t.same(lines[2:], [f'{DAY} counter "status \\x1b[31m" "E22 syntax" 11', f'{DAY} counter "x\\x22" "E22 syntax" 11'])
+    t.same(lines[2:], [f'{DAY} control "status \\x1b[31m" "E22 syntax" 11', f'{DAY} control "x\\x22" "E22 syntax" 11'])
     t.same(len(lines), 4, "lines")
 
 
@@ -47,7 +47,7 @@ def a_long_line_is_logged_up_to_256_bytes(t):
 def a_control_line_and_its_reply(t):
     t.same(
         log_of(t, lines=["subscriber acme", "counts", "revoke 1"]),
-        [f'{DAY} counter "subscriber acme" "subscriber 1" 13', f'{DAY} counter "counts" "good 0 revoked 0 expired 0" 27', f'{DAY} counter "revoke 1" "E17 no-request" 15'],
+        [f'{DAY} control "subscriber acme" "subscriber 1" 13', f'{DAY} control "counts" "good 0 revoked 0 expired 0" 27', f'{DAY} control "revoke 1" "E17 no-request" 15'],
     )
 
 
@@ -88,7 +88,7 @@ def a_crl_that_nobody_signs_has_the_word_too(t):
     with Control(t.room / "counter") as control:
         t.same([control.ask(it) for it in ("crl", "counts")], ["F3 signer", "good 0 revoked 0 expired 0"])
     told = [re.sub(r" \d+( signer)?$", r" N\1", it) for it in desk.end().err_lines]
-    t.same(told, [f'{DAY} counter "crl" "F3 signer" 10 N signer', f'{DAY} counter "counts" "good 0 revoked 0 expired 0" 27 N'])
+    t.same(told, [f'{DAY} control "crl" "F3 signer" 10 N signer', f'{DAY} control "counts" "good 0 revoked 0 expired 0" 27 N'])
 
 
 @test
@@ -140,5 +140,5 @@ def a_control_connection_that_closes_before_its_reply_is_lost(t):
                 control.peer.sendall(b"counts\n")
         except TimeoutError:
             pass
-    told = within(desk, "counter lost broken")
-    t.same([it for it in told if " lost " in it], [f"{DAY} counter lost broken"], "what was lost: not the counter that had its reply")
+    told = within(desk, "control lost broken")
+    t.same([it for it in told if " lost " in it], [f"{DAY} control lost broken"], "what was lost: not the connection that had its reply")

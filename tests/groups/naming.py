@@ -205,6 +205,25 @@ def a_log_is_replayed_to_a_copy(t):
     t.same([it.split()[0] for it in replies_to(t, "status 01", "status 05")], ["revoked"] * 2)
 
 
+# Which lines of a log an older desk wrote, which calls the control socket `counter`.
+OLDER = {"all": lambda at: True, "the first five, before an upgrade": lambda at: at < 5, "each second": lambda at: at % 2 == 0}
+
+
+@each(OLDER)
+def a_log_of_an_older_desk_is_replayed_as_well(t, is_older):
+    log = a_day(t).splitlines(keepends=True)
+    mixed = [line.replace("Z control ", "Z counter ") if is_older(at) else line for at, line in enumerate(log)]
+    t.same({line.split(" ")[1] for line in log if "127.0.0.1" not in line}, {"control"}, "whom a log of today names")
+    t.true(mixed != log, "older lines")
+    (t.room / "ca.log").write_text("".join(mixed))
+    desk = t.open("copy.db")
+    replies = t.done("replay", "counter", "ca.log").splitlines()
+    desk.end()
+    t.same([line.startswith(part) for line, part in zip(replies, REPLAYED, strict=True)], [True] * len(REPLAYED), replies)
+    for word in ("subscribers", "orders", "certificates", "requests", "revoked", "crls"):
+        t.same(t.done("list", "copy.db", word), t.done("list", "ca.db", word), word)
+
+
 @test
 def a_request_that_came_between_shifts_no_revocation(t):
     a_day(t)
@@ -232,41 +251,43 @@ def a_request_from_before_the_log_is_decided_where_it_is_for_the_same_serial_num
     t.register(lines=ENTERED + f"{DAY} request 02 superseded\n")
     t.clock(DAY)
     t.open("ca.db")
-    (t.room / "ca.log").write_text(f'{DAY} counter "revoke 1" "revoked" 8 99 request 1 {serial(3)}\n')
+    (t.room / "ca.log").write_text(f'{DAY} control "revoke 1" "revoked" 8 99 request 1 {serial(3)}\n')
     ran = t.desk("replay", "counter", "ca.log")
     t.same((ran.status, ran.out.decode().splitlines()[0]), (3, "E17 no-request"))
-    (t.room / "ca.log").write_text(f'{DAY} counter "revoke 1" "revoked" 8 99 request 1 {serial(2)}\n')
+    (t.room / "ca.log").write_text(f'{DAY} control "revoke 1" "revoked" 8 99 request 1 {serial(2)}\n')
     t.same(t.done("replay", "counter", "ca.log"), "revoked\n")
 
 
 UNKNOWN = {
-    "a revocation whose request is not named": f'{DAY} counter "revoke 1" "revoked" 8 99\n',
-    "a request that is not named": f'{DAY} counter "request 01 superseded" "request 1 due {DUE}" 39 99\n',
-    "an escape": f'{DAY} counter "subscriber g\\xc3\\xa4mma" "subscriber 3" 13 99\n',
+    "a revocation whose request is not named": f'{DAY} control "revoke 1" "revoked" 8 99\n',
+    "the same by an older desk": f'{DAY} counter "revoke 1" "revoked" 8 99\n',
+    "a request that is not named": f'{DAY} control "request 01 superseded" "request 1 due {DUE}" 39 99\n',
+    "an escape": f'{DAY} control "subscriber g\\xc3\\xa4mma" "subscriber 3" 13 99\n',
     "a request whose name can't be read": f'{DAY} 127.0.0.1:1 "POST /requests HTTP/1.1" "HTTP/1.1 200 OK" 173 99 request 1 0x superseded\n',
-    "two lines, of which the first was not written whole": f'{DAY} 127.0.0.1:1 "GET /crl HTTP/1.1" "HT{DAY} counter "revoke 1" "revoked" 8 99 request 1 {serial(1)}\n',
-    "a line that was not written whole, and a lost connection": f'{DAY} counter "revoke 1" "rev{DAY} counter lost broken\n',
-    "a line that was cut": f'{DAY} counter "{("schedule" + " 1970-01-01T00:00:00Z=398" * 16)[:256]}" "schedule set" 13 99\n',
+    "two lines, of which the first was not written whole": f'{DAY} 127.0.0.1:1 "GET /crl HTTP/1.1" "HT{DAY} control "revoke 1" "revoked" 8 99 request 1 {serial(1)}\n',
+    "a line that was not written whole, and a lost connection": f'{DAY} control "revoke 1" "rev{DAY} control lost broken\n',
+    "a line that was cut": f'{DAY} control "{("schedule" + " 1970-01-01T00:00:00Z=398" * 16)[:256]}" "schedule set" 13 99\n',
 }
 
 
 @each(UNKNOWN)
 def a_log_line_that_is_not_whole_stops_it(t, line):
     opened(t)
-    (t.room / "ca.log").write_text(line + f'{DAY} counter "subscriber gamma" "subscriber 3" 13 99\n')
+    (t.room / "ca.log").write_text(line + f'{DAY} control "subscriber gamma" "subscriber 3" 13 99\n')
     ran = t.desk("replay", "counter", "ca.log")
     t.same((ran.status, ran.out.decode(), ran.err), (3, line, b"refused\n"))
 
 
 LEFT_OUT = {
-    "a refusal": f'{DAY} counter "subscriber acme" "E05 name-taken 1" 17 99\n',
-    "a fault": f'{DAY} counter "crl" "F3 signer" 10 99 signer\n',
-    "no reply": f'{DAY} counter "subscriber gamma" "" 0 99\n',
-    "a query": f'{DAY} counter "counts" "good 9 revoked 9 expired 9" 27 99\n',
-    "a copy": f'{DAY} counter "copy x" "copied 1 bytes in 1 ms" 23 99\n',
+    "a refusal": f'{DAY} control "subscriber acme" "E05 name-taken 1" 17 99\n',
+    "a fault": f'{DAY} control "crl" "F3 signer" 10 99 signer\n',
+    "no reply": f'{DAY} control "subscriber gamma" "" 0 99\n',
+    "a query": f'{DAY} control "counts" "good 9 revoked 9 expired 9" 27 99\n',
+    "a copy": f'{DAY} control "copy x" "copied 1 bytes in 1 ms" 23 99\n',
     "an exchange": f'{DAY} 127.0.0.1:1 "GET /counts HTTP/1.1" "HTTP/1.1 200 OK" 155 99\n',
-    "a peer's line that looks like a counter's": f'{DAY} 127.0.0.1:1 "subscriber gamma" "HTTP/1.1 400 Bad Request" 155 99\n',
-    "a connection that was lost": f"{DAY} counter lost broken\n",
+    "a client's line that looks like one at the control socket": f'{DAY} 127.0.0.1:1 "subscriber gamma" "HTTP/1.1 400 Bad Request" 155 99\n',
+    "a connection that was lost": f"{DAY} control lost broken\n",
+    **{f"a line of {who!r}": f'{DAY} {who} "subscriber gamma" "subscriber 3" 13 99\n' for who in ("controls", "counters", "contro", "Control", "COUNTER", "desk", "control\t", "")},
     "another text": "subscriber gamma\n\n",
     "nothing": "",
 }
@@ -283,7 +304,7 @@ def what_was_no_accepted_command_is_left_out(t, line):
 @test
 def a_last_line_without_its_end_is_not_replayed(t):
     opened(t)
-    (t.room / "ca.log").write_text(f'{DAY} counter "subscriber gamma" "subscriber 3" 13 99\n{DAY} counter "subscriber delta" "subscriber 4" 13 99')
+    (t.room / "ca.log").write_text(f'{DAY} control "subscriber gamma" "subscriber 3" 13 99\n{DAY} control "subscriber delta" "subscriber 4" 13 99')
     ran = t.desk("replay", "counter", "ca.log")
     t.same((ran.status, ran.out, ran.err), (3, b"subscriber 3\n", b"no-line-end\n"))
 

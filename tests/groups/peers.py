@@ -395,7 +395,7 @@ def a_control_connection_that_does_not_read_is_held(t):
     except TimeoutError:
         pass
     t.same(t.done("at", "counter", given="status 05\n"), "good\n", "another counter")
-    told = sum('counter "status 7b"' in it for it in desk.end().err_lines)
+    told = sum('control "status 7b"' in it for it in desk.end().err_lines)
     replies = read_all(unread.peer).count(b"unknown\n")
     t.true(0 < replies <= told <= replies + 1, f"{told} lines were told, and {replies} replies taken")
 

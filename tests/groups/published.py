@@ -235,12 +235,12 @@ def listed(t, file="ca.db"):
     return {it: t.done("list", file, it) for it in LISTS}
 
 
-def logged(*exchanges, at=NEXT):
-    """Lines of a log: each has a command at the control socket, its reply, and the request that the log names."""
+def logged(*exchanges, at=NEXT, who="control"):
+    """Lines of a log: each has a command at the control socket, its reply, and the request that the log names. An older desk calls the socket `counter`."""
     made = []
     for asked, answered, *named in exchanges:
         end = f" request {named[0]}" if named else ""
-        made.append(f'{at} counter "{asked}" "{answered}" {len(answered) + 1} 99{end}\n')
+        made.append(f'{at} {who} "{asked}" "{answered}" {len(answered) + 1} 99{end}\n')
     return "".join(made)
 
 
@@ -258,6 +258,13 @@ LOGS = {
         ["subscriber beta", "order 2 398", f"register 4 0A {NEXT} {ENDS}", "request 6 misuse", "decline 2", "request 6 asked", "revoke 3", "crl"],
         [],
     ),
+    "those of a desk that was upgraded": (
+        logged(("subscriber beta", "subscriber 2"), ("order 2 398", "order 4"), ("request 06 misuse", "request 2 due D", f"2 {S6} misuse"), who="counter")
+        + logged((f"register 4 0A {NEXT} {ENDS}", "registered"), ("revoke 2", "revoked", f"2 {S6}"), ("crl", "crl 2 entries 2")),
+        ["subscriber beta", "order 2 398", "request 6 misuse", f"register 4 0A {NEXT} {ENDS}", "revoke 2", "crl"],
+        [],
+    ),
+    "another client": (logged(("subscriber beta", "subscriber 2"), who="controls"), [], []),
     "what the register has": (
         logged(
             ("subscriber acme", "subscriber 1"), ("order 1 398", "order 1"), (f"register 1 05 {BEGUN} {ENDS}", "registered"),

@@ -673,10 +673,10 @@ def a_signer_that_hangs_holds_nobody_up_for_ten_seconds_more(t):
     passing.advance(1)
     for _ in range(4):
         at_once(t, lambda: is_signed(control), True, "a line once it answers again")
-    told = [re.search(r'("POST|"GET|counter "ocsp|counter).*?( signer)?$', it) for it in desk.end().err_lines]
-    unsigned = [it[2] is not None for it in told if it[1] == 'counter "ocsp']
+    told = [re.search(r'("POST|"GET|control "ocsp|control).*?( signer)?$', it) for it in desk.end().err_lines]
+    unsigned = [it[2] is not None for it in told if it[1] == 'control "ocsp']
     t.same(unsigned, [True] * (len(unsigned) - 4) + [False] * 4, "which `ocsp` lines have the word `signer` in the log")
-    t.same([it[0] for it in told if it[1] != 'counter "ocsp' and it[2]], [], "which other lines have it")
+    t.same([it[0] for it in told if it[1] != 'control "ocsp' and it[2]], [], "which other lines have it")
 
 
 @test(seconds=3)

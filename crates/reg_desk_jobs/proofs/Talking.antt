@@ -1,4 +1,4 @@
--- A talk at a counter, one line after the other.
+-- A conversation at a control socket, one line after the other.
 use Rattle.std.proofs.Common.{◌≡◌, ◌↔◌, ◌⊎◌, ℕ, Bool, true, List, [], ◌∷◌, ◌++◌, length-append, append-nil, IsTrue, IsFalse, Option, Some, None, Result, Ok, Err, MatchResult, ◌∙◌, refl, sym, ap, subst, inl, inr, arith}
 use Rattle.std.specs.Io.Buffered.{reader_buffer, reader_capacity, reader_inner, reader_remaining}
 use Rattle.std.specs.Io.KnownBytes.{Appends, Consumes, prepend_known}

@@ -101,9 +101,13 @@ abbrev pub accepted : List ℕ → Bool
 accepted [] = false
 accepted (first ∷ rest) = not (first == 69) && (not (first == 70) && not (first == 98))
 
+-- the log's names of the control socket: older desks write the second
+abbrev pub is_control : List ℕ → Bool
+is_control client = bytes_eq client (codes "control") || bytes_eq client (codes "counter")
+
 -- a line at the control socket was accepted
 abbrev pub was_accepted : LoggedExchange → Bool
-was_accepted told = bytes_eq (second_word told.client) (codes "counter") && accepted told.answered
+was_accepted told = is_control (second_word told.client) && accepted told.answered
 
 -- what is told by an exchange that names no request: it counts at the control socket alone
 unfoldable pub unnamed : LoggedExchange → Logged

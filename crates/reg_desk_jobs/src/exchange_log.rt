@@ -9,8 +9,8 @@ use reg_office_api::SignatureFate;
 use std::alloc::{AllocError, Global};
 use std::net::SocketAddr;
 
-/// Who sends lines to the control socket: it has no address.
-const CONTROL_SOCKET: &str = "counter";
+/// The client of a line at the control socket, which has no address.
+pub(crate) const CONTROL_SOCKET: &str = "control";
 
 pub(crate) fn log_exchange<M: Machine>(
     alloc: Global,

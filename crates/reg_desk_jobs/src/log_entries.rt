@@ -3,8 +3,9 @@
 ghost use Rattle.std.specs.Prelude.{◌≡◌, ◌<◌, IfSome, length, option_map};
 ghost use Rattle.std.specs.List.{position};
 ghost use Rattle.reg_lines.specs.Fields.{fields_of};
-ghost use Rattle.reg_desk_jobs.specs.LogEntries.{accepted, decision_by, enters, exchange_in, exchange_of, first_word, has_mark, is_mark, is_of_request, is_whole, logged_of, named_in, parted, request_by, request_named, second_word, unnamed, was_accepted};
+ghost use Rattle.reg_desk_jobs.specs.LogEntries.{accepted, decision_by, enters, exchange_in, exchange_of, first_word, has_mark, is_control, is_mark, is_of_request, is_whole, logged_of, named_in, parted, request_by, request_named, second_word, unnamed, was_accepted};
 
+use crate::exchange_log::CONTROL_SOCKET;
 use crate::log_lines::MOST_TOLD;
 use reg_core::{Label, Serial, read_number};
 use reg_lines::{Fields, is_accepted};
@@ -172,7 +173,14 @@ fn unnamed(told: &Told<'_>) -> Logged
 fn was_accepted(told: &Told<'_>) -> bool
     ensures { result ≡ was_accepted (exchange_of told.now) }
 {
-    second_word(told.client) == b"counter".as_slice() && accepted(told.answered)
+    is_control(second_word(told.client)) && accepted(told.answered)
+}
+
+/// Whether a client is the control socket: older desks call it `counter`.
+fn is_control(client: &[u8]) -> bool
+    ensures { result ≡ is_control client.now }
+{
+    client == CONTROL_SOCKET.as_bytes() || client == b"counter".as_slice()
 }
 
 fn accepted(answered: &[u8]) -> bool
