@@ -1,8 +1,8 @@
 #!/bin/sh
 # Measures OCSP answers a second over a register of 100,000 certificates (or the given number), with one connection for each request: `desk open` and
 # `openssl ocsp -port` with a P-256 issuer get the same requests from the same client, in turns; from one client and from 32 at once, for eight
-# certificates and for 4,096, and beside 200 idle connections; with the median latency and that which one in a hundred exceeds. Then commands a
-# second at the control socket, and with `desk script`.
+# certificates and for 4,096, and beside 200 idle connections; with the median latency and that which one in a hundred exceeds. Then the same from
+# wrk, with the servers and the signer on one, two and four processors. Then commands a second at the control socket, and with `desk script`.
 # The desk uses a placeholder digest, which costs next to nothing; with --signed as the first word it signs with the same
 # P-256 key as openssl, which SIGNER holds (examples/signer.py, or signer/desk-signer), in as many processes as SIGNERS says (2: with more of them, on four cores, one that waits takes the time of who asks). Then also with a signer that takes 5 ms, one
 # answer after the other and 32 at once, and how long others wait while one hangs.
@@ -15,7 +15,8 @@ requests=${2:-10000}
 commands=20000
 desk="$(pwd)/desk"
 words="$(pwd)/examples/issuer-words.sh"
-client="$(pwd)/bench/ocsp_client.py"
+bench="$(pwd)/bench"
+client="$bench/ocsp_client.py"
 default=signer/desk-signer
 [ -x "$default" ] || default=examples/signer.py
 signer=$(realpath "${SIGNER:-$default}")
@@ -56,6 +57,21 @@ fi
 ours=$!
 sleep 3
 python3 "$client" ask "$requests" 8091 8092 ./*.der
+if command -v wrk >/dev/null; then
+    for processors in 0 0,1 0-3; do
+        for process in "$theirs" "$ours" $holder $(pgrep -P "${holder:-$$}" -f sign || true); do
+            taskset -acp "$processors" "$process" >/dev/null
+        done
+        for clients in 1 32; do
+            for port in 8091 8092; do
+                printf 'wrk, %s clients, %s on processors %s: ' "$clients" "$([ $port = 8091 ] && echo openssl || echo desk)" "$processors"
+                OCSP_REQUESTS=$(echo ./*.der) wrk -t 1 -c "$clients" -d 3s -s "$bench/ocsp.lua" "http://127.0.0.1:$port/ocsp" | tail -n 1
+            done
+        done
+    done
+else
+    echo "no wrk: its part is left out" >&2
+fi
 python3 "$client" commands "$commands" counter "$desk" at ca.control
 kill "$ours"
 wait "$ours" 2>/dev/null || true

@@ -456,7 +456,20 @@ static void load_key(void) {
     try_key();
 }
 
-/* Starts the other processes, which end with the first. If each of them reads the key, one does after the other: SoftHSM fails otherwise. */
+/* What each process does before it serves: locks of memory don't outlive fork(2), nor do sessions with a token. */
+static void settle(bool reads_each) {
+    if (reads_each) {
+        lock_memory(MCL_CURRENT | MCL_FUTURE);
+        load_key();
+    }
+    lock_memory(MCL_CURRENT);
+    if (options[USER]) {
+        become(options[USER]);
+        try_key();
+    }
+}
+
+/* Starts the other processes, which end with the first, one after the other: SoftHSM fails if two read the key at once. */
 static void start_processes(bool reads_each) {
     first = getpid();
     for (long i = 1; i < processes && is_first; i++) {
@@ -467,19 +480,18 @@ static void start_processes(bool reads_each) {
             err(1, "no more processes");
         is_first = child > 0;
         others[i] = child;
-        if (!is_first && reads_each) {
-            lock_memory(MCL_CURRENT | MCL_FUTURE);
-            load_key();
+        if (!is_first) {
+            settle(reads_each);
+            if (write(ready[1], &octet, 1) != 1)
+                exit(1);
         }
-        if (!is_first && write(ready[1], &octet, 1) != 1)
-            exit(1);
         (void)close(ready[1]);
         if (is_first && read(ready[0], &octet, 1) != 1)
             errx(1, "another process doesn't start");
         (void)close(ready[0]);
     }
-    if (is_first && reads_each)
-        load_key();
+    if (is_first)
+        settle(reads_each);
 }
 
 /* The command line */
@@ -547,7 +559,6 @@ static void prepare(bool serves, bool reads_each) {
 int main(int argc, char **argv) {
     sigset_t signals;
     read_command_line(argc, argv);
-    /* Sessions with a token don't outlive fork(2), nor do locks of memory. */
     bool serves = path || options[INHERITED], reads_each = is_token(key_name) && processes > 1;
     prepare(serves, reads_each);
     if (!serves)
@@ -558,11 +569,6 @@ int main(int argc, char **argv) {
         err(1, "out of memory");
     path ? listen_at_path() : inherit_listener();
     start_processes(reads_each);
-    lock_memory(MCL_CURRENT);
-    if (options[USER]) {
-        become(options[USER]);
-        try_key();
-    }
     end_with_first();
     if (is_first)
         (void)printf("%s at %s\n", signer.algorithm, path ? path : "a socket that was handed over");

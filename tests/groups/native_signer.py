@@ -692,11 +692,6 @@ def a_socket_that_is_handed_over(t):
 # How it is confined
 
 
-def until_locked(number):
-    """Waits until a process has locked its memory: the other processes do so after the first one serves."""
-    authority.until(lambda: status_of(number)["VmLck"].split()[0] != "0", f"that process {number} locks its memory")
-
-
 def status_of(number):
     return dict(line.split(":", 1) for line in Path(f"/proc/{number}/status").read_text().splitlines())
 
@@ -706,7 +701,6 @@ def its_memory_is_locked_and_never_dumped(t):
     it = Authority(t)
     process = started(t, "--processes", 2, it.key)
     for number in (process.pid, *native.children(process)):
-        until_locked(number)
         status = {name: int(status_of(number)[name].split()[0]) for name in ("VmLck", "VmSize", "VmSwap")}
         t.true(status["VmLck"] > 0.9 * status["VmSize"] > 0 and status["VmSwap"] == 0, f"its memory is locked: {status}")
         core = next(line.split() for line in Path(f"/proc/{number}/limits").read_text().splitlines() if line.startswith("Max core"))
@@ -729,8 +723,6 @@ def another_user(t):
     nobody = path.stat().st_uid
     t.same((nobody != 0, path.stat().st_mode & 0o777), (True, 0o600), "the socket's owner and mode")
     for number in (process.pid, *native.children(process)):
-        until_locked(number)
-        authority.until(lambda: set(status_of(number)["Uid"].split()) == {str(nobody)}, f"that process {number} becomes the other user")
         status = status_of(number)
         t.same((set(status["Uid"].split()), status["Groups"].split()[1:]), ({str(nobody)}, []), "its user, and further groups")
         t.same((int(status["CapEff"], 16), int(status["CapPrm"], 16)), (0, 0), "its capabilities")
