@@ -6,13 +6,13 @@ use Rattle.sqlite.specs.Held.{Held}
 use Rattle.reg_core.specs.Records.{Records}
 use Rattle.reg_store_tables.specs.Columns.{Columns, office_days}
 use Rattle.reg_store_tables.specs.Shows.{AreBoth, Holds, ShowsBoth}
-use Rattle.reg_audit.specs.Complete.{AreTables, AreCounts, AreOffice, ShowSome, HoldSubscribers, HoldOrders, HoldCertificates, HoldRequests, HoldRevocations, HoldCrls, HoldLetters, HoldListings}
+use Rattle.reg_audit.specs.Complete.{AreTables, AreCounts, AreOffice, ShowSome, SubscribersAgree, OrdersAgree, CertificatesAgree, RequestsAgree, RevocationsAgree, CrlsAgree, LettersAgree, ListingsAgree}
 use Rattle.reg_audit.specs.Faults.{EndsAtBrokenRow, IsDenied}
 use Rattle.reg_audit.specs.declared.fault.AuditFault.{AuditFault}
 use Rattle.reg_audit.specs.declared.fault.AuditFault.TheVariants.{Memory, Store, Broken}
 
-pub some_shown : (db : Database) → AreTables db → AreOffice db.trees → HoldSubscribers db.trees → HoldOrders db.trees → HoldCertificates db.trees → HoldRequests db.trees → HoldRevocations db.trees → HoldCrls db.trees
-    → HoldLetters db.trees → AreCounts (db.trees 14) → HoldListings db.trees → ShowSome db
+pub some_shown : (db : Database) → AreTables db → AreOffice db.trees → SubscribersAgree db.trees → OrdersAgree db.trees → CertificatesAgree db.trees → RequestsAgree db.trees → RevocationsAgree db.trees → CrlsAgree db.trees
+    → LettersAgree db.trees → AreCounts (db.trees 14) → ListingsAgree db.trees → ShowSome db
 some_shown db are office subscribers orders certificates requests revocations crls letters counts listings = record {
   records = record {
     issuer = office.issuer;

@@ -18,7 +18,7 @@ use Rattle.reg_store_opening.specs.Examined.{SaysFound}
 use Rattle.reg_store_opening.specs.Said.{HasVersion, SaysNoRegister}
 use Rattle.reg_store_opening.specs.declared.version_check.OlderOffice.{OlderOffice}
 use Rattle.reg_audit.specs.Judged.{IsJudged}
-use Rattle.reg_audit.specs.AuditResults.{TellsOf, audit_result_of}
+use Rattle.reg_audit.specs.AuditResults.{ReportsTables, audit_result_of}
 
 -- a fault of who looks at the version
 abbrev fails_by : StoreFault → Result (Option OlderOffice) StoreFault
@@ -51,7 +51,7 @@ module _ {S : Type 0} (g : Ghosts S) (old new : Held S) (same : Stays (state g o
   }
 
   -- the version is an older one
-  pub ended_older : (HasCleanDisk (state g new) → TellsOf audit_result.Older (state g old).now) → IsJudged g old new (Ok audit_result.Older)
+  pub ended_older : (HasCleanDisk (state g new) → ReportsTables audit_result.Older (state g old).now) → IsJudged g old new (Ok audit_result.Older)
   ended_older tells = record {
     sound = λ records columns shows clean sound. absurd sound;
     shown = λ up presumed clean sound. absurd sound;
@@ -67,7 +67,7 @@ module _ {S : Type 0} (g : Ghosts S) (old new : Held S) (same : Stays (state g o
   }
 
   -- the schema is another
-  pub ended_other : (HasCleanDisk (state g new) → TellsOf audit_result.OtherSchema (state g old).now) → IsJudged g old new (Ok audit_result.OtherSchema)
+  pub ended_other : (HasCleanDisk (state g new) → ReportsTables audit_result.OtherSchema (state g old).now) → IsJudged g old new (Ok audit_result.OtherSchema)
   ended_other tells = record {
     sound = λ records columns shows clean sound. absurd sound;
     shown = λ up presumed clean sound. absurd sound;
@@ -83,20 +83,20 @@ module _ {S : Type 0} (g : Ghosts S) (old new : Held S) (same : Stays (state g o
   }
 
 -- an older version that was found is told
-pub says_older : (db : Database) (found : Option OlderOffice) → is_some found ≡ true → SaysFound db found → TellsOf audit_result.Older db
+pub says_older : (db : Database) (found : Option OlderOffice) → is_some found ≡ true → SaysFound db found → ReportsTables audit_result.Older db
 says_older db None some says = absurd (let bad : ⊥ = cc in bad)
 says_older db (Some older) some says = (older, says)
 
 -- rows that were looked at are those of the program's version, in a register's tables
-told_of : (db : Database) (audited : Result Audited AuditFault) → SaysFound db None × (db.schema ≡ register_schema) → IfOk (audit_result_of audited) (λ answer. TellsOf answer db)
+told_of : (db : Database) (audited : Result Audited AuditFault) → SaysFound db None × (db.schema ≡ register_schema) → IfOk (audit_result_of audited) (λ answer. ReportsTables answer db)
 told_of db (Ok found) says = says
 told_of db (Err (audit_fault.Broken broken)) says = says
 told_of db (Err audit_fault.Memory) says = tt
 told_of db (Err audit_fault.Store) says = tt
 
 pub tells_said : (db : Database) (audited : Result Audited AuditFault) (result : Result AuditResult StoreFault) → result ≡ audit_result_of audited
-    → SaysFound db None × (db.schema ≡ register_schema) → IfOk result (λ answer. TellsOf answer db)
-tells_said db audited result is says = subst (λ (r : Result AuditResult StoreFault). IfOk r (λ answer. TellsOf answer db)) (sym is) (told_of db audited says)
+    → SaysFound db None × (db.schema ≡ register_schema) → IfOk result (λ answer. ReportsTables answer db)
+tells_said db audited result is says = subst (λ (r : Result AuditResult StoreFault). IfOk r (λ answer. ReportsTables answer db)) (sym is) (told_of db audited says)
 
 -- who looks at rows has no fault of the version
 pub never_newer : {P : Type 0} (audited : Result Audited AuditFault) → audit_result_of audited ≡ Err fault.NewVersion → P

@@ -29,7 +29,7 @@ use Rattle.reg_audit_rows.specs.KeptAsRead.{standing_in, listed_in}
 use Rattle.reg_audit_rows.specs.declared.kept.Standing.{Standing}
 use Rattle.reg_audit_rows.specs.declared.kept.Listed.{Listed}
 use Rattle.reg_audit.specs.Cells.{CountedFrom, IsOfSomeRecord}
-use Rattle.reg_audit.specs.Complete.{AreTables, HoldSubscribers, HoldOrders, HoldCertificates, HoldRequests, HoldRevocations, HoldCrls, HoldLetters, HoldListings}
+use Rattle.reg_audit.specs.Complete.{AreTables, SubscribersAgree, OrdersAgree, CertificatesAgree, RequestsAgree, RevocationsAgree, CrlsAgree, LettersAgree, ListingsAgree}
 use Rattle.reg_audit.specs.ReadTexts.{IsReadFrom}
 use Rattle.reg_audit.specs.ShownRows.{shown_standing, shown_listed}
 use Rattle.reg_audit.specs.declared.sql.What.TheVariants.{Subscribers, Orders, Certificates, Requests, Revocations, Crls, Standings, Listings, CertificateRowids, RevocationRowids, StandingRowids, ListingRowids}
@@ -87,7 +87,7 @@ each_certificate id row fit counted stands =
     record { it = it; well_is = stands.1; row_is = is_row None cert.columns row (number id ∷ stored_certificate it) fit.typed (refl {a = 5}) (ap is_null cells.1.1.1.0) (counted, cells) }
 
 pub certificates_hold : (db : Database) → AreTables db → (rows rowids : List Row) → IsReadFrom db Certificates rows → IsReadFrom db CertificateRowids rowids → CountedFrom 1 rowids → AllByRecursion (IsOfSomeRecord certificate_well shown_certificate) rows
-    → HoldCertificates db.trees
+    → CertificatesAgree db.trees
 certificates_hold db are rows rowids reads reads_ids counted stand =
     let table = are.rises.1.1.1.0 in
     let counts = counts_tree 4 rowid_alone CERTIFICATE_ROWIDS.now rowid_name certificate_rowids_mean db refl rowids reads_ids table (λ row. refl) counted in
@@ -104,7 +104,7 @@ each_revocation id row fit counted stands =
     record { it = it; well_is = stands.1; row_is = is_row None revocation.columns row (number id ∷ stored_revocation it) fit.typed (refl {a = 6}) (ap is_null cells.1.1.1.1.0) (counted, cells) }
 
 pub revocations_hold : (db : Database) → AreTables db → (rows rowids : List Row) → IsReadFrom db Revocations rows → IsReadFrom db RevocationRowids rowids → CountedFrom 1 rowids → AllByRecursion (IsOfSomeRecord revocation_well shown_revocation) rows
-    → HoldRevocations db.trees
+    → RevocationsAgree db.trees
 revocations_hold db are rows rowids reads reads_ids counted stand =
     let table = are.rises.1.1.1.1.1.0 in
     let counts = counts_tree 8 rowid_alone REVOCATION_ROWIDS.now rowid_name revocation_rowids_mean db refl rowids reads_ids table (λ row. refl) counted in
@@ -124,7 +124,7 @@ each_letter id row fit counted stands =
     record { it = it; well_is = stands.1; row_is = is_row None standing.columns row (number id ∷ stored_standing it) fit.typed (refl {a = 4}) (ap is_null cells.1.1.0) (counted, cells) }
 
 pub letters_hold : (db : Database) → AreTables db → (rows rowids : List Row) → IsReadFrom db Standings rows → IsReadFrom db StandingRowids rowids → CountedFrom 1 rowids → AllByRecursion (IsOfSomeRecord standing_well shown_standing) rows
-    → HoldLetters db.trees
+    → LettersAgree db.trees
 letters_hold db are rows rowids reads reads_ids counted stand =
     let table = are.rises.1.1.1.1.1.1.1.0 in
     let counts = counts_tree 12 rowid_alone STANDING_ROWIDS.now rowid_name standing_rowids_mean db refl rowids reads_ids table (λ row. refl) counted in
@@ -143,7 +143,7 @@ each_listing id row full counted stands =
     record { it = it; well_is = stands.1; row_is = is_whole_row row (number id ∷ stored_listed it) full (counted, stands.2) }
 
 pub listings_hold : (db : Database) → AreTables db → (rows rowids : List Row) → IsReadFrom db Listings rows → IsReadFrom db ListingRowids rowids → CountedFrom 1 rowids → AllByRecursion (IsOfSomeRecord listing_well shown_listed) rows
-    → HoldListings db.trees
+    → ListingsAgree db.trees
 listings_hold db are rows rowids reads reads_ids counted stand =
     let table = are.rises.1.1.1.1.1.1.1.1.1.0 in
     let counts = counts_tree 15 rowid_alone LISTING_ROWIDS.now rowid_name listing_rowids_mean db refl rowids reads_ids table (λ row. refl) counted in
@@ -166,7 +166,7 @@ each_subscriber id row fit counted stands =
       key_is = ap number_in (sym cells.0 ∙ counted);
     }
 
-pub subscribers_hold : (db : Database) → AreTables db → (rows : List Row) → IsReadFrom db Subscribers rows → CountedFrom 1 rows → AllByRecursion (IsOfSomeRecord any shown_subscriber) rows → HoldSubscribers db.trees
+pub subscribers_hold : (db : Database) → AreTables db → (rows : List Row) → IsReadFrom db Subscribers rows → CountedFrom 1 rows → AllByRecursion (IsOfSomeRecord any shown_subscriber) rows → SubscribersAgree db.trees
 subscribers_hold db are rows reads counted stand =
     let table = are.rises.1.0 in
     let counts = counts_tree 1 subscribers_columns SUBSCRIBERS.now subscribers_names subscribers_mean db refl rows reads table (λ row. refl) counted in
@@ -184,7 +184,7 @@ each_order id row fit counted stands =
       key_is = ap number_in (sym cells.0 ∙ counted);
     }
 
-pub orders_hold : (db : Database) → AreTables db → (rows : List Row) → IsReadFrom db Orders rows → CountedFrom 1 rows → AllByRecursion (IsOfSomeRecord any shown_order) rows → HoldOrders db.trees
+pub orders_hold : (db : Database) → AreTables db → (rows : List Row) → IsReadFrom db Orders rows → CountedFrom 1 rows → AllByRecursion (IsOfSomeRecord any shown_order) rows → OrdersAgree db.trees
 orders_hold db are rows reads counted stand =
     let table = are.rises.1.1.0 in
     let counts = counts_tree 3 orders_columns ORDERS.now orders_names orders_mean db refl rows reads table (λ row. refl) counted in
@@ -205,7 +205,7 @@ each_request id row fit counted stands =
       key_is = ap number_in (sym cells.0 ∙ counted);
     }
 
-pub requests_hold : (db : Database) → AreTables db → (rows : List Row) → IsReadFrom db Requests rows → CountedFrom 1 rows → AllByRecursion (IsOfSomeRecord request_well shown_request) rows → HoldRequests db.trees
+pub requests_hold : (db : Database) → AreTables db → (rows : List Row) → IsReadFrom db Requests rows → CountedFrom 1 rows → AllByRecursion (IsOfSomeRecord request_well shown_request) rows → RequestsAgree db.trees
 requests_hold db are rows reads counted stand =
     let table = are.rises.1.1.1.1.0 in
     let counts = counts_tree 7 requests_columns REQUESTS.now requests_names requests_mean db refl rows reads table (λ row. refl) counted in
@@ -228,7 +228,7 @@ each_crl id row fit counted stands =
       key_is = ap number_in (sym cells.0 ∙ counted);
     }
 
-pub crls_hold : (db : Database) → AreTables db → (rows : List Row) → IsReadFrom db Crls rows → CountedFrom 1 rows → AllByRecursion (IsOfSomeRecord any shown_crl) rows → HoldCrls db.trees
+pub crls_hold : (db : Database) → AreTables db → (rows : List Row) → IsReadFrom db Crls rows → CountedFrom 1 rows → AllByRecursion (IsOfSomeRecord any shown_crl) rows → CrlsAgree db.trees
 crls_hold db are rows reads counted stand =
     let table = are.rises.1.1.1.1.1.1.0 in
     let counts = counts_tree 11 crls_columns CRLS.now crls_names crls_mean db refl rows reads table (λ row. refl) counted in

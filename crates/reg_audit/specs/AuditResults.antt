@@ -33,15 +33,15 @@ abbrev pub CountedBy : AuditResult → Records → Type 0
 CountedBy (Sound found) records = AreNumbersOf records found
 CountedBy _ records = Unit {0}
 
--- what a row that was told denies of records that the tables show, and of what is kept beside them
+-- what a reported row denies of records that the tables show, and of what is kept beside them
 abbrev pub DeniedBy : AuditResult → Records → Columns → Type 0
 DeniedBy (Broken row) records columns = Denies row records columns
 DeniedBy _ records columns = Unit {0}
 
--- what an answer tells of the tables that were looked at: an older version and its office; or the program's version and an office,
+-- what an answer says of the tables that were read: an older version and its office; or the program's version and an office,
 -- in tables that are not a register's, or that are, and whose rows were looked at
-abbrev pub TellsOf : AuditResult → Database → Type 0
-TellsOf Older db = (office : OlderOffice) × SaysFound db (Some office)
-TellsOf OtherSchema db = SaysFound db None × (db.schema ≢ register_schema)
-TellsOf (Sound found) db = SaysFound db None × (db.schema ≡ register_schema)
-TellsOf (Broken row) db = SaysFound db None × (db.schema ≡ register_schema)
+abbrev pub ReportsTables : AuditResult → Database → Type 0
+ReportsTables Older db = (office : OlderOffice) × SaysFound db (Some office)
+ReportsTables OtherSchema db = SaysFound db None × (db.schema ≢ register_schema)
+ReportsTables (Sound found) db = SaysFound db None × (db.schema ≡ register_schema)
+ReportsTables (Broken row) db = SaysFound db None × (db.schema ≡ register_schema)

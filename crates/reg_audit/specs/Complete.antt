@@ -57,29 +57,29 @@ pub record AreOffice (trees : Trees) : Type 0 where
   pub in_range : IsPolicy policy
 
 -- the rows of each table are those of some records, or of what is kept beside them
-abbrev pub HoldSubscribers : Trees → Type 0
-HoldSubscribers trees = AreKeyed {A = SubscriberRow} (λ _. Unit {0}) stored_subscriber (λ row. row.id) (trees 1)
+abbrev pub SubscribersAgree : Trees → Type 0
+SubscribersAgree trees = AreKeyed {A = SubscriberRow} (λ _. Unit {0}) stored_subscriber (λ row. row.id) (trees 1)
 
-abbrev pub HoldOrders : Trees → Type 0
-HoldOrders trees = AreKeyed {A = OrderRow} (λ _. Unit {0}) stored_order (λ row. row.id) (trees 3)
+abbrev pub OrdersAgree : Trees → Type 0
+OrdersAgree trees = AreKeyed {A = OrderRow} (λ _. Unit {0}) stored_order (λ row. row.id) (trees 3)
 
-abbrev pub HoldCertificates : Trees → Type 0
-HoldCertificates trees = AreCounted {A = CertRow} (λ row. IsSerial row.serial) stored_certificate (trees 4)
+abbrev pub CertificatesAgree : Trees → Type 0
+CertificatesAgree trees = AreCounted {A = CertRow} (λ row. IsSerial row.serial) stored_certificate (trees 4)
 
-abbrev pub HoldRequests : Trees → Type 0
-HoldRequests trees = AreKeyed {A = RequestRow} (λ row. IsSerial row.serial) stored_request (λ row. row.id) (trees 7)
+abbrev pub RequestsAgree : Trees → Type 0
+RequestsAgree trees = AreKeyed {A = RequestRow} (λ row. IsSerial row.serial) stored_request (λ row. row.id) (trees 7)
 
-abbrev pub HoldRevocations : Trees → Type 0
-HoldRevocations trees = AreCounted {A = RevocationRow} (λ row. IsSerial row.serial) stored_revocation (trees 8)
+abbrev pub RevocationsAgree : Trees → Type 0
+RevocationsAgree trees = AreCounted {A = RevocationRow} (λ row. IsSerial row.serial) stored_revocation (trees 8)
 
-abbrev pub HoldCrls : Trees → Type 0
-HoldCrls trees = AreKeyed {A = Crl} (λ _. Unit {0}) stored_crl (λ crl. crl.number) (trees 11)
+abbrev pub CrlsAgree : Trees → Type 0
+CrlsAgree trees = AreKeyed {A = Crl} (λ _. Unit {0}) stored_crl (λ crl. crl.number) (trees 11)
 
-abbrev pub HoldLetters : Trees → Type 0
-HoldLetters trees = AreCounted {A = Standing} (λ row. IsSerial row.serial) stored_standing (trees 12)
+abbrev pub LettersAgree : Trees → Type 0
+LettersAgree trees = AreCounted {A = Standing} (λ row. IsSerial row.serial) stored_standing (trees 12)
 
-abbrev pub HoldListings : Trees → Type 0
-HoldListings trees = AreCounted {A = Listed} (λ row. IsSerial row.serial) stored_listed (trees 15)
+abbrev pub ListingsAgree : Trees → Type 0
+ListingsAgree trees = AreCounted {A = Listed} (λ row. IsSerial row.serial) stored_listed (trees 15)
 
 -- the one row of the counts
 pub record AreCounts (rows : List Row) : Type 0 where

@@ -20,7 +20,7 @@ abbrev pub fault_of_call : DatabaseFault → AuditFault
 fault_of_call fault.Memory = Memory
 fault_of_call fault.Store = Store
 
--- what a check of rows tells
+-- the result of a check of rows
 abbrev pub fault_of_check : CheckFault → AuditFault
 fault_of_check found.Memory = Memory
 fault_of_check (found.Broken broken) = Broken broken
@@ -41,14 +41,14 @@ IsBrokenRow Memory = ⊥
 IsBrokenRow Store = ⊥
 IsBrokenRow (Broken broken) = broken.why ≢ OtherBytes
 
--- What a row that is told denies of records that tables show, and of what is kept beside them: that the records have a register's
+-- What a reported row denies of records that tables show, and of what is kept beside them: that the records have a register's
 -- values and are sound with each CRL's bytes those of what it lists, that what is kept follows from them, and that the office was
 -- made with days that a schedule can allow. Of a row that is not told for its bytes also whatever the bytes of CRLs are.
 pub record Denies (row : Row) (records : Records) (columns : Columns) : Type 0 where
   pub whole : HasValues records → Sound IsSomeCrl records → Kept columns records → HasAllowedDays columns → ⊥
   pub rows : row.why ≢ OtherBytes → HasValues records → SoundRows records → Kept columns records → HasAllowedDays columns → ⊥
 
--- an audit that ends so denies it by the row that it tells
+-- an audit that ends so denies it by the row that it reports
 abbrev pub IsDenied : AuditFault → Records → Columns → Type 0
 IsDenied Memory records columns = Unit {0}
 IsDenied Store records columns = Unit {0}

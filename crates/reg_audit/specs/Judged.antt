@@ -17,7 +17,7 @@ use Rattle.reg_audit.specs.Stored.{IsSomeCrl}
 use Rattle.reg_audit.specs.ReadableValues.{HasAllowedDays}
 use Rattle.reg_audit_rows.specs.declared.audit_result.AuditResult.{AuditResult}
 use Rattle.reg_audit.specs.Presumed.{IsPresumed}
-use Rattle.reg_audit.specs.AuditResults.{CountedBy, DeniedBy, IsSound, TellsOf}
+use Rattle.reg_audit.specs.AuditResults.{CountedBy, DeniedBy, IsSound, ReportsTables}
 
 -- What is sound is so whatever records the tables show, and is shown where what is presumed holds; it is counted; what is broken shows no
 -- such records; what else is told is what the tables are. A fault is the version's, memory's or the database's. Nothing is changed.
@@ -28,7 +28,7 @@ pub record IsJudged {S : Type 0} (g : Ghosts S) (old new : Held S) (result : Res
       → IfOk result (λ audit_result. IsSound audit_result → ShowsSound (state g old).now)
   pub counted : (records : Records) (columns : Columns) → ShowsBoth g old records columns → HasCleanDisk (state g new) → IfOk result (λ audit_result. CountedBy audit_result records)
   pub broken : (records : Records) (columns : Columns) → ShowsBoth g old records columns → HasCleanDisk (state g new) → IfOk result (λ audit_result. DeniedBy audit_result records columns)
-  pub tells : HasCleanDisk (state g new) → IfOk result (λ audit_result. TellsOf audit_result (state g old).now)
+  pub tells : HasCleanDisk (state g new) → IfOk result (λ audit_result. ReportsTables audit_result (state g old).now)
   pub newer : HasCleanDisk (state g new) → result ≡ Err NewVersion → (n : ℕ) × (3 < n) × HasVersion (state g old).now n
   pub none : HasCleanDisk (state g new) → result ≡ Err NotARegister → SaysNoRegister (state g old).now
   pub register : IfOk result (λ audit_result. IsSound audit_result → IsRegister (state g new))

@@ -1,4 +1,4 @@
--- The numbers that an audit tells.
+-- The numbers that an audit reports.
 use Rattle.std.specs.Prelude.{◌≡◌, length}
 use Rattle.reg_core.specs.Records.{Records}
 use Rattle.reg_audit_rows.specs.declared.audit_result.Audited.{Audited}

@@ -13,7 +13,7 @@ ghost use Rattle.reg_audit.specs.Stored.{IsSomeCrl};
 ghost use Rattle.reg_audit.specs.ReadableValues.{HasAllowedDays};
 ghost use Rattle.reg_audit.specs.Judged.{IsJudged};
 ghost use Rattle.reg_audit.specs.Presumed.{IsOverRegister, IsPresumed};
-ghost use Rattle.reg_audit.specs.AuditResults.{CountedBy, DeniedBy, IsSound, TellsOf, audit_result_of};
+ghost use Rattle.reg_audit.specs.AuditResults.{CountedBy, DeniedBy, IsSound, ReportsTables, audit_result_of};
 ghost use Rattle.reg_audit.specs.ShownTables.{OnShown};
 
 use crate::{AuditFault, ProgressObserver, audit};
@@ -51,14 +51,14 @@ fn is_over_register<S: Alter>(alloc: Global, conn: &Connection<S>) -> Result<boo
     }
 }
 
-/// Looks at the version, the issuer, the policy and the last accepted moment as who opens a register does; then, where the
+/// Looks at the version, the issuer, the policy and the last accepted moment as the opening of a register does; then, where the
 /// version is the program's, whether the schema is a register's ([`reg_store_schema::is_register`]), and where it is, at all rows
 /// ([`crate::audit`]). Nothing is changed; a register of version 1 or 2 is not made newer. The connection is in no
 /// transaction, as one that was just opened. The observer is told how far it is.
 ///
 /// Where the answer is `Sound`, there are such records if the connection was open and what is presumed of it holds
 /// (`IsPresumed`). Where it is `Broken`, the tables show none; and, but for the bytes of a CRL, none whatever the bytes of CRLs
-/// are (`Denies`). `Older` and `OtherSchema` tell what the tables are (`TellsOf`).
+/// are (`Denies`). `Older` and `OtherSchema` tell what the tables are (`ReportsTables`).
 ///
 /// # Errors
 /// `NotARegister` and `NewVersion` as [`reg_store_opening::open`] has them; `Memory`; `Store` where the database fails.
@@ -78,7 +78,7 @@ pub fn judge<S: Alter, W: ProgressObserver>(
     ensures broken { OnShown S.Store conn.old conn.new
         (λ records columns. IfOk result (λ audit_result. DeniedBy audit_result records columns)) }
     ensures tells { HasCleanDisk (state S.Store conn.new)
-        → IfOk result (λ audit_result. TellsOf audit_result (state S.Store conn.old).now) }
+        → IfOk result (λ audit_result. ReportsTables audit_result (state S.Store conn.old).now) }
     ensures newer { HasCleanDisk (state S.Store conn.new) → result ≡ Err StoreFault.NewVersion
         → (n : ℕ) × (3 < n) × HasVersion (state S.Store conn.old).now n }
     ensures none { HasCleanDisk (state S.Store conn.new) → result ≡ Err StoreFault.NotARegister

@@ -1,4 +1,4 @@
-//! Whether a register's tables hold a register's rows and nothing else: then there are records that they show.
+//! Checks that a register's tables have only rows that a register writes: then there are records that they show.
 
 ghost use Rattle.std.specs.Prelude.{◌≡◌, ℕ, IsTrue, IfErr, IfOk, IfSome, OnOk};
 ghost use Rattle.std.specs.List.{AllByRecursion, AllZip};
@@ -28,7 +28,7 @@ use reg_store_tables::sql_values::number_at;
 use sqlite::Row;
 use std::alloc::Global;
 
-/// What is read besides the rows, in this order.
+/// The other columns that an audit reads, in this order.
 pub(crate) const BESIDE: [What; 7] = [
     What::CertificateRowids,
     What::RevocationRowids,
@@ -55,9 +55,9 @@ fn check_counted(table: RegisterTable, rows: &[Row]) -> Result<(), AuditFault>
     ensures counted { OnOk result (CountedFrom 1 rows.now) }
     ensures broken { CountedFrom 1 rows.now → IfErr result (λ fault. ¬ EndsAtBrokenRow fault) }
 {
-    for (place, row) in rows.iter().enumerate() {
-        if !is_number(row, 0, place as u64 + 1) {
-            return Err(broken_at(table, place, Defect::OutOfOrder));
+    for (row_index, row) in rows.iter().enumerate() {
+        if !is_number(row, 0, row_index as u64 + 1) {
+            return Err(broken_at(table, row_index, Defect::OutOfOrder));
         }
     }
     Ok(())
@@ -72,7 +72,7 @@ fn stands<T: ShownRow>(row: &Row) -> bool
     }
 }
 
-/// Each row is that of some record.
+/// Checks that each row is the row of some record.
 fn each_stands<T: ShownRow>(rows: &[Row]) -> Result<(), AuditFault>
     ensures stand { OnOk result (AllByRecursion (IsOfSomeRecord T.is_keyed T.shown) rows.now) }
     ensures broken { IfErr result (λ fault. ¬ EndsAtBrokenRow fault) }
@@ -85,7 +85,7 @@ fn each_stands<T: ShownRow>(rows: &[Row]) -> Result<(), AuditFault>
     Ok(())
 }
 
-/// The rows of a table are those of some records, whose numbers are 1, 2, 3 and so on.
+/// Checks that the rows of a table are those of some records, with the ids or CRL numbers 1, 2, 3 and so on.
 fn check_keyed<T: ShownRow>(table: RegisterTable, rows: &[Row]) -> Result<(), AuditFault>
     ensures counted { OnOk result (CountedFrom 1 rows.now) }
     ensures stand { OnOk result (AllByRecursion (IsOfSomeRecord T.is_keyed T.shown) rows.now) }
@@ -95,7 +95,7 @@ fn check_keyed<T: ShownRow>(table: RegisterTable, rows: &[Row]) -> Result<(), Au
     each_stands::<T>(rows)
 }
 
-/// The rows of a table are those of some records, and its rowids are 1, 2, 3 and so on.
+/// Checks that the rows of a table are those of some records, with the rowids 1, 2, 3 and so on.
 fn check_table<T: ShownRow>(
     table: RegisterTable,
     rows: &[Row],
@@ -109,7 +109,7 @@ fn check_table<T: ShownRow>(
     each_stands::<T>(rows)
 }
 
-/// The one row of kept is that of counts.
+/// Checks that the table `kept` has one row, with counts, and the rowid 1.
 fn check_counts(rows: &[Row], rowids: &[Row]) -> Result<(), AuditFault>
     ensures hold { (db : Database) → AreTables db → IsReadFrom db OfCounts rows.now
         → IsReadFrom db CountsRowid rowids.now → OnOk result (AreCounts (db.trees 14)) }
@@ -132,7 +132,7 @@ struct Terms {
     last: u64,
 }
 
-/// The numbers of the office's one row, where it is of this version.
+/// The numbers of the one row of `office`; `None` if that has another version or form.
 fn terms_in(rows: &[Row]) -> Option<Terms>
     ensures { IfSome result (IsTermsOf rows.now) }
 {
@@ -191,8 +191,8 @@ fn check_office(alloc: Global, office: &[Row], steps: &[Row]) -> Result<(), Audi
     }
 }
 
-/// Whether the rows of all tables are those of records, and those of columns beside them: what was read of the tables, in the
-/// order of [`crate::whole_audit::WHOLE`], and then in that of [`BESIDE`].
+/// Checks that the rows of all tables are those of records. `all` is what was read in the order of
+/// [`crate::whole_audit::WHOLE`], and `more` what was read in the order of [`BESIDE`].
 pub(crate) fn check_complete(
     alloc: Global,
     all: &[Vec<Row>],

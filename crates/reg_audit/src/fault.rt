@@ -50,7 +50,7 @@ impl<T: Drop> From<AllocFailed<T>> for AuditFault {
 }
 
 /// The row at a place of a table, counted from 0, breaks a rule.
-pub(crate) fn broken_at(table: RegisterTable, place: usize, why: Defect) -> AuditFault {
-    let row = (place as u64).saturating_add(1);
+pub(crate) fn broken_at(table: RegisterTable, row_index: usize, why: Defect) -> AuditFault {
+    let row = (row_index as u64).saturating_add(1);
     AuditFault::Broken(BrokenRow { table, row, why })
 }

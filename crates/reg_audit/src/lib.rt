@@ -1,4 +1,4 @@
-//! A register's tables, read whole and audited.
+//! Reads all tables of a register and audits them.
 #![tactic(auto)]
 
 mod audit_result;

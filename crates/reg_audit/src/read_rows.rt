@@ -22,15 +22,15 @@ use reg_audit_rows::{Audited, KeptRows, Rows, check};
 use sqlite::Row;
 use std::alloc::Global;
 
-pub(crate) fn rows_at(all: &[Vec<Row>], place: usize) -> &[Row]
+pub(crate) fn rows_at(all: &[Vec<Row>], row_index: usize) -> &[Row]
     ensures read { (records : Records) → (columns : Columns) → (whats : List What) → (other : What)
-        → AreRead records columns whats all.now (λ rows. rows.items) → place < length whats
-        → IsReadOf records columns (get_or whats place other) result.now }
+        → AreRead records columns whats all.now (λ rows. rows.items) → row_index < length whats
+        → IsReadOf records columns (get_or whats row_index other) result.now }
     ensures from { (db : Database) → (whats : List What) → (other : What)
-        → AreReadFrom db whats all.now (λ rows. rows.items) → place < length whats
-        → IsReadFrom db (get_or whats place other) result.now }
+        → AreReadFrom db whats all.now (λ rows. rows.items) → row_index < length whats
+        → IsReadFrom db (get_or whats row_index other) result.now }
 {
-    match all.get(place) {
+    match all.get(row_index) {
         Some(rows) => rows.as_slice(),
         None => &[],
     }

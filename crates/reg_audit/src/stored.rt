@@ -1,4 +1,4 @@
-//! Whether the bytes of the stored CRLs are those of what the records list.
+//! Checks that the bytes of each stored CRL encode the entries that the records have for it.
 
 ghost use Rattle.std.specs.Prelude.{◌≡◌, ◌<◌, ◌≤◌, length, OnOk, IfOk, IfErr, IfSome, IsSomeAnd};
 ghost use Rattle.std.specs.List.{AllByRecursion};
@@ -37,7 +37,7 @@ const SEQUENCE: u8 = 0x30;
 
 const MOST_ALGORITHM: usize = 1_024;
 
-/// The most octets of a CRL: those that are made here have little more than half as many at most.
+/// The most octets of a CRL. The longest one that a register issues has little more than half as many.
 const MOST_CRL: usize = 268_435_456;
 
 fn other_bytes(number: u64) -> AuditFault
@@ -50,7 +50,7 @@ fn other_bytes(number: u64) -> AuditFault
     })
 }
 
-/// The value behind what is signed in a CRL (RFC 5280 5.1.1).
+/// The value that follows the tbsCertList of a CRL (RFC 5280 5.1.1).
 fn value_behind_signed(crl: &[u8]) -> Option<Tlv<'_>>
     ensures exact { Gives (λ value. record { tag = value.tag; contents = value.contents.now }) result (behind_signed crl.now) }
     ensures value { IfSome result (λ value. IsTlv value.raw.now value.tag value.contents.now) }
@@ -74,7 +74,7 @@ fn as_algorithm(value: Tlv<'_>) -> Option<&[u8]>
     }
 }
 
-/// The AlgorithmIdentifier before the signature of a CRL (RFC 5280 5.1.1.2), where one stands there.
+/// The signatureAlgorithm of a CRL (RFC 5280 5.1.1.2), if it has one.
 fn algorithm_in(crl: &[u8]) -> Option<&[u8]>
     ensures found { IfSome result (λ found. IsAlgorithm found.now) }
     ensures one { (list : CertList) → (is : IsSomeCrl list crl.now)
@@ -86,7 +86,7 @@ fn algorithm_in(crl: &[u8]) -> Option<&[u8]>
     }
 }
 
-/// The bytes are those of the CRL that the records list, under the algorithm that stands in them.
+/// Checks that the bytes are the CRL of these entries, with the algorithm that they name.
 fn check_bytes(
     alloc: Global,
     issuer: &Issuer,
@@ -106,7 +106,7 @@ fn check_bytes(
     if bytes.len() > MOST_CRL {
         return Err(other_bytes(crl.number));
     }
-    // No row is read with such a thisUpdate: the test is what makes nextUpdate a moment.
+    // No row is read with such a thisUpdate. The test shows the prover that nextUpdate is a moment.
     if crl.this_update >= Moment::CLOCK_END {
         return Err(other_bytes(crl.number));
     }
@@ -122,7 +122,7 @@ fn check_bytes(
     }
 }
 
-/// The stored bytes of one CRL are those of what the records list in it.
+/// Checks that the stored bytes of one CRL are those of its entries.
 fn check_stored<S: Alter>(
     alloc: Global,
     conn: &mut Connection<S>,
@@ -148,7 +148,7 @@ fn check_stored<S: Alter>(
     }
 }
 
-/// The same of each CRL. The bytes of one are held at a time.
+/// Checks each CRL. Only one CRL's bytes are in memory at a time.
 fn check_each<S: Alter, W: ProgressObserver>(
     alloc: Global,
     conn: &mut Connection<S>,
@@ -177,7 +177,7 @@ fn check_each<S: Alter, W: ProgressObserver>(
     Ok(())
 }
 
-/// What a CRL has beside what it lists: the issuer, and the seconds from its thisUpdate to its nextUpdate.
+/// What a CRL has besides its entries: the issuer, and the seconds from its thisUpdate to its nextUpdate.
 fn terms<S: Alter>(conn: &mut Connection<S>) -> Result<(Issuer, u64), DatabaseFault>
     ensures found { (records : Records) → Shows S.Store conn.old records
         → HasCleanDisk (state S.Store conn.new)
@@ -190,8 +190,8 @@ fn terms<S: Alter>(conn: &mut Connection<S>) -> Result<(Issuer, u64), DatabaseFa
     Ok((issuer, policy.crl_life()))
 }
 
-/// The stored bytes of each CRL are those of what the records list in it, under some algorithm and whatever signature. The
-/// rows are those that were read of the tables, in the order of [`crate::whole_audit::WHOLE`]. It is told how many were compared.
+/// Checks that the stored bytes of each CRL are those of its entries, with any one algorithm and any signature. `all` is what
+/// was read of the tables, in the order of [`crate::whole_audit::WHOLE`]. The observer is called after each CRL.
 pub(crate) fn check_crls<S: Alter, W: ProgressObserver>(
     alloc: Global,
     conn: &mut Connection<S>,

@@ -1,4 +1,4 @@
-//! What the rows of each table show, where a row has a value that no register writes told as broken.
+//! What the rows of each table show, where a row with a value that no register writes is reported as broken.
 
 ghost use Rattle.std.specs.Prelude.{◌≡◌, [], ◌∷◌, List, map, IfOk, IfErr};
 ghost use Rattle.std.specs.List.{AllByRecursion};
@@ -110,7 +110,7 @@ pub(crate) fn typed<T: ShownRow>(
     match rows_in::<T>(alloc, rows) {
         Ok(found) => Ok(found),
         Err(Unshown::Memory) => Err(AuditFault::Memory),
-        Err(Unshown::At(place)) => Err(broken_at(table, place, Defect::NoValue)),
+        Err(Unshown::At(row_index)) => Err(broken_at(table, row_index, Defect::NoValue)),
     }
 }
 

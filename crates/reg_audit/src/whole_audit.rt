@@ -27,7 +27,7 @@ use reg_audit_rows::Audited;
 use sqlite::{Alter, Connection};
 use std::alloc::Global;
 
-/// What is read, in this order.
+/// The tables, in the order in which they are read.
 const WHOLE: [What; 10] = [
     What::Office,
     What::Subscribers,
@@ -41,18 +41,18 @@ const WHOLE: [What; 10] = [
     What::Listings,
 ];
 
-/// Reads the rows of a register's tables whole, and checks that they are those of sound records, with the letters, counts
-/// and last listings that follow from them ([`reg_audit_rows::check`]); then reads the bytes of each CRL in turn, and checks
-/// that they are those of what the records list in it (RFC 5280 5.1), under the algorithm that stands in them and whatever
-/// signature ([`reg_audit_rows::check_crl`]). At last it reads the rowids, the office and the schedule. It looks neither at
-/// whether a signature verifies nor at the schema, changes nothing, and tells the observer how far it is.
+/// Reads all rows of a register's tables, and checks that they show sound records, and that the status letters, counts and
+/// CRL entries are those that follow from the records ([`reg_audit_rows::check`]). Then it reads each CRL in turn, and checks
+/// that its bytes encode the entries that the records have for it (RFC 5280 5.1), with the algorithm that the CRL names and
+/// any signature ([`reg_audit_rows::check_crl`]). Last, it reads the rowids, the office and the schedule. It verifies no
+/// signature, does not check the schema, changes nothing, and reports its progress to the observer.
 ///
-/// A value that the register's type lacks is told as a broken row. A row that is told as broken denies what `IsDenied` says.
-/// Over tables that obey a register's schema (`AreTables`) there are records that they show, where all is found well.
+/// A value that the register's types can't hold is reported as a broken row. `IsDenied` says what a broken row disproves.
+/// If the tables have a register's schema (`AreTables`) and the audit succeeds, they show sound records (`ShowsSound`).
 ///
 /// # Errors
-/// `Broken` with a row that breaks a rule; `Memory`; `Store` where the database fails, or where the issuer or the policy is
-/// one that no register writes.
+/// `Broken` with a row that breaks a rule; `Memory`; `Store` if the database fails, or if no register writes the issuer or
+/// the policy that it has.
 pub fn audit<S: Alter, W: ProgressObserver>(
     alloc: Global,
     conn: &mut Connection<S>,

@@ -36,7 +36,7 @@ fn read_whole<S: Alter>(conn: &mut Connection<S>, what: What) -> Result<Vec<Row>
     read(conn, text(what))
 }
 
-/// All rows of each of these tables. It is told how many were read.
+/// All rows of each of these tables. The observer gets the count of rows read.
 pub(crate) fn read_each<S: Alter, W: ProgressObserver>(
     alloc: Global,
     conn: &mut Connection<S>,

@@ -1,4 +1,4 @@
--- The lines that tell what an audit says.
+-- The lines of an audit's report.
 use Rattle.std.specs.Prelude.{ℕ, List, ◌++◌, codes}
 use Rattle.std.specs.Fmt.{decimal}
 use Rattle.reg_audit_rows.specs.declared.broken_row.BrokenRow.{BrokenRow}

@@ -19,8 +19,8 @@ abbrev pub IsCrlOf : List ℕ → CertList → List ℕ → Type 0
 IsCrlOf algorithm crl bytes = (signature : List ℕ) × (length signature ≤ 65536) × (bytes ≡ certificate_list (tbs_of algorithm crl) algorithm signature)
 
 -- a CRL of the issuer, with the number and thisUpdate of a row, and these entries
-abbrev pub list_given : Issuer → CrlRow → ℕ → List Entry → CertList
-list_given issuer crl next_update entries =
+abbrev pub crl_with_entries : Issuer → CrlRow → ℕ → List Entry → CertList
+crl_with_entries issuer crl next_update entries =
     record { issuer = issuer; number = crl.number; this_update = crl.this_update; next_update = next_update; entries = entries }
 
 -- what stands behind the first octet

@@ -14,9 +14,9 @@ pub(crate) fn names_are_good(subscribers: &[SubscriberRow]) -> Result<(), CheckF
     ensures ok { OnOk result (AllByRecursion (λ row. IsName row.name) subscribers.now) }
     ensures broken { NotBrokenIf (AllByRecursion (λ row. IsName row.name) subscribers.now) result }
 {
-    for (place, subscriber) in subscribers.iter().enumerate() {
+    for (row_index, subscriber) in subscribers.iter().enumerate() {
         if !subscriber.name.is_name() {
-            return Err(broken_at(RegisterTable::Subscriber, place, Defect::BadName));
+            return Err(broken_at(RegisterTable::Subscriber, row_index, Defect::BadName));
         }
     }
     Ok(())
@@ -26,9 +26,9 @@ pub(crate) fn days_are_allowed(orders: &[OrderRow]) -> Result<(), CheckFault>
     ensures ok { OnOk result (AllByRecursion (λ row. IsDays row.days) orders.now) }
     ensures broken { NotBrokenIf (AllByRecursion (λ row. IsDays row.days) orders.now) result }
 {
-    for (place, order) in orders.iter().enumerate() {
+    for (row_index, order) in orders.iter().enumerate() {
         if !Schedule::can_allow(order.days) {
-            return Err(broken_at(RegisterTable::Orders, place, Defect::BadDays));
+            return Err(broken_at(RegisterTable::Orders, row_index, Defect::BadDays));
         }
     }
     Ok(())
@@ -39,9 +39,9 @@ pub(crate) fn run_forward(certificates: &[CertRow]) -> Result<(), CheckFault>
     ensures ok { OnOk result (AllByRecursion (λ row. row.not_before ≤ row.not_after) certificates.now) }
     ensures broken { NotBrokenIf (AllByRecursion (λ row. row.not_before ≤ row.not_after) certificates.now) result }
 {
-    for (place, certificate) in certificates.iter().enumerate() {
+    for (row_index, certificate) in certificates.iter().enumerate() {
         if certificate.not_before > certificate.not_after {
-            return Err(broken_at(RegisterTable::Cert, place, Defect::Backwards));
+            return Err(broken_at(RegisterTable::Cert, row_index, Defect::Backwards));
         }
     }
     Ok(())

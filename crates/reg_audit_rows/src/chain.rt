@@ -56,9 +56,9 @@ pub(crate) fn in_order<T: Numbered>(table: RegisterTable, rows: &[T]) -> Result<
     ensures ok { OnOk result (NumberedFrom T.number 1 rows.now) }
     ensures broken { NotBrokenIf (NumberedFrom T.number 1 rows.now) result }
 {
-    for (place, row) in rows.iter().enumerate() {
-        if row.number() != place as u64 + 1 {
-            return Err(broken_at(table, place, Defect::OutOfOrder));
+    for (row_index, row) in rows.iter().enumerate() {
+        if row.number() != row_index as u64 + 1 {
+            return Err(broken_at(table, row_index, Defect::OutOfOrder));
         }
     }
     Ok(())
@@ -108,10 +108,10 @@ pub(crate) fn moments_never_fall<T: Dated>(
     ensures broken { NotBrokenIf (NeverFalls T.moment rows.now) result }
 {
     let mut latest = Moment::EPOCH;
-    for (place, row) in rows.iter().enumerate() {
+    for (row_index, row) in rows.iter().enumerate() {
         let at = row.moment();
         if at < latest {
-            return Err(broken_at(table, place, why));
+            return Err(broken_at(table, row_index, why));
         }
         latest = at;
     }
@@ -124,9 +124,9 @@ pub(crate) fn firsts_never_fall(revocations: &[RevocationRow]) -> Result<(), Che
     ensures broken { NotBrokenIf (NeverFalls (λ row. row.first) revocations.now) result }
 {
     let mut latest = 0;
-    for (place, revocation) in revocations.iter().enumerate() {
+    for (row_index, revocation) in revocations.iter().enumerate() {
         if revocation.first < latest {
-            return Err(broken_at(RegisterTable::Revocation, place, Defect::EarlierFirst));
+            return Err(broken_at(RegisterTable::Revocation, row_index, Defect::EarlierFirst));
         }
         latest = revocation.first;
     }
@@ -142,9 +142,9 @@ pub(crate) fn are_by_last<T: Dated>(
     ensures ok { OnOk result (AllByRecursion (λ row. T.moment row ≤ last) rows.now) }
     ensures broken { NotBrokenIf (AllByRecursion (λ row. T.moment row ≤ last) rows.now) result }
 {
-    for (place, row) in rows.iter().enumerate() {
+    for (row_index, row) in rows.iter().enumerate() {
         if row.moment() > last {
-            return Err(broken_at(table, place, Defect::AfterLast));
+            return Err(broken_at(table, row_index, Defect::AfterLast));
         }
     }
     Ok(())

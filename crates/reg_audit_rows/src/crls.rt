@@ -6,7 +6,7 @@ ghost use Rattle.reg_core.specs.Records.{Records};
 ghost use Rattle.reg_core.specs.Sound.{KeysDiffer};
 ghost use Rattle.reg_crl.specs.Signing.{IsAlgorithm};
 ghost use Rattle.reg_der.specs.ValueReading.{Gives};
-ghost use Rattle.reg_audit_rows.specs.Crls.{IsCrlOf, Lists, list_given, listed_entry, lists_row, signature_at};
+ghost use Rattle.reg_audit_rows.specs.Crls.{IsCrlOf, Lists, crl_with_entries, listed_entry, lists_row, signature_at};
 ghost use Rattle.reg_audit_rows.specs.Faults.{IsBroken, NotBrokenIf};
 
 use crate::fault::{CheckFault, broken_at};
@@ -106,9 +106,9 @@ fn check_bytes(
     requires ascending { EntriesAscend entries.now }
     requires few { length entries.now ≤ 1000000 }
     requires algorithm { length algorithm.now ≤ 1024 }
-    ensures ok { OnOk result (IsCrlOf algorithm.now (list_given issuer.now crl.now next_update entries.now) bytes.now) }
+    ensures ok { OnOk result (IsCrlOf algorithm.now (crl_with_entries issuer.now crl.now next_update entries.now) bytes.now) }
     ensures broken { IsAlgorithm algorithm.now
-        → NotBrokenIf (IsCrlOf algorithm.now (list_given issuer.now crl.now next_update entries.now) bytes.now) result }
+        → NotBrokenIf (IsCrlOf algorithm.now (crl_with_entries issuer.now crl.now next_update entries.now) bytes.now) result }
 {
     let tbs = crl_tbs(
         alloc,

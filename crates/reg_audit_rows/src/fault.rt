@@ -43,10 +43,10 @@ impl<T: Drop> From<AllocFailed<T>> for CheckFault {
 }
 
 /// The row at a place of a table, counted from 0, breaks a rule.
-pub(crate) fn broken_at(table: RegisterTable, place: usize, why: Defect) -> CheckFault
+pub(crate) fn broken_at(table: RegisterTable, row_index: usize, why: Defect) -> CheckFault
     ensures { IsBroken result }
 {
-    let row = (place as u64).saturating_add(1);
+    let row = (row_index as u64).saturating_add(1);
     CheckFault::Broken(BrokenRow { table, row, why })
 }
 

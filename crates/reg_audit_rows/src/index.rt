@@ -22,9 +22,9 @@ pub(crate) fn certificates_by_serial(
     ensures broken { NotBrokenIf (KeysDiffer (λ row. row.serial) certificates.now) result }
 {
     let mut found = BTreeMap::new(alloc);
-    for (place, row) in certificates.iter().enumerate() {
+    for (row_index, row) in certificates.iter().enumerate() {
         if found.insert(row.serial, *row)?.is_some() {
-            return Err(broken_at(RegisterTable::Cert, place, Defect::SameSerial));
+            return Err(broken_at(RegisterTable::Cert, row_index, Defect::SameSerial));
         }
     }
     Ok(found)
@@ -39,9 +39,9 @@ pub(crate) fn certificates_by_order(
     ensures broken { NotBrokenIf (KeysDiffer (λ row. row.order) certificates.now) result }
 {
     let mut found = BTreeMap::new(alloc);
-    for (place, row) in certificates.iter().enumerate() {
+    for (row_index, row) in certificates.iter().enumerate() {
         if found.insert(row.order, *row)?.is_some() {
-            return Err(broken_at(RegisterTable::Cert, place, Defect::SameOrder));
+            return Err(broken_at(RegisterTable::Cert, row_index, Defect::SameOrder));
         }
     }
     Ok(found)
@@ -56,9 +56,9 @@ pub(crate) fn revocations_by_serial(
     ensures broken { NotBrokenIf (KeysDiffer (λ row. row.serial) revocations.now) result }
 {
     let mut found = BTreeMap::new(alloc);
-    for (place, row) in revocations.iter().enumerate() {
+    for (row_index, row) in revocations.iter().enumerate() {
         if found.insert(row.serial, *row)?.is_some() {
-            return Err(broken_at(RegisterTable::Revocation, place, Defect::SameSerial));
+            return Err(broken_at(RegisterTable::Revocation, row_index, Defect::SameSerial));
         }
     }
     Ok(found)
@@ -73,9 +73,9 @@ pub(crate) fn revocations_by_request(
     ensures broken { NotBrokenIf (KeysDiffer (λ row. row.request) revocations.now) result }
 {
     let mut found = BTreeMap::new(alloc);
-    for (place, row) in revocations.iter().enumerate() {
+    for (row_index, row) in revocations.iter().enumerate() {
         if found.insert(row.request, *row)?.is_some() {
-            return Err(broken_at(RegisterTable::Revocation, place, Defect::SameRequest));
+            return Err(broken_at(RegisterTable::Revocation, row_index, Defect::SameRequest));
         }
     }
     Ok(found)
@@ -86,9 +86,9 @@ pub(crate) fn names_differ(alloc: Global, subscribers: &[SubscriberRow]) -> Resu
     ensures broken { NotBrokenIf (KeysDiffer (λ row. row.name) subscribers.now) result }
 {
     let mut names = BTreeSet::new(alloc);
-    for (place, subscriber) in subscribers.iter().enumerate() {
+    for (row_index, subscriber) in subscribers.iter().enumerate() {
         if !names.insert(subscriber.name.as_bytes())? {
-            return Err(broken_at(RegisterTable::Subscriber, place, Defect::SameName));
+            return Err(broken_at(RegisterTable::Subscriber, row_index, Defect::SameName));
         }
     }
     Ok(())

@@ -208,10 +208,10 @@ pub(crate) fn check_counts(rows: &[Standing], counts: Counts) -> Result<(), Chec
 fn first_difference<T: OfSerial>(held: &[T], wanted: &[T]) -> Option<usize>
     ensures { MatchOption result (held.now ≡ wanted.now) (λ _. held.now ≢ wanted.now) }
 {
-    for (place, row) in held.iter().enumerate() {
-        match wanted.get(place) {
+    for (row_index, row) in held.iter().enumerate() {
+        match wanted.get(row_index) {
             Some(other) if row.is(other) => {}
-            _ => return Some(place),
+            _ => return Some(row_index),
         }
     }
     if held.len() == wanted.len() {
@@ -221,14 +221,14 @@ fn first_difference<T: OfSerial>(held: &[T], wanted: &[T]) -> Option<usize>
     }
 }
 
-/// The place of a row among others, or where they end. Only what is told of a row rests on it.
+/// The place of a row among others, or where they end. Only the text of a row depends on it.
 fn place_of<T: OfSerial>(rows: &[T], row: Option<&T>) -> usize {
     let Some(row) = row else {
         return rows.len();
     };
-    for (place, other) in rows.iter().enumerate() {
+    for (row_index, other) in rows.iter().enumerate() {
         if other.is(row) {
-            return place;
+            return row_index;
         }
     }
     rows.len()
@@ -250,6 +250,10 @@ pub(crate) fn same_rows<T: OfSerial>(
     held.sort_unstable_by_key(|row| row.serial());
     match first_difference(&held, &wanted) {
         None => Ok(()),
-        Some(place) => Err(broken_at(table, place_of(rows, held.get(place)), Defect::NotKept)),
+        Some(row_index) => Err(broken_at(
+            table,
+            place_of(rows, held.get(row_index)),
+            Defect::NotKept,
+        )),
     }
 }

@@ -1,4 +1,4 @@
-//! The lines that tell what an audit says.
+//! The lines of an audit's report.
 
 ghost use Rattle.std.specs.Prelude.{◌≡◌, ◌++◌, IfOk};
 ghost use Rattle.std.specs.Fmt.{decimal};

@@ -33,9 +33,9 @@ pub(crate) fn subscribers_exist(
     ensures broken { NumberedFrom (λ row. row.id) 1 subscribers.now
         → NotBrokenIf (HaveSubscribers subscribers.now orders.now) result }
 {
-    for (place, order) in orders.iter().enumerate() {
+    for (row_index, order) in orders.iter().enumerate() {
         if !is_one_of(order.subscriber, subscribers.len()) {
-            return Err(broken_at(RegisterTable::Orders, place, Defect::NoSubscriber));
+            return Err(broken_at(RegisterTable::Orders, row_index, Defect::NoSubscriber));
         }
     }
     Ok(())
@@ -44,8 +44,8 @@ pub(crate) fn subscribers_exist(
 fn row_with<T: Numbered + Copy>(rows: &[T], number: u64) -> Option<T>
     ensures { NumberedFrom T.number 1 rows.now → result ≡ find (λ row. T.number row == number) rows.now }
 {
-    let place = number.checked_sub(1)?;
-    match rows.get(place as usize) {
+    let row_index = number.checked_sub(1)?;
+    match rows.get(row_index as usize) {
         Some(row) => Some(*row),
         None => None,
     }
@@ -76,10 +76,10 @@ pub(crate) fn are_as_ordered(
     ensures broken { NumberedFrom (λ row. row.id) 1 orders.now
         → NotBrokenIf (AreAsOrdered orders.now certificates.now) result }
 {
-    for (place, certificate) in certificates.iter().enumerate() {
+    for (row_index, certificate) in certificates.iter().enumerate() {
         let order = row_with(orders, certificate.order);
         if let Some(why) = unordered(certificate, order) {
-            return Err(broken_at(RegisterTable::Cert, place, why));
+            return Err(broken_at(RegisterTable::Cert, row_index, why));
         }
     }
     Ok(())
@@ -105,10 +105,10 @@ pub(crate) fn are_in_time(
     ensures ok { OnOk result (AreInTime (get nat_cmp certificates.now) requests.now) }
     ensures broken { NotBrokenIf (AreInTime (get nat_cmp certificates.now) requests.now) result }
 {
-    for (place, request) in requests.iter().enumerate() {
+    for (row_index, request) in requests.iter().enumerate() {
         let certificate = certificates.get(&request.serial).copied();
         if let Some(why) = untimely(request, certificate) {
-            return Err(broken_at(RegisterTable::Request, place, why));
+            return Err(broken_at(RegisterTable::Request, row_index, why));
         }
     }
     Ok(())
@@ -130,10 +130,10 @@ pub(crate) fn none_after(
     ensures ok { OnOk result (AreBeforeRevocation (get nat_cmp revocations.now) requests.now) }
     ensures broken { NotBrokenIf (AreBeforeRevocation (get nat_cmp revocations.now) requests.now) result }
 {
-    for (place, request) in requests.iter().enumerate() {
+    for (row_index, request) in requests.iter().enumerate() {
         let revocation = revocations.get(&request.serial).copied();
         if !is_before(request, revocation) {
-            return Err(broken_at(RegisterTable::Request, place, Defect::AfterRevocation));
+            return Err(broken_at(RegisterTable::Request, row_index, Defect::AfterRevocation));
         }
     }
     Ok(())
@@ -225,11 +225,11 @@ pub(crate) fn revocations_fit(
     ensures broken { NumberedFrom (λ row. row.id) 1 requests.now
         → NotBrokenIf (FitTogether last (get nat_cmp certificates.now) requests.now crls.now revocations.now) result }
 {
-    for (place, revocation) in revocations.iter().enumerate() {
+    for (row_index, revocation) in revocations.iter().enumerate() {
         let certificate = certificates.get(&revocation.serial).copied();
         let request = row_with(requests, revocation.request);
         if let Some(why) = misfit(revocation, certificate, request, crls, last) {
-            return Err(broken_at(RegisterTable::Revocation, place, why));
+            return Err(broken_at(RegisterTable::Revocation, row_index, why));
         }
     }
     Ok(())

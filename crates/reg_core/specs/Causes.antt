@@ -4,7 +4,7 @@ use Rattle.std.specs.declared.option.Option.{Option}
 use Rattle.reg_core.specs.declared.cause.Cause.{Cause}
 use Rattle.reg_core.specs.declared.cause.Cause.TheVariants as cause
 
--- the line of standard error that tells a cause, without its LF
+-- the line of standard error for a cause, without its LF
 unfoldable pub cause_line : Cause → List ℕ
 cause_line cause.NoFile = codes "  no such file"
 cause_line cause.NoRight = codes "  no right"

@@ -105,7 +105,7 @@ fn words(text: &[u8]) -> Label
     Label::joined(text, b"")
 }
 
-/// A line of words, and of the value that they tell.
+/// A line of words, and of the value that they have.
 fn words_with(text: &[u8], value: &[u8]) -> Label
     requires not_empty { 1 ≤ length text.now }
     requires short { length text.now ≤ 30 }

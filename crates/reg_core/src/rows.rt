@@ -10,7 +10,7 @@ use crate::moment::Moment;
 use crate::policy::Policy;
 use crate::serial::Serial;
 
-/// A subscriber: one who orders certificates.
+/// A subscriber, which orders certificates.
 #[derive(Clone, Copy, PartialEq, Eq)]
 pub struct SubscriberRow {
     /// 1, 2, 3 and so on, in the order of entry.

@@ -25,11 +25,11 @@ use Rattle.reg_core_laws.specs.Run.{Run}
 -- a line of a day, at its moment
 pub data DayLine : Type 0 where
   -- the command is accepted, with this reply
-  tell : ℕ → Command → Reply → DayLine
+  decided : ℕ → Command → Reply → DayLine
   -- the command is refused
   refuse : ℕ → Command → Refusal → DayLine
   -- the query is answered so
-  ask : ℕ → Query → Reply → DayLine
+  queried : ℕ → Query → Reply → DayLine
   -- the query is refused
   deny : ℕ → Query → Refusal → DayLine
   -- the CRL with this number, at no moment of its own, has these entries
@@ -38,18 +38,18 @@ pub data DayLine : Type 0 where
 -- the commands among the lines
 abbrev pub commands_of : List DayLine → List (ℕ × Command)
 commands_of [] = []
-commands_of (tell now command reply ∷ rest) = (now, command) ∷ commands_of rest
+commands_of (decided now command reply ∷ rest) = (now, command) ∷ commands_of rest
 commands_of (refuse now command refusal ∷ rest) = (now, command) ∷ commands_of rest
-commands_of (ask now query reply ∷ rest) = commands_of rest
+commands_of (queried now query reply ∷ rest) = commands_of rest
 commands_of (deny now query refusal ∷ rest) = commands_of rest
 commands_of (crl_has number those ∷ rest) = commands_of rest
 
 -- what they come to
 abbrev pub outcomes_of : List DayLine → List (Result Reply Fault)
 outcomes_of [] = []
-outcomes_of (tell now command reply ∷ rest) = Ok reply ∷ outcomes_of rest
+outcomes_of (decided now command reply ∷ rest) = Ok reply ∷ outcomes_of rest
 outcomes_of (refuse now command refusal ∷ rest) = Err (Refused refusal) ∷ outcomes_of rest
-outcomes_of (ask now query reply ∷ rest) = outcomes_of rest
+outcomes_of (queried now query reply ∷ rest) = outcomes_of rest
 outcomes_of (deny now query refusal ∷ rest) = outcomes_of rest
 outcomes_of (crl_has number those ∷ rest) = outcomes_of rest
 
@@ -81,18 +81,18 @@ pub data Seen : Type 0 where
 -- what is seen over the records, each line over those that were reached before it
 abbrev pub seen_over : Records → List DayLine → List Seen
 seen_over records [] = []
-seen_over records (tell now command reply ∷ rest) = seen_over (records_after records now command) rest
+seen_over records (decided now command reply ∷ rest) = seen_over (records_after records now command) rest
 seen_over records (refuse now command refusal ∷ rest) = seen_over (records_after records now command) rest
-seen_over records (ask now query reply ∷ rest) = answered (answer records now query) ∷ seen_over records rest
+seen_over records (queried now query reply ∷ rest) = answered (answer records now query) ∷ seen_over records rest
 seen_over records (deny now query refusal ∷ rest) = answered (answer records now query) ∷ seen_over records rest
 seen_over records (crl_has number those ∷ rest) = listed (entries records number) ∷ seen_over records rest
 
 -- what the lines say that is seen
 abbrev pub seen_in : List DayLine → List Seen
 seen_in [] = []
-seen_in (tell now command reply ∷ rest) = seen_in rest
+seen_in (decided now command reply ∷ rest) = seen_in rest
 seen_in (refuse now command refusal ∷ rest) = seen_in rest
-seen_in (ask now query reply ∷ rest) = answered (Ok reply) ∷ seen_in rest
+seen_in (queried now query reply ∷ rest) = answered (Ok reply) ∷ seen_in rest
 seen_in (deny now query refusal ∷ rest) = answered (Err refusal) ∷ seen_in rest
 seen_in (crl_has number those ∷ rest) = listed those ∷ seen_in rest
 
@@ -124,9 +124,9 @@ january day = 1767225600 + 86400 * (day - 1)
 -- a subscriber, an order and a certificate with serial number 5, valid from January 1 to the first second of January 10
 abbrev pub first_day : List DayLine
 first_day =
-    tell (january 1) (Subscriber (codes "acme")) (SubscriberIs 1)
-    ∷ tell (january 1) (Order 1 398) (OrderIs 1)
-    ∷ tell (january 1) (Register 1 5 (january 1) (january 10)) Registered
+    decided (january 1) (Subscriber (codes "acme")) (SubscriberIs 1)
+    ∷ decided (january 1) (Order 1 398) (OrderIs 1)
+    ∷ decided (january 1) (Register 1 5 (january 1) (january 10)) Registered
     ∷ []
 
 -- the same, and then more
@@ -145,29 +145,29 @@ entry serial at reason = record { serial = serial; at = at; reason = reason }
 abbrev pub ANewRegisterIsEmpty : Type 0
 ANewRegisterIsEmpty =
     Day
-    (ask (january 1) Counts (counted 0 0 0)
-    ∷ ask (january 1) (Status 1) (StatusIs Unknown)
-    ∷ ask (january 1) NextCrl (NextCrlIs None)
+    (queried (january 1) Counts (counted 0 0 0)
+    ∷ queried (january 1) (Status 1) (StatusIs Unknown)
+    ∷ queried (january 1) NextCrl (NextCrlIs None)
     ∷ [])
 
 -- 398 days are allowed, both ends counted: up to 2027-02-02T23:59:59Z and no second longer
 abbrev pub TheLongestValidity : Type 0
 TheLongestValidity =
     Day
-    (tell (january 1) (Subscriber (codes "acme")) (SubscriberIs 1)
-    ∷ tell (january 1) (Order 1 398) (OrderIs 1)
+    (decided (january 1) (Subscriber (codes "acme")) (SubscriberIs 1)
+    ∷ decided (january 1) (Order 1 398) (OrderIs 1)
     ∷ refuse (january 1) (Order 1 399) (BadDays 398)
     ∷ refuse (january 1) (Register 1 5 (january 1) 1801612800) TooLong
-    ∷ tell (january 1) (Register 1 5 (january 1) 1801612799) Registered
+    ∷ decided (january 1) (Register 1 5 (january 1) 1801612799) Registered
     ∷ [])
 
 -- a certificate that is registered a second time is the same; one that differs is refused
 abbrev pub ASecondRegisterIsTheSame : Type 0
 ASecondRegisterIsTheSame =
     Then
-    (tell (january 1) (Register 1 5 (january 1) (january 10)) Same
+    (decided (january 1) (Register 1 5 (january 1) (january 10)) Same
     ∷ refuse (january 1) (Register 1 5 (january 1) (january 11)) OrderFilled
-    ∷ tell (january 1) (Order 1 398) (OrderIs 2)
+    ∷ decided (january 1) (Order 1 398) (OrderIs 2)
     ∷ refuse (january 1) (Register 2 5 (january 1) (january 10)) SerialTaken
     ∷ [])
 
@@ -175,17 +175,17 @@ ASecondRegisterIsTheSame =
 abbrev pub NotAfterIsTheLastGoodSecond : Type 0
 NotAfterIsTheLastGoodSecond =
     Then
-    (ask (january 10) (Status 5) (StatusIs Good)
-    ∷ ask (january 10 + 1) (Status 5) (StatusIs Expired)
+    (queried (january 10) (Status 5) (StatusIs Good)
+    ∷ queried (january 10 + 1) (Status 5) (StatusIs Expired)
     ∷ [])
 
 -- time moves the counts, and the clock does not go back
 abbrev pub TimeMovesTheCounts : Type 0
 TimeMovesTheCounts =
     Then
-    (ask (january 10) Counts (counted 1 0 0)
-    ∷ ask (january 10 + 1) Counts (counted 0 0 1)
-    ∷ tell (january 10 + 1) (Subscriber (codes "b")) (SubscriberIs 2)
+    (queried (january 10) Counts (counted 1 0 0)
+    ∷ queried (january 10 + 1) Counts (counted 0 0 1)
+    ∷ decided (january 10 + 1) (Subscriber (codes "b")) (SubscriberIs 2)
     ∷ refuse (january 10) (Subscriber (codes "c")) (ClockBack (january 10 + 1))
     ∷ deny (january 10) Counts (ClockBack (january 10 + 1))
     ∷ [])
@@ -194,62 +194,62 @@ TimeMovesTheCounts =
 abbrev pub TheDeadlineIsInTime : Type 0
 TheDeadlineIsInTime =
     Then
-    (tell (january 2) (Request 5 (codes "key-compromise")) (RequestIs 1 (january 3))
-    ∷ ask (january 3) Overdue (OverdueAre None)
-    ∷ tell (january 3) (Revoke 1) (Revoked false)
+    (decided (january 2) (Request 5 (codes "key-compromise")) (RequestIs 1 (january 3))
+    ∷ queried (january 3) Overdue (OverdueAre None)
+    ∷ decided (january 3) (Revoke 1) (Revoked false)
     ∷ [])
 
 -- and late a second after it
 abbrev pub ASecondLaterIsLate : Type 0
 ASecondLaterIsLate =
     Then
-    (tell (january 2) (Request 5 (codes "key-compromise")) (RequestIs 1 (january 3))
-    ∷ ask (january 3 + 1) Overdue (OverdueAre (Some (record { count = 1; first = 1 })))
-    ∷ tell (january 3 + 1) (Revoke 1) (Revoked true)
-    ∷ ask (january 3 + 1) (Status 5) (StatusIs (RevokedAt (january 3 + 1) 1))
+    (decided (january 2) (Request 5 (codes "key-compromise")) (RequestIs 1 (january 3))
+    ∷ queried (january 3 + 1) Overdue (OverdueAre (Some (record { count = 1; first = 1 })))
+    ∷ decided (january 3 + 1) (Revoke 1) (Revoked true)
+    ∷ queried (january 3 + 1) (Status 5) (StatusIs (RevokedAt (january 3 + 1) 1))
     ∷ [])
 
 -- each CRL lists a revocation while its certificate has not ended
 abbrev pub EachCrlListsARevocation : Type 0
 EachCrlListsARevocation =
     Then
-    (tell (january 2) (Request 5 (codes "superseded")) (RequestIs 1 (january 3))
-    ∷ tell (january 2) Crl (CrlIs 1 0)
-    ∷ tell (january 2 + 60) (Revoke 1) (Revoked false)
-    ∷ tell (january 2 + 60) Crl (CrlIs 2 1)
-    ∷ tell (january 3) Crl (CrlIs 3 1)
+    (decided (january 2) (Request 5 (codes "superseded")) (RequestIs 1 (january 3))
+    ∷ decided (january 2) Crl (CrlIs 1 0)
+    ∷ decided (january 2 + 60) (Revoke 1) (Revoked false)
+    ∷ decided (january 2 + 60) Crl (CrlIs 2 1)
+    ∷ decided (january 3) Crl (CrlIs 3 1)
     ∷ crl_has 1 []
     ∷ crl_has 2 (entry 5 (january 2 + 60) 4 ∷ [])
     ∷ crl_has 3 (entry 5 (january 2 + 60) 4 ∷ [])
-    ∷ ask (january 3) (Listing 5) (ListingIs (Some (record { first = 2; last = None })))
+    ∷ queried (january 3) (Listing 5) (ListingIs (Some (record { first = 2; last = None })))
     ∷ [])
 
 -- the last CRL that lists a revocation is the first one past the certificate's end
 abbrev pub TheLastListingIsPastTheEnd : Type 0
 TheLastListingIsPastTheEnd =
     Then
-    (tell (january 2) (Request 5 (codes "superseded")) (RequestIs 1 (january 3))
-    ∷ tell (january 2) (Revoke 1) (Revoked false)
-    ∷ tell (january 10) Crl (CrlIs 1 1)
-    ∷ tell (january 10 + 1) Crl (CrlIs 2 1)
-    ∷ tell (january 10 + 1) Crl (CrlIs 3 0)
+    (decided (january 2) (Request 5 (codes "superseded")) (RequestIs 1 (january 3))
+    ∷ decided (january 2) (Revoke 1) (Revoked false)
+    ∷ decided (january 10) Crl (CrlIs 1 1)
+    ∷ decided (january 10 + 1) Crl (CrlIs 2 1)
+    ∷ decided (january 10 + 1) Crl (CrlIs 3 0)
     ∷ crl_has 2 (entry 5 (january 2) 4 ∷ [])
     ∷ crl_has 3 []
-    ∷ ask (january 10 + 1) (Listing 5) (ListingIs (Some (record { first = 1; last = Some 2 })))
-    ∷ ask (january 10 + 1) (Status 5) (StatusIs (RevokedAt (january 2) 4))
+    ∷ queried (january 10 + 1) (Listing 5) (ListingIs (Some (record { first = 1; last = Some 2 })))
+    ∷ queried (january 10 + 1) (Status 5) (StatusIs (RevokedAt (january 2) 4))
     ∷ [])
 
 -- so a revocation is listed once even where the first CRL after it comes long after the end
 abbrev pub ALateCrlListsOnce : Type 0
 ALateCrlListsOnce =
     Then
-    (tell (january 10 - 3600) (Request 5 (codes "cessation")) (RequestIs 1 (january 11 - 3600))
-    ∷ tell (january 10 - 3600) (Revoke 1) (Revoked false)
-    ∷ tell (january 40 - 90000) Crl (CrlIs 1 1)
-    ∷ tell (january 40 - 90000) Crl (CrlIs 2 0)
+    (decided (january 10 - 3600) (Request 5 (codes "cessation")) (RequestIs 1 (january 11 - 3600))
+    ∷ decided (january 10 - 3600) (Revoke 1) (Revoked false)
+    ∷ decided (january 40 - 90000) Crl (CrlIs 1 1)
+    ∷ decided (january 40 - 90000) Crl (CrlIs 2 0)
     ∷ crl_has 1 (entry 5 (january 10 - 3600) 5 ∷ [])
     ∷ crl_has 2 []
-    ∷ ask (january 40 - 90000) (Listing 5) (ListingIs (Some (record { first = 1; last = Some 1 })))
+    ∷ queried (january 40 - 90000) (Listing 5) (ListingIs (Some (record { first = 1; last = Some 1 })))
     ∷ [])
 
 -- there is no hold, a serial number is revoked once, and what is revoked is not overdue
@@ -258,24 +258,24 @@ OneRevocationOfASerialNumber =
     Then
     (refuse (january 2) (Request 5 (codes "hold")) NoHold
     ∷ refuse (january 2) (Request 5 (codes "lost")) BadGround
-    ∷ tell (january 2) (Request 5 (codes "asked")) (RequestIs 1 (january 3))
-    ∷ tell (january 2) (Request 5 (codes "asked")) (RequestIs 2 (january 3))
-    ∷ tell (january 2) (Revoke 1) (Revoked false)
+    ∷ decided (january 2) (Request 5 (codes "asked")) (RequestIs 1 (january 3))
+    ∷ decided (january 2) (Request 5 (codes "asked")) (RequestIs 2 (january 3))
+    ∷ decided (january 2) (Revoke 1) (Revoked false)
     ∷ refuse (january 2) (Revoke 2) (RevokedBefore (january 2))
-    ∷ ask (january 5) Overdue (OverdueAre None)
+    ∷ queried (january 5) Overdue (OverdueAre None)
     ∷ [])
 
 -- the next CRL is due a week after the latest, or a day after a revocation that none has listed yet
 abbrev pub TheNextCrlIsDue : Type 0
 TheNextCrlIsDue =
     Then
-    (tell (january 2) Crl (CrlIs 1 0)
-    ∷ ask (january 2) NextCrl (NextCrlIs (Some (january 9)))
-    ∷ tell (january 3) (Request 5 (codes "asked")) (RequestIs 1 (january 4))
-    ∷ tell (january 3) (Revoke 1) (Revoked false)
-    ∷ ask (january 3) NextCrl (NextCrlIs (Some (january 4)))
-    ∷ tell (january 3 + 3600) Crl (CrlIs 2 1)
-    ∷ ask (january 3 + 3600) NextCrl (NextCrlIs (Some (january 10 + 3600)))
+    (decided (january 2) Crl (CrlIs 1 0)
+    ∷ queried (january 2) NextCrl (NextCrlIs (Some (january 9)))
+    ∷ decided (january 3) (Request 5 (codes "asked")) (RequestIs 1 (january 4))
+    ∷ decided (january 3) (Revoke 1) (Revoked false)
+    ∷ queried (january 3) NextCrl (NextCrlIs (Some (january 4)))
+    ∷ decided (january 3 + 3600) Crl (CrlIs 2 1)
+    ∷ queried (january 3 + 3600) NextCrl (NextCrlIs (Some (january 10 + 3600)))
     ∷ [])
 
 -- or when the latest one's nextUpdate comes, where that is sooner: here two days after it
@@ -283,40 +283,40 @@ abbrev pub TheNextCrlIsDueByNextUpdate : Type 0
 TheNextCrlIsDueByNextUpdate =
     DayUnder
     (record usual { crl_life = 172800 })
-    (tell (january 2) Crl (CrlIs 1 0)
-    ∷ ask (january 2) NextCrl (NextCrlIs (Some (january 4)))
-    ∷ ask (january 6) NextCrl (NextCrlIs (Some (january 4)))
+    (decided (january 2) Crl (CrlIs 1 0)
+    ∷ queried (january 2) NextCrl (NextCrlIs (Some (january 4)))
+    ∷ queried (january 6) NextCrl (NextCrlIs (Some (january 4)))
     ∷ [])
 
 -- six more grounds, each with its limit and its reason, and the CRL with its entries in ascending order
 abbrev pub EachGroundHasItsLimitAndReason : Type 0
 EachGroundHasItsLimitAndReason =
     Then
-    (tell (january 1) (Order 1 398) (OrderIs 2)
-    ∷ tell (january 1) (Register 2 9 (january 1) (january 20)) Registered
-    ∷ tell (january 1) (Order 1 398) (OrderIs 3)
-    ∷ tell (january 1) (Register 3 8 (january 1) (january 20)) Registered
-    ∷ tell (january 1) (Order 1 398) (OrderIs 4)
-    ∷ tell (january 1) (Register 4 10 (january 1) (january 20)) Registered
-    ∷ tell (january 1) (Order 1 398) (OrderIs 5)
-    ∷ tell (january 1) (Register 5 6 (january 1) (january 20)) Registered
-    ∷ tell (january 1) (Order 1 398) (OrderIs 6)
-    ∷ tell (january 1) (Register 6 11 (january 1) (january 20)) Registered
-    ∷ tell (january 1) (Order 1 398) (OrderIs 7)
-    ∷ tell (january 1) (Register 7 7 (january 1) (january 20)) Registered
-    ∷ tell (january 2) (Request 9 (codes "unauthorized")) (RequestIs 1 (january 3))
-    ∷ tell (january 2) (Request 8 (codes "control-lost")) (RequestIs 2 (january 3))
-    ∷ tell (january 2) (Request 10 (codes "affiliation")) (RequestIs 3 (january 3))
-    ∷ tell (january 2) (Request 6 (codes "name-not-permitted")) (RequestIs 4 (january 7))
-    ∷ tell (january 2) (Request 11 (codes "nonconforming")) (RequestIs 5 (january 7))
-    ∷ tell (january 2) (Request 7 (codes "inaccurate")) (RequestIs 6 (january 7))
-    ∷ tell (january 3 + 1) (Revoke 1) (Revoked true)
-    ∷ tell (january 3 + 2) (Revoke 2) (Revoked true)
-    ∷ tell (january 3 + 3) (Revoke 3) (Revoked true)
-    ∷ tell (january 3 + 4) (Revoke 4) (Revoked false)
-    ∷ tell (january 3 + 5) (Revoke 5) (Revoked false)
-    ∷ tell (january 3 + 6) (Revoke 6) (Revoked false)
-    ∷ tell (january 4) Crl (CrlIs 1 6)
+    (decided (january 1) (Order 1 398) (OrderIs 2)
+    ∷ decided (january 1) (Register 2 9 (january 1) (january 20)) Registered
+    ∷ decided (january 1) (Order 1 398) (OrderIs 3)
+    ∷ decided (january 1) (Register 3 8 (january 1) (january 20)) Registered
+    ∷ decided (january 1) (Order 1 398) (OrderIs 4)
+    ∷ decided (january 1) (Register 4 10 (january 1) (january 20)) Registered
+    ∷ decided (january 1) (Order 1 398) (OrderIs 5)
+    ∷ decided (january 1) (Register 5 6 (january 1) (january 20)) Registered
+    ∷ decided (january 1) (Order 1 398) (OrderIs 6)
+    ∷ decided (january 1) (Register 6 11 (january 1) (january 20)) Registered
+    ∷ decided (january 1) (Order 1 398) (OrderIs 7)
+    ∷ decided (january 1) (Register 7 7 (january 1) (january 20)) Registered
+    ∷ decided (january 2) (Request 9 (codes "unauthorized")) (RequestIs 1 (january 3))
+    ∷ decided (january 2) (Request 8 (codes "control-lost")) (RequestIs 2 (january 3))
+    ∷ decided (january 2) (Request 10 (codes "affiliation")) (RequestIs 3 (january 3))
+    ∷ decided (january 2) (Request 6 (codes "name-not-permitted")) (RequestIs 4 (january 7))
+    ∷ decided (january 2) (Request 11 (codes "nonconforming")) (RequestIs 5 (january 7))
+    ∷ decided (january 2) (Request 7 (codes "inaccurate")) (RequestIs 6 (january 7))
+    ∷ decided (january 3 + 1) (Revoke 1) (Revoked true)
+    ∷ decided (january 3 + 2) (Revoke 2) (Revoked true)
+    ∷ decided (january 3 + 3) (Revoke 3) (Revoked true)
+    ∷ decided (january 3 + 4) (Revoke 4) (Revoked false)
+    ∷ decided (january 3 + 5) (Revoke 5) (Revoked false)
+    ∷ decided (january 3 + 6) (Revoke 6) (Revoked false)
+    ∷ decided (january 4) Crl (CrlIs 1 6)
     ∷ crl_has
     1
     (entry 6 (january 3 + 4) 5
@@ -326,8 +326,8 @@ EachGroundHasItsLimitAndReason =
     ∷ entry 10 (january 3 + 3) 3
     ∷ entry 11 (january 3 + 5) 4
     ∷ [])
-    ∷ ask (january 4) (Status 6) (StatusIs (RevokedAt (january 3 + 4) 5))
-    ∷ ask (january 4) Counts (counted 1 6 0)
+    ∷ queried (january 4) (Status 6) (StatusIs (RevokedAt (january 3 + 4) 5))
+    ∷ queried (january 4) Counts (counted 1 6 0)
     ∷ [])
 
 -- a table that holds as many rows as the policy allows takes no more; that comes last among the refusals
@@ -335,20 +335,20 @@ abbrev pub AFullTableTakesNoMore : Type 0
 AFullTableTakesNoMore =
     DayUnder
     (record usual { cap = 1 })
-    (tell (january 1) (Subscriber (codes "acme")) (SubscriberIs 1)
-    ∷ tell (january 1) (Order 1 398) (OrderIs 1)
-    ∷ tell (january 1) (Register 1 5 (january 1) (january 10)) Registered
+    (decided (january 1) (Subscriber (codes "acme")) (SubscriberIs 1)
+    ∷ decided (january 1) (Order 1 398) (OrderIs 1)
+    ∷ decided (january 1) (Register 1 5 (january 1) (january 10)) Registered
     ∷ refuse (january 1) (Subscriber (codes "b")) Full
     ∷ refuse (january 1) (Subscriber (codes "acme")) (NameTaken 1)
-    ∷ tell (january 1) (Register 1 5 (january 1) (january 10)) Same
+    ∷ decided (january 1) (Register 1 5 (january 1) (january 10)) Same
     ∷ [])
 
 -- a request that was declined stays so
 abbrev pub ADeclinedRequestStaysSo : Type 0
 ADeclinedRequestStaysSo =
     Then
-    (tell (january 2) (Request 5 (codes "misuse")) (RequestIs 1 (january 7))
-    ∷ tell (january 2) (Decline 1) Declined
+    (decided (january 2) (Request 5 (codes "misuse")) (RequestIs 1 (january 7))
+    ∷ decided (january 2) (Decline 1) Declined
     ∷ refuse (january 2) (Decline 1) DeclinedBefore
     ∷ refuse (january 2) (Revoke 1) DeclinedBefore
     ∷ [])
@@ -361,13 +361,13 @@ EachRefusalHasItsCase =
     ∷ refuse (january 1) (Order 7 10) NoSubscriber
     ∷ refuse (january 1) (Order 1 0) (BadDays 398)
     ∷ refuse (january 1) (Register 9 6 (january 1) (january 2)) NoOrder
-    ∷ tell (january 1) (Order 1 10) (OrderIs 2)
+    ∷ decided (january 1) (Order 1 10) (OrderIs 2)
     ∷ refuse (january 1) (Register 2 6 (january 2) (january 1)) BadValidity
     ∷ refuse (january 5) (Register 2 6 (january 1) (january 4)) Ended
     ∷ refuse (january 5) (Request 6 (codes "asked")) UnknownSerial
     ∷ refuse (january 10 + 1) (Request 5 (codes "asked")) PastEnd
     ∷ refuse (january 10 + 1) (Revoke 1) NoRequest
-    ∷ ask (january 10 + 1) (Listing 5) (ListingIs None)
+    ∷ queried (january 10 + 1) (Listing 5) (ListingIs None)
     ∷ deny (january 10 + 1) (Listing 6) UnknownSerial
     ∷ [])
 
@@ -375,7 +375,7 @@ EachRefusalHasItsCase =
 abbrev pub TheClockEnds : Type 0
 TheClockEnds =
     Then
-    (ask 253401436799 Counts (counted 0 0 1)
+    (queried 253401436799 Counts (counted 0 0 1)
     ∷ deny 253401436800 Counts ClockEnd
     ∷ refuse 253401436800 Crl ClockEnd
     ∷ [])
@@ -385,12 +385,12 @@ abbrev pub TheScheduleGoesByNotBefore : Type 0
 TheScheduleGoesByNotBefore =
     DayUnder
     (record usual { schedule = (0, 398) ∷ (1773532800, 200) ∷ [] })
-    (tell (january 1) (Subscriber (codes "acme")) (SubscriberIs 1)
-    ∷ tell (january 1) (Order 1 398) (OrderIs 1)
-    ∷ tell (january 1) (Order 1 398) (OrderIs 2)
+    (decided (january 1) (Subscriber (codes "acme")) (SubscriberIs 1)
+    ∷ decided (january 1) (Order 1 398) (OrderIs 1)
+    ∷ decided (january 1) (Order 1 398) (OrderIs 2)
     ∷ refuse (january 1) (Order 1 399) (BadDays 398)
     ∷ refuse (january 1) (Register 1 5 1773532800 1790812800) TooLong
-    ∷ tell (january 1) (Register 1 5 1773532800 1790812799) Registered
+    ∷ decided (january 1) (Register 1 5 1773532800 1790812799) Registered
     ∷ refuse (january 1) (Register 2 6 1773532799 1807919999) TooLong
-    ∷ tell (january 1) (Register 2 6 1773532799 1807919998) Registered
+    ∷ decided (january 1) (Register 2 6 1773532799 1807919998) Registered
     ∷ [])

@@ -41,14 +41,14 @@ KeepsSound signed =
 abbrev pub RunsInParts : (CertList → List ℕ → Type 0) → Type 0
 RunsInParts signed =
     (records after : Records)
-    (front rest : List (ℕ × Command))
+    (prefix rest : List (ℕ × Command))
     (outcomes : List (Result Reply Fault))
-    → Run signed records (front ++ rest) outcomes after
+    → Run signed records (prefix ++ rest) outcomes after
     → (between : Records)
     × (early : List (Result Reply Fault))
     × (late : List (Result Reply Fault))
     × (outcomes ≡ early ++ late)
-    × Run signed records front early between
+    × Run signed records prefix early between
     × Run signed between rest late after
 
 -- one of three tests passes, and only one
@@ -117,13 +117,13 @@ pub record TimeMoves (records : Records) (moment later : ℕ) : Type 0 where
 abbrev pub CountsMoveExactly : (CertList → List ℕ → Type 0) → Type 0
 CountsMoveExactly signed =
     (records before next : Records)
-    (front : List (ℕ × Command))
+    (prefix : List (ℕ × Command))
     (early : List (Result Reply Fault))
     (now : ℕ)
     (command : Command)
     (outcome : Result Reply Fault)
     → Sound signed records
-    → Run signed records front early before
+    → Run signed records prefix early before
     → Happens signed before now command outcome next
     → CountsMove (counts before now) outcome (counts next now)
     × ((moment later : ℕ) → moment ≤ later → TimeMoves before moment later)
@@ -137,7 +137,7 @@ abbrev pub NonePastBetween : List Crl → ℕ → ℕ → ℕ → Type 0
 NonePastBetween crls first n not_after =
     AllByRecursion (λ crl. first ≤ crl.number → crl.number < n → crl.this_update ≤ not_after) crls
 
--- a revocation as the CRLs of the records tell it: those issued before it do not list it; each later one lists it
+-- a revocation as the CRLs of the records list it: those issued before it do not list it; each later one lists it
 -- exactly while no later one before that was issued past the certificate's end
 pub record ListedByCrls (earlier : List Crl) (after : Records) (certificate : CertRow) (revocation : RevocationRow) : Type 0 where
   pub stands : revocation_in after.revocations certificate.serial ≡ Some revocation
@@ -171,13 +171,13 @@ ListsNothingElse records = (n : ℕ) → AllByRecursion (IsDueEntry records n) (
 abbrev pub ListsRevoked : (CertList → List ℕ → Type 0) → Type 0
 ListsRevoked signed =
     (records before next after : Records)
-    (front rest : List (ℕ × Command))
+    (prefix rest : List (ℕ × Command))
     (early late : List (Result Reply Fault))
     (now : ℕ)
     (command : Command)
     (is_late : Bool)
     → Sound signed records
-    → Run signed records front early before
+    → Run signed records prefix early before
     → Happens signed before now command (Ok (Revoked is_late)) next
     → Run signed next rest late after
     → ((certificate : CertRow)

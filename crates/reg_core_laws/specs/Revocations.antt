@@ -37,12 +37,12 @@ RevocationsMove before now command outcome after = after.revocations ≡ before.
 abbrev pub RevocationsMoveExactly : (CertList → List ℕ → Type 0) → Type 0
 RevocationsMoveExactly signed =
     (records before next : Records)
-    (front : List (ℕ × Command))
+    (prefix : List (ℕ × Command))
     (early : List (Result Reply Fault))
     (now : ℕ)
     (command : Command)
     (outcome : Result Reply Fault)
     → Sound signed records
-    → Run signed records front early before
+    → Run signed records prefix early before
     → Happens signed before now command outcome next
     → RevocationsMove before now command outcome next

@@ -4,8 +4,8 @@ use Rattle.std.specs.Prelude.{option_and_then}
 use Rattle.std.specs.List.{position_or_len}
 use Rattle.std.proofs.lemmas.Bool.{false≢true}
 use Rattle.std.proofs.lemmas.Bool.Decides.{nat_tests}
-use Rattle.reg_core_lists.specs.Asked.{no_params, params_from, params_of, with_piece}
-use Rattle.reg_core_lists.specs.declared.asked.Params.{Params}
+use Rattle.reg_core_lists.specs.ListParameters.{no_params, params_from, params_of, with_piece}
+use Rattle.reg_core_lists.specs.declared.list_parameters.Params.{Params}
 
 module _ (left : ℕ) (rest : List ℕ) (params : Params) where
   abbrev ends_at : ℕ

@@ -6,8 +6,8 @@ use Rattle.std.proofs.lemmas.List.Sums.{prefix_len-le-length}
 
 module _ {X : Type 0} (p : X → Bool) (xs : List X) where
   -- where it does
-  pub at_place : (place : ℕ) → Some place ≡ position p xs → place ≡ position_or_len p xs
-  at_place place is = grind arith
+  pub at_place : (index : ℕ) → Some index ≡ position p xs → index ≡ position_or_len p xs
+  at_place index is = grind arith
 
   -- where it does not
   pub at_end : None ≡ position p xs → length xs ≡ position_or_len p xs

@@ -10,7 +10,7 @@ use Rattle.reg_core.specs.declared.rows.OrderRow.{OrderRow}
 use Rattle.reg_core.specs.declared.rows.RequestRow.{RequestRow}
 use Rattle.reg_core.specs.declared.rows.RevocationRow.{RevocationRow}
 use Rattle.reg_core.specs.declared.rows.SubscriberRow.{SubscriberRow}
-use Rattle.reg_core_lists.specs.Lists.{certificate_row, crl_row, ending_row, history_row, key_of, next_behind, open_row, order_row, overdue_row, page, past, revoked_row, rows_from, subscriber_row}
+use Rattle.reg_core_lists.specs.Lists.{certificate_row, crl_row, expiring_row, history_row, key_of, next_behind, open_row, order_row, overdue_row, page, past, revoked_row, rows_from, subscriber_row}
 use Rattle.reg_core_lists.specs.Pages.{ArePages}
 use Rattle.reg_core_lists.specs.declared.cursor.Cursor.{Cursor}
 use Rattle.reg_core_lists.specs.declared.cursor.Cursor.TheVariants.{Revoked, Certificates, Ending, OpenRequests, Overdue, Requests, Subscribers, Orders, Crls}
@@ -38,8 +38,8 @@ module _ (records : Records) (now m : ℕ) where
         | inl full ↦
             let size : length keys ≡ suc m = grind (arith, nat_tests) in
             let last = last_of key m rows size in
-            let place : length keys - 1 ≡ m = omega (arith, size) in
-            let next : next_behind at (suc m) keys ≡ Some (at (key last.0)) = rw (full, place, last.2) in
+            let index : length keys - 1 ≡ m = omega (arith, size) in
+            let next : next_behind at (suc m) keys ≡ Some (at (key last.0)) = rw (full, index, last.2) in
             rw next (split_at row_for (suc m) rows ∙ ap (λ l. filter_map row_for (take (suc m) rows) ++ l)
             (sym (list (key last.0) ∙ ap (filter_map row_for) (past_behind key xs differ after m last.0 last.1))))
         | inr short ↦
@@ -55,7 +55,7 @@ module _ (records : Records) (now m : ℕ) where
   page_step sound (Certificates after) =
       step_over (λ (row : CertRow). row.serial) (certificate_row records now) (λ serial. Certificates (Some serial)) records.certificates sound.certificates.serials_differ (λ k. refl) (key_of after)
   page_step sound (Ending before after) =
-      step_over (λ (row : CertRow). row.serial) (ending_row records now before) (λ serial. Ending before (Some serial)) records.certificates sound.certificates.serials_differ (λ k. refl) (key_of after)
+      step_over (λ (row : CertRow). row.serial) (expiring_row records now before) (λ serial. Ending before (Some serial)) records.certificates sound.certificates.serials_differ (λ k. refl) (key_of after)
   page_step sound (OpenRequests after) =
       step_over (λ (row : RequestRow). row.id) (open_row records now) (λ id. OpenRequests id) records.requests
       (numbers_differ (λ (row : RequestRow). row.id) 1 records.requests sound.requests.numbered) (λ k. refl) after

@@ -50,7 +50,7 @@ list_word (Subscribers after) = codes "subscribers"
 list_word (Orders after) = codes "orders"
 list_word (Crls after) = codes "crls"
 
--- the key behind which a list goes on, as it is told
+-- the key after which a list goes on, as it is given
 abbrev pub key_cell : Cursor → Cell
 key_cell (Revoked after) = serial_or_empty after
 key_cell (Certificates after) = serial_or_empty after

@@ -21,8 +21,8 @@ use Rattle.reg_core_lists.specs.declared.rows.Row.{Row}
 use Rattle.reg_core_lists.specs.declared.rows.Row.TheVariants as kind
 
 -- a field: its name, and what stands there
-abbrev pub told_field : Field → List ℕ × Cell
-told_field field = (field.name.now, field.cell)
+abbrev pub field_of_text : Field → List ℕ × Cell
+field_of_text field = (field.name.now, field.cell)
 
 -- the word of a status
 abbrev pub status_word : Status → List ℕ

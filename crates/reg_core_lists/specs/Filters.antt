@@ -1,4 +1,4 @@
--- Which of the rows of a list are wanted, by what is told of them.
+-- Which rows of a list are wanted, by their fields.
 use Rattle.std.specs.Prelude.{ℕ, Bool, true, false, not, ◌==◌, ◌&&◌, ◌||◌, List, length, take, drop, bytes_eq, filter, nat_le, nat_lt, Option, Some, None, is_none}
 use Rattle.std.specs.List.{position_or_len}
 use Rattle.std.specs.Str.{str_eq_ignore_ascii_case}
@@ -9,7 +9,7 @@ use Rattle.reg_core_lists.specs.declared.filter.Filter.{Filter}
 use Rattle.reg_core_lists.specs.declared.rows.Row.{Row}
 use Rattle.reg_core_lists.specs.declared.rows.Row.TheVariants.{Certificate, Revoked, Request, History, Subscriber, Order, Crl}
 
--- nothing is told, so all rows are wanted
+-- no filter is given, so all rows are wanted
 abbrev pub all_rows : Filter
 all_rows = record { subscriber = None; serial = None; from = None; to = None }
 
@@ -47,11 +47,11 @@ time_of_row (Crl crl) = Some crl.this_update
 
 -- ---- whether that is what is wanted
 
--- what is not told wants nothing of a row; what is told wants it to be there, and to fit
-abbrev pub where_told : {A B : Type 0} → (A → B → Bool) → Option A → Option B → Bool
-where_told is_wanted None found = true
-where_told is_wanted (Some wanted) None = false
-where_told is_wanted (Some wanted) (Some found) = is_wanted wanted found
+-- a filter that is not given passes each row; one that is given passes a row that has the field, if it fits
+abbrev pub wanted_field : {A B : Type 0} → (A → B → Bool) → Option A → Option B → Bool
+wanted_field is_wanted None found = true
+wanted_field is_wanted (Some wanted) None = false
+wanted_field is_wanted (Some wanted) (Some found) = is_wanted wanted found
 
 -- a text starts with these digits, in either case
 abbrev pub starts_in_any_case : List ℕ → List ℕ → Bool
@@ -67,18 +67,18 @@ begins_with digits serial =
 -- a row is wanted
 abbrev pub keeps : Filter → Row → Bool
 keeps wanted row =
-    where_told bytes_eq wanted.subscriber (name_of_row row) && where_told begins_with wanted.serial (serial_of_row row)
-    && where_told nat_le wanted.from (time_of_row row) && where_told (λ to time. nat_lt time to) wanted.to (time_of_row row)
+    wanted_field bytes_eq wanted.subscriber (name_of_row row) && wanted_field begins_with wanted.serial (serial_of_row row)
+    && wanted_field nat_le wanted.from (time_of_row row) && wanted_field (λ to time. nat_lt time to) wanted.to (time_of_row row)
 
 -- the rows that are wanted, in their order
 abbrev pub wanted_rows : Filter → List Row → List Row
 wanted_rows wanted rows = filter (keeps wanted) rows
 
--- no time is told
+-- no time is given
 abbrev pub is_timeless : Filter → Bool
 is_timeless wanted = is_none wanted.from && is_none wanted.to
 
--- each row of a list has what is told
+-- each row of a list passes the filter
 abbrev pub fits : Filter → Cursor → Bool
 fits wanted (cursor.Crls after) = is_none wanted.subscriber && is_none wanted.serial
 fits wanted (cursor.Subscribers after) = is_none wanted.serial && is_timeless wanted

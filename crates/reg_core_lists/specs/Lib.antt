@@ -1,4 +1,4 @@
-pub mod Asked
+pub mod ListParameters
 pub mod Cursors
 pub mod Fields
 pub mod Filters

@@ -22,7 +22,7 @@ use Rattle.reg_core_lists.specs.declared.rows.RevokedLine.{RevokedLine}
 use Rattle.reg_core_lists.specs.declared.rows.Row.{Row}
 use Rattle.reg_core_lists.specs.declared.rows.Row.TheVariants as kind
 
--- ---- what is told of each record; none where the records have no order, subscriber or certificate for it, which sound ones do
+-- ---- the fields of each record; none where the records have no order, subscriber or certificate for it, which sound ones do
 
 -- whose order it is
 abbrev pub subscriber_of_order : Records → ℕ → Option SubscriberRow
@@ -32,7 +32,7 @@ subscriber_of_order records order = option_and_then (λ order. subscriber_in rec
 abbrev pub status_at : Records → ℕ → CertRow → Status
 status_at records now certificate = status_by now (Some certificate) (revocation_in records.revocations certificate.serial)
 
--- what is told of a certificate at a moment
+-- the fields of a certificate at a moment
 abbrev pub certificate_line : Records → ℕ → CertRow → Option CertificateLine
 certificate_line records now certificate =
     option_map
@@ -44,7 +44,7 @@ certificate_line records now certificate =
     })
     (subscriber_of_order records certificate.order)
 
--- what is told of a request
+-- the fields of a request
 abbrev pub request_line : Records → RequestRow → Option RequestLine
 request_line records request =
     option_and_then
@@ -53,7 +53,7 @@ request_line records request =
     (subscriber_of_order records certificate.order))
     (certificate_in records.certificates request.serial)
 
--- what is told of a revocation: its certificate, and the request that led to it
+-- the reply on a revocation: its certificate, and the request that led to it
 abbrev pub revoked_line : Records → ℕ → RevocationRow → Option RevokedLine
 revoked_line records now revocation =
     option_and_then
@@ -85,7 +85,7 @@ request_history records now request =
     })
     (request_line records request)
 
--- what is told of an order
+-- the fields of an order
 abbrev pub order_line : Records → OrderRow → Option OrderLine
 order_line records order =
     option_map
@@ -106,12 +106,12 @@ abbrev pub revoked_row : Records → ℕ → RevocationRow → Option Row
 revoked_row records now revocation = option_map (λ line. kind.Revoked line) (revoked_line records now revocation)
 
 -- a certificate is good, and its notAfter is before a moment
-abbrev pub is_ending : Records → ℕ → ℕ → CertRow → Bool
-is_ending records now before certificate = is_good (status_at records now certificate) && nat_lt certificate.not_after before
+abbrev pub is_expiring : Records → ℕ → ℕ → CertRow → Bool
+is_expiring records now before certificate = is_good (status_at records now certificate) && nat_lt certificate.not_after before
 
-abbrev pub ending_row : Records → ℕ → ℕ → CertRow → Option Row
-ending_row records now before certificate =
-    cond (is_ending records now before certificate) (certificate_row records now certificate) None
+abbrev pub expiring_row : Records → ℕ → ℕ → CertRow → Option Row
+expiring_row records now before certificate =
+    cond (is_expiring records now before certificate) (certificate_row records now certificate) None
 
 -- a request that is neither declined nor settled
 abbrev pub open_row : Records → ℕ → RequestRow → Option Row
@@ -152,7 +152,7 @@ abbrev pub past : {A : Type 0} → (A → ℕ) → ℕ → List A → List A
 past key after rows = in_order key (filter (λ row. nat_lt after (key row)) rows)
 
 -- a page: its rows, and where the next one goes on
-pub record ToldPage : Type 0 where
+pub record ShownPage : Type 0 where
   pub rows : List Row
   pub next : Option Cursor
 
@@ -161,7 +161,7 @@ abbrev pub next_behind : (ℕ → Cursor) → ℕ → List ℕ → Option Cursor
 next_behind at most keys = cond (length keys == most) (option_map at (slice_get keys (length keys - 1))) None
 
 -- a page looks at the first rows past a key, as many as it may, and has those of them that are rows of the list
-abbrev pub page_over : {A : Type 0} → (A → ℕ) → (A → Option Row) → (ℕ → Cursor) → ℕ → ℕ → List A → ToldPage
+abbrev pub page_over : {A : Type 0} → (A → ℕ) → (A → Option Row) → (ℕ → Cursor) → ℕ → ℕ → List A → ShownPage
 page_over key row_for at after most rows = record {
   rows = filter_map row_for (take most (past key after rows));
   next = next_behind at most (map key (take most (past key after rows)));
@@ -172,13 +172,13 @@ abbrev pub key_of : Option ℕ → ℕ
 key_of after = unwrap_or after 0
 
 -- the page of a list from a key on, at a moment
-abbrev pub page : Records → ℕ → ℕ → Cursor → ToldPage
+abbrev pub page : Records → ℕ → ℕ → Cursor → ShownPage
 page records now most (Revoked after) =
     page_over (λ row. row.serial) (revoked_row records now) (λ serial. Revoked (Some serial)) (key_of after) most records.revocations
 page records now most (Certificates after) =
     page_over (λ row. row.serial) (certificate_row records now) (λ serial. Certificates (Some serial)) (key_of after) most records.certificates
 page records now most (Ending before after) =
-    page_over (λ row. row.serial) (ending_row records now before) (λ serial. Ending before (Some serial)) (key_of after) most records.certificates
+    page_over (λ row. row.serial) (expiring_row records now before) (λ serial. Ending before (Some serial)) (key_of after) most records.certificates
 page records now most (OpenRequests after) =
     page_over (λ row. row.id) (open_row records now) (λ id. OpenRequests id) after most records.requests
 page records now most (Overdue after) =
@@ -196,7 +196,7 @@ page records now most (Crls after) =
 abbrev pub rows_from : Records → ℕ → Cursor → List Row
 rows_from records now (Revoked after) = filter_map (revoked_row records now) (past (λ row. row.serial) (key_of after) records.revocations)
 rows_from records now (Certificates after) = filter_map (certificate_row records now) (past (λ row. row.serial) (key_of after) records.certificates)
-rows_from records now (Ending before after) = filter_map (ending_row records now before) (past (λ row. row.serial) (key_of after) records.certificates)
+rows_from records now (Ending before after) = filter_map (expiring_row records now before) (past (λ row. row.serial) (key_of after) records.certificates)
 rows_from records now (OpenRequests after) = filter_map (open_row records now) (past (λ row. row.id) after records.requests)
 rows_from records now (Overdue after) = filter_map (overdue_row records now) (past (λ row. row.id) after records.requests)
 rows_from records now (Requests after) = filter_map (history_row records now) (past (λ row. row.id) after records.requests)

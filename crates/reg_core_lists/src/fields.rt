@@ -1,7 +1,7 @@
 //! The fields of a row: the name of each, and what stands there.
 
 ghost use Rattle.std.specs.Prelude.{◌≡◌, ◌≤◌, ◌-◌, IfOk, length, map};
-ghost use Rattle.reg_core_lists.specs.Fields.{certificate_fields, crl_fields, decided_cell, first_listing, ground_word, history_fields, last_listing_cell, number_or_empty, order_fields, reason_cell, request_fields, revoked_at_cell, revoked_fields, row_fields, serial_or_empty, state_word, status_word, subscriber_fields, told_field};
+ghost use Rattle.reg_core_lists.specs.Fields.{certificate_fields, crl_fields, decided_cell, first_listing, ground_word, history_fields, last_listing_cell, number_or_empty, order_fields, reason_cell, request_fields, revoked_at_cell, revoked_fields, row_fields, serial_or_empty, state_word, status_word, subscriber_fields, field_of_text};
 
 use crate::rows::{CertificateLine, OrderLine, RequestHistory, RequestLine, RevokedLine, Row};
 use reg_core::{CrlRow, Ground, Label, Listing, Moment, Serial, Status, SubscriberRow};
@@ -26,7 +26,7 @@ pub(crate) struct Field {
 
 /// The fields of a row.
 pub(crate) fn fields_of(alloc: Global, row: &Row) -> Result<Vec<Field>, AllocError>
-    ensures { IfOk result (λ fields. map told_field fields.items ≡ row_fields row.now) }
+    ensures { IfOk result (λ fields. map field_of_text fields.items ≡ row_fields row.now) }
 {
     match row {
         Row::Certificate(line) => of_certificate(alloc, line),
@@ -40,7 +40,7 @@ pub(crate) fn fields_of(alloc: Global, row: &Row) -> Result<Vec<Field>, AllocErr
 }
 
 fn of_certificate(alloc: Global, line: &CertificateLine) -> Result<Vec<Field>, AllocError>
-    ensures { IfOk result (λ fields. map told_field fields.items ≡ certificate_fields line.now) }
+    ensures { IfOk result (λ fields. map field_of_text fields.items ≡ certificate_fields line.now) }
 {
     let certificate = &line.certificate;
     Vec::from_slice(
@@ -62,7 +62,7 @@ fn of_certificate(alloc: Global, line: &CertificateLine) -> Result<Vec<Field>, A
 }
 
 fn of_revocation(alloc: Global, line: &RevokedLine) -> Result<Vec<Field>, AllocError>
-    ensures { IfOk result (λ fields. map told_field fields.items ≡ revoked_fields line.now) }
+    ensures { IfOk result (λ fields. map field_of_text fields.items ≡ revoked_fields line.now) }
 {
     let mut fields = of_certificate(alloc, &line.certificate)?;
     fields.extend_from_slice(&[
@@ -79,7 +79,7 @@ fn of_revocation(alloc: Global, line: &RevokedLine) -> Result<Vec<Field>, AllocE
 }
 
 fn of_request(alloc: Global, line: &RequestLine) -> Result<Vec<Field>, AllocError>
-    ensures { IfOk result (λ fields. map told_field fields.items ≡ request_fields line.now) }
+    ensures { IfOk result (λ fields. map field_of_text fields.items ≡ request_fields line.now) }
 {
     let request = &line.request;
     Vec::from_slice(
@@ -100,7 +100,7 @@ fn of_request(alloc: Global, line: &RequestLine) -> Result<Vec<Field>, AllocErro
 }
 
 fn of_history(alloc: Global, history: &RequestHistory) -> Result<Vec<Field>, AllocError>
-    ensures { IfOk result (λ fields. map told_field fields.items ≡ history_fields history.now) }
+    ensures { IfOk result (λ fields. map field_of_text fields.items ≡ history_fields history.now) }
 {
     let declined = history.request.request.declined;
     let mut fields = of_request(alloc, &history.request)?;
@@ -113,7 +113,7 @@ fn of_history(alloc: Global, history: &RequestHistory) -> Result<Vec<Field>, All
 }
 
 fn of_subscriber(alloc: Global, subscriber: &SubscriberRow) -> Result<Vec<Field>, AllocError>
-    ensures { IfOk result (λ fields. map told_field fields.items ≡ subscriber_fields subscriber.now) }
+    ensures { IfOk result (λ fields. map field_of_text fields.items ≡ subscriber_fields subscriber.now) }
 {
     Vec::from_slice(
         alloc,
@@ -125,7 +125,7 @@ fn of_subscriber(alloc: Global, subscriber: &SubscriberRow) -> Result<Vec<Field>
 }
 
 fn of_order(alloc: Global, line: &OrderLine) -> Result<Vec<Field>, AllocError>
-    ensures { IfOk result (λ fields. map told_field fields.items ≡ order_fields line.now) }
+    ensures { IfOk result (λ fields. map field_of_text fields.items ≡ order_fields line.now) }
 {
     Vec::from_slice(
         alloc,
@@ -140,7 +140,7 @@ fn of_order(alloc: Global, line: &OrderLine) -> Result<Vec<Field>, AllocError>
 }
 
 fn of_crl(alloc: Global, crl: &CrlRow) -> Result<Vec<Field>, AllocError>
-    ensures { IfOk result (λ fields. map told_field fields.items ≡ crl_fields crl.now) }
+    ensures { IfOk result (λ fields. map field_of_text fields.items ≡ crl_fields crl.now) }
 {
     Vec::from_slice(
         alloc,
@@ -152,7 +152,7 @@ fn of_crl(alloc: Global, crl: &CrlRow) -> Result<Vec<Field>, AllocError>
 }
 
 fn named(name: &'static str, cell: Cell) -> Field
-    ensures { told_field result ≡ (name.now, cell) }
+    ensures { field_of_text result ≡ (name.now, cell) }
 {
     Field { name, cell }
 }

@@ -1,6 +1,6 @@
 ghost use Rattle.std.specs.Prelude.{◌≡◌, ◌≤◌, ◌==◌, IfOk, bytes_eq, drop, length, nat_le, nat_lt, not};
 ghost use Rattle.std.specs.List.{position, position_or_len};
-ghost use Rattle.reg_core_lists.specs.Filters.{begins_with, fits, keeps, name_of_row, serial_of_row, starts_in_any_case, time_of_row, wanted_rows, where_told};
+ghost use Rattle.reg_core_lists.specs.Filters.{begins_with, fits, keeps, name_of_row, serial_of_row, starts_in_any_case, time_of_row, wanted_rows, wanted_field};
 
 use crate::cursor::Cursor;
 use crate::rows::Row;
@@ -105,7 +105,7 @@ fn time_of_row(row: &Row) -> Option<Moment>
 // ---- whether that is what is wanted
 
 fn is_of(wanted: &Option<Label>, name: Option<Label>) -> bool
-    ensures { result ≡ where_told bytes_eq wanted.now name }
+    ensures { result ≡ wanted_field bytes_eq wanted.now name }
 {
     match wanted {
         None => true,
@@ -117,7 +117,7 @@ fn is_of(wanted: &Option<Label>, name: Option<Label>) -> bool
 }
 
 fn begins(wanted: &Option<Label>, serial: Option<Serial>) -> bool
-    ensures { result ≡ where_told begins_with wanted.now serial }
+    ensures { result ≡ wanted_field begins_with wanted.now serial }
 {
     match wanted {
         None => true,
@@ -147,7 +147,7 @@ fn zeros_of(text: &[u8]) -> usize
     ensures within { result ≤ length text.now }
 {
     match first_other(text) {
-        Some(place) => place,
+        Some(index) => index,
         None => text.len(),
     }
 }
@@ -165,7 +165,7 @@ fn starts_with(text: &[u8], digits: &[u8]) -> bool
 }
 
 fn is_from(from: Option<Moment>, time: Option<Moment>) -> bool
-    ensures { result ≡ where_told nat_le from time }
+    ensures { result ≡ wanted_field nat_le from time }
 {
     match (from, time) {
         (None, _) => true,
@@ -175,7 +175,7 @@ fn is_from(from: Option<Moment>, time: Option<Moment>) -> bool
 }
 
 fn is_before(to: Option<Moment>, time: Option<Moment>) -> bool
-    ensures { result ≡ where_told (λ to time. nat_lt time to) to time }
+    ensures { result ≡ wanted_field (λ to time. nat_lt time to) to time }
 {
     match (to, time) {
         (None, _) => true,

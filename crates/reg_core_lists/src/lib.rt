@@ -1,15 +1,15 @@
 //! Lists of what a register has: which rows each has, page by page, and their texts as CSV and JSON.
 #![tactic(auto)]
 
-mod asked;
 mod cursor;
 mod fields;
 mod filter;
+mod list_parameters;
 mod rows;
 mod texts;
 
-pub use asked::{PageAsked, read_page, read_prefix};
 pub use cursor::Cursor;
 pub use filter::Filter;
+pub use list_parameters::{PageQuery, read_page, read_prefix};
 pub use rows::{CertificateLine, OrderLine, Page, RequestHistory, RequestLine, RevokedLine, Row};
 pub use texts::{Form, header, page_text, put_rows};

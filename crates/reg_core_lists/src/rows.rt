@@ -4,7 +4,7 @@ use reg_core::{
     SubscriberRow,
 };
 
-/// What is told of a certificate at a moment.
+/// The fields of a certificate at a moment.
 #[derive(Clone, Copy)]
 pub struct CertificateLine {
     pub certificate: CertRow,
@@ -15,7 +15,7 @@ pub struct CertificateLine {
     pub listing: Option<Listing>,
 }
 
-/// What is told of a revocation.
+/// The fields of a revocation.
 #[derive(Clone, Copy)]
 pub struct RevokedLine {
     pub certificate: CertificateLine,
@@ -26,7 +26,7 @@ pub struct RevokedLine {
     pub due: Moment,
 }
 
-/// What is told of a request for revocation.
+/// The fields of a request for revocation.
 #[derive(Clone, Copy)]
 pub struct RequestLine {
     pub request: RequestRow,
@@ -47,7 +47,7 @@ pub struct RequestHistory {
     pub lateness: Option<u64>,
 }
 
-/// What is told of an order.
+/// The fields of an order.
 #[derive(Clone, Copy)]
 pub struct OrderLine {
     pub order: OrderRow,

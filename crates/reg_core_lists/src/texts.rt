@@ -3,7 +3,7 @@
 
 ghost use Rattle.std.specs.Prelude.{◌≡◌, ◌∷◌, ◌++◌, [], IfOk, OnOk, flat_map, map};
 ghost use Rattle.reg_core_lists.specs.Cursors.{key_cell};
-ghost use Rattle.reg_core_lists.specs.Fields.{json_text, plain_text, row_fields, told_field};
+ghost use Rattle.reg_core_lists.specs.Fields.{json_text, plain_text, row_fields, field_of_text};
 ghost use Rattle.reg_core_lists.specs.Texts.{header_text, member_rest, member_text, next_text, object_text, page_body, record_rest, record_text, row_rest, row_text, rows_json};
 
 use crate::cursor::Cursor;
@@ -78,7 +78,7 @@ fn put_row(alloc: Global, out: &mut Vec<u8>, form: Form, row: &Row) -> Result<()
 
 #[tactic(auto, unfolding(crate::specs::Texts::record_text))]
 fn put_record(out: &mut Vec<u8>, fields: &[Field]) -> Result<(), AllocError>
-    ensures { OnOk result (out.new.items ≡ out.old.items ++ record_text (map told_field fields.now)) }
+    ensures { OnOk result (out.new.items ≡ out.old.items ++ record_text (map field_of_text fields.now)) }
 {
     match fields.split_first() {
         Some((first, rest)) => {
@@ -90,7 +90,7 @@ fn put_record(out: &mut Vec<u8>, fields: &[Field]) -> Result<(), AllocError>
 }
 
 fn put_record_rest(out: &mut Vec<u8>, fields: &[Field]) -> Result<(), AllocError>
-    ensures { OnOk result (out.new.items ≡ out.old.items ++ flat_map record_rest (map told_field fields.now)) }
+    ensures { OnOk result (out.new.items ≡ out.old.items ++ flat_map record_rest (map field_of_text fields.now)) }
 {
     for field in fields {
         out.push(b',')?;
@@ -114,7 +114,7 @@ fn put_plain(out: &mut Vec<u8>, cell: &Cell) -> Result<(), AllocError>
 
 #[tactic(auto, unfolding(crate::specs::Texts::object_text))]
 fn put_object(out: &mut Vec<u8>, fields: &[Field]) -> Result<(), AllocError>
-    ensures { OnOk result (out.new.items ≡ out.old.items ++ object_text (map told_field fields.now)) }
+    ensures { OnOk result (out.new.items ≡ out.old.items ++ object_text (map field_of_text fields.now)) }
 {
     out.push(b'{')?;
     match fields.split_first() {
@@ -129,7 +129,7 @@ fn put_object(out: &mut Vec<u8>, fields: &[Field]) -> Result<(), AllocError>
 }
 
 fn put_members_rest(out: &mut Vec<u8>, fields: &[Field]) -> Result<(), AllocError>
-    ensures { OnOk result (out.new.items ≡ out.old.items ++ flat_map member_rest (map told_field fields.now)) }
+    ensures { OnOk result (out.new.items ≡ out.old.items ++ flat_map member_rest (map field_of_text fields.now)) }
 {
     for field in fields {
         out.push(b',')?;
@@ -140,7 +140,7 @@ fn put_members_rest(out: &mut Vec<u8>, fields: &[Field]) -> Result<(), AllocErro
 
 #[tactic(auto, unfolding(crate::specs::Texts::member_text))]
 fn put_member(out: &mut Vec<u8>, field: &Field) -> Result<(), AllocError>
-    ensures { OnOk result (out.new.items ≡ out.old.items ++ member_text (told_field field.now)) }
+    ensures { OnOk result (out.new.items ≡ out.old.items ++ member_text (field_of_text field.now)) }
 {
     out.push(b'"')?;
     out.extend_from_slice(field.name.as_bytes())?;

@@ -4,7 +4,7 @@ use Rattle.reg_core.specs.declared.refusal.Fault.TheVariants.{Memory as LackedMe
 use Rattle.reg_crl.specs.declared.signer.SignFault.{SignFault}
 use Rattle.reg_crl.specs.declared.signer.SignFault.TheVariants.{Device, Memory}
 
--- want of memory stays so; else the signer failed
+-- out of memory stays so; else the signer failed
 abbrev pub signer_fault_of : SignFault → Fault
 signer_fault_of Device = SignerFailed
 signer_fault_of Memory = LackedMemory

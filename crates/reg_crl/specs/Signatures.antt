@@ -6,7 +6,7 @@ use Rattle.reg_crl.specs.declared.signer.SignFault.{SignFault}
 use Rattle.reg_crl.specs.declared.signer.SignFault.TheVariants.{Device, Memory}
 
 -- A signer, by its identity, its relation of signatures and its count of failures, was asked to sign a message, and is `new` afterwards.
--- The count rises with each failure of the device, and so none is told at u64::MAX; it stays otherwise.
+-- The count rises with each failure of the device, and so none is counted at u64::MAX; it stays otherwise.
 pub record SignsOrFails {S : Type 0} (identity : S → Identity) (signs : Identity → List ℕ → List ℕ → Type 0) (failure_count : S → ℕ)
     (old new : S) (message : List ℕ) (result : Result (Vec ℕ Global) SignFault) : Type 0 where
   pub signed : IfOk result (λ signature. signs (identity old) message signature.items)

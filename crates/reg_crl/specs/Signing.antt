@@ -6,7 +6,7 @@ use Rattle.reg_core.specs.Crls.{CertList}
 use Rattle.reg_der.specs.Der.{IsTlv, tlv}
 use Rattle.reg_crl.specs.Crl.{tbs_of, certificate_list}
 
--- who signs: the AlgorithmIdentifier of its signatures and its public key (RFC 5280 4.1.1.2, 4.1.2.7)
+-- the signer: the AlgorithmIdentifier of its signatures and its public key (RFC 5280 4.1.1.2, 4.1.2.7)
 pub record Identity : Type 0 where
   pub algorithm : List ℕ
   pub public_key : List ℕ
@@ -39,7 +39,7 @@ abbrev pub sealed : CertList → List ℕ → Type 0
 sealed crl bytes = bytes ≡ seal_of (tbs_of sha1_algorithm crl)
 
 -- The bytes are the CRL as a register has it whose key followed the digest: sealed by the digest below a number, and from that number on
--- signed by who signs (RFC 5280 5.2.3).
+-- signed by the signer (RFC 5280 5.2.3).
 abbrev pub sealed_until : ℕ → (Identity → List ℕ → List ℕ → Type 0) → Identity → CertList → List ℕ → Type 0
 sealed_until since signs identity crl bytes =
     ((crl.number < since) × sealed crl bytes) ⊎ ((since ≤ crl.number) × signed_by signs identity crl bytes)

@@ -6,7 +6,7 @@ use Rattle.std.proofs.lemmas.List.{nil_from_length}
 use Rattle.reg_core.specs.Integer.{IsInteger, value}
 use Rattle.reg_der.specs.Der.{IsTlv}
 use Rattle.reg_der.proofs.PublicLaws.{no_two_prefixes}
-use Rattle.reg_crl_signer.specs.Forms.{BeginsPositive, HasOctets, HoldsPair, IsEcdsaValue, IsPair, IsPositive, IsRsaKey}
+use Rattle.reg_crl_signer.specs.Forms.{BeginsPositive, HasOctets, IsPairOfIntegers, IsEcdsaValue, IsPair, IsPositive, IsRsaKey}
 use Rattle.reg_crl_signer.proofs.Sizes.{below_power, one_count, within_power}
 
 -- ---- whether something follows
@@ -63,7 +63,7 @@ left_behind contents rest size number raw behind begins is same =
 
 -- two numbers that were read, with nothing behind them, are a pair
 pub holds_pair : (bytes raw contents after rest left : List ℕ) (tag m n : ℕ) → IsTlv raw tag contents → bytes ≡ raw ++ after → tag ≡ 48 → after ≡ []
-    → BeginsPositive contents m rest → BeginsPositive rest n left → left ≡ [] → HoldsPair bytes m n
+    → BeginsPositive contents m rest → BeginsPositive rest n left → left ≡ [] → IsPairOfIntegers bytes m n
 holds_pair bytes raw contents after rest left tag m n is parts sequence nothing one two end =
     let whole : bytes ≡ raw = parts ∙ ap (λ (t : List ℕ). raw ++ t) nothing ∙ append-nil raw in
     let behind : rest ≡ two.raw = two.parts ∙ ap (λ (t : List ℕ). two.raw ++ t) end ∙ append-nil two.raw in
@@ -94,7 +94,7 @@ one_pair bytes a b c d p q =
 -- ---- signatures and keys
 
 -- a pair of numbers of at most so many octets is an Ecdsa-Sig-Value, and no other pair is
-pub ecdsa_made : (signature : List ℕ) (m n octets : ℕ) → HoldsPair signature m n → m ≤ octets → n ≤ octets → IsEcdsaValue (256 ^ octets) signature
+pub ecdsa_made : (signature : List ℕ) (m n octets : ℕ) → IsPairOfIntegers signature m n → m ≤ octets → n ≤ octets → IsEcdsaValue (256 ^ octets) signature
 ecdsa_made signature m n octets holds first second = record {
   r = holds.first;
   s = holds.second;
@@ -103,7 +103,7 @@ ecdsa_made signature m n octets holds first second = record {
   s_below = below_power holds.second n octets holds.second_octets second;
 }
 
-pub ecdsa_sizes : (signature : List ℕ) (m n octets : ℕ) → HoldsPair signature m n → IsEcdsaValue (256 ^ octets) signature → (m ≤ octets) × (n ≤ octets)
+pub ecdsa_sizes : (signature : List ℕ) (m n octets : ℕ) → IsPairOfIntegers signature m n → IsEcdsaValue (256 ^ octets) signature → (m ≤ octets) × (n ≤ octets)
 ecdsa_sizes signature m n octets holds is =
     let same = one_pair signature holds.first holds.second is.r is.s holds.pair is.pair in
     let first : holds.first < 256 ^ octets = rw same.0 is.r_below in
@@ -111,10 +111,10 @@ ecdsa_sizes signature m n octets holds is =
     (within_power holds.first m octets holds.first_octets first, within_power holds.second n octets holds.second_octets second)
 
 -- a pair is an RSAPublicKey whose modulus has as many octets as the first number
-pub rsa_made : (key : List ℕ) (m n : ℕ) → HoldsPair key m n → IsRsaKey key m
+pub rsa_made : (key : List ℕ) (m n : ℕ) → IsPairOfIntegers key m n → IsRsaKey key m
 rsa_made key m n holds = record { modulus = holds.first; exponent = holds.second; pair = holds.pair; modulus_size = holds.first_octets }
 
-pub rsa_size : (key : List ℕ) (m n size : ℕ) → HoldsPair key m n → IsRsaKey key size → m ≡ size
+pub rsa_size : (key : List ℕ) (m n size : ℕ) → IsPairOfIntegers key m n → IsRsaKey key size → m ≡ size
 rsa_size key m n size holds is =
     let same = one_pair key holds.first holds.second is.modulus is.exponent holds.pair is.pair in
     let octets = subst (λ (number : ℕ). HasOctets number size) (sym same.0) is.modulus_size in
@@ -123,7 +123,7 @@ rsa_size key m n size holds is =
     omega arith
 
 -- where a pair was found, there is an RSAPublicKey, and nowhere else
-pub rsa_found : (key : List ℕ) (found : Option (ℕ × ℕ)) → MatchOption found ((first second : ℕ) → ¬ IsPair key first second) (λ counts. HoldsPair key counts.0 counts.1)
+pub rsa_found : (key : List ℕ) (found : Option (ℕ × ℕ)) → MatchOption found ((first second : ℕ) → ¬ IsPair key first second) (λ counts. IsPairOfIntegers key counts.0 counts.1)
     → IsTrue (is_some found) ↔ ((size : ℕ) × IsRsaKey key size)
 rsa_found key (Some counts) holds = (λ told. (counts.0, rsa_made key counts.0 counts.1 holds), λ is. refl)
 rsa_found key None never = (λ told. absurd (false≢true told), λ is. absurd (never is.1.modulus is.1.exponent is.1.pair))

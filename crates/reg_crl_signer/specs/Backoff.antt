@@ -20,4 +20,4 @@ module _ {D C : Type 0} (g : Ghosts D) where
 
   -- one exchange with the device, unless its back-off was active
   abbrev pub ExchangesUnlessBackedOff : BackoffDevice D C → BackoffDevice D C → List ℕ → List ℕ → Result ℕ DeviceFault → Type 0
-  ExchangesUnlessBackedOff = Exchanges (λ it. g.public_key it.device) (λ it. g.place it.device) g.asked g.answers FailsOrIsBackedOff
+  ExchangesUnlessBackedOff = Exchanges (λ it. g.public_key it.device) (λ it. g.device_path it.device) g.device_answered g.answers FailsOrIsBackedOff

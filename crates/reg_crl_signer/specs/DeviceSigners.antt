@@ -32,16 +32,16 @@ module _ {D : Type 0} (g : Ghosts D) where
   SigningByDevice = SignsOrFails device_identity SignsByDevice (λ it. it.failures)
 
   -- the device, asked to sign a message, failed, or its answer has not the form of a signature
-  abbrev pub GivesNone : DeviceSigner D g → List ℕ → DeviceSigner D g → Type 0
-  GivesNone it message after =
+  abbrev pub FailsToSign : DeviceSigner D g → List ℕ → DeviceSigner D g → Type 0
+  FailsToSign it message after =
       g.fails it.device message after.device
       ⊎ ((answer : List ℕ) × g.answers (g.public_key it.device) message answer × ¬ (IsSignature it.algorithm (g.public_key it.device) answer))
 
   -- The device is asked at its place and nowhere else; where a signature was preset, that is taken, and the device is not asked. A signature
   -- has at most 4,096 bytes. Where the device is asked, a fault of it comes only where it gave none.
   pub record AsksAtItsPath (old new : DeviceSigner D g) (message : List ℕ) (result : Result (Vec ℕ Global) SignFault) : Type 0 where
-    pub asked : old.preset_signature ≡ None → IfOk result (λ signature. g.asked (g.place old.device) message signature.items)
-    pub given : ¬ (old.preset_signature ≡ None) → IfOk result (λ signature. ∥ g.gave (g.place old.device) message signature.items ∥₁)
+    pub device_answered : old.preset_signature ≡ None → IfOk result (λ signature. g.device_answered (g.device_path old.device) message signature.items)
+    pub given : ¬ (old.preset_signature ≡ None) → IfOk result (λ signature. ∥ g.signer_answered (g.device_path old.device) message signature.items ∥₁)
     pub within : IfOk result (λ signature. length signature.items ≤ 4096)
-    pub why : old.preset_signature ≡ None → IsErrOf result Device → GivesNone old message new
-    pub same_path : g.place new.device ≡ g.place old.device
+    pub why : old.preset_signature ≡ None → IsErrOf result Device → FailsToSign old message new
+    pub same_path : g.device_path new.device ≡ g.device_path old.device

@@ -4,11 +4,11 @@ use Rattle.reg_crl_signer.specs.declared.device.DeviceFault.{DeviceFault}
 
 -- A device was asked for the answer to a message: the answer is the front of the room, and leaves room, or the device failed. It is where
 -- it was, with the key that it had.
-pub record Exchanges {S : Type 0} (public_key place : S → List ℕ) (asked answers : List ℕ → List ℕ → List ℕ → Type 0)
+pub record Exchanges {S : Type 0} (public_key device_path : S → List ℕ) (device_answered answers : List ℕ → List ℕ → List ℕ → Type 0)
     (fails : S → List ℕ → S → Type 0) (old new : S) (message room : List ℕ) (result : Result ℕ DeviceFault) : Type 0 where
   pub answered : IfOk result (λ count. answers (public_key old) message (take count room))
-  pub asked_there : IfOk result (λ count. asked (place old) message (take count room))
+  pub asked_there : IfOk result (λ count. device_answered (device_path old) message (take count room))
   pub short : IfOk result (λ count. count < length room)
   pub failed : OnErr result (fails old message new)
-  pub same_path : place new ≡ place old
+  pub same_path : device_path new ≡ device_path old
   pub same_key : public_key new ≡ public_key old

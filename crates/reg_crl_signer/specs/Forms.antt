@@ -1,4 +1,4 @@
--- The forms of public keys and of signatures: what can be told of them without the mathematics.
+-- The forms of public keys and of signatures: what can be stated without the mathematics.
 use Rattle.std.specs.Prelude.{◌≡◌, ◌⊎◌, ℕ, ◌+◌, ◌*◌, ◌^◌, ◌<◌, ◌≤◌, List, ◌++◌, length, get_or}
 use Rattle.reg_core.specs.Integer.{IsInteger}
 use Rattle.reg_crl.specs.Signing.{Identity}
@@ -28,7 +28,7 @@ pub record HasOctets (number size : ℕ) : Type 0 where
   pub no_fewer : 256 ^ size ≤ 256 * number
 
 -- a SEQUENCE of two INTEGERs, both above 0, of numbers of so many octets each
-pub record HoldsPair (bytes : List ℕ) (first_size second_size : ℕ) : Type 0 where
+pub record IsPairOfIntegers (bytes : List ℕ) (first_size second_size : ℕ) : Type 0 where
   pub first : ℕ
   pub second : ℕ
   pub pair : IsPair bytes first second
@@ -80,7 +80,7 @@ IsSignature EcdsaSha384 key signature = IsEcdsaValue (2 ^ 384) signature
 IsSignature RsaSha256 key signature = IsRsaKey key (length signature)
 IsSignature Ed25519 key signature = length signature ≡ 64
 
--- who signs under an algorithm and a key
+-- a signer under an algorithm and a key
 abbrev pub identity_of : Algorithm → List ℕ → Identity
 identity_of algorithm key = record { algorithm = identifier_of algorithm; public_key = key }
 

@@ -30,7 +30,7 @@ module _ {D : Type 0} (g : Ghosts D) where
   either_failures (by.Digest seal) = 0
   either_failures (by.Nobody seal failures) = failures
 
-  -- nobody signs
+  -- there is no signer
   abbrev pub IsNobody : KeyOrDigest D g → Type 0
   IsNobody (by.Key signer) = ⊥
   IsNobody (by.Digest seal) = ⊥
@@ -38,7 +38,7 @@ module _ {D : Type 0} (g : Ghosts D) where
 
   -- where the key is asked for
   abbrev pub either_path : KeyOrDigest D g → Option (List ℕ)
-  either_path it = option_map (λ signer. g.place signer.device) (key_of it)
+  either_path it = option_map (λ signer. g.device_path signer.device) (key_of it)
 
   -- what comes of asking it for a signature
   abbrev pub SigningByEither : KeyOrDigest D g → KeyOrDigest D g → List ℕ → Result (Vec ℕ Global) SignFault → Type 0

@@ -5,4 +5,4 @@ use Rattle.reg_crl_signer.specs.declared.preset_signature.PresetSignature.{Prese
 
 -- it is what others were given for the message, by this relation; or there is none
 abbrev pub IsPreset : (List ℕ → List ℕ → Type 0) → Option PresetSignature → Type 0
-IsPreset gave preset_signature = ForSome preset_signature (λ known. ForSome known.answer (λ answer. ∥ gave known.message.items answer.items ∥₁))
+IsPreset signer_answered preset_signature = ForSome preset_signature (λ known. ForSome known.answer (λ answer. ∥ signer_answered known.message.items answer.items ∥₁))

@@ -4,4 +4,4 @@ use Rattle.reg_crl_signer.specs.declared.signature_request.SignatureRequest.{Sig
 
 -- what listens at this path is asked on it for the answer to this message
 abbrev pub IsSignatureRequest : List ℕ → List ℕ → SignatureRequest → Type 0
-IsSignatureRequest path message asking = (string_bytes asking.path ≡ path) × (asking.message.items ≡ message)
+IsSignatureRequest path message sent_request = (string_bytes sent_request.path ≡ path) × (sent_request.message.items ≡ message)

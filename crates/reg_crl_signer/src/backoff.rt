@@ -58,7 +58,7 @@ pub struct BackoffDevice<D: Device, C: Clock> {
 impl<D: Device, C: Clock> BackoffDevice<D, C> {
     pub fn new(device: D, clock: C) -> BackoffDevice<D, C>
         ensures device { result.device ≡ device }
-        ensures asked { result.backoff.since ≡ None }
+        ensures device_answered { result.backoff.since ≡ None }
     {
         BackoffDevice {
             device,
@@ -76,7 +76,7 @@ impl<D: Device, C: Clock> BackoffDevice<D, C> {
         requires { length room.old ≤ 4097 }
         ensures exchanged { ExchangesUnlessBackedOff D.Device self.old self.new message.now room.new result }
         ensures refused { IsBackedOff self.old.backoff.since began → OnOk result ⊥ × (self.new ≡ self.old) }
-        ensures asked { ¬ IsBackedOff self.old.backoff.since began
+        ensures device_answered { ¬ IsBackedOff self.old.backoff.since began
             → OnErr result (D.fails self.old.device message.now self.new.device) }
         ensures late { ¬ IsBackedOff self.old.backoff.since began
             → IfSome self.new.backoff.since (λ since. 10000000000 ≤ as_nanos since - as_nanos began) }
@@ -103,15 +103,15 @@ impl<D: Device, C: Clock> Device for BackoffDevice<D, C> {
 
     ghost public_key = { λ it. D.public_key it.device };
 
-    ghost place = { λ it. D.place it.device };
+    ghost device_path = { λ it. D.device_path it.device };
 
-    ghost asked = { D.asked };
+    ghost device_answered = { D.device_answered };
 
     ghost answers = { D.answers };
 
-    ghost gave = { D.gave };
+    ghost signer_answered = { D.signer_answered };
 
-    ghost gave_answers = { D.gave_answers };
+    ghost answer_counts_as_given = { D.answer_counts_as_given };
 
     ghost fails = { FailsOrIsBackedOff D.Device };
 
@@ -122,13 +122,13 @@ impl<D: Device, C: Clock> Device for BackoffDevice<D, C> {
     fn exchange(&mut self, message: &[u8], room: &mut [u8]) -> Result<usize, DeviceFault> {
         match self.clock.monotonic() {
             Ok(began) => self.exchange_at(began, message, room),
-            // Without a clock nobody can tell how long ago a timeout was.
+            // Without a clock the time since a timeout is unknown.
             Err(_) => self.device.exchange(message, room),
         }
     }
 
     fn reset_backoff(&mut self)
-        ensures same_path { D.place self.new.device ≡ D.place self.old.device }
+        ensures same_path { D.device_path self.new.device ≡ D.device_path self.old.device }
         ensures same_key { D.public_key self.new.device ≡ D.public_key self.old.device }
         ensures reset { self.new.backoff.since ≡ None }
     {

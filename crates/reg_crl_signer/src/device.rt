@@ -14,20 +14,20 @@ pub trait Device {
     ghost public_key: { Self → List ℕ };
 
     // Where it is asked, as the path of a socket is.
-    ghost place: { Self → List ℕ };
+    ghost device_path: { Self → List ℕ };
 
     // The device at this place was asked for the answer to this message, and gave this one.
-    ghost asked: { List ℕ → List ℕ → List ℕ → Type 0 };
+    ghost device_answered: { List ℕ → List ℕ → List ℕ → Type 0 };
 
     // Under this key this is the answer to this message.
     ghost answers: { List ℕ → List ℕ → List ℕ → Type 0 };
 
-    // Others, who asked the device at this place, were given this answer to this message.
-    ghost gave: { List ℕ → List ℕ → List ℕ → Type 0 };
+    // The device at this path gave this answer to this message to other callers.
+    ghost signer_answered: { List ℕ → List ℕ → List ℕ → Type 0 };
 
     // What others were given is an answer, under any key.
-    ghost gave_answers: { (key place message answer : List ℕ)
-        → ∥ gave place message answer ∥₁ → answers key message answer };
+    ghost answer_counts_as_given: { (key device_path message answer : List ℕ)
+        → ∥ signer_answered device_path message answer ∥₁ → answers key message answer };
 
     // Asked for the answer to this message, the device failed, and the device after it.
     ghost fails: { Self → List ℕ → Self → Type 0 };
@@ -40,11 +40,11 @@ pub trait Device {
     /// the front of `room`, and shorter than it. No more than `room` holds is read.
     fn exchange(&mut self, message: &[u8], room: &mut [u8]) -> Result<usize, DeviceFault>
         requires { length room.old ≤ 4097 }
-        ensures { Exchanges public_key place asked answers fails
+        ensures { Exchanges public_key device_path device_answered answers fails
             self.old self.new message.now room.new result };
 
     /// Resets the back-off: the next exchange asks the device, also after a timeout.
     fn reset_backoff(&mut self)
-        ensures same_path { place self.new ≡ place self.old }
+        ensures same_path { device_path self.new ≡ device_path self.old }
         ensures same_key { public_key self.new ≡ public_key self.old };
 }

@@ -1,7 +1,7 @@
 //! One exchange over a connection, and the device at its other end.
 
 ghost use Rattle.std.specs.Prelude.{◌≡◌, ◌<◌, IfOk, length, take};
-ghost use Rattle.reg_crl_signer.specs.Exchange.{GivesBack};
+ghost use Rattle.reg_crl_signer.specs.Exchange.{ExchangesMessage};
 
 use crate::device::{Device, DeviceFault};
 use reg_io::{fill_to_end, write_whole};
@@ -19,22 +19,22 @@ pub trait DeviceConnection: Read + Write {
     // No connection could be made to what listens at the path, if anything does.
     ghost unconnected: { List ℕ → Type 0 };
 
-    // The peer was told that no more is written: the connection before and after it.
+    // The sending side was shut down: the connection before and after it.
     ghost finished: { Self → Self → Type 0 };
 
     // Over another kind of connection, what listens at the path answered this message so.
-    ghost gave: { List ℕ → List ℕ → List ℕ → Type 0 };
+    ghost signer_answered: { List ℕ → List ℕ → List ℕ → Type 0 };
 
     fn connect(rt: &HostRuntime, path: &str) -> io::Result<Self>
         ensures ok { IfOk result (connected path.now) }
         ensures err { OnErr result (unconnected path.now) };
 
-    /// Tells the peer that no more is written.
+    /// Shuts down the sending side of the connection.
     fn finish(&mut self) -> io::Result<()>
         ensures { OnOk result (finished self.old self.new) };
 }
 
-/// A device that listens at a path. For each signature it is sent the message over a connection of its own, and told that
+/// A device that listens at a path. For each signature it is sent the message over a connection of its own, and sees that
 /// no more comes; its answer is all that it sends until it closes.
 #[derive(Drop)]
 pub struct SocketDevice<L: DeviceConnection> {
@@ -61,23 +61,23 @@ impl<L: DeviceConnection> SocketDevice<L> {
 impl<L: DeviceConnection + Drop> Device for SocketDevice<L> {
     ghost use Rattle.std.proofs.Common.{inr};
     ghost use Rattle.std.specs.Prelude.{ℕ, List, ◌⊎◌, string_bytes};
-    ghost use Rattle.reg_crl_signer.specs.Exchange.{GivesBackAt};
+    ghost use Rattle.reg_crl_signer.specs.Exchange.{ExchangesAtPath};
 
     ghost public_key = { λ it. it.key.items };
 
-    ghost place = { λ it. string_bytes it.path };
+    ghost device_path = { λ it. string_bytes it.path };
 
-    ghost asked = { GivesBackAt L.Read.remaining L.Write.contents L.finished L.connected };
+    ghost device_answered = { ExchangesAtPath L.Read.remaining L.Write.contents L.finished L.connected };
 
     // What listens at some path answered so, over such a connection or another kind.
     ghost answers = { λ key message answer.
         ((path : List ℕ)
-        × GivesBackAt L.Read.remaining L.Write.contents L.finished L.connected path message answer)
-        ⊎ ((path : List ℕ) × ∥ L.gave path message answer ∥₁) };
+        × ExchangesAtPath L.Read.remaining L.Write.contents L.finished L.connected path message answer)
+        ⊎ ((path : List ℕ) × ∥ L.signer_answered path message answer ∥₁) };
 
-    ghost gave = { L.gave };
+    ghost signer_answered = { L.signer_answered };
 
-    ghost gave_answers = { λ key place message answer given. inr (place, given) };
+    ghost answer_counts_as_given = { λ key device_path message answer given. inr (device_path, given) };
 
     // No connection could be made, or one was made and gave no answer.
     ghost fails = { λ it message after. L.unconnected (string_bytes it.path)
@@ -104,7 +104,7 @@ fn converse<L: DeviceConnection>(
 ) -> Result<usize, DeviceFault>
     ensures short { IfOk result (λ count. count < length room.new) }
     ensures answered { IfOk result (λ count.
-        GivesBack L.Read.remaining L.Write.contents L.finished link.old message.now (take count room.new)) }
+        ExchangesMessage L.Read.remaining L.Write.contents L.finished link.old message.now (take count room.new)) }
 {
     write_whole(link, message).map_err(|_| DeviceFault)?;
     link.finish().map_err(|_| DeviceFault)?;

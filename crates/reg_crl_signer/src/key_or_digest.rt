@@ -38,7 +38,7 @@ impl<D: Device + Drop> KeyOrDigest<D> {
     /// Presets the key's next signature, as [`DeviceSigner::set_preset`] does. A digest needs nothing.
     pub fn set_preset(&mut self, preset_signature: Option<PresetSignature>)
         requires { ForSome (key_of D.Device self.old)
-            (λ signer. IsPreset (D.gave (D.place signer.device)) preset_signature) }
+            (λ signer. IsPreset (D.signer_answered (D.device_path signer.device)) preset_signature) }
         ensures { SignsAsBefore D.Device self.old self.new }
     {
         match self {
@@ -78,8 +78,8 @@ impl<D: Device + Drop> Signer for KeyOrDigest<D> {
 
     fn sign(&mut self, alloc: Global, message: &[u8]) -> Result<Vec<u8>, SignFault>
         ensures signing { SigningByEither D.Device self.old self.new message.now result }
-        ensures asked { IfSome (key_of D.Device self.old) (λ signer. signer.preset_signature ≡ None
-            → IfOk result (λ signature. D.asked (D.place signer.device) message.now signature.items)) }
+        ensures device_answered { IfSome (key_of D.Device self.old) (λ signer. signer.preset_signature ≡ None
+            → IfOk result (λ signature. D.device_answered (D.device_path signer.device) message.now signature.items)) }
         ensures nobody { IsNobody D.Device self.old → OnOk result ⊥ }
         ensures same_path { either_path D.Device self.new ≡ either_path D.Device self.old }
     {

@@ -2,7 +2,7 @@
 
 ghost use Rattle.std.specs.Prelude.{◌≡◌, ℕ, ◌<◌, ◌++◌, List, MatchOption};
 ghost use Rattle.reg_core.specs.Integer.{IsInteger};
-ghost use Rattle.reg_crl_signer.specs.Forms.{BeginsPositive, HasOctets, HoldsPair, IsPair, IsPositive};
+ghost use Rattle.reg_crl_signer.specs.Forms.{BeginsPositive, HasOctets, IsPairOfIntegers, IsPair, IsPositive};
 
 use reg_der::take;
 
@@ -17,7 +17,7 @@ const SIGN_BIT: u8 = 0x80;
 /// SEQUENCE, or a number is not above 0.
 pub(crate) fn octets_of_pair(bytes: &[u8]) -> Option<(usize, usize)>
     ensures { MatchOption result ((first second : ℕ) → ¬ IsPair bytes.now first second)
-        (λ counts. HoldsPair bytes.now counts.0 counts.1) }
+        (λ counts. IsPairOfIntegers bytes.now counts.0 counts.1) }
 {
     let (sequence, after) = take(bytes)?;
     if sequence.tag != SEQUENCE || !after.is_empty() {

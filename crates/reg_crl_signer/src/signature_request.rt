@@ -16,7 +16,7 @@ use std::io::{ErrorKind, Read, Write};
 use std::net::Shutdown;
 
 /// A connection to a signer at a path, on which it is asked to sign a message, and which never waits. It keeps both: so an answer on it is
-/// taken only for the one who asked, and only for this message.
+/// taken only for the same caller, and only for this message.
 #[derive(Drop)]
 pub struct SignatureRequest {
     stream: UnixStream,
@@ -27,16 +27,16 @@ pub struct SignatureRequest {
 impl SignatureRequest {
     /// Asks the signer at a path to sign a message. An error is one of [`SignatureRequest::connect`], or `BrokenPipe` where the message is not taken
     /// at once, as one of some hundred thousand bytes may be.
-    pub fn ask(rt: &HostRuntime, path: &str, message: &[u8]) -> io::Result<SignatureRequest>
+    pub fn send_to(rt: &HostRuntime, path: &str, message: &[u8]) -> io::Result<SignatureRequest>
         ensures { IfOk result (IsSignatureRequest path.now message.now) }
     {
-        let mut asking = SignatureRequest::connect(rt, path)?;
-        asking.message.extend_from_slice(message)?;
-        write_whole(&mut asking.stream, message).map_err(|_| io::Error::from(
+        let mut sent_request = SignatureRequest::connect(rt, path)?;
+        sent_request.message.extend_from_slice(message)?;
+        write_whole(&mut sent_request.stream, message).map_err(|_| io::Error::from(
             ErrorKind::BrokenPipe,
         ))?;
-        asking.finish()?;
-        Ok(asking)
+        sent_request.finish()?;
+        Ok(sent_request)
     }
 
     /// Whether the signer at this path is asked on it, and to sign this message.
@@ -104,7 +104,7 @@ impl DeviceConnection for SignatureRequest {
 
     ghost finished = { λ it after. after ≡ it };
 
-    ghost gave = { λ path message answer. Unit {0} };
+    ghost signer_answered = { λ path message answer. Unit {0} };
 
     /// Waits for nothing: an error is `WouldBlock` where the socket has no room for one more connection.
     fn connect(rt: &HostRuntime, path: &str) -> io::Result<SignatureRequest>

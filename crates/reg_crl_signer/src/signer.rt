@@ -27,11 +27,11 @@ pub struct DeviceSigner<D: Device> {
     algorithm: Algorithm,
     failures: u64,
     preset_signature: Option<PresetSignature>,
-    ghost came: { IsPreset (D.gave (D.place device)) preset_signature },
+    ghost came: { IsPreset (D.signer_answered (D.device_path device)) preset_signature },
 }
 
 impl<D: Device + Drop> DeviceSigner<D> {
-    ghost use Rattle.reg_crl_signer.specs.DeviceSigners.{AsksAtItsPath, GivesNone, IsNew, SigningByDevice, SignsByDevice, device_identity};
+    ghost use Rattle.reg_crl_signer.specs.DeviceSigners.{AsksAtItsPath, FailsToSign, IsNew, SigningByDevice, SignsByDevice, device_identity};
 
     /// [`KeyFault`] where the device's public key is none of the algorithm by its form.
     pub fn new(device: D, algorithm: Algorithm) -> Result<DeviceSigner<D>, KeyFault>
@@ -49,10 +49,10 @@ impl<D: Device + Drop> DeviceSigner<D> {
         })
     }
 
-    /// Presets the next signature, for which the device is not asked then: what the device gave to others, who asked it at its place to sign
+    /// Presets the next signature, for which the device is not asked then: what the device at its path gave to other callers that asked it to sign
     /// a message, or that it gave nothing. To sign another message is a failure then. `None` has the device asked again.
     pub fn set_preset(&mut self, preset_signature: Option<PresetSignature>)
-        requires { IsPreset (D.gave (D.place self.old.device)) preset_signature }
+        requires { IsPreset (D.signer_answered (D.device_path self.old.device)) preset_signature }
         ensures preset_signature { self.new.preset_signature ≡ preset_signature }
         ensures same_device { self.new.device ≡ self.old.device }
         ensures same_algorithm { self.new.algorithm ≡ self.old.algorithm }
@@ -62,14 +62,14 @@ impl<D: Device + Drop> DeviceSigner<D> {
     }
 
     /// Whether the device gave a signature, which is then all of `answer`.
-    fn ask(&mut self, message: &[u8], answer: &mut Vec<u8>) -> bool
+    fn ask_device(&mut self, message: &[u8], answer: &mut Vec<u8>) -> bool
         requires { vec_len answer.old ≤ 4097 }
         ensures signed { OnTrue result
             (SignsByDevice D.Device (device_identity D.Device self.old) message.now answer.new.items) }
-        ensures asked { OnTrue result (D.asked (D.place self.old.device) message.now answer.new.items) }
+        ensures device_answered { OnTrue result (D.device_answered (D.device_path self.old.device) message.now answer.new.items) }
         ensures short { OnTrue result (length answer.new.items ≤ 4096) }
-        ensures failed { OnFalse result (GivesNone D.Device self.old message.now self.new) }
-        ensures same_path { D.place self.new.device ≡ D.place self.old.device }
+        ensures failed { OnFalse result (FailsToSign D.Device self.old message.now self.new) }
+        ensures same_path { D.device_path self.new.device ≡ D.device_path self.old.device }
         ensures same_identity { device_identity D.Device self.new ≡ device_identity D.Device self.old }
         ensures same_failures { self.new.failures ≡ self.old.failures }
     {
@@ -89,7 +89,7 @@ impl<D: Device + Drop> DeviceSigner<D> {
         ensures asks { AsksAtItsPath D.Device self.old self.new message.now result }
     {
         let mut answer = vec![in alloc; 0; LONGEST_ANSWER + 1]?;
-        if self.ask(message, &mut answer) {
+        if self.ask_device(message, &mut answer) {
             return Ok(answer);
         }
         Err(count_failure(&mut self.failures))
@@ -100,10 +100,10 @@ impl<D: Device + Drop> DeviceSigner<D> {
         preset_signature: PresetSignature,
         message: &[u8],
     ) -> Result<Vec<u8>, SignFault>
-        requires { IsPreset (D.gave (D.place self.old.device)) (Some preset_signature) }
+        requires { IsPreset (D.signer_answered (D.device_path self.old.device)) (Some preset_signature) }
         ensures signing { SigningByDevice D.Device self.old self.new message.now result }
         ensures given { IfOk result (λ signature.
-            ∥ D.gave (D.place self.old.device) message.now signature.items ∥₁) }
+            ∥ D.signer_answered (D.device_path self.old.device) message.now signature.items ∥₁) }
         ensures within { IfOk result (λ signature. length signature.items ≤ 4096) }
         ensures same_device { self.new.device ≡ self.old.device }
     {
@@ -160,7 +160,7 @@ impl<D: Device + Drop> Signer for DeviceSigner<D> {
     }
 }
 
-/// Counts a failure of a device. At `u64::MAX` the count can't rise, and callers tell a failed device by a count that rose: the fault is
+/// Counts a failure of a device. At `u64::MAX` the count can't rise, and callers recognise a failed device by a count that rose: the fault is
 /// `Memory` then.
 pub(crate) fn count_failure(failures: &mut u64) -> SignFault
     ensures device { result ≡ SignFault.Device → failures.old < failures.new }

@@ -34,7 +34,7 @@ impl Read for UnixConnection {
     fn read(&mut self, buf: &mut [u8]) -> io::Result<usize> {
         for _ in 0..u64::MAX {
             self.stream
-                .set_read_timeout(Some(left_now(&self.rt, self.began)?))?;
+                .set_read_timeout(Some(time_left_now(&self.rt, self.began)?))?;
             match self.stream.read(buf) {
                 Err(error) if error.kind() == ErrorKind::Interrupted => {}
                 ended => return ended,
@@ -49,7 +49,7 @@ impl Write for UnixConnection {
         let piece = &bytes[..bytes.len().min(LONGEST_PIECE)];
         for _ in 0..u64::MAX {
             self.stream
-                .set_write_timeout(Some(left_now(&self.rt, self.began)?))?;
+                .set_write_timeout(Some(time_left_now(&self.rt, self.began)?))?;
             match self.stream.write(piece) {
                 Err(error) if error.kind() == ErrorKind::Interrupted => {}
                 ended => return ended,
@@ -71,7 +71,7 @@ impl DeviceConnection for UnixConnection {
 
     ghost finished = { λ link after. Unit {0} };
 
-    ghost gave = { λ path message answer. Unit {0} };
+    ghost signer_answered = { λ path message answer. Unit {0} };
 
     /// Where the socket has no room for one more connection, it is tried again, as long as there is time.
     fn connect(rt: &HostRuntime, path: &str) -> io::Result<UnixConnection>
@@ -80,7 +80,7 @@ impl DeviceConnection for UnixConnection {
     {
         let began = Instant::now(rt)?;
         for _ in 0..u64::MAX {
-            let left = left_now(rt, began)?;
+            let left = time_left_now(rt, began)?;
             match UnwaitingStream::connect(rt, path) {
                 Ok(stream) => {
                     let (rt, stream) = (*rt, UnixStream::from(stream));
@@ -104,7 +104,7 @@ impl DeviceConnection for UnixConnection {
 }
 
 /// How much is left by the clock of the time of an exchange that began at an instant; `TimedOut` where nothing is.
-fn left_now(rt: &HostRuntime, began: Instant) -> io::Result<Duration> {
+fn time_left_now(rt: &HostRuntime, began: Instant) -> io::Result<Duration> {
     time_left(began, Instant::now(rt)?).ok_or(io::Error::from(ErrorKind::TimedOut))
 }
 

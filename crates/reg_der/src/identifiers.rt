@@ -21,7 +21,7 @@ pub struct KeyIdentifier {
 }
 
 #[tactic(auto, unfolding(crate::specs::Authority::identifier_at))]
-fn front(bytes: &[u8]) -> Option<(KeyIdentifier, &[u8])>
+fn first_element(bytes: &[u8]) -> Option<(KeyIdentifier, &[u8])>
     ensures exact { Gives (λ x. (x.0, x.1.now)) result (authority.identifier_at bytes.now) }
     ensures shorter { IfSome result (λ x. length x.1.now < length bytes.now) }
 {
@@ -46,7 +46,7 @@ pub(crate) fn are_identifiers(bytes: &[u8]) -> bool
 {
     let mut rest = bytes;
     while !rest.is_empty() {
-        let Some((_, after)) = front(rest) else {
+        let Some((_, after)) = first_element(rest) else {
             return false;
         };
         rest = after;
@@ -59,7 +59,7 @@ pub(crate) fn are_identifiers(bytes: &[u8]) -> bool
 pub(crate) fn others_than(bytes: &[u8], first: u64) -> &[u8]
     ensures { result.now ≡ authority.others_than first bytes.now }
 {
-    match front(bytes) {
+    match first_element(bytes) {
         Some((latest, rest)) if latest.first == first => rest,
         _ => bytes,
     }
@@ -71,7 +71,7 @@ pub(crate) fn identifier_for(bytes: &[u8], number: u64) -> Option<Label>
     ensures { result ≡ authority.identifier_for (unwrap_or (authority.identifiers_at bytes.now) []) number }
 {
     let mut rest = bytes;
-    while let Some((identifier, after)) = front(rest) {
+    while let Some((identifier, after)) = first_element(rest) {
         if identifier.first <= number {
             return Some(identifier.octets);
         }

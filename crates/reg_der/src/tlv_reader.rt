@@ -81,7 +81,7 @@ fn counted(bytes: &[u8]) -> Option<(&[u8], &[u8])>
 }
 
 #[tactic(auto, unfolding(crate::specs::ValueReading::value_at))]
-fn front(bytes: &[u8]) -> Option<(u8, &[u8], &[u8])>
+fn first_element(bytes: &[u8]) -> Option<(u8, &[u8], &[u8])>
     ensures exact { Gives (λ x. (record { tag = x.0; contents = x.1.now }, x.2.now)) result (value_at bytes.now) }
     ensures shorter { IfSome result (λ x. length x.2.now ≤ length bytes.now) }
 {
@@ -106,7 +106,7 @@ pub fn take(bytes: &[u8]) -> Option<(Tlv<'_>, &[u8])>
     ensures exact { Gives (λ x. (record { tag = x.0.tag; contents = x.0.contents.now }, x.1.now)) result (value_at bytes.now) }
     ensures shorter { IfSome result (λ x. length x.0.raw.now + length x.1.now ≡ length bytes.now) }
 {
-    let (tag, contents, rest) = front(bytes)?;
+    let (tag, contents, rest) = first_element(bytes)?;
     let raw = &bytes[..bytes.len() - rest.len()];
     Some((Tlv { tag, contents, raw }, rest))
 }

@@ -7,7 +7,7 @@ use std::io::ErrorKind;
 use std::process::ExitCode;
 use std::{env, io};
 
-/// Reads the words, does the job that they say, and tells by the exit status how it ended: 0 done, or help or the version was asked for; 1 a
+/// Reads the words, does the job that they say, and reports by the exit status how it ended: 0 done, or help or the version was asked for; 1 a
 /// fault, with its line on standard error, and the line of its cause if that is asked for and known; 2 words that can't be read, with the
 /// usage on standard error; 3 a reply that was a refusal or a fault, or a last line without its end, at a control socket or in a strict
 /// script or import.
@@ -30,7 +30,7 @@ fn words_of(rt: &HostRuntime) -> Result<Vec<String>, Usage> {
     }
 }
 
-/// Tells help or the version, or why there is no invocation.
+/// Prints help or the version, or why there is no invocation.
 fn print_usage(rt: &HostRuntime, usage: &Usage) -> io::Result<u8> {
     match usage {
         Usage::Help(text) | Usage::Version(text) => print!(rt; "{text}")?,

@@ -5,7 +5,7 @@ use Rattle.std.specs.List.{after_first, position_or_len}
 use Rattle.std.proofs.lemmas.List.{take_rest}
 use Rattle.std.proofs.lemmas.Bool.{ltb-false}
 use Rattle.reg_core.specs.Number.{number_of}
-use Rattle.reg_desk_cli.specs.WordValues.{step_of, step_told, steps_of}
+use Rattle.reg_desk_cli.specs.WordValues.{step_of, step_from, steps_of}
 
 abbrev pub texts_of : List (Bor (List ℕ)) → List (List ℕ)
 texts_of texts = map (λ text. text.now) texts
@@ -80,8 +80,8 @@ place_by text n true e found = cc
 place_by text n false e found = cc
 
 pub step_cut : (text : List ℕ) (n : ℕ) (step : Option (ℕ × ℕ)) → Some n ≡ position is_equals text
-    → step ≡ step_told (take n text) (take (length text - (n + 1)) (drop (n + 1) text)) → step ≡ step_of text
+    → step ≡ step_from (take n text) (take (length text - (n + 1)) (drop (n + 1) text)) → step ≡ step_of text
 unfolding step_of
 step_cut text n step found is =
-    is ∙ ap (λ l. step_told (take n text) l) (take_rest text (n + 1))
-    ∙ ap (λ k. step_told (take k text) (drop (k + 1) text)) (place_by text n _ refl found)
+    is ∙ ap (λ l. step_from (take n text) l) (take_rest text (n + 1))
+    ∙ ap (λ k. step_from (take k text) (drop (k + 1) text)) (place_by text n _ refl found)

@@ -6,35 +6,35 @@ use Rattle.clap.specs.declared.builder.arg.Arg.{Arg}
 use Rattle.clap.specs.declared.builder.command.Command.{Command}
 use Rattle.clap.specs.declared.builder.command.Command.TheViews.{out-Command as fields_of}
 use Rattle.reg_desk_cli.specs.Desk.{with_commands, with_rules}
-use Rattle.reg_desk_cli.specs.Table.{AreLocal, app_told, rule_told, with_made}
+use Rattle.reg_desk_cli.specs.Table.{AreLocal, app_of_entry, rule_of_part, with_made}
 use Rattle.reg_desk_cli.specs.declared.table.CommandEntry.{CommandEntry}
 use Rattle.reg_desk_cli.specs.declared.table.Part.{Part}
 
 -- one more word or option
 pub one_part : (app more whole : App) (parts : List Part) (at : ℕ) (d : Part) → at < length parts
-    → more ≡ with_rule app (rule_told (get_or parts at d)) → with_rules app (map rule_told (drop at parts)) ≡ whole
-    → with_rules more (map rule_told (drop (at + 1) parts)) ≡ whole
+    → more ≡ with_rule app (rule_of_part (get_or parts at d)) → with_rules app (map rule_of_part (drop at parts)) ≡ whole
+    → with_rules more (map rule_of_part (drop (at + 1) parts)) ≡ whole
 one_part app more whole parts at d within is so =
-    ap (λ a. with_rules a (map rule_told (drop (at + 1) parts))) is
-    ∙ ap (λ k. with_rules (with_rule app (rule_told (get_or parts at d))) (map rule_told (drop k parts))) (add-one at)
-    ∙ ap (λ l. with_rules app (map rule_told l)) (sym (drop-cons parts at d within)) ∙ so
+    ap (λ a. with_rules a (map rule_of_part (drop (at + 1) parts))) is
+    ∙ ap (λ k. with_rules (with_rule app (rule_of_part (get_or parts at d))) (map rule_of_part (drop k parts))) (add-one at)
+    ∙ ap (λ l. with_rules app (map rule_of_part l)) (sym (drop-cons parts at d within)) ∙ so
 
 -- none is left
-pub all_parts : (app whole : App) (parts : List Part) (at : ℕ) → length parts ≤ at → with_rules app (map rule_told (drop at parts)) ≡ whole → app ≡ whole
-all_parts app whole parts at past so = sym (ap (λ l. with_rules app (map rule_told l)) (drop_of_length-le parts past)) ∙ so
+pub all_parts : (app whole : App) (parts : List Part) (at : ℕ) → length parts ≤ at → with_rules app (map rule_of_part (drop at parts)) ≡ whole → app ≡ whole
+all_parts app whole parts at past so = sym (ap (λ l. with_rules app (map rule_of_part l)) (drop_of_length-le parts past)) ∙ so
 
 -- one more command
 pub one_entry : (app more whole : App) (entries : List CommandEntry) (at : ℕ) (d : CommandEntry) → at < length entries
-    → more ≡ with_subcommand app (app_told (get_or entries at d)).top → with_commands app (map app_told (drop at entries)) ≡ whole
-    → with_commands more (map app_told (drop (at + 1) entries)) ≡ whole
+    → more ≡ with_subcommand app (app_of_entry (get_or entries at d)).top → with_commands app (map app_of_entry (drop at entries)) ≡ whole
+    → with_commands more (map app_of_entry (drop (at + 1) entries)) ≡ whole
 one_entry app more whole entries at d within is so =
-    ap (λ a. with_commands a (map app_told (drop (at + 1) entries))) is
-    ∙ ap (λ k. with_commands (with_subcommand app (app_told (get_or entries at d)).top) (map app_told (drop k entries))) (add-one at)
-    ∙ ap (λ l. with_commands app (map app_told l)) (sym (drop-cons entries at d within)) ∙ so
+    ap (λ a. with_commands a (map app_of_entry (drop (at + 1) entries))) is
+    ∙ ap (λ k. with_commands (with_subcommand app (app_of_entry (get_or entries at d)).top) (map app_of_entry (drop k entries))) (add-one at)
+    ∙ ap (λ l. with_commands app (map app_of_entry l)) (sym (drop-cons entries at d within)) ∙ so
 
 -- none is left
-pub all_entries : (app whole : App) (entries : List CommandEntry) (at : ℕ) → length entries ≤ at → with_commands app (map app_told (drop at entries)) ≡ whole → app ≡ whole
-all_entries app whole entries at past so = sym (ap (λ l. with_commands app (map app_told l)) (drop_of_length-le entries past)) ∙ so
+pub all_entries : (app whole : App) (entries : List CommandEntry) (at : ℕ) → length entries ≤ at → with_commands app (map app_of_entry (drop at entries)) ≡ whole → app ≡ whole
+all_entries app whole entries at past so = sym (ap (λ l. with_commands app (map app_of_entry l)) (drop_of_length-le entries past)) ∙ so
 
 -- what clap says of an argument that is added, where none is global
 pub rule_added : (old new : Command) (arg : Arg) {rule : Rule} → AddsArg old arg new → arg.global ≡ false → rule_of arg ≡ rule

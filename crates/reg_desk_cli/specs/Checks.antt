@@ -17,7 +17,7 @@ pub record WritesIssuer (name key : List ℕ) (issuer : core.Issuer) : Type 0 wh
   pub is_name : IsIssuerName issuer.name
   pub is_key : IsKey issuer.key
 
--- want of memory, or the words write no issuer
+-- out of memory, or the words write no issuer
 abbrev pub IsNoIssuer : List ℕ → List ℕ → Failure → Type 0
 IsNoIssuer name key why = (why ≡ failure.Fault fault.Memory)
     ⊎ ((why ≡ failure.BadIssuer) × ((issuer : core.Issuer) → ¬ WritesIssuer name key issuer))
@@ -27,7 +27,7 @@ pub record WritesIdentifier (key_id octets : List ℕ) : Type 0 where
   pub writes : decode_of key_id ≡ Ok octets
   pub within : IsLabel octets
 
--- want of memory, or the word writes no key identifier
+-- out of memory, or the word writes no key identifier
 abbrev pub IsNoIdentifier : List ℕ → Failure → Type 0
 IsNoIdentifier key_id why = (why ≡ failure.Fault fault.Memory)
     ⊎ ((why ≡ failure.BadIssuer) × ((octets : List ℕ) → ¬ WritesIdentifier key_id octets))
@@ -38,7 +38,7 @@ WritesIdentified name key None issuer = WritesIssuer name key issuer
 WritesIdentified name key (Some key_id) issuer =
     (plain : core.Issuer) × (octets : List ℕ) × WritesIssuer name key plain × WritesIdentifier key_id octets × (issuer ≡ with_identifier plain 1 octets)
 
--- want of memory, or the words write no such issuer
+-- out of memory, or the words write no such issuer
 abbrev pub IsNotIdentified : List ℕ → List ℕ → Option (List ℕ) → Failure → Type 0
 IsNotIdentified name key key_id why = (why ≡ failure.Fault fault.Memory)
     ⊎ ((why ≡ failure.BadIssuer) × ((issuer : core.Issuer) → ¬ WritesIdentified name key key_id issuer))

@@ -7,7 +7,7 @@ use Rattle.reg_store_tables.specs.declared.fault.StoreFault.{StoreFault}
 use Rattle.reg_store_tables.specs.declared.fault.StoreFault.TheVariants as stored
 use Rattle.reg_core.specs.declared.refusal.Fault.TheVariants as fault
 
--- the line of standard error that tells a failure, without its LF; where two things are told, the lines of both with an LF between them
+-- the line of standard error for a failure, without its LF; where two things are reported, the lines of both with an LF between them
 unfoldable pub failure_line : Failure → List ℕ
 failure_line (failure.Fault fault) = fault_line fault
 failure_line failure.NotEmpty = codes "not-empty"

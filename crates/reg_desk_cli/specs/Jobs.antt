@@ -7,7 +7,7 @@ use Rattle.clap.specs.declared.error.kind.ErrorKind.TheVariants.{DisplayHelp, Di
 use Rattle.reg_core.specs.Calendar.{moment_of}
 use Rattle.reg_core.specs.Number.{number_of}
 use Rattle.reg_core.specs.Sequence.{◌>>=◌}
-use Rattle.reg_core_lists.specs.Asked.{label_of, prefix_of}
+use Rattle.reg_core_lists.specs.ListParameters.{label_of, prefix_of}
 use Rattle.reg_core_lists.specs.Cursors.{cursor_named}
 use Rattle.reg_core_lists.specs.Filters.{fits}
 use Rattle.reg_core_lists.specs.declared.cursor.Cursor.{Cursor}
@@ -33,8 +33,8 @@ use Rattle.reg_desk_cli.specs.declared.job.Way.{Way}
 use Rattle.reg_desk_cli.specs.declared.job.Usage.TheVariants.{Help, Version, Bad, Memory}
 
 -- the number of an option, or the usual one where the option is left out
-abbrev pub given_or : ℕ → Text → List Row → Option ℕ
-given_or usual id rows = option_map_or number_of (first_of id rows) (Some usual)
+abbrev pub value_or_usual : ℕ → Text → List Row → Option ℕ
+value_or_usual usual id rows = option_map_or number_of (first_of id rows) (Some usual)
 
 -- the number of an option, if it is given
 abbrev pub given : Text → List Row → Option (Option ℕ)
@@ -45,41 +45,41 @@ abbrev pub number_in : ℕ → ℕ → Text → List Row → Option ℕ
 number_in least most id rows = option_and_then (within least most) (option_and_then number_of (first_of id rows))
 
 -- the signer, by the words of both options or neither; one alone says nothing, and nor does another name of an algorithm
-abbrev pub holder_told : Option Text → Option Text → Option (Option KeyHolder)
-holder_told (Some socket) (Some name) =
+abbrev pub key_holder_of : Option Text → Option Text → Option (Option KeyHolder)
+key_holder_of (Some socket) (Some name) =
     option_map (λ algorithm. Some (record { socket = socket; algorithm = algorithm })) (algorithm_named name)
-holder_told (Some socket) None = None
-holder_told None (Some name) = None
-holder_told None None = Some None
+key_holder_of (Some socket) None = None
+key_holder_of None (Some name) = None
+key_holder_of None None = Some None
 
 -- the same by the ids of the two options
 abbrev pub holder_by_options : Text → Text → List Row → Option (Option KeyHolder)
-holder_by_options socket algorithm rows = holder_told (first_of socket rows) (first_of algorithm rows)
+holder_by_options socket algorithm rows = key_holder_of (first_of socket rows) (first_of algorithm rows)
 
 -- the signer, if one is given
 abbrev pub holder_in : List Row → Option (Option KeyHolder)
 holder_in rows = holder_by_options (codes "signer") (codes "algorithm") rows
 
--- who answers OCSP requests, by the file of a responder's certificate, its signer, and the file of a certificate that is put into the
+-- the responder to OCSP requests, by the file of a responder's certificate, its signer, and the file of a certificate that is put into the
 -- issuer's own answers: a responder has both of its own, or there is none, and then the issuer's certificate may be given
-abbrev pub answerer_told : Option Text → Option KeyHolder → Option Text → Option Answerer
-answerer_told (Some certificate) (Some holder) None = Some (Delegate certificate holder)
-answerer_told (Some certificate) (Some holder) (Some embedded) = None
-answerer_told (Some certificate) None embedded = None
-answerer_told None (Some holder) embedded = None
-answerer_told None None embedded = Some (Issuer embedded)
+abbrev pub answerer_by : Option Text → Option KeyHolder → Option Text → Option Answerer
+answerer_by (Some certificate) (Some holder) None = Some (Delegate certificate holder)
+answerer_by (Some certificate) (Some holder) (Some embedded) = None
+answerer_by (Some certificate) None embedded = None
+answerer_by None (Some holder) embedded = None
+answerer_by None None embedded = Some (Issuer embedded)
 
--- who answers OCSP requests, by the words of these options
+-- the responder to OCSP requests, by the words of these options
 unfoldable pub answerer_in : List Row → Option Answerer
 answerer_in rows = do
   holder ← holder_by_options (codes "responder-signer") (codes "responder-algorithm") rows
-  answerer_told (first_of (codes "responder") rows) holder (first_of (codes "embed") rows)
+  answerer_by (first_of (codes "responder") rows) holder (first_of (codes "embed") rows)
 
 -- whether an option is given that takes no value
-abbrev pub is_given : Text → List Row → Bool
-is_given id rows = option_map_or (λ text. bytes_eq text (codes "true")) (first_of id rows) false
+abbrev pub has_flag : Text → List Row → Bool
+has_flag id rows = option_map_or (λ text. bytes_eq text (codes "true")) (first_of id rows) false
 
--- whether who answers has a key of its own
+-- whether the responder has a key of its own
 abbrev pub has_own_key : Answerer → Bool
 has_own_key (Issuer certificate) = false
 has_own_key (Delegate certificate holder) = true
@@ -96,14 +96,14 @@ chosen None true true = None
 
 -- the signer of CRLs, by `--signer` with `--algorithm`, or none by `--unsigned`, or by neither beside a responder
 abbrev pub holder_chosen : Answerer → List Row → Option (Option KeyHolder)
-holder_chosen answerer rows = option_and_then (λ signer. chosen signer (is_given (codes "unsigned") rows) (has_own_key answerer)) (holder_in rows)
+holder_chosen answerer rows = option_and_then (λ signer. chosen signer (has_flag (codes "unsigned") rows) (has_own_key answerer)) (holder_in rows)
 
 -- how the lines of a script are run
 abbrev pub way_in : List Row → Way
 way_in rows = record {
-  is_clocked = is_given (codes "clock") rows;
-  accepts_clock = is_given (codes "accept-clock") rows;
-  is_strict = is_given (codes "strict") rows;
+  is_clocked = has_flag (codes "clock") rows;
+  accepts_clock = has_flag (codes "accept-clock") rows;
+  is_strict = has_flag (codes "strict") rows;
 }
 
 -- a script by its words; only one over a register at a path is run line by line
@@ -135,10 +135,10 @@ init_of rows = do
   file ← first_of (codes "file") rows
   name ← first_of (codes "name") rows
   key ← first_of (codes "key") rows
-  days ← given_or 398 (codes "days") rows
-  crl_life ← given_or 691200 (codes "crl-life") rows
-  ocsp_life ← given_or 345600 (codes "ocsp-life") rows
-  cap ← given_or 1000000 (codes "cap") rows
+  days ← value_or_usual 398 (codes "days") rows
+  crl_life ← value_or_usual 691200 (codes "crl-life") rows
+  ocsp_life ← value_or_usual 345600 (codes "ocsp-life") rows
+  cap ← value_or_usual 1000000 (codes "cap") rows
   Some (Init (record {
     file = file;
     name = name;
@@ -155,7 +155,7 @@ script_of rows = do
   signer ← holder_in rows
   script_by (first_of (codes "file") rows) signer (way_in rows)
 
--- a moment that is told, if one is
+-- a moment that is given, if one is
 abbrev pub moment_given : Text → List Row → Option (Option ℕ)
 moment_given id rows = option_map_or (λ text. option_map (λ moment. Some moment) (moment_of text)) (first_of id rows) (Some None)
 
@@ -169,7 +169,7 @@ one_moment None false = None
 unfoldable pub import_moment : List Row → Option (Option ℕ)
 import_moment rows = do
   now ← moment_given (codes "now") rows
-  one_moment now (is_given (codes "clock") rows)
+  one_moment now (has_flag (codes "clock") rows)
 
 unfoldable pub import_of : List Row → Option Job
 import_of rows = do
@@ -178,8 +178,8 @@ import_of rows = do
   Some (Import (record {
     file = file;
     moment = moment;
-    accepts_clock = is_given (codes "accept-clock") rows;
-    is_strict = is_given (codes "strict") rows;
+    accepts_clock = has_flag (codes "accept-clock") rows;
+    is_strict = has_flag (codes "strict") rows;
   }))
 
 unfoldable pub crl_job : List Row → Option Job
@@ -220,30 +220,30 @@ open_of rows = do
     published = first_of (codes "published") rows;
   }))
 
--- the terms of the orders, if they are told
+-- the terms of the orders, if they are given
 abbrev pub order_terms_given : List Row → Option (Option OrderTerms)
 order_terms_given rows = option_map_or (λ texts. option_map (λ terms. Some terms) (order_terms_of texts)) (all_of (codes "orders") rows) (Some None)
 
 -- lines, or the rows of a file that are imported, or revoked: not both; only to an import belong orders
 abbrev pub at_by : Text → Option Text → Option Text → Option OrderTerms → Option Job
-at_by counter imported None None = Some (At counter imported)
-at_by counter (Some rows) None (Some terms) = Some (EachRow counter rows (Register terms))
-at_by counter None None (Some terms) = None
-at_by counter None (Some rows) None = Some (EachRow counter rows Revoke)
-at_by counter None (Some rows) (Some terms) = None
-at_by counter (Some imported) (Some rows) orders = None
+at_by control_path imported None None = Some (At control_path imported)
+at_by control_path (Some rows) None (Some terms) = Some (EachRow control_path rows (Register terms))
+at_by control_path None None (Some terms) = None
+at_by control_path None (Some rows) None = Some (EachRow control_path rows Revoke)
+at_by control_path None (Some rows) (Some terms) = None
+at_by control_path (Some imported) (Some rows) orders = None
 
 unfoldable pub at_of : List Row → Option Job
 at_of rows = do
-  counter ← first_of (codes "counter") rows
+  control_path ← first_of (codes "counter") rows
   orders ← order_terms_given rows
-  at_by counter (first_of (codes "import") rows) (first_of (codes "revoke") rows) orders
+  at_by control_path (first_of (codes "import") rows) (first_of (codes "revoke") rows) orders
 
 unfoldable pub replay_of : List Row → Option Job
 replay_of rows = do
-  counter ← first_of (codes "counter") rows
+  control_path ← first_of (codes "counter") rows
   log ← first_of (codes "log") rows
-  Some (Replay counter log)
+  Some (Replay control_path log)
 
 unfoldable pub schedule_of : List Row → Option Job
 schedule_of rows = do
@@ -259,7 +259,7 @@ key_id_of rows = do
 
 -- how a list is written
 abbrev pub form_in : List Row → Form
-form_in rows = if is_given (codes "json") rows then Json else Csv
+form_in rows = if has_flag (codes "json") rows then Json else Csv
 
 -- the text of an option, if it is given, of 1 to 64 bytes; and of 1 to 40 hexadecimal digits
 abbrev pub label_given : Text → List Row → Option (Option Text)
@@ -335,12 +335,12 @@ abbrev pub job_found : Option (Text × List Row) → Option Job
 job_found found = option_and_then (λ found. job_in found.0 found.1) found
 
 -- whether an option that takes no value is given behind the command
-abbrev pub is_given_behind : Text → Option (Text × List Row) → Bool
-is_given_behind id found = option_map_or (λ found. is_given id found.1) found false
+abbrev pub has_flag_behind : Text → Option (Text × List Row) → Bool
+has_flag_behind id found = option_map_or (λ found. has_flag id found.1) found false
 
 -- the word of an option that is given behind the command
-abbrev pub told_behind : Text → Option (Text × List Row) → Option Text
-told_behind id found = option_and_then (λ found. first_of id found.1) found
+abbrev pub value_behind : Text → Option (Text × List Row) → Option Text
+value_behind id found = option_and_then (λ found. first_of id found.1) found
 
 -- the job that words say which clap accepts
 abbrev pub job_of : List Text → Option Job
@@ -354,8 +354,8 @@ ClapAccepts words = fault_of desk_app words ≡ []
 -- by `--why` before or behind, and a log, by `--log` and `--log-file` behind
 abbrev pub IsInvocationIn : List Row → Option (Text × List Row) → Invocation → Type 0
 IsInvocationIn before found invocation = (job_found found ≡ Some invocation.job)
-    × (invocation.is_explained ≡ (is_given (codes "why") before || is_given_behind (codes "why") found)) × (invocation.has_log ≡ is_given_behind (codes "log") found)
-    × (invocation.log_file ≡ told_behind (codes "log-file") found)
+    × (invocation.is_explained ≡ (has_flag (codes "why") before || has_flag_behind (codes "why") found)) × (invocation.has_log ≡ has_flag_behind (codes "log") found)
+    × (invocation.log_file ≡ value_behind (codes "log-file") found)
 
 -- clap accepts the words, and they say so
 abbrev pub IsInvocationOf : List Text → Invocation → Type 0

@@ -9,19 +9,19 @@ use Rattle.reg_desk_cli.specs.declared.table.Part.{Part}
 use Rattle.reg_desk_cli.specs.declared.table.Part.TheVariants.{Must, May, Rest, Needs, Renamed, Takes, Several, Flag}
 
 -- a word or an option
-abbrev pub rule_told : Part → Rule
-rule_told (Must id name help) = must id.now
-rule_told (May id name help) = may id.now
-rule_told (Rest id name help) = some id.now
-rule_told (Needs id name help) = needs id.now
-rule_told (Renamed id older name help) = renamed id.now older.now
-rule_told (Takes id name help) = takes_value id.now
-rule_told (Several id names help) = takes_several id.now (length names.now)
-rule_told (Flag id help) = flag id.now
+abbrev pub rule_of_part : Part → Rule
+rule_of_part (Must id name help) = must id.now
+rule_of_part (May id name help) = may id.now
+rule_of_part (Rest id name help) = some id.now
+rule_of_part (Needs id name help) = needs id.now
+rule_of_part (Renamed id older name help) = renamed id.now older.now
+rule_of_part (Takes id name help) = takes_value id.now
+rule_of_part (Several id names help) = takes_several id.now (length names.now)
+rule_of_part (Flag id help) = flag id.now
 
 -- a command
-abbrev pub app_told : CommandEntry → App
-app_told entry = with_rules (new_app entry.name.now) (map rule_told entry.parts.now)
+abbrev pub app_of_entry : CommandEntry → App
+app_of_entry entry = with_rules (new_app entry.name.now) (map rule_of_part entry.parts.now)
 
 -- the command line with commands that were made, each behind those before it
 abbrev pub with_made : App → List Command → App

@@ -10,12 +10,12 @@ abbrev pub within : ℕ → ℕ → ℕ → Option ℕ
 within least most n = if nat_le least n && nat_le n most then Some n else None
 
 -- the step of a moment and of days, where both are
-abbrev pub step_told : List ℕ → List ℕ → Option (ℕ × ℕ)
-step_told from days = option_and_then (λ days. option_map (λ from. (from, days)) (moment_of from)) (number_of days)
+abbrev pub step_from : List ℕ → List ℕ → Option (ℕ × ℕ)
+step_from from days = option_and_then (λ days. option_map (λ from. (from, days)) (moment_of from)) (number_of days)
 
 -- `MOMENT=DAYS` (61 is the code of `=`): a step of a schedule
 unfoldable pub step_of : List ℕ → Option (ℕ × ℕ)
-step_of text = step_told (before_first (λ b. b == 61) text) (after_first (λ b. b == 61) text)
+step_of text = step_from (before_first (λ b. b == 61) text) (after_first (λ b. b == 61) text)
 
 -- the subscriber's number and the days of an order, where the texts are these two
 abbrev pub order_terms_of : List (List ℕ) → Option OrderTerms

@@ -16,7 +16,7 @@ use std::alloc::Global;
 const FIRST_CRL: u64 = 1;
 
 /// The issuer whose Name and key the two words write in hexadecimal. `BadIssuer` where a word is no hexadecimal
-/// text, or the Name or the key is not what an issuer has (RFC 5280 4.1.2.4, 4.1.2.7); else only want of memory.
+/// text, or the Name or the key is not what an issuer has (RFC 5280 4.1.2.4, 4.1.2.7); else only out of memory.
 pub fn issuer_of(alloc: Global, name: &Word<'_>, key: &Word<'_>) -> Result<Issuer, Failure>
     ensures ok { IfOk result (WritesIssuer name.now key.now) }
     ensures err { IfErr result (IsNoIssuer name.now key.now) }
@@ -32,7 +32,7 @@ pub fn issuer_of(alloc: Global, name: &Word<'_>, key: &Word<'_>) -> Result<Issue
 }
 
 /// The key identifier that the word writes in hexadecimal. `BadIssuer` where it is no hexadecimal text of 1 to 64 bytes; else
-/// only want of memory.
+/// only out of memory.
 pub fn key_identifier_of(alloc: Global, key_id: &Word<'_>) -> Result<Label, Failure>
     ensures ok { IfOk result (WritesIdentifier key_id.now) }
     ensures err { IfErr result (IsNoIdentifier key_id.now) }

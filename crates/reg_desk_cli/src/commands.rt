@@ -5,14 +5,13 @@ ghost use Rattle.reg_desk_cli.specs.Jobs.{endpoint_in, import_moment, one_moment
 ghost use Rattle.clap.specs.Words.{found_of, rows_of};
 ghost use Rattle.reg_desk_cli.specs.Jobs.{job_in, serving_job_in, keeping_job_in, init_of, script_by, script_of, import_of, crl_job, number_in, serve_of, open_of, at_by, at_of, replay_of, schedule_of, key_id_of, filter_for, form_in, list_of, copy_of, audit_of};
 
-use crate::given_values::{
-    answerer, chosen_holder, filter_if_given, is_set, key_holder, loopback, moment_if_given,
-    number_if_given, number_or, number_within, order_terms_if_given, steps, text_of, way_of,
-    word_of,
-};
 use crate::job::{
     Endpoint, Job, KeptOpen, KeyHolder, LinedScript, ListToWrite, NewRegister, OrderTerms, RowTask,
     RowsToImport, Serving, Way,
+};
+use crate::option_values::{
+    answerer, chosen_holder, filter_option, is_set, key_holder, loopback, moment_option,
+    number_option, number_or, number_within, order_terms_option, steps, text_of, way_of, word_of,
 };
 use crate::word::Word;
 use crate::wrong::{LAST_PORT, MOST_REQUESTS};
@@ -157,7 +156,7 @@ fn read_import<'a>(given: &ArgMatches<'a>) -> Option<Job<'a>>
 fn import_moment(given: &ArgMatches<'_>) -> Option<Option<Moment>>
     ensures { result ≡ import_moment (rows_of (found_of given.now)) }
 {
-    one_moment(moment_if_given(given, "now")?, is_set(given, "clock"))
+    one_moment(moment_option(given, "now")?, is_set(given, "clock"))
 }
 
 fn one_moment(now: Option<Moment>, is_clocked: bool) -> Option<Option<Moment>>
@@ -176,7 +175,7 @@ fn read_crl<'a>(given: &ArgMatches<'a>) -> Option<Job<'a>>
 {
     Some(Job::Crl {
         file: word_of(given, "file")?,
-        number: number_if_given(given, "number")?,
+        number: number_option(given, "number")?,
     })
 }
 
@@ -233,10 +232,10 @@ fn read_open<'a>(given: &ArgMatches<'a>) -> Option<Job<'a>>
 fn read_at<'a>(given: &ArgMatches<'a>) -> Option<Job<'a>>
     ensures { result ≡ at_of (rows_of (found_of given.now)) }
 {
-    let counter = word_of(given, "counter")?;
-    let orders = order_terms_if_given(given)?;
+    let control_path = word_of(given, "counter")?;
+    let orders = order_terms_option(given)?;
     at_job(
-        counter,
+        control_path,
         word_of(given, "import"),
         word_of(given, "revoke"),
         orders,
@@ -244,21 +243,21 @@ fn read_at<'a>(given: &ArgMatches<'a>) -> Option<Job<'a>>
 }
 
 fn at_job<'a>(
-    counter: Word<'a>,
+    control_path: Word<'a>,
     imported: Option<Word<'a>>,
     revoked: Option<Word<'a>>,
     orders: Option<OrderTerms>,
 ) -> Option<Job<'a>>
-    ensures { result ≡ at_by counter.entry imported.entry revoked.entry orders }
+    ensures { result ≡ at_by control_path.entry imported.entry revoked.entry orders }
 {
     let (rows, task) = match (imported, revoked, orders) {
-        (rows, None, None) => return Some(Job::At { counter, rows }),
+        (rows, None, None) => return Some(Job::At { control_path, rows }),
         (Some(rows), None, Some(terms)) => (rows, RowTask::Register(terms)),
         (None, Some(rows), None) => (rows, RowTask::Revoke),
         _ => return None,
     };
     Some(Job::EachRow {
-        counter,
+        control_path,
         rows,
         task,
     })
@@ -269,7 +268,7 @@ fn read_replay<'a>(given: &ArgMatches<'a>) -> Option<Job<'a>>
     ensures { result ≡ replay_of (rows_of (found_of given.now)) }
 {
     Some(Job::Replay {
-        counter: word_of(given, "counter")?,
+        control_path: word_of(given, "counter")?,
         log: word_of(given, "log")?,
     })
 }
@@ -303,9 +302,9 @@ fn read_list<'a>(given: &ArgMatches<'a>) -> Option<Job<'a>>
 {
     let file = word_of(given, "file")?;
     let word = text_of(given, "list")?;
-    let before = moment_if_given(given, "before")?;
+    let before = moment_option(given, "before")?;
     let from = Cursor::named(word.as_bytes(), before)?;
-    let moment = moment_if_given(given, "now")?;
+    let moment = moment_option(given, "now")?;
     let filter = filter_for(given, &from)?;
     Some(Job::Listing(ListToWrite {
         file,
@@ -321,7 +320,7 @@ fn read_list<'a>(given: &ArgMatches<'a>) -> Option<Job<'a>>
 fn filter_for(given: &ArgMatches<'_>, list: &Cursor) -> Option<Filter>
     ensures { result ≡ filter_for list.now (rows_of (found_of given.now)) }
 {
-    let filter = filter_if_given(given)?;
+    let filter = filter_option(given)?;
     if filter.fits(*list) {
         Some(filter)
     } else {

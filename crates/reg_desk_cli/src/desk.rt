@@ -4,7 +4,7 @@ ghost use Rattle.std.specs.Prelude.{◌≡◌, IfOk, OnOk, [], false, map};
 ghost use Rattle.clap.specs.Words.{App, app_of, rule_of, with_subcommand};
 ghost use Rattle.clap.specs.declared.builder.command.Command.TheViews.{out-Command as fields_of};
 ghost use Rattle.reg_desk_cli.specs.Desk.{may, needs, bare_app, begun_app, desk_app, keeping_apps, running_apps, with_commands, with_rules};
-ghost use Rattle.reg_desk_cli.specs.Table.{AreLocal, app_told, rule_told, with_made};
+ghost use Rattle.reg_desk_cli.specs.Table.{AreLocal, app_of_entry, rule_of_part, with_made};
 
 use crate::table::{BEFORE, CommandEntry, KEEPING, Part, RUNNING};
 use clap::{Arg, ArgAction, Command};
@@ -24,13 +24,13 @@ pub(crate) fn desk<'a>(alloc: Global) -> Result<Command<'a>, AllocError>
 }
 
 fn running() -> &'static [CommandEntry]
-    ensures { map app_told result.now ≡ running_apps }
+    ensures { map app_of_entry result.now ≡ running_apps }
 {
     RUNNING
 }
 
 fn keeping() -> &'static [CommandEntry]
-    ensures { map app_told result.now ≡ keeping_apps }
+    ensures { map app_of_entry result.now ≡ keeping_apps }
 {
     KEEPING
 }
@@ -41,7 +41,7 @@ fn add_commands<'a>(
     entries: &[CommandEntry],
 ) -> Result<(), AllocError>
     ensures app { OnOk result ((app : App)
-        → with_made app commands.new.items ≡ with_commands (with_made app commands.old.items) (map app_told entries.now)) }
+        → with_made app commands.new.items ≡ with_commands (with_made app commands.old.items) (map app_of_entry entries.now)) }
     ensures local { OnOk result (AreLocal commands.old.items → AreLocal commands.new.items) }
 {
     for entry in entries {
@@ -56,7 +56,7 @@ fn add_command<'a>(
     entry: &CommandEntry,
 ) -> Result<(), AllocError>
     ensures app { OnOk result ((app : App)
-        → with_made app commands.new.items ≡ with_subcommand (with_made app commands.old.items) (app_told entry.now).top) }
+        → with_made app commands.new.items ≡ with_subcommand (with_made app commands.old.items) (app_of_entry entry.now).top) }
     ensures local { OnOk result (AreLocal commands.old.items → AreLocal commands.new.items) }
 {
     commands.push(command(alloc, entry)?)?;
@@ -85,7 +85,7 @@ fn bare<'a>(alloc: Global) -> Command<'a>
 }
 
 fn command<'a>(alloc: Global, entry: &CommandEntry) -> Result<Command<'a>, AllocError>
-    ensures app { IfOk result (λ made. app_of made ≡ app_told entry.now) }
+    ensures app { IfOk result (λ made. app_of made ≡ app_of_entry entry.now) }
     ensures local { IfOk result (λ made. (fields_of made).has_globals ≡ false) }
 {
     let command = Command::new(alloc, entry.name)
@@ -100,7 +100,7 @@ fn with_parts<'a>(
     parts: &[Part],
 ) -> Result<Command<'a>, AllocError>
     requires { (fields_of command).has_globals ≡ false }
-    ensures app { IfOk result (λ made. app_of made ≡ with_rules (app_of command.entry) (map rule_told parts.now)) }
+    ensures app { IfOk result (λ made. app_of made ≡ with_rules (app_of command.entry) (map rule_of_part parts.now)) }
     ensures local { IfOk result (λ made. (fields_of made).has_globals ≡ false) }
 {
     let mut command = command;
@@ -111,7 +111,7 @@ fn with_parts<'a>(
 }
 
 fn arg<'a>(alloc: Global, part: &Part) -> Result<Arg<'a>, AllocError>
-    ensures rule { IfOk result (λ arg. rule_of arg ≡ rule_told part.now) }
+    ensures rule { IfOk result (λ arg. rule_of arg ≡ rule_of_part part.now) }
     ensures local { IfOk result (λ arg. arg.global ≡ false) }
 {
     match *part {

@@ -22,7 +22,7 @@ pub enum Failure {
     BadClock,
     /// The latest CRL was signed under another algorithm, or the issuer's key is none of the algorithm.
     BadSigner,
-    /// A certificate that is to stand with OCSP answers is none, or is of another key than it is told for.
+    /// A certificate that is to stand with OCSP answers is none, or is of another key than it is given for.
     BadResponder,
     /// A reply at a control socket, in a strict script or in a strict import was a refusal or a fault.
     Refused,
@@ -30,7 +30,7 @@ pub enum Failure {
     NoLineEnd,
     /// Both: a reply was a refusal or a fault, and the last line has no end.
     RefusedNoLineEnd,
-    /// An audit told what is not sound.
+    /// An audit reported what is not sound.
     Broken,
     /// The file of a published CRL has no CRL with a number.
     NotACrl,

@@ -15,7 +15,7 @@ pub struct KeyHolder<'a> {
     pub algorithm: Algorithm,
 }
 
-/// Who answers OCSP requests where a register is served (RFC 6960 2.2).
+/// The responder to OCSP requests where a register is served (RFC 6960 2.2).
 #[derive(Drop)]
 pub enum Answerer<'a> {
     /// The signer of its CRLs. A certificate is put into each answer if the path of its file is given.
@@ -32,7 +32,7 @@ pub enum Answerer<'a> {
 /// How the lines of a script are run that is run line by line.
 #[derive(Clone, Copy, PartialEq, Eq)]
 pub struct Way {
-    /// A line has no moment: the machine's clock tells it.
+    /// A line has no moment: the machine's clock gives it.
     pub is_clocked: bool,
     /// The lines run even if the clock is more than 30 days past the last accepted moment.
     pub accepts_clock: bool,
@@ -173,18 +173,18 @@ pub enum Job<'a> {
     Open(KeptOpen<'a>),
     /// Sends the lines of standard input to the control socket at a path; or the rows of a file.
     At {
-        counter: Word<'a>,
+        control_path: Word<'a>,
         rows: Option<Word<'a>>,
     },
     /// Does the task with the certificate of each row of the file at a path, at the control socket at a path.
     EachRow {
-        counter: Word<'a>,
+        control_path: Word<'a>,
         rows: Word<'a>,
         task: RowTask,
     },
     /// Sends the accepted commands of the log at a path to the control socket at a path once more.
     Replay {
-        counter: Word<'a>,
+        control_path: Word<'a>,
         log: Word<'a>,
     },
     Schedule {
@@ -208,13 +208,13 @@ pub enum Job<'a> {
     },
 }
 
-/// A job, and what is told beside it.
+/// A job, and the options beside it.
 #[derive(Drop)]
 pub struct Invocation<'a> {
     pub job: Job<'a>,
     /// The cause of a fault is told, where it is known.
     pub is_explained: bool,
-    /// Each exchange is told on standard error, where the job serves.
+    /// Each exchange is logged on standard error, where the job serves.
     pub has_log: bool,
     /// The path of the file in which each exchange is told, where the job serves.
     pub log_file: Option<Word<'a>>,
@@ -234,7 +234,7 @@ pub enum Usage {
 }
 
 impl Usage {
-    /// The exit status: 0 where help or the version was asked for, 2 where the words can't be read, 1 for want of memory.
+    /// The exit status: 0 where help or the version was asked for, 2 where the words can't be read, 1 where memory runs out.
     pub fn status(&self) -> u8
         ensures { result ≡ usage_status self.now }
     {

@@ -5,8 +5,8 @@ mod checks;
 mod commands;
 mod desk;
 mod failure;
-mod given_values;
 mod job;
+mod option_values;
 mod reading_words;
 mod table;
 mod word;
@@ -17,10 +17,10 @@ pub use checks::{
 };
 pub use desk::VERSION;
 pub use failure::{Failure, status_of};
-pub use given_values::read_step;
 pub use job::{
     Answerer, Endpoint, Invocation, Job, KeptOpen, KeyHolder, LinedScript, ListToWrite, Loopback,
     NewRegister, OrderTerms, RowTask, RowsToImport, Serving, Usage, Way,
 };
+pub use option_values::read_step;
 pub use reading_words::{no_text, read_words};
 pub use word::{Steps, Word};

@@ -3,12 +3,12 @@
 ghost use Rattle.std.specs.Prelude.{◌≡◌, IfErr, IfOk, map};
 ghost use Rattle.clap.specs.Words.{app_of, found_of, rows_of, subcommand_rows_of, kind_of};
 ghost use Rattle.reg_desk_cli.specs.Desk.{desk_app};
-ghost use Rattle.reg_desk_cli.specs.Jobs.{IsNoInvocation, IsInvocationIn, IsInvocationOf, IsUsageOf, PrintsUsage, is_given_behind, job_found, told_behind};
+ghost use Rattle.reg_desk_cli.specs.Jobs.{IsNoInvocation, IsInvocationIn, IsInvocationOf, IsUsageOf, PrintsUsage, has_flag_behind, job_found, value_behind};
 
 use crate::commands::read_command;
 use crate::desk::desk;
-use crate::given_values::{is_set, word_of};
 use crate::job::{Invocation, Job, Usage};
+use crate::option_values::{is_set, word_of};
 use crate::word::Word;
 use crate::wrong::wrong_text;
 use clap::error::ErrorKind;
@@ -20,7 +20,7 @@ const TEXT_WANTED: &str = "a word is not UTF-8 text: the name of a FILE must be 
 
 /// Reads the words of a command line, of which the first is the program's name; options that are left out are as in the
 /// usual policy. `Help` and `Version` come where clap answers them, `Bad` where clap finds another fault, a value is out of
-/// its form or range, or `open` is told of no signer and not `--unsigned`, or of both.
+/// its form or range, or `open` has neither a signer nor `--unsigned`, or has both.
 pub fn read_words<'a, S: AsStr>(alloc: Global, words: &'a [S]) -> Result<Invocation<'a>, Usage>
     ensures invocation { IfOk result (IsInvocationOf (map S.text words.entry.now)) }
     ensures usage { IfErr result (IsUsageOf (map S.text words.entry.now)) }
@@ -68,7 +68,7 @@ fn read_invocation<'a>(
 }
 
 fn is_set_behind(matches: &ArgMatches<'_>, id: &str) -> bool
-    ensures { result ≡ is_given_behind id.now (subcommand_rows_of matches.now) }
+    ensures { result ≡ has_flag_behind id.now (subcommand_rows_of matches.now) }
 {
     match matches.subcommand() {
         Some((_, given)) => is_set(given, id),
@@ -77,7 +77,7 @@ fn is_set_behind(matches: &ArgMatches<'_>, id: &str) -> bool
 }
 
 fn word_behind<'a>(matches: &ArgMatches<'a>, id: &str) -> Option<Word<'a>>
-    ensures { result ≡ told_behind id.now (subcommand_rows_of matches.now) }
+    ensures { result ≡ value_behind id.now (subcommand_rows_of matches.now) }
 {
     match matches.subcommand() {
         Some((_, given)) => word_of(given, id),
@@ -108,7 +108,7 @@ pub fn no_text(alloc: Global) -> Usage
 fn text_wanted(alloc: Global, desk: &mut Command<'_>) -> Usage
     ensures { PrintsUsage ErrorKind.InvalidValue result }
 {
-    told(alloc, desk, ErrorKind::InvalidValue, TEXT_WANTED)
+    clap_error(alloc, desk, ErrorKind::InvalidValue, TEXT_WANTED)
 }
 
 /// What is answered where clap took the words, and a value is out of its form or range: the option and its value are named.
@@ -116,13 +116,13 @@ fn bad_value(alloc: Global, desk: &mut Command<'_>, matches: &ArgMatches<'_>) ->
     ensures { PrintsUsage ErrorKind.ValueValidation result }
 {
     match wrong_text(alloc, matches) {
-        Some(text) => told(alloc, desk, ErrorKind::ValueValidation, &text),
+        Some(text) => clap_error(alloc, desk, ErrorKind::ValueValidation, &text),
         None => Usage::Memory,
     }
 }
 
 /// An error of our own, in the form of clap's.
-fn told(alloc: Global, desk: &mut Command<'_>, kind: ErrorKind, text: &str) -> Usage
+fn clap_error(alloc: Global, desk: &mut Command<'_>, kind: ErrorKind, text: &str) -> Usage
     ensures { PrintsUsage kind result }
 {
     match desk.error(kind, text) {

@@ -1,24 +1,24 @@
-//! The command line as a table: its commands, the words and options of each, and what help says of them.
+//! The command line as a table: its commands, their arguments and options, and the help for each.
 
-/// A word or an option of a command: its id, which is an option's long name too, what its value is called, and what help
-/// says of it.
+/// A positional argument (`Must`, `May`, `Rest`) or an option of a command: its id (for an option also its long name), the
+/// name of its value, and its help. `Must` and `Needs` are required, `May` and `Takes` are not.
 #[derive(Clone, Copy)]
 pub(crate) enum Part {
     Must(&'static str, &'static str, &'static str),
     May(&'static str, &'static str, &'static str),
-    /// One word or more, all that are left.
+    /// One or more arguments: all that are left.
     Rest(&'static str, &'static str, &'static str),
     Needs(&'static str, &'static str, &'static str),
-    /// The same, which is also given by an older name that help leaves out: the id, that name, and the rest.
+    /// As `Needs`, with an older name, which help leaves out, as its second part.
     Renamed(&'static str, &'static str, &'static str, &'static str),
     Takes(&'static str, &'static str, &'static str),
-    /// An option that may be left out and takes several values: its id, what each value is called, and what help says of it.
+    /// An option that may be left out and takes several values: its id, the name of each value, and its help.
     Several(&'static str, &'static [&'static str], &'static str),
     /// An option that may be left out and takes no value.
     Flag(&'static str, &'static str),
 }
 
-/// A command: its name, what it does, an example of it, and its words and options.
+/// A command: its name, what it does, an example, and its arguments and options.
 #[derive(Clone, Copy)]
 pub(crate) struct CommandEntry {
     pub(crate) name: &'static str,
@@ -27,7 +27,7 @@ pub(crate) struct CommandEntry {
     pub(crate) parts: &'static [Part],
 }
 
-// What help says of each word and option: what it is, its unit, its range and its default.
+// The help for each argument and option: what it is, its unit, its range and its default.
 const NEW_FILE: &str = "The register's file; it must be new or empty";
 
 const NAME: &str = "The issuer's Name, its DER in hexadecimal, at most 1024 bytes";
@@ -164,8 +164,8 @@ const CAUSE_ANYWHERE: &str =
 /// The options before a command.
 pub(crate) const BEFORE: &[Part] = &[Part::Flag("why", CAUSE_ANYWHERE)];
 
-/// The commands that make, run and serve a register, in the order in which help lists them. One small function alone names them, since a long
-/// constant costs the prover seconds in each step; so the commands stand in two.
+/// The commands that make, run and serve a register, in the order in which help lists them. Only one small function uses this constant, because a
+/// long constant costs the prover seconds in each step. For the same reason the other commands are in `KEEPING`.
 pub(crate) const RUNNING: &[CommandEntry] = &[
     CommandEntry {
         name: "init",
@@ -265,7 +265,7 @@ pub(crate) const RUNNING: &[CommandEntry] = &[
     },
 ];
 
-/// The commands that speak to an open desk, and those that set, list, copy and audit what a register has; help lists them after the others.
+/// The commands that send lines to an open desk, and those that set, list, copy and audit what a register has; help lists them after `RUNNING`.
 pub(crate) const KEEPING: &[CommandEntry] = &[
     CommandEntry {
         name: "at",

@@ -1,4 +1,4 @@
-//! What a job is told: words as they were typed, and the steps of a schedule.
+//! The arguments of a job: words as they were typed, and the steps of a schedule.
 
 ghost use Rattle.std.specs.Prelude.{◌≡◌};
 

@@ -1,8 +1,8 @@
 //! The messages about a value that is out of its form or range.
 
-use crate::given_values::{
-    answerer, key_holder, label_if_given, loopback, moment, number_within, prefix_if_given,
-    read_step, text_of,
+use crate::option_values::{
+    answerer, key_holder, label_option, loopback, moment, number_within, prefix_option, read_step,
+    text_of,
 };
 use clap::ArgMatches;
 use reg_core::read_number;
@@ -187,11 +187,11 @@ fn wrong_order<'a>(given: &ArgMatches<'a>) -> Option<Wrong<'a>> {
 
 /// The value of a filter that can't be read.
 fn wrong_filter<'a>(given: &ArgMatches<'a>) -> Option<Wrong<'a>> {
-    if label_if_given(given, "subscriber").is_none() {
+    if label_option(given, "subscriber").is_none() {
         let value = text_of(given, "subscriber")?;
         return Some(Wrong::of("--subscriber", value, SUBSCRIBER_WANTED));
     }
-    if prefix_if_given(given, "serial").is_none() {
+    if prefix_option(given, "serial").is_none() {
         let value = text_of(given, "serial")?;
         return Some(Wrong::of("--serial", value, SERIAL_WANTED));
     }

@@ -98,13 +98,13 @@ pub fn claim_file(rt: &HostRuntime, path: &str) -> Result<(), ClaimFault> {
         return Err(ClaimFault::Memory);
     };
     match fs::exists(rt, log.as_str()) {
-        Ok(false) => lay(rt, path),
+        Ok(false) => create_file(rt, path),
         Ok(true) => Err(ClaimFault::Taken(None)),
         Err(error) => Err(claim_fault_of(error.kind())),
     }
 }
 
-fn lay(rt: &HostRuntime, path: &str) -> Result<(), ClaimFault> {
+fn create_file(rt: &HostRuntime, path: &str) -> Result<(), ClaimFault> {
     let mut options = OpenOptions::new();
     options.write(true).create_new(true).mode(OWNER_ALONE);
     match options.open(rt, path) {

@@ -84,7 +84,7 @@ fn fill_and_name<D: Disk>(
     ensures { IfErr result IsFileFault }
 {
     let bytes = put_pages(pager, file)?;
-    laid(file.sync_all())?;
+    created_or_fault(file.sync_all())?;
     name(rt, part, to)?;
     Ok(bytes)
 }
@@ -93,7 +93,7 @@ fn fill_and_name<D: Disk>(
 fn name(rt: &HostRuntime, part: &str, to: &str) -> Result<(), FileFault>
     ensures { IfErr result IsFileFault }
 {
-    laid(fs::hard_link(rt, part, to))?;
+    created_or_fault(fs::hard_link(rt, part, to))?;
     match settle(rt, part) {
         Ok(()) => Ok(()),
         Err(error) => {
@@ -112,7 +112,7 @@ fn settle(rt: &HostRuntime, part: &str) -> io::Result<()> {
     folder.sync_all()
 }
 
-fn laid(outcome: io::Result<()>) -> Result<(), FileFault>
+fn created_or_fault(outcome: io::Result<()>) -> Result<(), FileFault>
     ensures { IfErr result IsFileFault }
 {
     match outcome {

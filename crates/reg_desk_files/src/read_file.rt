@@ -52,7 +52,11 @@ pub(crate) struct LockedFiles {
 /// Opens the files of a database for reading alone, where a link leads, and locks them until they are dropped. Errors: `Memory`; `Store` also
 /// where another program has the file open to write, or this one should and has not; or where SQLite left a rollback journal beside it,
 /// which only SQLite can play back.
-pub(crate) fn hold(rt: &HostRuntime, path: &str, holder: Holder) -> Result<LockedFiles, FileFault>
+pub(crate) fn lock_files(
+    rt: &HostRuntime,
+    path: &str,
+    holder: Holder,
+) -> Result<LockedFiles, FileFault>
     ensures { IfErr result IsFileFault }
 {
     // A path that SQLite reads as another thing than a file's name is refused.

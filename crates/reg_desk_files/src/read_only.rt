@@ -13,7 +13,7 @@ use crate::file::options_for;
 use crate::file_check::{Found, look};
 use crate::file_fault::{FileFault, damaged};
 use crate::overlay::{Overlay, overlaid};
-use crate::read_file::{Holder, LockedFiles, ReadFile, hold};
+use crate::read_file::{Holder, LockedFiles, ReadFile, lock_files};
 use crate::source::Source;
 use reg_core::Fault;
 use sqlite::{Connection, FileStore, Options};
@@ -73,7 +73,7 @@ pub(crate) fn sources_at(
     ensures { IfErr result IsFileFault }
 {
     let options = options_for(rt, path)?;
-    let LockedFiles { log, db } = hold(rt, path, holder)?;
+    let LockedFiles { log, db } = lock_files(rt, path, holder)?;
     let log = match &log {
         Some(log) => copy_of(rt.alloc(), log)?,
         None => Vec::new(rt.alloc()),

@@ -11,8 +11,8 @@ use Rattle.reg_office_api.specs.Signatories.{Signatory}
 use Rattle.reg_office_api.proofs.PublicLaws.{chains, follows, stays}
 use Rattle.reg_http.specs.Added.{AddsARequestAtMost}
 use Rattle.reg_http.specs.Answers.{BeginsTo}
-use Rattle.reg_http.specs.Asked.{Asked, serial_asked}
-use Rattle.reg_http.specs.Told.{told}
+use Rattle.reg_http.specs.RoutedRequests.{RoutedRequest, requested_serial}
+use Rattle.reg_http.specs.AnswerEffects.{answer_effects}
 use Rattle.reg_http.specs.declared.answered.Answered.{Answered}
 use Rattle.reg_http.proofs.PublicLaws.{nothing_added}
 use Rattle.reg_ocsp.specs.Drafts.{Drafted}
@@ -21,52 +21,52 @@ use Rattle.reg_io.specs.declared.begun.Begun.TheVariants.{Ready, Unsigned}
 use Rattle.reg_desk_jobs.specs.Admission.{BeginsAdmitted, IsWithin, MeetsLimits, RefusesAtLimit}
 use Rattle.reg_desk_jobs.specs.declared.admission.Admission.{Admission}
 
-module _ {S : Type 0} (is_clean : S → Type 0) (stands : Signatory → S → Records → Type 0) (admission : Admission) (signs : Signs) (now : ℕ) (what : Asked) where
+module _ {S : Type 0} (is_clean : S → Type 0) (stands : Signatory → S → Records → Type 0) (admission : Admission) (signs : Signs) (now : ℕ) (what : RoutedRequest) where
   -- what the register begins, and what it adds
   abbrev pub Begins : Begun Answered Drafted → Signatory → Records → Records → Type 0
-  Begins begun who before after =
-      BeginsTo (Runs signs who) Asks (Replies signs who) Crls (Drafts who) now before what begun after × AddsARequestAtMost now before after
+  Begins begun signatory before after =
+      BeginsTo (Runs signs signatory) Asks (Replies signs signatory) Crls (Drafts signatory) now before what begun after × AddsARequestAtMost now before after
 
   abbrev pub Admits : Result (Begun Answered Drafted) Memory → Signatory → Records → Records → Type 0
-  Admits result who before after = BeginsAdmitted admission signs now who before what result after
+  Admits result signatory before after = BeginsAdmitted admission signs now signatory before what result after
 
-  begun_within : (begun : Begun Answered Drafted) (who : Signatory) (before after : Records) → IsWithin admission before now (serial_asked what)
-      → Begins begun who before after → Admits (Ok begun) who before after
-  begun_within (Ready answered) who before after within (begins, adds) = (inl (within, begins), adds)
-  begun_within (Unsigned draft) who before after within (begins, adds) = begins
+  begun_within : (begun : Begun Answered Drafted) (signatory : Signatory) (before after : Records) → IsWithin admission before now (requested_serial what)
+      → Begins begun signatory before after → Admits (Ok begun) signatory before after
+  begun_within (Ready answered) signatory before after within (begins, adds) = (inl (within, begins), adds)
+  begun_within (Unsigned draft) signatory before after within (begins, adds) = begins
 
   -- the register is asked after a look at the limits
   pub admitted : (result : Result (Begun Answered Drafted) Memory) (s m t : S)
-      → Looks is_clean stands (λ records. IsWithin admission records now (serial_asked what)) s m
+      → Looks is_clean stands (λ records. IsWithin admission records now (requested_serial what)) s m
       → IfOk result (λ begun. Leads is_clean stands (Begins begun) m t) → OnErr result (t ≡ m) → Leads is_clean stands (Admits result) s t
   admitted (Ok begun) s m t look begins same =
       follows is_clean stands
-      (λ who before after. (middle : Records) × (IsWithin admission before now (serial_asked what) × (middle ≡ before)) × Begins begun who middle after)
+      (λ signatory before after. (middle : Records) × (IsWithin admission before now (requested_serial what) × (middle ≡ before)) × Begins begun signatory middle after)
       (Admits (Ok begun))
-      (λ who before after both.
+      (λ signatory before after both.
       let (middle, seen, made) = both in
-      begun_within begun who before after seen.0 (subst (λ (r : Records). Begins begun who r after) seen.1 made))
+      begun_within begun signatory before after seen.0 (subst (λ (r : Records). Begins begun signatory r after) seen.1 made))
       s
       t
-      (chains is_clean stands (λ who before after. IsWithin admission before now (serial_asked what) × (after ≡ before)) (Begins begun) s m t look begins)
+      (chains is_clean stands (λ signatory before after. IsWithin admission before now (requested_serial what) × (after ≡ before)) (Begins begun) s m t look begins)
   admitted (Err memory) s m t look begins same =
       follows is_clean stands
-      (λ who before after. IsWithin admission before now (serial_asked what) × (after ≡ before))
+      (λ signatory before after. IsWithin admission before now (requested_serial what) × (after ≡ before))
       (Admits (Err memory))
-      (λ who before after seen. seen.1)
+      (λ signatory before after seen. seen.1)
       s
       t
-      (let P : S → Type 0 = λ v. Looks is_clean stands (λ records. IsWithin admission records now (serial_asked what)) s v in subst P (sym same) look)
+      (let P : S → Type 0 = λ v. Looks is_clean stands (λ records. IsWithin admission records now (requested_serial what)) s v in subst P (sym same) look)
 
   -- no limit is looked at for any other request
-  pub unlimited : (result : Result (Begun Answered Drafted) Memory) (s t : S) → None ≡ serial_asked what
+  pub unlimited : (result : Result (Begun Answered Drafted) Memory) (s t : S) → None ≡ requested_serial what
       → IfOk result (λ begun. Leads is_clean stands (Begins begun) s t) → OnErr result (t ≡ s) → Leads is_clean stands (Admits result) s t
   unlimited result s t none begins same =
       admitted result s s t
       (follows is_clean stands
-      (λ who before after. after ≡ before)
-      (λ who before after. IsWithin admission before now (serial_asked what) × (after ≡ before))
-      (λ who before after still. (subst (IsWithin admission before now) none tt, still))
+      (λ signatory before after. after ≡ before)
+      (λ signatory before after. IsWithin admission before now (requested_serial what) × (after ≡ before))
+      (λ signatory before after still. (subst (IsWithin admission before now) none tt, still))
       s
       s
       (stays is_clean stands s s refl))
@@ -74,27 +74,27 @@ module _ {S : Type 0} (is_clean : S → Type 0) (stands : Signatory → S → Re
       same
 
   -- a request for a serial number that is within the limits
-  pub within : (serial : ℕ) (s m : S) → Some serial ≡ serial_asked what
+  pub within : (serial : ℕ) (s m : S) → Some serial ≡ requested_serial what
       → Looks is_clean stands (λ records. MeetsLimits admission records now serial None) s m
-      → Looks is_clean stands (λ records. IsWithin admission records now (serial_asked what)) s m
+      → Looks is_clean stands (λ records. IsWithin admission records now (requested_serial what)) s m
   within serial s m some look =
       follows is_clean stands
-      (λ who before after. MeetsLimits admission before now serial None × (after ≡ before))
-      (λ who before after. IsWithin admission before now (serial_asked what) × (after ≡ before))
-      (λ who before after seen. (subst (IsWithin admission before now) some seen.0, seen.1))
+      (λ signatory before after. MeetsLimits admission before now serial None × (after ≡ before))
+      (λ signatory before after. IsWithin admission before now (requested_serial what) × (after ≡ before))
+      (λ signatory before after seen. (subst (IsWithin admission before now) some seen.0, seen.1))
       s
       m
       look
 
   -- a request for a serial number that a limit refuses
-  pub refused : (serial : ℕ) (answered : Answered) (s t : S) → Some serial ≡ serial_asked what
+  pub refused : (serial : ℕ) (answered : Answered) (s t : S) → Some serial ≡ requested_serial what
       → Looks is_clean stands (λ records. MeetsLimits admission records now serial (Some answered)) s t → Leads is_clean stands (Admits (Ok (Ready answered))) s t
   refused serial answered s t some look =
       follows is_clean stands
-      (λ who before after. MeetsLimits admission before now serial (Some answered) × (after ≡ before))
+      (λ signatory before after. MeetsLimits admission before now serial (Some answered) × (after ≡ before))
       (Admits (Ok (Ready answered)))
-      (λ who before after seen.
-      let P : Option ℕ → Type 0 = λ it. RefusesAtLimit admission before now it (told answered) in
+      (λ signatory before after seen.
+      let P : Option ℕ → Type 0 = λ it. RefusesAtLimit admission before now it (answer_effects answered) in
       (inr (subst P some seen.0, seen.1), nothing_added now before after seen.1))
       s
       t
@@ -103,4 +103,4 @@ module _ {S : Type 0} (is_clean : S → Type 0) (stands : Signatory → S → Re
   -- without memory for a refusal
   pub unanswered : (seen : Records → Type 0) (memory : Memory) (s t : S) → Looks is_clean stands seen s t → Leads is_clean stands (Admits (Err memory)) s t
   unanswered seen memory s t look =
-      follows is_clean stands (λ who before after. seen before × (after ≡ before)) (Admits (Err memory)) (λ who before after looked. looked.1) s t look
+      follows is_clean stands (λ signatory before after. seen before × (after ≡ before)) (Admits (Err memory)) (λ signatory before after looked. looked.1) s t look

@@ -11,14 +11,14 @@ use Rattle.reg_core.specs.declared.memory.Memory.{Memory}
 use Rattle.reg_crl.specs.Signing.{Identity}
 use Rattle.reg_http_head.specs.Collected.{HoldsRequest}
 use Rattle.reg_http_head.specs.Frame.{asked, refused}
-use Rattle.reg_http.specs.Asked.{path_of, asked as asks_for}
+use Rattle.reg_http.specs.RoutedRequests.{path_of, asked as asks_for}
 use Rattle.reg_http.specs.Bodies.{http_refusal}
-use Rattle.reg_http.specs.Exchanges.{TellsBegun}
+use Rattle.reg_http.specs.Exchanges.{BeginsExchange}
 use Rattle.reg_http.specs.RouteNames.{route_at}
-use Rattle.reg_http.specs.Told.{plain, told}
+use Rattle.reg_http.specs.AnswerEffects.{plain, answer_effects}
 use Rattle.reg_http.specs.declared.answered.Answered.{Answered}
 use Rattle.reg_http.specs.declared.exchange.Exchange.{Exchange}
-use Rattle.reg_http.specs.declared.exchange.Left.{Left}
+use Rattle.reg_http.specs.declared.exchange.UnsignedResponse.{UnsignedResponse}
 use Rattle.reg_http.specs.declared.route.Route.{Route}
 use Rattle.reg_http.proofs.PublicLaws.{nothing_added}
 use Rattle.reg_desk_server.specs.Exchange.{Outcome, said, pending, later}
@@ -30,8 +30,8 @@ use Rattle.reg_io.specs.declared.begun.Begun.TheVariants.{Ready, Unsigned}
 use Rattle.reg_desk_jobs.specs.Beginning.{AnswersBegun, BeginsAt, MayLeave, ready_of}
 use Rattle.reg_desk_jobs.specs.Counted.{CountsBegun}
 use Rattle.reg_desk_jobs.specs.Admission.{BeginsAdmitted}
-use Rattle.reg_desk_jobs.specs.Exchanges.{AnswersBy, SaysBy, dispatch}
-use Rattle.reg_desk_jobs.specs.Leaving.{FinishesAt, FinishesUnsigned, Meets}
+use Rattle.reg_desk_jobs.specs.Exchanges.{AnswersBy, AnswersAtRoute, dispatch}
+use Rattle.reg_desk_jobs.specs.FinishedResponses.{FinishesAt, FinishesUnsigned, Meets}
 use Rattle.reg_desk_jobs.specs.declared.admission.Admission.{Admission}
 use Rattle.reg_desk_jobs.specs.declared.unsigned_responses.Unsigned.{Unsigned as UnsignedOf}
 use Rattle.reg_desk_jobs.specs.declared.http_exchanges.Dispatch.{Dispatch}
@@ -39,76 +39,76 @@ use Rattle.reg_desk_jobs.specs.declared.http_exchanges.Dispatch.TheVariants.{ToL
 use Rattle.reg_desk_jobs.proofs.Finishing.{left_exchange}
 
 -- what is begun behind the limits of an open desk is begun there
-pub limited_begins : (admission : Admission) (is_open : Bool) (signs : Signs) (now : ℕ) (who : Signatory) (before : Records) (method target body : List ℕ)
+pub limited_begins : (admission : Admission) (is_open : Bool) (signs : Signs) (now : ℕ) (signatory : Signatory) (before : Records) (method target body : List ℕ)
     (begun : Result (Begun Answered Drafted) Memory) (after : Records) → dispatch is_open (route_at (path_of target)) ≡ ToLimits
-    → BeginsAdmitted admission signs now who before (asks_for method target body) begun after
-    → BeginsAt is_open signs now who before method target body begun after
-limited_begins admission is_open signs now who before method target body (Ok (Ready answered)) after to (says, adds) =
-    let P : Dispatch → Type 0 = λ by. SaysBy signs now who before (told answered) after by method target body in
+    → BeginsAdmitted admission signs now signatory before (asks_for method target body) begun after
+    → BeginsAt is_open signs now signatory before method target body begun after
+limited_begins admission is_open signs now signatory before method target body (Ok (Ready answered)) after to (says, adds) =
+    let P : Dispatch → Type 0 = λ by. AnswersAtRoute signs now signatory before (answer_effects answered) after by method target body in
     (subst P (sym to) (admission, says), adds)
-limited_begins admission is_open signs now who before method target body (Ok (Unsigned draft)) after to left = (subst MayLeave (sym to) tt, left)
-limited_begins admission is_open signs now who before method target body (Err memory) after to same = same
+limited_begins admission is_open signs now signatory before method target body (Ok (Unsigned draft)) after to left = (subst MayLeave (sym to) tt, left)
+limited_begins admission is_open signs now signatory before method target body (Err memory) after to same = same
 
 -- What stands in an office before and after, who signs, and the moment.
 module _ {S : Type 0} (is_clean : S → Type 0) (stands : Signatory → S → Records → Type 0) (signs : Signs) (now : ℕ) (is_open : Bool) (s t : S) where
   -- The signer gave this, and what that is; the bytes that came.
-  module _ (gave : List ℕ → List ℕ → Type 0)
-      (gave_signs : (identity : Identity) (message answer : List ℕ) → gave message answer → HasForm identity answer → signs identity message answer)
+  module _ (signer_answered : List ℕ → List ℕ → Type 0)
+      (answer_in_form_signs : (identity : Identity) (message answer : List ℕ) → signer_answered message answer → HasForm identity answer → signs identity message answer)
       (came : List ℕ) where
     -- an exchange, or what is left of one
-    abbrev pub Answer : Begun Exchange Left → Signatory → Records → Records → Type 0
-    Answer begun who before after = AnswersBegun gave is_open signs now who before came begun after
+    abbrev pub Answer : Begun Exchange UnsignedResponse → Signatory → Records → Records → Type 0
+    Answer begun signatory before after = AnswersBegun signer_answered is_open signs now signatory before came begun after
 
     -- a request that asks something
-    pub asked_answers : (method target body : List ℕ) (route : Route) (begun : Result (Begun Answered Drafted) Memory) (made : Begun Exchange Left)
-        → ∥ HoldsRequest came (asked method target body) ∥₁ → TellsBegun now route begun made
-        → Leads is_clean stands (λ who before after. BeginsAt is_open signs now who before method target body begun after) s t
+    pub asked_answers : (method target body : List ℕ) (route : Route) (begun : Result (Begun Answered Drafted) Memory) (made : Begun Exchange UnsignedResponse)
+        → ∥ HoldsRequest came (asked method target body) ∥₁ → BeginsExchange now route begun made
+        → Leads is_clean stands (λ signatory before after. BeginsAt is_open signs now signatory before method target body begun after) s t
         → Leads is_clean stands (Answer made) s t
     asked_answers method target body route (Ok (Ready answered)) (Ready exchange) holds tells moved =
         follows is_clean stands _ _
-        (λ who before after said. (inl (asked method target body, told answered, holds, said.0, tells.1), said.1)) s t moved
+        (λ signatory before after said. (inl (asked method target body, answer_effects answered, holds, said.0, tells.1), said.1)) s t moved
     asked_answers method target body route (Ok (Ready answered)) (Unsigned left) holds tells moved = absurd tells
     asked_answers method target body route (Ok (Unsigned draft)) (Ready exchange) holds tells moved = absurd tells
     asked_answers method target body route (Ok (Unsigned draft)) (Unsigned left) holds tells moved =
         follows is_clean stands _ _
-        (λ who before after (to, (request, asks_it, drafted)).
-        let P : Drafted → Type 0 = λ it. Drafts who before now request it after in (
-          (λ text finished. left_exchange signs gave gave_signs now who before after is_open came method target body request text left.draft holds to asks_it
+        (λ signatory before after (to, (request, asks_it, drafted)).
+        let P : Drafted → Type 0 = λ it. Drafts signatory before now request it after in (
+          (λ text finished. left_exchange signs signer_answered answer_in_form_signs now signatory before after is_open came method target body request text left.draft holds to asks_it
               (subst P (sym tells.1) drafted) finished),
           nothing_added now before after drafted.1,
         ))
         s t moved
     asked_answers method target body route (Err memory) (Ready exchange) holds tells moved =
         follows is_clean stands _ _
-        (λ who before after same. (inr (tells.2, inr tells.1, same), nothing_added now before after same)) s t moved
+        (λ signatory before after same. (inr (tells.2, inr tells.1, same), nothing_added now before after same)) s t moved
     asked_answers method target body route (Err memory) (Unsigned left) holds tells moved = absurd tells
 
     -- one that is refused before any route
-    pub refused_answers : (status : ℕ) (route : Route) (answered : Result Answered Memory) (made : Begun Exchange Left)
-        → ∥ HoldsRequest came (refused status) ∥₁ → IfOk answered (λ it. told it ≡ plain (http_refusal status)) → TellsBegun now route (ready_of answered) made
+    pub refused_answers : (status : ℕ) (route : Route) (answered : Result Answered Memory) (made : Begun Exchange UnsignedResponse)
+        → ∥ HoldsRequest came (refused status) ∥₁ → IfOk answered (λ it. answer_effects it ≡ plain (http_refusal status)) → BeginsExchange now route (ready_of answered) made
         → t ≡ s → Leads is_clean stands (Answer made) s t
     refused_answers status route (Ok answered) (Ready exchange) holds is tells same =
         follows is_clean stands _ _
-        (λ who before after stayed. (inl (refused status, told answered, holds, (is, stayed), tells.1), nothing_added now before after stayed)) s t
+        (λ signatory before after stayed. (inl (refused status, answer_effects answered, holds, (is, stayed), tells.1), nothing_added now before after stayed)) s t
         (stays is_clean stands s t same)
     refused_answers status route (Ok answered) (Unsigned left) holds is tells same = absurd tells
     refused_answers status route (Err memory) (Ready exchange) holds is tells same =
         follows is_clean stands _ _
-        (λ who before after stayed. (inr (tells.2, inr tells.1, stayed), nothing_added now before after stayed)) s t (stays is_clean stands s t same)
+        (λ signatory before after stayed. (inr (tells.2, inr tells.1, stayed), nothing_added now before after stayed)) s t (stays is_clean stands s t same)
     refused_answers status route (Err memory) (Unsigned left) holds is tells same = absurd tells
 
     -- what was begun and counted meets what is wanted of its text
-    pub answers_meet : (clock : ℕ → Type 0) (begun : Begun Exchange Left) (outcome : Outcome UnsignedOf) (before_it behind : Tally)
+    pub answers_meet : (clock : ℕ → Type 0) (begun : Begun Exchange UnsignedResponse) (outcome : Outcome UnsignedOf) (before_it behind : Tally)
         → clock now → CountsBegun now came begun outcome before_it behind → Leads is_clean stands (Answer begun) s t
         → Leads is_clean stands
-        (λ who before after. Meets (FinishesUnsigned gave) (λ text. AnswersBy is_open signs clock who before came text after) outcome) s t
+        (λ signatory before after. Meets (FinishesUnsigned signer_answered) (λ text. AnswersBy is_open signs clock signatory before came text after) outcome) s t
     answers_meet clock (Ready exchange) (said text) first last at is moved =
         follows is_clean stands _ _
-        (λ who before after made. (now, at, record { exchange = exchange; is_exchange = made.0; text_is = is.0; adds = made.1 })) s t moved
+        (λ signatory before after made. (now, at, record { exchange = exchange; is_exchange = made.0; text_is = is.0; adds = made.1 })) s t moved
     answers_meet clock (Unsigned left) (pending unsigned) first last at is moved =
         follows is_clean stands _ _
-        (λ who before after made text finished.
-        let P : Drafted → ℕ → Type 0 = λ it moment. FinishesAt gave it moment text in
+        (λ signatory before after made text finished.
+        let P : Drafted → ℕ → Type 0 = λ it moment. FinishesAt signer_answered it moment text in
         (now, at, made.0 text (subst (λ it. P it now) is.0 (subst (P unsigned.draft) is.1 finished))))
         s t moved
     answers_meet clock (Ready exchange) (pending unsigned) first last at is moved = absurd is

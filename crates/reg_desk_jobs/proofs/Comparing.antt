@@ -19,12 +19,12 @@ use Rattle.reg_crl.specs.Reading.{AreEntries, IsEntryAt, revoked_entry_at}
 use Rattle.reg_desk_cli.specs.declared.failure.Failure.{Failure}
 use Rattle.reg_desk_cli.specs.declared.failure.Failure.TheVariants as failure
 use Rattle.reg_desk_jobs.specs.Conversations.{IsInput}
-use Rattle.reg_desk_jobs.specs.Ends.{SaysText}
+use Rattle.reg_desk_jobs.specs.Ends.{PrintsText}
 use Rattle.reg_office_api.specs.Leads.{Leads, Looks}
 use Rattle.reg_office_api.specs.Signatories.{Signatory}
 use Rattle.reg_office_api.proofs.PublicLaws.{chains, follows, stays}
 use Rattle.reg_desk_jobs.proofs.Looks.{looks_as, looks_then}
-use Rattle.reg_desk_jobs.specs.Published.{Compares, FindsMissing, HasAll, TellsMissing, latest_number, missing_at, missing_crl, missing_revocation}
+use Rattle.reg_desk_jobs.specs.Published.{Compares, FindsMissing, HasAll, ReportsMissing, latest_number, missing_at, missing_crl, missing_revocation}
 
 -- ---- entries
 
@@ -114,19 +114,19 @@ put_above row number latest_one digits old new (Ok done) is above text put =
     ∙ ap (λ b. old ++ cond b (codes "missing crl " ++ decimal number ++ 10 ∷ []) []) (sym test)
 put_above row number latest_one digits old new (Err why) is above text put = tt
 
-pub tells_none : (out : Option (List ℕ)) (lines : List ℕ) → length lines ≡ 0 → TellsMissing out out (Ok lines) (Ok tt)
+pub tells_none : (out : Option (List ℕ)) (lines : List ℕ) → length lines ≡ 0 → ReportsMissing out out (Ok lines) (Ok tt)
 tells_none out [] none = (refl, refl)
 tells_none out (first ∷ rest) none = absurd (omega (arith, none))
 
-pub tells_all : (out out' : Option (List ℕ)) (lines : List ℕ) → 1 ≤ length lines → Appends out out' lines → TellsMissing out out' (Ok lines) (Err failure.LacksPublished)
+pub tells_all : (out out' : Option (List ℕ)) (lines : List ℕ) → 1 ≤ length lines → Appends out out' lines → ReportsMissing out out' (Ok lines) (Err failure.LacksPublished)
 tells_all out out' [] some added = absurd (omega (arith, some))
 tells_all out out' (first ∷ rest) some added = inl (refl, added)
 
 pub tells_front : (out out' : Option (List ℕ)) (lines : List ℕ) (why : Failure) (result : Result (Unit {0}) Failure) → 1 ≤ length lines
-    → IsErrAnd result (λ it. it ≡ why) → SaysText lines out out' (Err why) → TellsMissing out out' (Ok lines) result
+    → IsErrAnd result (λ it. it ≡ why) → PrintsText lines out out' (Err why) → ReportsMissing out out' (Ok lines) result
 tells_front out out' [] why result some is said = absurd (omega (arith, some))
 tells_front out out' (first ∷ rest) why result some is said =
-    passed_on (λ it. TellsMissing out out' (Ok (first ∷ rest)) it) result why is (inr (ap (λ (w : Failure). Err w) said.0, said.1))
+    passed_on (λ it. ReportsMissing out out' (Ok (first ∷ rest)) it) result why is (inr (ap (λ (w : Failure). Err w) said.0, said.1))
 
 empty_both : (xs ys : List ℕ) → [] ≡ xs ++ ys → (xs ≡ []) × (ys ≡ [])
 empty_both [] ys same = (refl, sym same)
@@ -185,7 +185,7 @@ module _ {S : Type 0} (is_clean : S → Type 0) (stands : Signatory → S → Re
       (λ records it. (Err (failure.Fault why), ((input_bytes input).0, (input_bytes input).1, tt), (refl, refl))) s s (unlooked s s refl))
 
   pub compares : (input out out' : Option (List ℕ)) (bytes : List ℕ) (found : Result (List ℕ) Failure) (result : Result (Unit {0}) Failure) (s t : S)
-      → IsInput input bytes → TellsMissing out out' found result → Looks is_clean stands (λ records. FindsMissing records bytes found) s t
+      → IsInput input bytes → ReportsMissing out out' found result → Looks is_clean stands (λ records. FindsMissing records bytes found) s t
       → Looks is_clean stands (λ records. Compares records input out out' result) s t
   compares input out out' bytes found result s t is tells =
       looks_as is_clean stands (λ records. FindsMissing records bytes found) (λ records. Compares records input out out' result)

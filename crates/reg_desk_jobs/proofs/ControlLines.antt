@@ -14,11 +14,11 @@ use Rattle.reg_office_api.proofs.PublicLaws.{follows, stays}
 use Rattle.reg_lines.specs.Script.{IsShortCommand, line_of}
 use Rattle.reg_desk_cli.specs.ExitStatus.{failure_line}
 use Rattle.reg_desk_cli.specs.declared.failure.Failure.TheVariants as failure
-use Rattle.reg_desk_jobs.specs.ControlReplies.{IsOf, IsSaid, ReportsLineOutcome}
+use Rattle.reg_desk_jobs.specs.ControlReplies.{IsOf, IsReplyText, ReportsLineOutcome}
 use Rattle.reg_desk_jobs.specs.Copies.{AnswersCopy, copied_text}
 use Rattle.reg_desk_jobs.specs.Reasons.{kept_reason_text}
 use Rattle.reg_desk_jobs.specs.ControlWords.{LineAt, Saying, AnswersWord, WordAt, commands, copies, helps, said_in}
-use Rattle.reg_desk_jobs.specs.Showings.{help_text}
+use Rattle.reg_desk_jobs.specs.RowLookUps.{help_text}
 use Rattle.reg_desk_jobs.specs.declared.control_reply.LineOutcome.{LineOutcome}
 use Rattle.reg_desk_jobs.specs.declared.control_reply.LineOutcome.TheVariants.{Done, Failed}
 
@@ -34,7 +34,7 @@ unfolding failure_line
 fault_came why text told is = came_told (fault_line why ++ 10 ∷ []) (Failed (failure.Fault why)) text told is refl
 
 -- the bytes are told, or nothing
-pub said_of : (bytes : List ℕ) (came : LineOutcome) (text : List ℕ) (told : LineOutcome) → IsOf bytes came text told → IsSaid bytes text
+pub said_of : (bytes : List ℕ) (came : LineOutcome) (text : List ℕ) (told : LineOutcome) → IsOf bytes came text told → IsReplyText bytes text
 said_of bytes came text told (inl (is, same)) = inl is
 said_of bytes came text told (inr (none, silent)) = inr none
 
@@ -43,7 +43,7 @@ later_accepted : (text : List ℕ) → 98 < get_or text 0 0 → ReportsLineOutco
 later_accepted [] later = absurd (omega arith)
 later_accepted (first ∷ rest) later = (((λ is. omega (arith, is)), (λ is. omega (arith, is)), (λ is. omega (arith, is))), omega arith)
 
-pub why_accepted : (noted : List ℕ) → ReportsLineOutcome Done (kept_reason_text noted)
+pub why_accepted : (last_reason : List ℕ) → ReportsLineOutcome Done (kept_reason_text last_reason)
 unfolding kept_reason_text
 why_accepted [] = later_accepted (codes "why nothing\n") (lit< tt)
 why_accepted (first ∷ rest) = later_accepted (codes "why " ++ first ∷ rest) (lit< tt)
@@ -108,13 +108,13 @@ copied is_clean stands accepted signs now s t line text is same told =
 
 -- a line that asks for the words
 pub helped : {S : Type 0} (is_clean : S → Type 0) (stands : Signatory → S → Records → Type 0) (accepted : Option ℕ) (signs : Signs) (now : ℕ) (s t : S) (line text : List ℕ)
-    → said_in line ≡ helps → t ≡ s → IsSaid (help_text ++ 10 ∷ []) text
+    → said_in line ≡ helps → t ≡ s → IsReplyText (help_text ++ 10 ∷ []) text
     → Leads is_clean stands (λ identity before after. WordAt accepted signs now identity before line text after) s t
 helped is_clean stands accepted signs now s t line text is same told =
     told_word is_clean stands accepted signs now s t line text helps is
     (follows is_clean stands
     (λ identity before after. after ≡ before)
-    (λ identity before after. IsSaid (help_text ++ 10 ∷ []) text × (after ≡ before))
+    (λ identity before after. IsReplyText (help_text ++ 10 ∷ []) text × (after ≡ before))
     (λ identity before after stayed. (told, stayed))
     s
     t

@@ -9,8 +9,8 @@ use Rattle.reg_desk_server.specs.Exchange.{Input, request, line, Outcome, said, 
 use Rattle.reg_io.specs.RunsOfAnswers.{Answered}
 use Rattle.reg_desk_jobs.specs.ControlWords.{Word}
 use Rattle.reg_desk_jobs.specs.Exchanges.{AnswersBy, Unmoved}
-use Rattle.reg_desk_jobs.specs.Given.{GaveAt, WasGiven}
-use Rattle.reg_desk_jobs.specs.Leaving.{FinishesUnsigned, Meets}
+use Rattle.reg_desk_jobs.specs.SignerAnswers.{AnsweredAtPath, AnsweredAtSomePath}
+use Rattle.reg_desk_jobs.specs.FinishedResponses.{FinishesUnsigned, Meets}
 use Rattle.reg_desk_jobs.specs.Serving.{Exchanging, Serves, OpenWord}
 use Rattle.reg_desk_jobs.specs.declared.unsigned_responses.Unsigned.{Unsigned}
 use Rattle.reg_desk_jobs.proofs.Finishing.{told_moves}
@@ -28,38 +28,38 @@ kept_runs answers other Keeps each s t (q ∷ asked) (a ∷ given) keeps run =
 
 -- A desk, whether it is open, and the records that stand in it; who signs, and what the clock told.
 module _ {S : Type 0} (is_clean : S → Type 0) (stands : Signatory → S → Records → Type 0) (is_open : S → Bool)
-    (signs : Signs) (gave : List ℕ → List ℕ → List ℕ → Type 0) (socket : Option (List ℕ)) (told : ℕ → Type 0) where
+    (signs : Signs) (signer_answered : List ℕ → List ℕ → List ℕ → Type 0) (socket : Option (List ℕ)) (told : ℕ → Type 0) where
   -- what it answers, tells and looks at
   abbrev AnswersOf : S → List ℕ → Outcome Unsigned → S → Type 0
   AnswersOf s came outcome t = (is_open t ≡ is_open s) × Leads is_clean stands
-      (λ who before after. Meets (FinishesUnsigned (WasGiven gave)) (λ text. AnswersBy (is_open s) signs told who before came text after) outcome) s t
+      (λ signatory before after. Meets (FinishesUnsigned (AnsweredAtSomePath signer_answered)) (λ text. AnswersBy (is_open s) signs told signatory before came text after) outcome) s t
 
   abbrev TellsOf : S → List ℕ → List ℕ → S → Type 0
   TellsOf s came text t = IsTrue (is_open s) × IsTrue (is_open t)
-      × Leads is_clean stands (λ who before after. Word signs told who before came text after) s t
+      × Leads is_clean stands (λ signatory before after. Word signs told signatory before came text after) s t
 
   abbrev DefersOf : S → List ℕ → S → Type 0
-  DefersOf s came t = (is_open t ≡ is_open s) × Leads is_clean stands (λ who before after. after ≡ before) s t
+  DefersOf s came t = (is_open t ≡ is_open s) × Leads is_clean stands (λ signatory before after. after ≡ before) s t
 
   -- the same over the records of one that is open, or is not
   abbrev Handled : Bool → Signatory → Records → Input → Outcome Unsigned → Records → Type 0
-  Handled now_open who = Handles (Exchanging now_open signs (GaveAt gave socket) told who) (OpenWord now_open signs told who) Unmoved
+  Handled now_open signatory = Handles (Exchanging now_open signs (AnsweredAtPath signer_answered socket) told signatory) (OpenWord now_open signs told signatory) Unmoved
 
   abbrev Moves : Bool → S → Input → Outcome Unsigned → S → Type 0
-  Moves now_open s input outcome t = Leads is_clean stands (λ who before after. Handled now_open who before input outcome after) s t
+  Moves now_open s input outcome t = Leads is_clean stands (λ signatory before after. Handled now_open signatory before input outcome after) s t
 
   step_moves : (now_open : Bool) (s : S) (input : Input) (outcome : Outcome Unsigned) (t : S) → is_open s ≡ now_open
       → Handles AnswersOf TellsOf DefersOf s input outcome t → Moves now_open s input outcome t × (is_open t ≡ now_open)
   step_moves now_open s (request came) outcome t is step =
       let P : Bool → Type 0 = λ b. Leads is_clean stands
-      (λ who before after. Meets (FinishesUnsigned (WasGiven gave)) (λ text. AnswersBy b signs told who before came text after) outcome) s t in (
-        told_moves is_clean stands s t gave socket (λ who before after text. AnswersBy now_open signs told who before came text after) outcome
+      (λ signatory before after. Meets (FinishesUnsigned (AnsweredAtSomePath signer_answered)) (λ text. AnswersBy b signs told signatory before came text after) outcome) s t in (
+        told_moves is_clean stands s t signer_answered socket (λ signatory before after text. AnswersBy now_open signs told signatory before came text after) outcome
             (subst P is step.1),
         step.0 ∙ is,
       )
   step_moves now_open s (line came) (said text) t is step = (
-    follows is_clean stands (λ who before after. Word signs told who before came text after)
-        (λ who before after. OpenWord now_open signs told who before came text after) (λ who before after word. (sym is ∙ step.0, word)) s t step.2,
+    follows is_clean stands (λ signatory before after. Word signs told signatory before came text after)
+        (λ signatory before after. OpenWord now_open signs told signatory before came text after) (λ signatory before after word. (sym is ∙ step.0, word)) s t step.2,
     step.1 ∙ sym step.0 ∙ is,
   )
   step_moves now_open s (line came) (pending ticket) t is step = absurd step
@@ -67,7 +67,7 @@ module _ {S : Type 0} (is_clean : S → Type 0) (stands : Signatory → S → Re
 
   pub desk_moves : (now_open : Bool) (s t : S) (inputs : List Input) (outcomes : List (Outcome Unsigned)) → is_open s ≡ now_open
       → Answered (Handles AnswersOf TellsOf DefersOf) s inputs outcomes t
-      → Leads is_clean stands (Serves now_open signs (GaveAt gave socket) told inputs outcomes) s t
+      → Leads is_clean stands (Serves now_open signs (AnsweredAtPath signer_answered socket) told inputs outcomes) s t
   desk_moves now_open s t inputs outcomes is ran =
       runs is_clean stands (Moves now_open) (Handled now_open) (λ s input outcome t moved. moved) s t inputs outcomes
       (kept_runs (Handles AnswersOf TellsOf DefersOf) (Moves now_open) (λ s. is_open s ≡ now_open) (step_moves now_open) s t inputs outcomes is ran)

@@ -10,7 +10,7 @@ use Rattle.reg_desk_cli.specs.declared.job.RowTask.{RowTask}
 use Rattle.reg_lines.proofs.PublicLaws.{concat_push}
 use Rattle.reg_lines.specs.Script.{IsWholeLine}
 use Rattle.reg_desk_jobs.specs.Conversations.{IsCutOff, IsInput}
-use Rattle.reg_desk_jobs.specs.RowTasks.{Exchange, IsRowDone, LineAnswered, LineTold, LinesAnswered, Link, RepliesWritten, SendsRows, SendsThen, has_first_word, link_of}
+use Rattle.reg_desk_jobs.specs.RowTasks.{Exchange, IsRowDone, LineAnswered, LineReplied, LinesAnswered, Link, RepliesWritten, SendsRows, SendsThen, has_first_word, link_of}
 use Rattle.reg_desk_jobs.proofs.Talking.{all_push, input_is, whole_push}
 
 -- one line more is answered
@@ -41,7 +41,7 @@ module _ (task : RowTask) (input : Option (List ℕ)) (s : Link) (out : Option (
 
   -- one line more
   pub rows_go_on : (input' input'' : Option (List ℕ)) (m t : Link) (out' out'' : Option (List ℕ)) (line : List ℕ) (before done after : Bool)
-      → RowsSoFar input' m out' before → IsWholeLine line → Consumes input' input'' line → LineTold task m t out' out'' line done
+      → RowsSoFar input' m out' before → IsWholeLine line → Consumes input' input'' line → LineReplied task m t out' out'' line done
       → IsTrue after ↔ (IsTrue before × IsTrue done) → RowsSoFar input'' t out'' after
   rows_go_on input' input'' m t out' out'' line before done after so whole took told both =
       let (lines, replies, answered, read, all) = so in
@@ -93,15 +93,15 @@ pub rows_under : (task : RowTask) (input under : Option (List ℕ)) (s t : Link)
 rows_under task input under s t out out' result same sends = subst (λ i. SendsRows task i s t out out' result) same sends
 
 -- What was sent and came up to a line, up to its reply, and up to the last one.
-module _ (sent sent' sent'' came came' came'' : Option (List ℕ)) (line word first : List ℕ) (Next : List ℕ → Exchange) where
+module _ (sent sent' sent'' incoming incoming' incoming'' : Option (List ℕ)) (line word first : List ℕ) (Next : List ℕ → Exchange) where
   -- a reply leads on: more is sent, and the last reply is the row's
-  pub leads_on : (result : Result (Vec ℕ Global) Failure) → Appends sent sent' line → Consumes came came' first → IsTrue (has_first_word first word)
-      → IfOk result (λ reply. Next first (link_of sent' came') (link_of sent'' came'') reply.items)
-      → IfOk result (λ reply. SendsThen line word Next (link_of sent came) (link_of sent'' came'') reply.items)
-  leads_on (Ok reply) asked heard leads next = inr (link_of sent' came', first, (asked, heard), leads, next)
+  pub leads_on : (result : Result (Vec ℕ Global) Failure) → Appends sent sent' line → Consumes incoming incoming' first → IsTrue (has_first_word first word)
+      → IfOk result (λ reply. Next first (link_of sent' incoming') (link_of sent'' incoming'') reply.items)
+      → IfOk result (λ reply. SendsThen line word Next (link_of sent incoming) (link_of sent'' incoming'') reply.items)
+  leads_on (Ok reply) asked heard leads next = inr (link_of sent' incoming', first, (asked, heard), leads, next)
   leads_on (Err why) asked heard leads next = tt
 
 -- a line is sent, and its reply is the row's
 pub sent_alone : (S C : Vec ℕ Global → Type 0) (result : Result (Vec ℕ Global) Failure) → IfOk result S → IfOk result C → IfOk result (λ reply. S reply × C reply)
-sent_alone S C (Ok reply) sent came = (sent, came)
-sent_alone S C (Err why) sent came = tt
+sent_alone S C (Ok reply) sent incoming = (sent, incoming)
+sent_alone S C (Err why) sent incoming = tt

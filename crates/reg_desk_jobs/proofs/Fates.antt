@@ -4,33 +4,33 @@ use Rattle.std.specs.Io.KnownBytes.{Appends}
 use Rattle.std.proofs.KnownBytes.{Appends-trans}
 use Rattle.reg_io.proofs.PublicLaws.{front_of_first, front_of_second}
 use Rattle.reg_desk_cli.specs.declared.failure.Failure.{Failure}
-use Rattle.reg_desk_jobs.specs.Ends.{SaysText}
+use Rattle.reg_desk_jobs.specs.Ends.{PrintsText}
 use Rattle.reg_core.specs.declared.refusal.Fault.TheVariants as fault
 use Rattle.reg_desk_cli.specs.declared.failure.Failure.TheVariants as failure
 use Rattle.reg_desk_jobs.specs.Serving.{Served, Unbound, listening}
-use Rattle.reg_desk_jobs.specs.Told.{IsAnsweredLine, IsWritten}
+use Rattle.reg_desk_jobs.specs.FailureReports.{IsReportedLine, IsWritten}
 
 -- a line, and then its end
 pub told : (old middle new : Option (List ℕ)) (line : List ℕ) → Appends old middle line → IsWritten middle new (10 ∷ [])
-    → IsAnsweredLine old new line
+    → IsReportedLine old new line
 told old middle new line first (inl second) = inl (Appends-trans old middle new line (10 ∷ []) first second)
 told old middle new line first (inr front) = inr (front_of_second old middle new line (10 ∷ []) first front)
 
 -- a second part is said, after the first
 pub says_then : (head body : List ℕ) (old middle new : Option (List ℕ)) (result : Result (Unit {0}) Failure)
-    → Appends old middle head → SaysText body middle new result → SaysText (head ++ body) old new result
+    → Appends old middle head → PrintsText body middle new result → PrintsText (head ++ body) old new result
 says_then head body old middle new (Ok done) first second = Appends-trans old middle new head body first second
 says_then head body old middle new (Err why) first second = (second.0, front_of_second old middle new head body first second.1)
 
 -- the first part is not said whole
-pub says_not : (head body : List ℕ) (old new : Option (List ℕ)) (why : Failure) → SaysText head old new (Err why)
-    → SaysText (head ++ body) old new (Err why)
+pub says_not : (head body : List ℕ) (old new : Option (List ℕ)) (why : Failure) → PrintsText head old new (Err why)
+    → PrintsText (head ++ body) old new (Err why)
 says_not head body old new why first = (first.0, front_of_first old new head body first.1)
 
 -- a port that is not told whole
-pub untold : (port requests : ℕ) (old new : Option (List ℕ)) (why : Failure) → SaysText (listening port) old new (Err why)
+pub memory_answer : (port requests : ℕ) (old new : Option (List ℕ)) (why : Failure) → PrintsText (listening port) old new (Err why)
     → Served port requests [] old new (Err why)
-untold port requests old new why said =
+memory_answer port requests old new why said =
     let P : Failure → Type 0 = λ w. Served port requests [] old new (Err w) in
     subst P (sym said.0) (refl, said.1)
 

@@ -18,9 +18,9 @@ use Rattle.reg_core_lists.proofs.PublicLaws.{page_step, rest_of}
 use Rattle.reg_office_api.specs.Leads.{Leads}
 use Rattle.reg_office_api.specs.Signatories.{Signatory}
 use Rattle.reg_office_api.proofs.PublicLaws.{chains, follows}
-use Rattle.reg_desk_jobs.specs.ControlReplies.{IsSaid}
-use Rattle.reg_desk_jobs.specs.Settlings.{request_of_row}
-use Rattle.reg_desk_jobs.specs.Showings.{FailsAt, IsLookedUp, IsSeen, AnswersShown, found_text, is_shown, row_shown}
+use Rattle.reg_desk_jobs.specs.ControlReplies.{IsReplyText}
+use Rattle.reg_desk_jobs.specs.SerialDecisions.{request_of_row}
+use Rattle.reg_desk_jobs.specs.RowLookUps.{FailsAt, IsLookedUp, IsSeen, AnswersShown, found_text, is_shown, row_shown}
 use Rattle.reg_desk_jobs.specs.declared.words.Shown.{Shown}
 use Rattle.reg_desk_jobs.specs.declared.words.Shown.TheVariants.{Certificate, Request, Subscriber}
 use Rattle.reg_desk_jobs.proofs.FoundRows.{certificate_seen, named_here, named_nowhere, none_more, request_back, request_seen}
@@ -209,7 +209,7 @@ module _ {S : Type 0} (is_clean : S → Type 0) (stands : Signatory → S → Re
 
   -- the row is shown
   pub shown_by_row : (shown : Shown) (found : Result (Option Row) Fault) (text : List ℕ) (s t : S) → Sees (λ records. row_shown records now shown) found s t
-      → IsSaid (found_text shown found) text → Leads is_clean stands (λ identity before after. AnswersShown before now shown text × (after ≡ before)) s t
+      → IsReplyText (found_text shown found) text → Leads is_clean stands (λ identity before after. AnswersShown before now shown text × (after ≡ before)) s t
   shown_by_row shown found text s t seen told =
       follows is_clean stands
       (λ identity before after. IsSeen before now (row_shown before now shown) found × (after ≡ before))

@@ -15,12 +15,12 @@ use Rattle.reg_office_api.proofs.PublicLaws.{follows, signed_response, unsigned_
 use Rattle.reg_crl.specs.Signing.{Identity}
 use Rattle.reg_http_head.specs.Collected.{HoldsRequest}
 use Rattle.reg_http_head.specs.Frame.{asked}
-use Rattle.reg_http.specs.Asked.{Asked, ocsp_of, path_of, serial_asked, asked as asks_for}
+use Rattle.reg_http.specs.RoutedRequests.{RoutedRequest, ocsp_of, path_of, requested_serial, asked as asks_for}
 use Rattle.reg_http.specs.Answers.{Answers}
 use Rattle.reg_http.specs.Bodies.{ocsp_reply}
 use Rattle.reg_http.specs.Exchanges.{AnswersText}
 use Rattle.reg_http.specs.RouteNames.{route_at}
-use Rattle.reg_http.specs.Told.{Told, ocsp_told}
+use Rattle.reg_http.specs.AnswerEffects.{AnswerEffects, ocsp_effects}
 use Rattle.reg_http.specs.declared.exchange.Exchange.{Exchange}
 use Rattle.reg_http.proofs.PublicLaws.{nothing_added}
 use Rattle.reg_ocsp.specs.Drafts.{Drafted, drafted_response}
@@ -28,17 +28,17 @@ use Rattle.reg_crl_signer.specs.Forms.{HasForm}
 use Rattle.reg_desk_server.specs.Exchange.{Outcome, said, pending, later}
 use Rattle.reg_desk_jobs.specs.Admission.{IsWithin}
 use Rattle.reg_desk_jobs.specs.Beginning.{MayLeave}
-use Rattle.reg_desk_jobs.specs.Exchanges.{AnswersAt, SaysBy, dispatch}
-use Rattle.reg_desk_jobs.specs.Given.{AtTold, GaveAt, WasGiven}
-use Rattle.reg_desk_jobs.specs.Leaving.{FinishesUnsigned, FinishesAt, IsSignatureOf, Meets}
+use Rattle.reg_desk_jobs.specs.Exchanges.{AnswersAt, AnswersAtRoute, dispatch}
+use Rattle.reg_desk_jobs.specs.SignerAnswers.{AtGivenPath, AnsweredAtPath, AnsweredAtSomePath}
+use Rattle.reg_desk_jobs.specs.FinishedResponses.{FinishesUnsigned, FinishesAt, IsSignatureOf, Meets}
 use Rattle.reg_desk_jobs.specs.declared.unsigned_responses.Unsigned.{Unsigned}
 use Rattle.reg_desk_jobs.specs.declared.http_exchanges.Dispatch.{Dispatch}
 use Rattle.reg_desk_jobs.specs.declared.http_exchanges.Dispatch.TheVariants.{ToRegister, ToLimits, ToList, ToHealth, ToMetrics}
 use Rattle.reg_desk_jobs.specs.declared.admission.Admission.{Admission}
 
 -- The signer gave this, and what that is.
-module _ (signs : Signs) (gave : List ℕ → List ℕ → Type 0)
-    (gave_signs : (identity : Identity) (message answer : List ℕ) → gave message answer → HasForm identity answer → signs identity message answer) where
+module _ (signs : Signs) (signer_answered : List ℕ → List ℕ → Type 0)
+    (answer_in_form_signs : (identity : Identity) (message answer : List ℕ) → signer_answered message answer → HasForm identity answer → signs identity message answer) where
   -- what has the form of a signature by who is to sign is one by who answers
   formed_by : (responder : Responder) (draft : Drafted) (signature : List ℕ) → IsBy responder draft
       → HasForm (record { algorithm = draft.algorithm; public_key = draft.key }) signature → HasForm responder.identity signature
@@ -54,31 +54,31 @@ module _ (signs : Signs) (gave : List ℕ → List ℕ → Type 0)
   kind_of None = SignerFailure
 
   response_of : (responder : Responder) (records : Records) (now : ℕ) (request : List ℕ) (draft : Drafted) (signature : Option (List ℕ))
-      → IsDraft responder records now request draft → IsSignatureOf gave draft signature
+      → IsDraft responder records now request draft → IsSignatureOf signer_answered draft signature
       → IsOcspResponse signs responder records now request (kind_of signature) (drafted_response draft signature)
   response_of responder records now request draft (Some signature) left (given, form) =
       signed_response signs responder records now request draft signature left
-      (gave_signs responder.identity draft.message signature given (formed_by responder draft signature left.read.by form))
+      (answer_in_form_signs responder.identity draft.message signature given (formed_by responder draft signature left.read.by form))
   response_of responder records now request draft None left given = unsigned_response signs responder records now request draft left
 
   -- The moment, who signs, and the records where it was begun.
-  module _ (now : ℕ) (who : Signatory) (before after : Records) where
+  module _ (now : ℕ) (signatory : Signatory) (before after : Records) where
     -- what finishes it, with its kind
     abbrev kinded : Option (List ℕ) → Result (List ℕ) NoMemory → Result (ResponseKind × List ℕ) NoMemory
     kinded signature (Ok bytes) = Ok (kind_of signature, bytes)
     kinded signature (Err memory) = Err memory
 
     replies_of : (request : List ℕ) (draft : Drafted) (signature : Option (List ℕ)) (given : Result (List ℕ) NoMemory)
-        → Drafts who before now request draft after → IsSignatureOf gave draft signature
+        → Drafts signatory before now request draft after → IsSignatureOf signer_answered draft signature
         → (IfOk given (λ bytes. bytes ≡ drafted_response draft signature))
-        → Replies signs who before now request (kinded signature given) after
+        → Replies signs signatory before now request (kinded signature given) after
     replies_of request draft signature (Ok bytes) (left, same) signed made =
-        let P : List ℕ → Type 0 = λ it. IsOcspResponse signs who.answers before now request (kind_of signature) it in
-        (subst P (sym made) (response_of who.answers before now request draft signature left signed), same)
+        let P : List ℕ → Type 0 = λ it. IsOcspResponse signs signatory.answers before now request (kind_of signature) it in
+        (subst P (sym made) (response_of signatory.answers before now request draft signature left signed), same)
     replies_of request draft signature (Err memory) (left, same) signed made = same
 
     told_of : (signature : Option (List ℕ)) (given : Result (List ℕ) NoMemory) (exchange : Exchange) → AnswersText now (ocsp_reply given) exchange
-        → AnswersText now (ocsp_told (kinded signature given)).response exchange
+        → AnswersText now (ocsp_effects (kinded signature given)).response exchange
     told_of signature (Ok bytes) exchange tells = tells
     told_of signature (Err memory) exchange tells = tells
 
@@ -87,12 +87,12 @@ module _ (signs : Signs) (gave : List ℕ → List ℕ → Type 0)
     unasked = record { recent = record { moments = replicate 100 None; next = 0 }; accepted = None }
 
     -- what the register says to an OCSP request is said at a desk, also behind its limits
-    says_left : (by : Dispatch) (method target body request : List ℕ) (it : Told) → MayLeave by → asks_for method target body ≡ ocsp_of request
-        → Answers (Runs signs who) Asks (Replies signs who) Crls now before (asks_for method target body) it after
-        → SaysBy signs now who before it after by method target body
+    says_left : (by : Dispatch) (method target body request : List ℕ) (it : AnswerEffects) → MayLeave by → asks_for method target body ≡ ocsp_of request
+        → Answers (Runs signs signatory) Asks (Replies signs signatory) Crls now before (asks_for method target body) it after
+        → AnswersAtRoute signs now signatory before it after by method target body
     says_left ToRegister method target body request it to asks_it answers = answers
     says_left ToLimits method target body request it to asks_it answers =
-        let P : Asked → Type 0 = λ what. IsWithin unasked before now (serial_asked what) in
+        let P : RoutedRequest → Type 0 = λ what. IsWithin unasked before now (requested_serial what) in
         (unasked, inl (subst P (sym asks_it) tt, answers))
     says_left ToList method target body request it to asks_it answers = absurd to
     says_left ToHealth method target body request it to asks_it answers = absurd to
@@ -101,26 +101,26 @@ module _ (signs : Signs) (gave : List ℕ → List ℕ → Type 0)
     -- the exchange of the register
     pub left_exchange : (is_open : Bool) (came method target body request text : List ℕ) (draft : Drafted)
         → ∥ HoldsRequest came (asked method target body) ∥₁ → MayLeave (dispatch is_open (route_at (path_of target)))
-        → asks_for method target body ≡ ocsp_of request → Drafts who before now request draft after
-        → FinishesAt gave draft now text → AnswersAt is_open signs now who before came text after
+        → asks_for method target body ≡ ocsp_of request → Drafts signatory before now request draft after
+        → FinishesAt signer_answered draft now text → AnswersAt is_open signs now signatory before came text after
     left_exchange is_open came method target body request text draft holds to asks_it drafted it =
         let given = kinded it.signature it.finished.given in
         let replies = replies_of request draft it.signature it.finished.given drafted it.signed it.finished.made in
-        let P : Asked → Type 0 = λ what. Answers (Runs signs who) Asks (Replies signs who) Crls now before what (ocsp_told given) after in
+        let P : RoutedRequest → Type 0 = λ what. Answers (Runs signs signatory) Asks (Replies signs signatory) Crls now before what (ocsp_effects given) after in
         record {
           exchange = record {
             route = it.exchange.route;
             status = it.exchange.status;
-            signature = (ocsp_told given).signature;
-            store = (ocsp_told given).store;
-            named = (ocsp_told given).named;
+            signature = (ocsp_effects given).signature;
+            store = (ocsp_effects given).store;
+            named = (ocsp_effects given).named;
             text = it.exchange.text;
           };
           is_exchange = inl (
             asked method target body,
-            ocsp_told given,
+            ocsp_effects given,
             holds,
-            says_left (dispatch is_open (route_at (path_of target))) method target body request (ocsp_told given) to asks_it
+            says_left (dispatch is_open (route_at (path_of target))) method target body request (ocsp_effects given) to asks_it
                 (subst P (sym asks_it) (given, replies, refl)),
             (refl, refl, refl, told_of it.signature it.finished.given it.exchange it.finished.tells),
           );
@@ -136,19 +136,19 @@ items_made draft (Err memory) first second same is = tt
 
 -- what is asked at a path is asked at the one that was told, where that is it
 pub asked_at : {A E : Type 0} (told : Option (List ℕ)) (path : List ℕ) (Was : List ℕ → Type 0) (Is : List ℕ → A → Type 0) (result : Result A E) → told ≡ Some path
-    → OnOk result (Was path) → IfOk result (Is path) → IfOk result (λ asking. AtTold told (λ it. Was it × Is it asking))
-asked_at told path Was Is (Ok asking) same was is = (path, same, (was, is))
+    → OnOk result (Was path) → IfOk result (Is path) → IfOk result (λ sent_request. AtGivenPath told (λ it. Was it × Is it sent_request))
+asked_at told path Was Is (Ok sent_request) same was is = (path, same, (was, is))
 asked_at told path Was Is (Err error) same was is = tt
 
 -- What was given at the path that was told, was given.
-module _ (gave : List ℕ → List ℕ → List ℕ → Type 0) (told : Option (List ℕ)) where
-  signed_somewhere : (draft : Drafted) (signature : Option (List ℕ)) → IsSignatureOf (GaveAt gave told) draft signature
-      → IsSignatureOf (WasGiven gave) draft signature
+module _ (signer_answered : List ℕ → List ℕ → List ℕ → Type 0) (told : Option (List ℕ)) where
+  signed_somewhere : (draft : Drafted) (signature : Option (List ℕ)) → IsSignatureOf (AnsweredAtPath signer_answered told) draft signature
+      → IsSignatureOf (AnsweredAtSomePath signer_answered) draft signature
   signed_somewhere draft (Some signature) (given, form) = ((given.0, given.2), form)
   signed_somewhere draft None given = given
 
   -- what finishes an answer with a signature from there finishes it
-  finished_somewhere : (unsigned : Unsigned) (text : List ℕ) → FinishesUnsigned (GaveAt gave told) unsigned text → FinishesUnsigned (WasGiven gave) unsigned text
+  finished_somewhere : (unsigned : Unsigned) (text : List ℕ) → FinishesUnsigned (AnsweredAtPath signer_answered told) unsigned text → FinishesUnsigned (AnsweredAtSomePath signer_answered) unsigned text
   finished_somewhere unsigned text it =
       record {
         signature = it.signature;
@@ -158,8 +158,8 @@ module _ (gave : List ℕ → List ℕ → List ℕ → Type 0) (told : Option (
         text_is = it.text_is;
       }
 
-  pub meets_told : (wanted : List ℕ → Type 0) (outcome : Outcome Unsigned) → Meets (FinishesUnsigned (WasGiven gave)) wanted outcome
-      → Meets (FinishesUnsigned (GaveAt gave told)) wanted outcome
+  pub meets_told : (wanted : List ℕ → Type 0) (outcome : Outcome Unsigned) → Meets (FinishesUnsigned (AnsweredAtSomePath signer_answered)) wanted outcome
+      → Meets (FinishesUnsigned (AnsweredAtPath signer_answered told)) wanted outcome
   meets_told wanted (said text) met = met
   meets_told wanted (pending unsigned) met = λ text finished. met text (finished_somewhere unsigned text finished)
   meets_told wanted later met = met
@@ -167,15 +167,15 @@ module _ (gave : List ℕ → List ℕ → List ℕ → Type 0) (told : Option (
 -- What stands in an office before and after.
 module _ {S : Type 0} (is_clean : S → Type 0) (stands : Signatory → S → Records → Type 0) (s t : S) where
   -- where what finishes an answer has its signature from some path, so where it is the one that was told
-  pub told_moves : (gave : List ℕ → List ℕ → List ℕ → Type 0) (told : Option (List ℕ)) (wanted : Signatory → Records → Records → List ℕ → Type 0)
+  pub told_moves : (signer_answered : List ℕ → List ℕ → List ℕ → Type 0) (told : Option (List ℕ)) (wanted : Signatory → Records → Records → List ℕ → Type 0)
       (outcome : Outcome Unsigned)
-      → Leads is_clean stands (λ identity before after. Meets (FinishesUnsigned (WasGiven gave)) (λ text. wanted identity before after text) outcome) s t
-      → Leads is_clean stands (λ identity before after. Meets (FinishesUnsigned (GaveAt gave told)) (λ text. wanted identity before after text) outcome) s t
-  told_moves gave told wanted outcome moved =
+      → Leads is_clean stands (λ identity before after. Meets (FinishesUnsigned (AnsweredAtSomePath signer_answered)) (λ text. wanted identity before after text) outcome) s t
+      → Leads is_clean stands (λ identity before after. Meets (FinishesUnsigned (AnsweredAtPath signer_answered told)) (λ text. wanted identity before after text) outcome) s t
+  told_moves signer_answered told wanted outcome moved =
       follows is_clean stands
-      (λ identity before after. Meets (FinishesUnsigned (WasGiven gave)) (λ text. wanted identity before after text) outcome)
-      (λ identity before after. Meets (FinishesUnsigned (GaveAt gave told)) (λ text. wanted identity before after text) outcome)
-      (λ identity before after. meets_told gave told (λ text. wanted identity before after text) outcome)
+      (λ identity before after. Meets (FinishesUnsigned (AnsweredAtSomePath signer_answered)) (λ text. wanted identity before after text) outcome)
+      (λ identity before after. Meets (FinishesUnsigned (AnsweredAtPath signer_answered told)) (λ text. wanted identity before after text) outcome)
+      (λ identity before after. meets_told signer_answered told (λ text. wanted identity before after text) outcome)
       s
       t
       moved

@@ -19,8 +19,8 @@ use Rattle.reg_core_lists.specs.declared.rows.RequestLine.{RequestLine}
 use Rattle.reg_core_lists.specs.declared.rows.Row.{Row}
 use Rattle.reg_core_lists.specs.declared.rows.Row.TheVariants as kind
 use Rattle.reg_core_lists.proofs.PublicLaws.{Rises, all_ordered, numbers_differ, order_filter, order_rises, past_drop}
-use Rattle.reg_desk_jobs.specs.Settlings.{request_of_row}
-use Rattle.reg_desk_jobs.specs.Showings.{is_shown, row_shown}
+use Rattle.reg_desk_jobs.specs.SerialDecisions.{request_of_row}
+use Rattle.reg_desk_jobs.specs.RowLookUps.{is_shown, row_shown}
 use Rattle.reg_desk_jobs.specs.declared.words.Shown.TheVariants.{Request, Certificate, Subscriber}
 
 -- ---- the first row behind the key before one

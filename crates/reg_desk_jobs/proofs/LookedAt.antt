@@ -40,8 +40,8 @@ module _ {S I R : Type 0} (is_clean : S → Type 0) (stands : I → S → R → 
   )
 
 -- what begins an OCSP answer changes no record
-pub begun_still : (signs : Signs) (who : Signatory) (before : Records) (now : ℕ) (request : List ℕ) (result : Result (Begun OcspResponse Drafted) NoMemory)
-    (after : Records) → Begins (Replies signs who) (Drafts who) before now request result after → after ≡ before
-begun_still signs who before now request (Ok (Ready response)) after begun = begun.1
-begun_still signs who before now request (Ok (Unsigned draft)) after begun = begun.1
-begun_still signs who before now request (Err memory) after begun = begun
+pub begun_still : (signs : Signs) (signatory : Signatory) (before : Records) (now : ℕ) (request : List ℕ) (result : Result (Begun OcspResponse Drafted) NoMemory)
+    (after : Records) → Begins (Replies signs signatory) (Drafts signatory) before now request result after → after ≡ before
+begun_still signs signatory before now request (Ok (Ready response)) after begun = begun.1
+begun_still signs signatory before now request (Ok (Unsigned draft)) after begun = begun.1
+begun_still signs signatory before now request (Err memory) after begun = begun

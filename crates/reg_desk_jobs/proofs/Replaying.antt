@@ -62,11 +62,11 @@ module _ (input : Option (List ℕ)) (s : ReplayState) where
     log_ends none = (so.0, so.1, subst (IsInput input) (append-nil (concat so.0)) (input_is input input' (concat so.0) [] so.2 none), so.3)
 
 -- a reader has what the one under it has, and no number was given before
-pub replays_under : (sent sent' came came' out out' input under : Option (List ℕ)) (none numbers : List Renumbered) (result : Result (Unit {0}) Failure)
-    → none ≡ [] → input ≡ under → ReplaysLog input (state_of sent came out none) (state_of sent' came' out' numbers) result
-    → Replays under sent sent' came came' out out' result
-replays_under sent sent' came came' out out' input under none numbers result is same replays = (
+pub replays_under : (sent sent' incoming incoming' out out' input under : Option (List ℕ)) (none numbers : List Renumbered) (result : Result (Unit {0}) Failure)
+    → none ≡ [] → input ≡ under → ReplaysLog input (state_of sent incoming out none) (state_of sent' incoming' out' numbers) result
+    → Replays under sent sent' incoming incoming' out out' result
+replays_under sent sent' incoming incoming' out out' input under none numbers result is same replays = (
   numbers,
-  subst (λ n. ReplaysLog under (state_of sent came out n) (state_of sent' came' out' numbers) result) is
-      (subst (λ i. ReplaysLog i (state_of sent came out none) (state_of sent' came' out' numbers) result) same replays),
+  subst (λ n. ReplaysLog under (state_of sent incoming out n) (state_of sent' incoming' out' numbers) result) is
+      (subst (λ i. ReplaysLog i (state_of sent incoming out none) (state_of sent' incoming' out' numbers) result) same replays),
 )

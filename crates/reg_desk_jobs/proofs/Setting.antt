@@ -9,7 +9,7 @@ use Rattle.reg_desk_cli.specs.declared.failure.Failure.{Failure}
 use Rattle.reg_office_api.proofs.PublicLaws.{follows, stays}
 use Rattle.reg_core.specs.declared.refusal.Fault.{Fault}
 use Rattle.reg_desk_jobs.specs.Schedules.{SetsSteps}
-use Rattle.reg_desk_jobs.specs.Visits.{exit_of}
+use Rattle.reg_desk_jobs.specs.RegisterUses.{exit_of}
 use Rattle.reg_office_api.specs.Settings.{Reschedules}
 
 module _ {S : Type 0} (is_clean : S → Type 0) (stands : Signatory → S → Records → Type 0) (s t : S) (steps : List (ℕ × ℕ)) where

@@ -44,44 +44,44 @@ pub all_under : {T A : Type 0} (reader : BufReader T A) (inner : T) (remaining :
     → reader_buffer reader ≡ [] → reader_capacity reader ≡ 8192 → reader_remaining remaining reader ≡ remaining inner
 all_under reader inner remaining is empty room = rw (room, empty, is) (prepend_nil (remaining inner))
 
-pub talks_under : (sent sent' came came' out out' input under : Option (List ℕ)) (result : Result (Unit {0}) Failure) → input ≡ under
-    → Talks sent sent' came came' out out' input result → Talks sent sent' came came' out out' under result
-talks_under sent sent' came came' out out' input under result same talks = subst (λ i. Talks sent sent' came came' out out' i result) same talks
+pub talks_under : (sent sent' incoming incoming' out out' input under : Option (List ℕ)) (result : Result (Unit {0}) Failure) → input ≡ under
+    → Talks sent sent' incoming incoming' out out' input result → Talks sent sent' incoming incoming' out out' under result
+talks_under sent sent' incoming incoming' out out' input under result same talks = subst (λ i. Talks sent sent' incoming incoming' out out' i result) same talks
 
 -- What was read, what went out, what came and what was written when a talk began.
-module _ (input sent came out : Option (List ℕ)) where
+module _ (input sent incoming out : Option (List ℕ)) where
   -- the talk so far, and whether each reply was accepted
   abbrev pub SoFar : Option (List ℕ) → Option (List ℕ) → Option (List ℕ) → Option (List ℕ) → Bool → Type 0
-  SoFar input' sent' came' out' accepted =
-      (lines : List (List ℕ)) × (replies : List (List ℕ)) × Talked sent sent' came came' out out' lines replies
+  SoFar input' sent' incoming' out' accepted =
+      (lines : List (List ℕ)) × (replies : List (List ℕ)) × Talked sent sent' incoming incoming' out out' lines replies
       × Consumes input input' (concat lines) × (IsTrue accepted ↔ AllByRecursion IsAccepted replies)
 
   -- nothing yet
-  pub begins : SoFar input sent came out true
+  pub begins : SoFar input sent incoming out true
   begins = (
     [],
     [],
-    record { whole = tt; told = Appends-nil sent; heard = Consumes-nil came; said = Appends-nil out; each = refl },
+    record { whole = tt; told = Appends-nil sent; received = Consumes-nil incoming; said = Appends-nil out; each = refl },
     Consumes-nil input,
     ((λ holds. tt), (λ all. refl)),
   )
 
   -- What was so at a line, and after it.
-  module _ (input' sent' sent'' came' came'' out' out'' : Option (List ℕ)) where
+  module _ (input' sent' sent'' incoming' incoming'' out' out'' : Option (List ℕ)) where
     -- one line more
-    pub goes_on : (input'' : Option (List ℕ)) (before accepted after : Bool) → SoFar input' sent' came' out' before
-        → TalksOnce sent' sent'' came' came'' out' out'' input' input'' (Ok (step.Told accepted)) → IsTrue after ↔ (IsTrue before × IsTrue accepted)
-        → SoFar input'' sent'' came'' out'' after
+    pub goes_on : (input'' : Option (List ℕ)) (before accepted after : Bool) → SoFar input' sent' incoming' out' before
+        → TalksOnce sent' sent'' incoming' incoming'' out' out'' input' input'' (Ok (step.Replied accepted)) → IsTrue after ↔ (IsTrue before × IsTrue accepted)
+        → SoFar input'' sent'' incoming'' out'' after
     goes_on input'' before accepted after so once both =
         let (lines, replies, talked, read, all) = so in
-        let (line, reply, whole, took, (told, heard, said), is) = once in
+        let (line, reply, whole, took, (told, received, said), is) = once in
         let push = all_push IsAccepted replies reply in (
           lines ++ line ∷ [],
           replies ++ reply ∷ [],
           record {
             whole = whole_push lines line talked.whole whole;
             told = subst (Appends sent sent'') (sym (concat_push lines line)) (Appends-trans sent sent' sent'' _ line talked.told told);
-            heard = subst (Consumes came came'') (sym (concat_push replies reply)) (Consumes-trans came came' came'' _ reply talked.heard heard);
+            received = subst (Consumes incoming incoming'') (sym (concat_push replies reply)) (Consumes-trans incoming incoming' incoming'' _ reply talked.received received);
             said = subst (Appends out out'') (sym (concat_push replies reply)) (Appends-trans out out' out'' _ reply talked.said said);
             each = omega (arith, talked.each, length-append replies (reply ∷ []), length-append lines (line ∷ []));
           },
@@ -93,36 +93,36 @@ module _ (input sent came out : Option (List ℕ)) where
         )
 
     -- nothing more is told
-    stays : (accepted : Bool) → SoFar input' sent' came' out' accepted → sent'' ≡ sent' → came'' ≡ came' → out'' ≡ out'
-        → SoFar input' sent'' came'' out'' accepted
+    stays : (accepted : Bool) → SoFar input' sent' incoming' out' accepted → sent'' ≡ sent' → incoming'' ≡ incoming' → out'' ≡ out'
+        → SoFar input' sent'' incoming'' out'' accepted
     stays accepted so sends comes says =
         let P : Option (List ℕ) → Option (List ℕ) → Option (List ℕ) → Type 0 = λ s c o. SoFar input' s c o accepted in
-        subst (λ s. P s came'' out'') (sym sends) (subst (λ c. P sent' c out'') (sym comes) (subst (λ o. P sent' came' o) (sym says) so))
+        subst (λ s. P s incoming'' out'') (sym sends) (subst (λ c. P sent' c out'') (sym comes) (subst (λ o. P sent' incoming' o) (sym says) so))
 
     -- no line is left
-    pub ends : (accepted : Bool) (result : Result (Unit {0}) Failure) → SoFar input' sent' came' out' accepted
-        → IsInput input' [] × (sent'' ≡ sent') × (came'' ≡ came') × (out'' ≡ out')
+    pub ends : (accepted : Bool) (result : Result (Unit {0}) Failure) → SoFar input' sent' incoming' out' accepted
+        → IsInput input' [] × (sent'' ≡ sent') × (incoming'' ≡ incoming') × (out'' ≡ out')
         → MatchResult result (λ done. IsTrue accepted) (λ why. (why ≡ failure.Refused) × IsFalse accepted)
-        → Talks sent sent'' came came'' out out'' input result
+        → Talks sent sent'' incoming incoming'' out out'' input result
     ends accepted result so none = go result
       where
-        here : SoFar input' sent'' came'' out'' accepted
+        here : SoFar input' sent'' incoming'' out'' accepted
         here = stays accepted so none.1 none.2 none.3
 
         all : IsInput input (concat here.0 ++ [])
         all = input_is input input' (concat here.0) [] here.3 none.0
 
         go : (r : Result (Unit {0}) Failure) → MatchResult r (λ done. IsTrue accepted) (λ why. (why ≡ failure.Refused) × IsFalse accepted)
-            → Talks sent sent'' came came'' out out'' input r
+            → Talks sent sent'' incoming incoming'' out out'' input r
         go (Ok done) holds = (here.0, here.1, here.2, subst (IsInput input) (append-nil (concat here.0)) all, here.4.0 holds)
         go (Err why) refused =
             inr (here.0, here.1, [], here.2, all, inl (refused.0, refl, (λ each. false≢true (sym refused.1 ∙ here.4.1 each))))
 
     -- a last line without its end is left
-    pub cuts : (accepted : Bool) (why : Failure) → SoFar input' sent' came' out' accepted
-        → (left : List ℕ) × IsCutOff left × IsInput input' left × (sent'' ≡ sent') × (came'' ≡ came') × (out'' ≡ out')
+    pub cuts : (accepted : Bool) (why : Failure) → SoFar input' sent' incoming' out' accepted
+        → (left : List ℕ) × IsCutOff left × IsInput input' left × (sent'' ≡ sent') × (incoming'' ≡ incoming') × (out'' ≡ out')
         → ((why ≡ failure.NoLineEnd) × IsTrue accepted) ⊎ ((why ≡ failure.RefusedNoLineEnd) × IsFalse accepted)
-        → Talks sent sent'' came came'' out out'' input (Err why)
+        → Talks sent sent'' incoming incoming'' out out'' input (Err why)
     cuts accepted why so (left, cut, rest, sends, comes, says) how =
         let here = stays accepted so sends comes says in
         let all = input_is input input' (concat here.0) left here.3 rest in

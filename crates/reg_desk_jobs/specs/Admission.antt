@@ -12,9 +12,9 @@ use Rattle.reg_office_api.specs.Signatories.{Signatory}
 use Rattle.reg_office_api.specs.declared.register_summary.Intake.{Intake}
 use Rattle.reg_http.specs.Added.{AddsARequestAtMost}
 use Rattle.reg_http.specs.Answers.{Answers, BeginsTo}
-use Rattle.reg_http.specs.Asked.{Asked, serial_asked}
+use Rattle.reg_http.specs.RoutedRequests.{RoutedRequest, requested_serial}
 use Rattle.reg_http.specs.Bodies.{http_refusal}
-use Rattle.reg_http.specs.Told.{Told, fault_told, plain, told}
+use Rattle.reg_http.specs.AnswerEffects.{AnswerEffects, fault_effects, plain, answer_effects}
 use Rattle.reg_http.specs.declared.answered.Answered.{Answered}
 use Rattle.reg_desk_metrics.specs.Ahead.{is_ahead}
 use Rattle.reg_ocsp.specs.Drafts.{Drafted}
@@ -70,39 +70,39 @@ abbrev pub IsWithin : Admission → Records → ℕ → Option ℕ → Type 0
 IsWithin admission records now None = Unit {0}
 IsWithin admission records now (Some serial) = limit_at admission records now serial ≡ None
 
--- a request for a serial number is refused: with the status of a limit, or with the fault of the store that could not tell what there is
-abbrev pub RefusesSerial : Admission → Records → ℕ → ℕ → Told → Type 0
+-- a request for a serial number is refused: with the status of a limit, or with the fault of the store that could not be read
+abbrev pub RefusesSerial : Admission → Records → ℕ → ℕ → AnswerEffects → Type 0
 RefusesSerial admission records now serial it =
     ((status : ℕ) × (limit_at admission records now serial ≡ Some status) × (it ≡ plain (http_refusal status)))
-    ⊎ ((fault : Fault) × IsOfStore fault × (is_rate_reached now admission.recent ≡ false) × (it ≡ fault_told fault))
+    ⊎ ((fault : Fault) × IsOfStore fault × (is_rate_reached now admission.recent ≡ false) × (it ≡ fault_effects fault))
 
-abbrev pub RefusesAtLimit : Admission → Records → ℕ → Option ℕ → Told → Type 0
+abbrev pub RefusesAtLimit : Admission → Records → ℕ → Option ℕ → AnswerEffects → Type 0
 RefusesAtLimit admission records now None it = ⊥
 RefusesAtLimit admission records now (Some serial) it = RefusesSerial admission records now serial it
 
 -- how a request for a serial number is refused, or that it is within the limits
 abbrev pub MeetsLimits : Admission → Records → ℕ → ℕ → Option Answered → Type 0
-MeetsLimits admission records now serial (Some answered) = RefusesSerial admission records now serial (told answered)
+MeetsLimits admission records now serial (Some answered) = RefusesSerial admission records now serial (answer_effects answered)
 MeetsLimits admission records now serial None = limit_at admission records now serial ≡ None
 
 abbrev pub IsRefusedBy : ℕ → Option Answered → Type 0
-IsRefusedBy status (Some answered) = told answered ≡ plain (http_refusal status)
+IsRefusedBy status (Some answered) = answer_effects answered ≡ plain (http_refusal status)
 IsRefusedBy status None = ⊥
 
 -- the register answers a request within the limits; any other is refused, and the records stay
-abbrev pub AnswersAdmitted : Admission → Signs → ℕ → Signatory → Records → Asked → Told → Records → Type 0
-AnswersAdmitted admission signs now who before what it after =
-    (IsWithin admission before now (serial_asked what) × Answers (Runs signs who) Asks (Replies signs who) Crls now before what it after)
-    ⊎ (RefusesAtLimit admission before now (serial_asked what) it × (after ≡ before))
+abbrev pub AnswersAdmitted : Admission → Signs → ℕ → Signatory → Records → RoutedRequest → AnswerEffects → Records → Type 0
+AnswersAdmitted admission signs now signatory before what it after =
+    (IsWithin admission before now (requested_serial what) × Answers (Runs signs signatory) Asks (Replies signs signatory) Crls now before what it after)
+    ⊎ (RefusesAtLimit admission before now (requested_serial what) it × (after ≡ before))
 
 -- the same as it is begun
-abbrev pub BeginsAdmitted : Admission → Signs → ℕ → Signatory → Records → Asked → Result (Begun Answered Drafted) Memory → Records → Type 0
-BeginsAdmitted admission signs now who before what (Ok (Ready answered)) after =
-    AnswersAdmitted admission signs now who before what (told answered) after × AddsARequestAtMost now before after
-BeginsAdmitted admission signs now who before what (Ok (Unsigned draft)) after =
-    BeginsTo (Runs signs who) Asks (Replies signs who) Crls (Drafts who) now before what (Unsigned draft) after
-BeginsAdmitted admission signs now who before what (Err memory) after = after ≡ before
+abbrev pub BeginsAdmitted : Admission → Signs → ℕ → Signatory → Records → RoutedRequest → Result (Begun Answered Drafted) Memory → Records → Type 0
+BeginsAdmitted admission signs now signatory before what (Ok (Ready answered)) after =
+    AnswersAdmitted admission signs now signatory before what (answer_effects answered) after × AddsARequestAtMost now before after
+BeginsAdmitted admission signs now signatory before what (Ok (Unsigned draft)) after =
+    BeginsTo (Runs signs signatory) Asks (Replies signs signatory) Crls (Drafts signatory) now before what (Unsigned draft) after
+BeginsAdmitted admission signs now signatory before what (Err memory) after = after ≡ before
 
 -- by whatever the desk admits requests
-abbrev pub AnswersLimited : Signs → ℕ → Signatory → Records → Asked → Told → Records → Type 0
-AnswersLimited signs now who before what it after = (admission : Admission) × AnswersAdmitted admission signs now who before what it after
+abbrev pub AnswersLimited : Signs → ℕ → Signatory → Records → RoutedRequest → AnswerEffects → Records → Type 0
+AnswersLimited signs now signatory before what it after = (admission : Admission) × AnswersAdmitted admission signs now signatory before what it after

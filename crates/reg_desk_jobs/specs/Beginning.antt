@@ -7,17 +7,17 @@ use Rattle.reg_core.specs.Records.{Records}
 use Rattle.reg_core.specs.declared.memory.Memory.{Memory}
 use Rattle.reg_http_head.specs.Frame.{asked}
 use Rattle.reg_http.specs.Added.{AddsARequestAtMost}
-use Rattle.reg_http.specs.Asked.{ocsp_of, path_of, asked as asks_for}
+use Rattle.reg_http.specs.RoutedRequests.{ocsp_of, path_of, asked as asks_for}
 use Rattle.reg_http.specs.RouteNames.{route_at}
-use Rattle.reg_http.specs.Told.{told}
+use Rattle.reg_http.specs.AnswerEffects.{answer_effects}
 use Rattle.reg_http.specs.declared.answered.Answered.{Answered}
 use Rattle.reg_http.specs.declared.exchange.Exchange.{Exchange}
-use Rattle.reg_http.specs.declared.exchange.Left.{Left}
+use Rattle.reg_http.specs.declared.exchange.UnsignedResponse.{UnsignedResponse}
 use Rattle.reg_ocsp.specs.Drafts.{Drafted}
 use Rattle.reg_io.specs.declared.begun.Begun.{Begun}
 use Rattle.reg_io.specs.declared.begun.Begun.TheVariants.{Ready, Unsigned}
 use Rattle.reg_desk_jobs.specs.Exchanges.{AnswersAt, IsExchange, IsRouteOf, Says, dispatch}
-use Rattle.reg_desk_jobs.specs.Leaving.{FinishesAt}
+use Rattle.reg_desk_jobs.specs.FinishedResponses.{FinishesAt}
 use Rattle.reg_desk_jobs.specs.declared.http_exchanges.Dispatch.{Dispatch}
 use Rattle.reg_desk_jobs.specs.declared.http_exchanges.Dispatch.TheVariants.{ToRegister, ToLimits}
 
@@ -32,26 +32,26 @@ MayLeave ToRegister = Unit {0}
 MayLeave ToLimits = Unit {0}
 MayLeave other = ⊥
 
--- what a request that was read comes to: it is told; or what is left to be signed for it, by the register alone; or out of memory
+-- the outcome of a request that was read: the answer; or what is left to be signed for it, by the register alone; or out of memory
 abbrev pub BeginsAt
     : Bool → Signs → ℕ → Signatory → Records → List ℕ → List ℕ → List ℕ → Result (Begun Answered Drafted) Memory → Records → Type 0
-BeginsAt is_open signs now who before method target body (Ok (Ready answered)) after =
-    Says signs now who before (told answered) after is_open (asked method target body) × AddsARequestAtMost now before after
-BeginsAt is_open signs now who before method target body (Ok (Unsigned draft)) after =
+BeginsAt is_open signs now signatory before method target body (Ok (Ready answered)) after =
+    Says signs now signatory before (answer_effects answered) after is_open (asked method target body) × AddsARequestAtMost now before after
+BeginsAt is_open signs now signatory before method target body (Ok (Unsigned draft)) after =
     MayLeave (dispatch is_open (route_at (path_of target)))
-    × ((request : List ℕ) × (asks_for method target body ≡ ocsp_of request) × Drafts who before now request draft after)
-BeginsAt is_open signs now who before method target body (Err memory) after = after ≡ before
+    × ((request : List ℕ) × (asks_for method target body ≡ ocsp_of request) × Drafts signatory before now request draft after)
+BeginsAt is_open signs now signatory before method target body (Err memory) after = after ≡ before
 
 -- what the bytes that came are answered: an exchange that is ready; or what is left to be signed, and whatever text finishes that is one's. The
 -- records gain one request for revocation at most.
 abbrev pub AnswersBegun
-    : (List ℕ → List ℕ → Type 0) → Bool → Signs → ℕ → Signatory → Records → List ℕ → Begun Exchange Left → Records → Type 0
-AnswersBegun gave is_open signs now who before request (Ready exchange) after =
-    IsExchange is_open signs now who before request exchange after × AddsARequestAtMost now before after
-AnswersBegun gave is_open signs now who before request (Unsigned left) after =
-    ((text : List ℕ) → FinishesAt gave left.draft now text → AnswersAt is_open signs now who before request text after) × AddsARequestAtMost now before after
+    : (List ℕ → List ℕ → Type 0) → Bool → Signs → ℕ → Signatory → Records → List ℕ → Begun Exchange UnsignedResponse → Records → Type 0
+AnswersBegun signer_answered is_open signs now signatory before request (Ready exchange) after =
+    IsExchange is_open signs now signatory before request exchange after × AddsARequestAtMost now before after
+AnswersBegun signer_answered is_open signs now signatory before request (Unsigned left) after =
+    ((text : List ℕ) → FinishesAt signer_answered left.draft now text → AnswersAt is_open signs now signatory before request text after) × AddsARequestAtMost now before after
 
 -- the route under which it is counted
-abbrev pub IsBegunRoute : List ℕ → Begun Exchange Left → Type 0
+abbrev pub IsBegunRoute : List ℕ → Begun Exchange UnsignedResponse → Type 0
 IsBegunRoute request (Ready exchange) = IsRouteOf request exchange.route
 IsBegunRoute request (Unsigned left) = IsRouteOf request left.route

@@ -1,4 +1,4 @@
--- What a line at the control socket comes to, the reply that tells it, and what is counted of it.
+-- The outcome of a line at the control socket, its reply, and what is counted of it.
 use Rattle.std.specs.Prelude.{◌≡◌, ◌⊎◌, ◌<◌, ◌==◌, ℕ, Bool, true, false, List, [], ◌∷◌, ◌++◌, codes, cond, length, Ok, Err}
 use Rattle.hex.specs.Hex.{encode_lower}
 use Rattle.reg_office_api.specs.declared.effects.LineEffects.{LineEffects}
@@ -18,24 +18,24 @@ use Rattle.reg_lines.specs.Accepted.{IsAccepted}
 use Rattle.reg_lines.specs.Replies.{outcome_line, with_lf}
 use Rattle.reg_lines.specs.declared.answered.Answered.{Answered}
 use Rattle.reg_lines.specs.declared.answered.Answered.TheVariants as answered
-use Rattle.reg_lines.specs.declared.answered.Asked.TheVariants.{Command, Ocsp}
+use Rattle.reg_lines.specs.declared.answered.LineKind.TheVariants.{Command, Ocsp}
 use Rattle.reg_desk_jobs.specs.declared.control_reply.LineOutcome.{LineOutcome}
 use Rattle.reg_desk_jobs.specs.declared.control_reply.LineOutcome.TheVariants.{CameTo, Response, Done, Failed, Silent, Uncopied}
 
--- these bytes are told, or nothing where there was no memory for them
-abbrev pub IsSaid : List ℕ → List ℕ → Type 0
-IsSaid bytes text = (text ≡ bytes) ⊎ (text ≡ [])
+-- the reply is these bytes, or nothing where there was no memory for them
+abbrev pub IsReplyText : List ℕ → List ℕ → Type 0
+IsReplyText bytes text = (text ≡ bytes) ⊎ (text ≡ [])
 
--- the line of a fault is told
+-- the reply is the line of a fault
 abbrev pub ReportsFault : Fault → List ℕ → Type 0
-ReportsFault why text = IsSaid (fault_line why ++ 10 ∷ []) text
+ReportsFault why text = IsReplyText (fault_line why ++ 10 ∷ []) text
 
 -- what a command line came to
 abbrev pub line_outcome_of : Answered → LineOutcome
 line_outcome_of (answered.CameTo what outcome) = CameTo what outcome
 line_outcome_of (answered.Response reply) = Response reply.is_refusal
 
--- the reply tells what a line came to; an OCSP response refuses where it has five bytes: a status and nothing else (RFC 6960 4.2.1)
+-- the reply shows the outcome of a line; an OCSP response refuses where it has five bytes: a status and nothing else (RFC 6960 4.2.1)
 abbrev pub ReportsLineOutcome : LineOutcome → List ℕ → Type 0
 ReportsLineOutcome (CameTo what outcome) text = text ≡ with_lf (outcome_line outcome)
 ReportsLineOutcome (Response refuses) text =

@@ -7,7 +7,7 @@ use Rattle.reg_core.specs.Sequence.{◌>>=◌}
 use Rattle.reg_core.specs.Serial.{serial_of}
 use Rattle.reg_core.specs.declared.command.Command.{Command}
 use Rattle.reg_core.specs.declared.command.Command.TheVariants.{Decline, Revoke}
-use Rattle.reg_core_lists.specs.Asked.{label_of}
+use Rattle.reg_core_lists.specs.ListParameters.{label_of}
 use Rattle.reg_core.specs.Records.{Records}
 use Rattle.reg_core.specs.declared.refusal.Fault.{Fault}
 use Rattle.reg_core.specs.declared.refusal.Fault.TheVariants as fault
@@ -17,19 +17,19 @@ use Rattle.reg_office_api.specs.CallSteps.{Signs}
 use Rattle.reg_lines.specs.Answer.{ComesTo, Replied}
 use Rattle.reg_lines.specs.ByCalls.{Lines}
 use Rattle.reg_lines.specs.Fields.{fields_of}
-use Rattle.reg_lines.specs.Meaning.{LineMeans, tells}
+use Rattle.reg_lines.specs.Meaning.{LineMeans, means_command}
 use Rattle.reg_lines.specs.Script.{IsShortCommand, line_of}
 use Rattle.reg_desk_cli.specs.WordValues.{steps_of}
 use Rattle.reg_desk_metrics.specs.Ahead.{is_ahead}
-use Rattle.reg_desk_jobs.specs.ControlReplies.{IsSaid, ReportsFault}
-use Rattle.reg_desk_jobs.specs.Copies.{AnswersCopy, asks_copy}
+use Rattle.reg_desk_jobs.specs.ControlReplies.{IsReplyText, ReportsFault}
+use Rattle.reg_desk_jobs.specs.Copies.{AnswersCopy, is_copy_line}
 use Rattle.reg_desk_jobs.specs.Schedules.{SetAt}
-use Rattle.reg_desk_jobs.specs.Settlings.{SettlesAt}
-use Rattle.reg_desk_jobs.specs.Showings.{AnswersShown, help_text}
+use Rattle.reg_desk_jobs.specs.SerialDecisions.{SettlesAt}
+use Rattle.reg_desk_jobs.specs.RowLookUps.{AnswersShown, help_text}
 use Rattle.reg_desk_jobs.specs.declared.control_reply.ControlReply.{ControlReply}
 use Rattle.reg_desk_jobs.specs.declared.words.ControlWord.{ControlWord}
 use Rattle.reg_desk_jobs.specs.declared.words.ControlWord.TheVariants.{Help, Why, Copy, Show, Settle, AcceptClock, Schedule, Line}
-use Rattle.reg_desk_jobs.specs.declared.words.Settling.{Settling}
+use Rattle.reg_desk_jobs.specs.declared.words.SerialDecision.{SerialDecision}
 use Rattle.reg_desk_jobs.specs.declared.words.Shown.{Shown}
 use Rattle.reg_desk_jobs.specs.declared.words.Shown.TheVariants.{Request, Certificate, Subscriber}
 
@@ -40,7 +40,7 @@ pub data Saying : Type 0 where
   why : Saying
   copies : Saying
   shows : Shown → Saying
-  settles : Settling → Saying
+  settles : SerialDecision → Saying
   accepts : ℕ → Saying
   schedules : List (ℕ × ℕ) → Saying
   commands : Saying
@@ -61,19 +61,19 @@ shown_in [] = None
 shown_in (word ∷ rest) = if bytes_eq word (codes "show") then shown_by rest else None
 
 -- the decision of a request, by its word
-abbrev pub settling_by : List ℕ → ℕ → ℕ → Option Settling
-settling_by word request serial =
+abbrev pub serial_decision_by : List ℕ → ℕ → ℕ → Option SerialDecision
+serial_decision_by word request serial =
     if bytes_eq word (codes "revoke") then Some (record { command = Revoke request; request = request; serial = serial })
     else if bytes_eq word (codes "decline") then Some (record { command = Decline request; request = request; serial = serial })
     else None
 
 -- `revoke N SERIAL` or `decline N SERIAL`
-abbrev pub settling_in : List (List ℕ) → Option Settling
-settling_in (word ∷ request ∷ serial ∷ []) = do
+abbrev pub serial_decision_in : List (List ℕ) → Option SerialDecision
+serial_decision_in (word ∷ request ∷ serial ∷ []) = do
   request ← number_of request
   serial ← serial_of serial
-  settling_by word request serial
-settling_in other = None
+  serial_decision_by word request serial
+serial_decision_in other = None
 
 -- the moment behind the word `accept-clock`
 abbrev pub accepted_by_word : List ℕ → List ℕ → Option ℕ
@@ -93,7 +93,7 @@ steps_set (word ∷ step ∷ rest) = if bytes_eq word (codes "schedule") then st
 -- what the fields of a line say
 abbrev pub said_by_fields : List (List ℕ) → Saying
 said_by_fields fields =
-    option_map_or shows (shown_in fields) (option_map_or settles (settling_in fields)
+    option_map_or shows (shown_in fields) (option_map_or settles (serial_decision_in fields)
     (option_map_or accepts (accepted_in fields) (option_map_or schedules (steps_set fields) commands)))
 
 -- what a line says
@@ -101,7 +101,7 @@ abbrev pub said_in : List ℕ → Saying
 said_in line =
     if bytes_eq (line_of line) (codes "help") then helps
     else if bytes_eq (line_of line) (codes "why") then why
-    else if asks_copy line then copies
+    else if is_copy_line line then copies
     else said_by_fields (fields_of (line_of line))
 
 -- a line is this word; a command line has no end, and is none where it has too many bytes
@@ -110,7 +110,7 @@ IsWord line Help = said_in line ≡ helps
 IsWord line Why = said_in line ≡ why
 IsWord line (Copy path) = said_in line ≡ copies
 IsWord line (Show shown) = said_in line ≡ shows shown
-IsWord line (Settle settling) = said_in line ≡ settles settling
+IsWord line (Settle serial_decision) = said_in line ≡ settles serial_decision
 IsWord line (AcceptClock clock) = said_in line ≡ accepts clock.moment
 IsWord line (Schedule steps) = said_in line ≡ schedules steps
 IsWord line (Line command) = (said_in line ≡ commands)
@@ -124,29 +124,29 @@ CommandAt signs now identity before line text after =
 -- a command is refused, as the clock is too far ahead of the last accepted moment and the moment that the operator accepted
 abbrev pub RefusesClock : Option ℕ → ℕ → Records → List ℕ → Type 0
 RefusesClock accepted now before text =
-    IsTrue (is_ahead now before.last accepted) × IsSaid (codes "bad-clock\n") text
+    IsTrue (is_ahead now before.last accepted) × IsReplyText (codes "bad-clock\n") text
 
--- the fault of a store that could not tell the last accepted moment
-abbrev pub TellsStoreFault : List ℕ → Type 0
-TellsStoreFault text = (why : Fault) × IsOfStore why × ReportsFault why text
+-- the fault of a store that could not read the last accepted moment
+abbrev pub RepliesStoreFault : List ℕ → Type 0
+RepliesStoreFault text = (why : Fault) × IsOfStore why × ReportsFault why text
 
--- a command at a moment: it is refused if the clock is too far ahead; or it runs; or the store could not tell the last accepted moment
+-- a command at a moment: it is refused if the clock is too far ahead; or it runs; or the store could not read the last accepted moment
 abbrev pub AtClock : Option ℕ → ℕ → Records → Type 0 → List ℕ → Records → Type 0
 AtClock accepted now before Runs text after =
     (RefusesClock accepted now before text × (after ≡ before))
     ⊎ (IsFalse (is_ahead now before.last accepted) × Runs)
-    ⊎ (TellsStoreFault text × (after ≡ before))
+    ⊎ (RepliesStoreFault text × (after ≡ before))
 
 -- whether a command is refused before it runs
 abbrev pub MeetsClock : Option ℕ → ℕ → Records → Option ControlReply → Type 0
 MeetsClock accepted now before None = IsFalse (is_ahead now before.last accepted)
-MeetsClock accepted now before (Some reply) = RefusesClock accepted now before reply.text.items ⊎ TellsStoreFault reply.text.items
+MeetsClock accepted now before (Some reply) = RefusesClock accepted now before reply.text.items ⊎ RepliesStoreFault reply.text.items
 
 -- a line has a command, and no query
 abbrev pub HasCommand : List ℕ → Type 0
-HasCommand line = (command : Command) × LineMeans line (tells command)
+HasCommand line = (command : Command) × LineMeans line (means_command command)
 
--- a command line without its end: a command at the clock; any other line runs whatever the clock tells
+-- a command line without its end: a command at the clock; any other line runs at any moment of the clock
 abbrev pub LineAt : Option ℕ → Signs → ℕ → Signatory → Records → List ℕ → List ℕ → Records → Type 0
 LineAt accepted signs now identity before line text after =
     (HasCommand line × AtClock accepted now before (CommandAt signs now identity before line text after) text after)
@@ -158,16 +158,16 @@ EntryAt accepted signs now identity before line text after =
     (IsShortCommand line × LineAt accepted signs now identity before (line_of line) text after)
     ⊎ ((¬ IsShortCommand line) × ReportsFault fault.Read text × (after ≡ before))
 
--- what each word is told: the words, why a line was refused, of a copy, a row, and that the clock is accepted, and the records stay; of a decision;
+-- the reply to each word: the words, why a line was refused, of a copy, a row, and that the clock is accepted, and the records stay; of a decision;
 -- of a schedule that is set; and a command line's reply
 abbrev pub AnswersWord : Option ℕ → Signs → ℕ → Signatory → Records → List ℕ → Saying → List ℕ → Records → Type 0
-AnswersWord accepted signs now identity before line helps text after = IsSaid (help_text ++ 10 ∷ []) text × (after ≡ before)
+AnswersWord accepted signs now identity before line helps text after = IsReplyText (help_text ++ 10 ∷ []) text × (after ≡ before)
 AnswersWord accepted signs now identity before line why text after = after ≡ before
 AnswersWord accepted signs now identity before line copies text after = AnswersCopy (λ bytes. Unit {0}) text × (after ≡ before)
 AnswersWord accepted signs now identity before line (shows shown) text after = AnswersShown before now shown text × (after ≡ before)
-AnswersWord accepted signs now identity before line (settles settling) text after =
-    AtClock accepted now before (SettlesAt signs now identity before settling text after) text after
-AnswersWord accepted signs now identity before line (accepts moment) text after = IsSaid (codes "clock accepted\n") text × (after ≡ before)
+AnswersWord accepted signs now identity before line (settles serial_decision) text after =
+    AtClock accepted now before (SettlesAt signs now identity before serial_decision text after) text after
+AnswersWord accepted signs now identity before line (accepts moment) text after = IsReplyText (codes "clock accepted\n") text × (after ≡ before)
 AnswersWord accepted signs now identity before line (schedules steps) text after = SetAt steps before text after
 AnswersWord accepted signs now identity before line commands text after = EntryAt accepted signs now identity before line text after
 
@@ -179,11 +179,11 @@ accepted_by other accepted = accepted
 abbrev pub IsAcceptedAfter : List ℕ → Option ℕ → Option ℕ → Type 0
 IsAcceptedAfter line accepted accepted' = (accepted' ≡ accepted_by (said_in line) accepted) ⊎ (accepted' ≡ accepted)
 
--- a line of an open register at a moment; or there was no memory to read it, which is told, and the records stay
+-- a line of an open register at a moment; or there was no memory to read it, which is replied, and the records stay
 abbrev pub WordAt : Option ℕ → Signs → ℕ → Signatory → Records → List ℕ → List ℕ → Records → Type 0
 WordAt accepted signs now identity before line text after =
     AnswersWord accepted signs now identity before line (said_in line) text after ⊎ (ReportsFault fault.Memory text × (after ≡ before))
 
--- the same at a moment that a clock told, whatever moment the operator accepted, if any
+-- the same at a moment of a clock, whatever moment the operator accepted, if any
 abbrev pub Word : Signs → (ℕ → Type 0) → Signatory → Records → List ℕ → List ℕ → Records → Type 0
-Word signs told identity before line text after = (accepted : Option ℕ) × (now : ℕ) × told now × WordAt accepted signs now identity before line text after
+Word signs clock_reached identity before line text after = (accepted : Option ℕ) × (now : ℕ) × clock_reached now × WordAt accepted signs now identity before line text after

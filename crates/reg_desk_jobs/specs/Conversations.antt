@@ -8,7 +8,7 @@ use Rattle.reg_desk_cli.specs.declared.failure.Failure.{Failure}
 use Rattle.reg_desk_cli.specs.declared.failure.Failure.TheVariants as failure
 use Rattle.reg_lines.specs.Accepted.{IsAccepted}
 use Rattle.reg_lines.specs.Script.{HasNoLf, IsWholeLine}
-use Rattle.reg_lines.specs.Told.{ToldEnds}
+use Rattle.reg_lines.specs.RowLines.{ListingEnds}
 use Rattle.reg_desk_jobs.specs.declared.at_job.Next.{Next}
 use Rattle.reg_desk_jobs.specs.declared.at_job.Next.TheVariants as next
 use Rattle.reg_desk_jobs.specs.declared.at_job.Step.{Step}
@@ -27,7 +27,7 @@ IsCutOff line = HasNoLf line × (0 < length line)
 abbrev pub IsInput : Option (List ℕ) → List ℕ → Type 0
 IsInput input bytes = IfSome input (λ all. all ≡ bytes)
 
--- what ends a talk early: a reading or a writing that fails, or want of memory
+-- what ends a conversation early: a reading or a writing that fails, or out of memory
 abbrev pub IsOfTalk : Failure → Type 0
 IsOfTalk why = (why ≡ failure.Fault fault.Read) ⊎ ((why ≡ failure.Fault fault.Write) ⊎ (why ≡ failure.Fault fault.Memory))
 
@@ -43,11 +43,11 @@ NextIs input input' (next.Line line) = IsWholeLine line.items × Consumes input 
 NextIs input input' next.Cut = (left : List ℕ) × IsCutOff left × IsInput input left
 NextIs input input' next.End = IsInput input []
 
--- these lines were told, one after the other; to each one reply was heard, and that was said
-pub record Talked (sent sent' came came' out out' : Option (List ℕ)) (lines replies : List (List ℕ)) : Type 0 where
+-- these lines were sent, one after the other; to each one reply was received, and that was written
+pub record Talked (sent sent' incoming incoming' out out' : Option (List ℕ)) (lines replies : List (List ℕ)) : Type 0 where
   pub whole : AreWhole lines
   pub told : Appends sent sent' (concat lines)
-  pub heard : Consumes came came' (concat replies)
+  pub received : Consumes incoming incoming' (concat replies)
   pub said : Appends out out' (concat replies)
   pub each : length replies ≡ length lines
 
@@ -60,34 +60,34 @@ IsWhyBy IsGood replies left why =
     ⊎ ((why ≡ failure.RefusedNoLineEnd) × IsCutOff left × (¬ AllByRecursion IsGood replies)))
 
 -- What went out to the control socket, what came from it, and what was written: before and after.
-module _ (sent sent' came came' out out' : Option (List ℕ)) where
-  -- a line was told, and its reply heard and said
+module _ (sent sent' incoming incoming' out out' : Option (List ℕ)) where
+  -- a line was sent, and its reply received and written
   abbrev pub TalksLine : List ℕ → List ℕ → Type 0
-  TalksLine line reply = Appends sent sent' line × Consumes came came' reply × Appends out out' reply
+  TalksLine line reply = Appends sent sent' line × Consumes incoming incoming' reply × Appends out out' reply
 
-  -- one line of an input: it was told, and its reply was accepted or not; or nothing was told, since it has no end, or none is left
+  -- one line of an input: it was sent, and its reply was accepted or not; or nothing was sent, since it has no end, or none is left
   abbrev pub TalksOnce : Option (List ℕ) → Option (List ℕ) → Result Step Failure → Type 0
-  TalksOnce input input' (Ok (step.Told accepted)) =
+  TalksOnce input input' (Ok (step.Replied accepted)) =
       (line reply : List ℕ) × IsWholeLine line × Consumes input input' line × TalksLine line reply
       × (IsTrue accepted ↔ IsAccepted reply)
-  TalksOnce input input' (Ok step.Cut) = (left : List ℕ) × IsCutOff left × IsInput input left × (sent' ≡ sent) × (came' ≡ came) × (out' ≡ out)
-  TalksOnce input input' (Ok step.End) = IsInput input [] × (sent' ≡ sent) × (came' ≡ came) × (out' ≡ out)
+  TalksOnce input input' (Ok step.Cut) = (left : List ℕ) × IsCutOff left × IsInput input left × (sent' ≡ sent) × (incoming' ≡ incoming) × (out' ≡ out)
+  TalksOnce input input' (Ok step.End) = IsInput input [] × (sent' ≡ sent) × (incoming' ≡ incoming) × (out' ≡ out)
   TalksOnce input input' (Err why) = IsOfTalk why
 
-  -- all lines of an input: each reply was accepted; or one was not, or a last line without its end is left, which was not told; where a talk
+  -- all lines of an input: each reply was accepted; or one was not, or a last line without its end is left, which was not sent; where a talk
   -- ended early, how far it came is not said
   abbrev pub Talks : Option (List ℕ) → Result (Unit {0}) Failure → Type 0
   Talks input (Ok done) =
-      (lines replies : List (List ℕ)) × Talked sent sent' came came' out out' lines replies × IsInput input (concat lines) × AllByRecursion IsAccepted replies
+      (lines replies : List (List ℕ)) × Talked sent sent' incoming incoming' out out' lines replies × IsInput input (concat lines) × AllByRecursion IsAccepted replies
   Talks input (Err why) = IsOfTalk why
-      ⊎ ((lines replies : List (List ℕ)) × (left : List ℕ) × Talked sent sent' came came' out out' lines replies
+      ⊎ ((lines replies : List (List ℕ)) × (left : List ℕ) × Talked sent sent' incoming incoming' out out' lines replies
       × IsInput input (concat lines ++ left) × IsWhyBy IsAccepted replies left why)
 
 -- a talk over a connection, of which nothing more is known: it ended early with nothing written, or as it says
 abbrev pub TalksOver : Option (List ℕ) → Option (List ℕ) → Option (List ℕ) → Result (Unit {0}) Failure → Type 0
 TalksOver input out out' result =
     ((why : Failure) × (result ≡ Err why) × IsOfTalk why × (out' ≡ out))
-    ⊎ ((sent sent' came came' : Option (List ℕ)) × Talks sent sent' came came' out out' input result)
+    ⊎ ((sent sent' incoming incoming' : Option (List ℕ)) × Talks sent sent' incoming incoming' out out' input result)
 
 -- lines at the control socket at a path: no program listened there, or the one that did was talked with
 abbrev pub AtControlSocket : Type 0 → Option (List ℕ) → Option (List ℕ) → Option (List ℕ) → Result (Unit {0}) Failure → Type 0
@@ -98,5 +98,5 @@ AtControlSocket met input out out' result =
 -- rows at the control socket at a path: the input was not read whole, and nothing is sent; or it was, and the lines of its rows are sent there
 abbrev pub RowsAtControlSocket : Type 0 → Option (List ℕ) → Option (List ℕ) → Option (List ℕ) → Option (List ℕ) → Result (Unit {0}) Failure → Type 0
 RowsAtControlSocket met input input' out out' result =
-    ((why : Fault) × (result ≡ Err (failure.Fault why)) × ToldEnds input input' (Err why) × (out' ≡ out))
-    ⊎ ((lines : List ℕ) × ToldEnds input input' (Ok lines) × AtControlSocket met (Some lines) out out' result)
+    ((why : Fault) × (result ≡ Err (failure.Fault why)) × ListingEnds input input' (Err why) × (out' ≡ out))
+    ⊎ ((lines : List ℕ) × ListingEnds input input' (Ok lines) × AtControlSocket met (Some lines) out out' result)

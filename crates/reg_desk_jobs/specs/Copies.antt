@@ -1,4 +1,4 @@
--- A copy of a register: the word at the control socket that asks for one, and what is told of it.
+-- A copy of a register: the word at the control socket that asks for one, and its reply.
 use Rattle.std.specs.Prelude.{◌≡◌, ◌⊎◌, ℕ, Bool, List, [], ◌∷◌, ◌++◌, ◌==◌, codes, decimal}
 use Rattle.std.specs.List.{starts_with}
 use Rattle.reg_core.specs.Lines.{fault_line}
@@ -6,10 +6,10 @@ use Rattle.reg_core.specs.declared.refusal.Fault.{Fault}
 use Rattle.reg_office_api.specs.LookUps.{IsOfStore}
 
 -- whether a line asks for a copy: its path stands behind that word and a space
-abbrev pub asks_copy : List ℕ → Bool
-asks_copy line = starts_with (λ a b. a == b) line (codes "copy ")
+abbrev pub is_copy_line : List ℕ → Bool
+is_copy_line line = starts_with (λ a b. a == b) line (codes "copy ")
 
--- what is told of a copy: how many bytes it has, and in how many milliseconds it was created
+-- the reply on a copy: how many bytes it has, and in how many milliseconds it was created
 unfoldable pub copied_text : ℕ → ℕ → List ℕ
 copied_text bytes millis = codes "copied " ++ decimal bytes ++ codes " bytes in " ++ decimal millis ++ codes " ms\n"
 

@@ -46,62 +46,62 @@ use Rattle.reg_desk_jobs.specs.Digest.{digest_alone, digests}
 use Rattle.reg_desk_jobs.specs.RegisterFailures.{IsMaking, IsOpening}
 use Rattle.reg_office_api.specs.LookUps.{IsOfStore}
 use Rattle.reg_office_api.specs.Settings.{Identifies, Reschedules}
-use Rattle.reg_desk_jobs.specs.Given.{GaveAt}
+use Rattle.reg_desk_jobs.specs.SignerAnswers.{AnsweredAtPath}
 use Rattle.reg_desk_jobs.specs.Published.{Compares, HasAll}
 use Rattle.reg_desk_jobs.specs.Sample.{sample_records}
 use Rattle.reg_desk_jobs.specs.Replays.{ReplaysAt}
 use Rattle.reg_desk_jobs.specs.RowTasks.{SendsRowsAt}
 use Rattle.reg_desk_jobs.specs.Registers.{Audits, Unaudited}
 use Rattle.reg_desk_jobs.specs.Serving.{IsBound, Serves, ServedAt}
-use Rattle.reg_desk_jobs.specs.Told.{Explains}
-use Rattle.reg_desk_jobs.specs.WhoSigns.{Signing, answer_socket, by_itself, signing_told, unsigned}
-use Rattle.reg_desk_jobs.specs.Visits.{Visits, NotMade, NotOpened, Makes, exit_of, exit_of_run}
+use Rattle.reg_desk_jobs.specs.FailureReports.{Explains}
+use Rattle.reg_desk_jobs.specs.Signers.{Signing, answer_socket, by_itself, signing_with, unsigned}
+use Rattle.reg_desk_jobs.specs.RegisterUses.{UsesRegister, NotMade, NotOpened, Makes, exit_of, exit_of_run}
 use Rattle.reg_desk_jobs.specs.declared.unsigned_responses.Unsigned.{Unsigned}
 use Rattle.reg_desk_jobs.specs.declared.machine.Machine.{Ghosts as Machine}
 
--- a text is said and the job is done; or a front of it, where the writer fails
-abbrev pub SaysText : List ℕ → Option (List ℕ) → Option (List ℕ) → Result (Unit {0}) Failure → Type 0
-SaysText text out out' (Ok done) = Appends out out' text
-SaysText text out out' (Err why) = (why ≡ failure.Fault fault.Write) × AppendsPrefix out out' text
+-- a text is written and the job is done; or a prefix of it, where the writer fails
+abbrev pub PrintsText : List ℕ → Option (List ℕ) → Option (List ℕ) → Result (Unit {0}) Failure → Type 0
+PrintsText text out out' (Ok done) = Appends out out' text
+PrintsText text out out' (Err why) = (why ≡ failure.Fault fault.Write) × AppendsPrefix out out' text
 
--- what is given is said, or why nothing is given is the end
-abbrev pub SaysGiven : {W : Type 0} → (W → Option (List ℕ)) → W → W → Result (List ℕ) Fault → Result (Unit {0}) Failure → Type 0
-SaysGiven contents writer writer' (Ok text) result = SaysText text (contents writer) (contents writer') result
-SaysGiven contents writer writer' (Err why) result = (result ≡ Err (failure.Fault why)) × (writer' ≡ writer)
+-- the result is written, or its fault ends the job
+abbrev pub PrintsResult : {W : Type 0} → (W → Option (List ℕ)) → W → W → Result (List ℕ) Fault → Result (Unit {0}) Failure → Type 0
+PrintsResult contents writer writer' (Ok text) result = PrintsText text (contents writer) (contents writer') result
+PrintsResult contents writer writer' (Err why) result = (result ≡ Err (failure.Fault why)) × (writer' ≡ writer)
 
--- that something was set is told by a text, or why it was not set is the end
-abbrev pub TellsSet : {W : Type 0} → List ℕ → (W → Option (List ℕ)) → W → W → Result (Unit {0}) Fault → Result (Unit {0}) Failure → Type 0
-TellsSet text contents writer writer' (Ok done) result = SaysText text (contents writer) (contents writer') result
-TellsSet text contents writer writer' (Err why) result = (result ≡ Err (failure.Fault why)) × IsOfStore why × (writer' ≡ writer)
+-- a text confirms that something was set, or the fault ends the job
+abbrev pub PrintsSetResult : {W : Type 0} → List ℕ → (W → Option (List ℕ)) → W → W → Result (Unit {0}) Fault → Result (Unit {0}) Failure → Type 0
+PrintsSetResult text contents writer writer' (Ok done) result = PrintsText text (contents writer) (contents writer') result
+PrintsSetResult text contents writer writer' (Err why) result = (result ≡ Err (failure.Fault why)) × IsOfStore why × (writer' ≡ writer)
 
--- the text of a line is said, or there was no memory for it
+-- the text of a line is written, or there was no memory for it
 abbrev pub PrintsLine : {W : Type 0} → List ℕ → (W → Option (List ℕ)) → W → W → Result (Unit {0}) Failure → Type 0
 PrintsLine text contents writer writer' result =
-    SaysText text (contents writer) (contents writer') result ⊎ ((result ≡ Err (failure.Fault fault.Memory)) × (writer' ≡ writer))
+    PrintsText text (contents writer) (contents writer') result ⊎ ((result ≡ Err (failure.Fault fault.Memory)) × (writer' ≡ writer))
 
--- the text of an audit that found a broken row is said, and the job is not done; or a front of it, where the writer fails; or there was
+-- the text of an audit that found a broken row is written, and the job has failed; or a prefix of it, where the writer fails; or there was
 -- no memory for it
-abbrev pub TellsBroken : {W : Type 0} → List ℕ → (W → Option (List ℕ)) → W → W → Result (Unit {0}) Failure → Type 0
-TellsBroken text contents writer writer' result =
+abbrev pub PrintsBroken : {W : Type 0} → List ℕ → (W → Option (List ℕ)) → W → W → Result (Unit {0}) Failure → Type 0
+PrintsBroken text contents writer writer' result =
     ((result ≡ Err failure.Broken) × Appends (contents writer) (contents writer') text)
     ⊎ (((result ≡ Err (failure.Fault fault.Write)) × AppendsPrefix (contents writer) (contents writer') text)
     ⊎ ((result ≡ Err (failure.Fault fault.Memory)) × (writer' ≡ writer)))
 
--- what an audit found, as it is told
+-- the report of an audit
 abbrev pub ReportsAuditResult : {W : Type 0} → (W → Option (List ℕ)) → W → W → AuditResult → Result (Unit {0}) Failure → Type 0
 ReportsAuditResult contents writer writer' (audit_result.Sound found) result = PrintsLine (sound_text found) contents writer writer' result
-ReportsAuditResult contents writer writer' (audit_result.Broken broken) result = TellsBroken (broken_text broken) contents writer writer' result
-ReportsAuditResult contents writer writer' audit_result.OtherSchema result = TellsBroken OTHER_SCHEMA.now contents writer writer' result
+ReportsAuditResult contents writer writer' (audit_result.Broken broken) result = PrintsBroken (broken_text broken) contents writer writer' result
+ReportsAuditResult contents writer writer' audit_result.OtherSchema result = PrintsBroken OTHER_SCHEMA.now contents writer writer' result
 ReportsAuditResult contents writer writer' audit_result.Older result = (result ≡ Err failure.OldVersion) × (writer' ≡ writer)
 
--- the moment that is told, or else one that a clock told
+-- the moment that is given, or else one of the clock
 abbrev pub IsMomentOf : (ℕ → Type 0) → Option ℕ → ℕ → Type 0
 IsMomentOf clock (Some told) now = now ≡ told
 IsMomentOf clock None now = clock now
 
 -- the terms of the policy of a register that is to be made
-abbrev pub terms_told : NewRegister → Terms
-terms_told new = terms_of_days new.days new.crl_life new.ocsp_life new.cap
+abbrev pub terms_of_new : NewRegister → Terms
+terms_of_new new = terms_of_days new.days new.crl_life new.ocsp_life new.cap
 
 -- A job over a machine that writes: the machine before the job and after it, and the writer.
 module _ {M O D S R W : Type 0} (machines : Machine M O D S R) (offices : Office O) (contents : W → Option (List ℕ))
@@ -111,7 +111,7 @@ module _ {M O D S R W : Type 0} (machines : Machine M O D S R) (offices : Office
   MakesAt path issuer terms result =
       (NotMade machines machine machine' path result × (writer' ≡ writer))
       ⊎ (Makes machines offices machine machine' path (no_records issuer terms)
-      × SaysText (codes "created\n") (contents writer) (contents writer') result)
+      × PrintsText (codes "created\n") (contents writer) (contents writer') result)
 
   -- over the register at a path: it could not be opened, and nothing was written; or this
   abbrev pub Over : List ℕ → Signing → Result (Unit {0}) Failure → Type 0 → Type 0
@@ -120,27 +120,27 @@ module _ {M O D S R W : Type 0} (machines : Machine M O D S R) (offices : Office
   -- the bytes of a CRL of the register at a path (RFC 5280 5), of which no record changes
   abbrev pub CrlAt : List ℕ → Option ℕ → Result (Unit {0}) Failure → Type 0
   CrlAt path number result = Over path unsigned result ((given : Result (List ℕ) Fault)
-      × Visits machines offices machine machine' path unsigned (λ identity before after. Crls before number given after)
-      × SaysGiven contents writer writer' given result)
+      × UsesRegister machines offices machine machine' path unsigned (λ identity before after. Crls before number given after)
+      × PrintsResult contents writer writer' given result)
 
   -- a list of the register at a path, of which no record changes, at a moment: all of its rows that are wanted are said, each once and in order, or
   -- none; a clock that can't be read is the end before the path is looked at
   abbrev pub ListAt : ListToWrite → Result (Unit {0}) Failure → Type 0
   ListAt it result =
       ((result ≡ Err (failure.Fault fault.Read)) × (writer' ≡ writer) × (machine' ≡ machine))
-      ⊎ ((now : ℕ) × IsMomentOf machines.told it.moment now × Over it.file unsigned result ((given : Result (List ℕ) Fault)
-      × Visits machines offices machine machine' it.file unsigned
+      ⊎ ((now : ℕ) × IsMomentOf machines.clock_reached it.moment now × Over it.file unsigned result ((given : Result (List ℕ) Fault)
+      × UsesRegister machines offices machine machine' it.file unsigned
       (λ identity before after. GivesWholeList before now it.form it.filter it.from given after)
-      × SaysGiven contents writer writer' given result))
+      × PrintsResult contents writer writer' given result))
 
-  -- an audit of the register at a path: it could not be looked at, or what was found is told; the machine is as it was
+  -- an audit of the register at a path: it could not be read, or what was found is reported; the machine is as it was
   abbrev pub AuditAt : List ℕ → Result (Unit {0}) Failure → Type 0
   AuditAt path result =
       (machine' ≡ machine)
       × (((why : Failure) × (result ≡ Err why) × Unaudited machines machine path why × IsOpening why × (writer' ≡ writer))
       ⊎ ((found : AuditResult) × Audits machines machine path found × ReportsAuditResult contents writer writer' found result))
 
-  -- a copy of the register at a path, under another that nothing had: none was created; or one of so many bytes was, and that is told, with
+  -- a copy of the register at a path, under another that nothing had: none was created; or one of so many bytes was, and the reply says so, with
   -- how many milliseconds it took
   abbrev pub CopyAt : List ℕ → List ℕ → Result (Unit {0}) Failure → Type 0
   CopyAt path to result =
@@ -153,16 +153,16 @@ module _ {M O D S R W : Type 0} (machines : Machine M O D S R) (offices : Office
   ScheduleAt path steps result =
       ((why : Failure) × (result ≡ Err why) × IsNoSchedule steps why × (writer' ≡ writer) × (machine' ≡ machine))
       ⊎ (IsSchedule steps × Over path unsigned result ((set : Result (Unit {0}) Fault)
-      × Visits machines offices machine machine' path unsigned (λ identity. Reschedules steps set)
-      × TellsSet (codes "schedule set\n") contents writer writer' set result))
+      × UsesRegister machines offices machine machine' path unsigned (λ identity. Reschedules steps set)
+      × PrintsSetResult (codes "schedule set\n") contents writer writer' set result))
 
   -- a key identifier of its own for the issuer of the register at a path: the word is looked at before the path is
   abbrev pub KeyIdAt : List ℕ → List ℕ → Result (Unit {0}) Failure → Type 0
   KeyIdAt path key_id result =
       ((why : Failure) × (result ≡ Err why) × IsNoIdentifier key_id why × (writer' ≡ writer) × (machine' ≡ machine))
       ⊎ ((octets : List ℕ) × WritesIdentifier key_id octets × Over path unsigned result ((set : Result (Unit {0}) Fault)
-      × Visits machines offices machine machine' path unsigned (λ identity. Identifies octets set)
-      × TellsSet (codes "key-id set\n") contents writer writer' set result))
+      × UsesRegister machines offices machine machine' path unsigned (λ identity. Identifies octets set)
+      × PrintsSetResult (codes "key-id set\n") contents writer writer' set result))
 
 -- A new register at a path.
 module _ {M O D S R W : Type 0} (machines : Machine M O D S R) (offices : Office O) (contents : W → Option (List ℕ))
@@ -182,11 +182,11 @@ module _ {M O D S R W : Type 0} (machines : Machine M O D S R) (offices : Office
   -- a new register at a path, of the issuer and the policy that are written, which are looked at before the path is
   abbrev pub InitAt : NewRegister → Result (Unit {0}) Failure → Type 0
   InitAt new result =
-      ((why : Failure) × (result ≡ Err why) × IsNoOffice new.name new.key new.key_id (terms_told new) why
+      ((why : Failure) × (result ≡ Err why) × IsNoOffice new.name new.key new.key_id (terms_of_new new) why
       × (writer' ≡ writer) × (machine' ≡ machine))
-      ⊎ ((issuer : Issuer) × WritesIdentified new.name new.key new.key_id issuer × IsPolicy (terms_told new)
+      ⊎ ((issuer : Issuer) × WritesIdentified new.name new.key new.key_id issuer × IsPolicy (terms_of_new new)
       × ((start between : M) × Claims new.file start
-      × MakesAt machines offices contents start between writer writer' new.file issuer (terms_told new) result
+      × MakesAt machines offices contents start between writer writer' new.file issuer (terms_of_new new) result
       × Leaves new.file start between result))
 
 -- a script without FILE: no register could be made, or it ran over a new one in memory
@@ -199,8 +199,8 @@ ScriptInMemory remaining contents reader reader' writer writer' result =
 
 -- lines run at the machine's clock, which is too far ahead and which the operator does not accept
 abbrev pub IsClockRefused : Way → (ℕ → Type 0) → Records → Type 0
-IsClockRefused way told records =
-    IsTrue way.is_clocked × IsFalse way.accepts_clock × ((now : ℕ) × told now × IsTrue (is_ahead now records.last None))
+IsClockRefused way clock_reached records =
+    IsTrue way.is_clocked × IsFalse way.accepts_clock × ((now : ℕ) × clock_reached now × IsTrue (is_ahead now records.last None))
 
 -- A job over a machine that reads and writes.
 module _ {M O D S R E W : Type 0} (machines : Machine M O D S R) (offices : Office O)
@@ -210,24 +210,24 @@ module _ {M O D S R E W : Type 0} (machines : Machine M O D S R) (offices : Offi
   abbrev pub RunsAt : {A : Type 0} → (A → Result (Unit {0}) Failure) → List ℕ → Signing → (A → Signatory → Records → Records → Type 0)
       → Result (Unit {0}) Failure → Type 0
   RunsAt {A = A} ending path signing Ran result = (NotOpened machines machine machine' path signing result × (reader' ≡ reader) × (writer' ≡ writer))
-      ⊎ ((ran : A) × (result ≡ ending ran) × Visits machines offices machine machine' path signing (Ran ran))
+      ⊎ ((ran : A) × (result ≡ ending ran) × UsesRegister machines offices machine machine' path signing (Ran ran))
 
   -- a script over the register at a path
   abbrev pub ScriptAt : List ℕ → Option KeyHolder → Result (Unit {0}) Failure → Type 0
-  ScriptAt path signer = RunsAt exit_of path (signing_told signer by_itself) (λ ran identity before after.
+  ScriptAt path signer = RunsAt exit_of path (signing_with signer by_itself) (λ ran identity before after.
       ScriptEnds (Lines offices.signs identity) remaining contents before after reader reader' writer writer' ran)
 
   -- no line of a script runs, as the clock is too far ahead
   abbrev pub ClockRefusedAt : LinedScript → Result (Unit {0}) Failure → Type 0
   ClockRefusedAt it result =
       (result ≡ Err failure.BadClock) × (reader' ≡ reader) × (writer' ≡ writer)
-      × Visits machines offices machine machine' it.file (signing_told it.signer by_itself) (λ identity before after.
-      IsClockRefused it.way machines.told before × (after ≡ before))
+      × UsesRegister machines offices machine machine' it.file (signing_with it.signer by_itself) (λ identity before after.
+      IsClockRefused it.way machines.clock_reached before × (after ≡ before))
 
   -- the lines of a script run over the register at a path
   abbrev pub LinesRunAt : LinedScript → Result (Unit {0}) Failure → Type 0
-  LinesRunAt it = RunsAt exit_of_run it.file (signing_told it.signer by_itself) (λ ran identity before after.
-      LinesEnd (Lines offices.signs identity) remaining contents before after reader reader' writer writer' machines.told
+  LinesRunAt it = RunsAt exit_of_run it.file (signing_with it.signer by_itself) (λ ran identity before after.
+      LinesEnd (Lines offices.signs identity) remaining contents before after reader reader' writer writer' machines.clock_reached
       it.way.is_clocked it.way.is_strict ran)
 
   -- a script over the register at a path, run line by line
@@ -237,10 +237,10 @@ module _ {M O D S R E W : Type 0} (machines : Machine M O D S R) (offices : Offi
   -- the rows of an import ran at a moment; it is strict or is not
   abbrev pub ImportRan : Bool → List ℕ → ℕ → Result (Unit {0}) Failure → Type 0
   ImportRan false path now result = (ran : Result (Unit {0}) Fault) × (result ≡ exit_of ran)
-      × Visits machines offices machine machine' path unsigned (λ identity before after.
+      × UsesRegister machines offices machine machine' path unsigned (λ identity before after.
       ImportEnds (Lines offices.signs identity) remaining contents now before after reader reader' writer writer' ran)
   ImportRan true path now result = (ran : Result Ended Fault) × (result ≡ exit_of_run ran)
-      × Visits machines offices machine machine' path unsigned (λ identity before after.
+      × UsesRegister machines offices machine machine' path unsigned (λ identity before after.
       StrictEnds (Lines offices.signs identity) remaining contents now before after reader reader' writer writer' ran)
 
   -- an import into the register at a path, which could not be opened, or whose rows ran
@@ -252,36 +252,36 @@ module _ {M O D S R E W : Type 0} (machines : Machine M O D S R) (offices : Offi
   abbrev pub ImportRefusedAt : List ℕ → ℕ → Result (Unit {0}) Failure → Type 0
   ImportRefusedAt path now result =
       (result ≡ Err failure.BadClock) × (reader' ≡ reader) × (writer' ≡ writer)
-      × Visits machines offices machine machine' path unsigned (λ identity before after. IsTrue (is_ahead now before.last None) × (after ≡ before))
+      × UsesRegister machines offices machine machine' path unsigned (λ identity before after. IsTrue (is_ahead now before.last None) × (after ≡ before))
 
   -- an import at a moment, which is refused for that only if it is checked
   abbrev pub ImportChecked : Bool → Bool → List ℕ → ℕ → Result (Unit {0}) Failure → Type 0
   ImportChecked is_checked is_strict path now result = (IsTrue is_checked × ImportRefusedAt path now result) ⊎ ImportAt is_strict path now result
 
-  -- the same at the moment that is told; or else at one that the clock told as it began, and nothing is done where the clock can't be read
+  -- the same at the moment that is given; or else at one of the clock as it began, and nothing is done where the clock can't be read
   abbrev pub ImportAtMoment : Option ℕ → Bool → Bool → List ℕ → Result (Unit {0}) Failure → Type 0
   ImportAtMoment (Some now) accepts is_strict path result = ImportAt is_strict path now result
   ImportAtMoment None accepts is_strict path result =
       ((result ≡ Err (failure.Fault fault.Read)) × (machine' ≡ machine) × (reader' ≡ reader) × (writer' ≡ writer))
-      ⊎ ((now : ℕ) × machines.told now × ImportChecked (not accepts) is_strict path now result)
+      ⊎ ((now : ℕ) × machines.clock_reached now × ImportChecked (not accepts) is_strict path now result)
 
   abbrev pub ImportByClock : RowsToImport → Result (Unit {0}) Failure → Type 0
   ImportByClock it = ImportAtMoment it.moment it.accepts_clock it.is_strict it.file
 
   -- HTTP requests over the register at a path (RFC 9112), which is opened before the port is bound, and lines where there is a control socket.
-  -- A published CRL that is told can stop it: it could not be compared, or the register lacks something of it, and nothing is served. Else the
+  -- A published CRL that is given can stop it: it could not be compared, or the register lacks something of it, and nothing is served. Else the
   -- register has all of it, and this is what came on each connection and what came of that, in this order. A signature that was waited for is one
-  -- that the signer at the path of who answers gave. Nothing is read where no published CRL is told.
+  -- that the signer at the path of the responder gave. Nothing is read where no published CRL is told.
   abbrev pub AtPort : List ℕ → Option KeyHolder → Answerer → Option (List ℕ) → Endpoint → Option (List ℕ) → ℕ → Result (Unit {0}) Failure → Type 0
   AtPort path signer answerer published endpoint control requests result =
-      let VisitsIt = Visits machines offices machine machine' path (signing_told signer answerer) in
-      (IsFalse (is_some published) → reader' ≡ reader) × Over machines offices contents machine machine' writer writer' path (signing_told signer answerer) result
-      (((why : Failure) × (result ≡ Err why) × IsTrue (is_some published) × VisitsIt
+      let UsesThatRegister = UsesRegister machines offices machine machine' path (signing_with signer answerer) in
+      (IsFalse (is_some published) → reader' ≡ reader) × Over machines offices contents machine machine' writer writer' path (signing_with signer answerer) result
+      (((why : Failure) × (result ≡ Err why) × IsTrue (is_some published) × UsesThatRegister
       (λ identity before after. Compares before (remaining reader) (contents writer) (contents writer') (Err why) × (after ≡ before)))
-      ⊎ ((inputs : List Input) × (outcomes : List (Outcome Unsigned)) × VisitsIt
+      ⊎ ((inputs : List Input) × (outcomes : List (Outcome Unsigned)) × UsesThatRegister
       (λ identity before after. (IsTrue (is_some published) → HasAll before (remaining reader))
-      × Serves (is_some control) offices.signs (GaveAt machines.gave (answer_socket signer answerer)) machines.told inputs outcomes identity before after)
-      × ServedAt contents writer writer' (IsBound machines.bound machines.laid machines.has_mode endpoint control) endpoint.port requests inputs result))
+      × Serves (is_some control) offices.signs (AnsweredAtPath machines.signer_answered (answer_socket signer answerer)) machines.clock_reached inputs outcomes identity before after)
+      × ServedAt contents writer writer' (IsBound machines.bound machines.socket_created machines.has_mode endpoint control) endpoint.port requests inputs result))
 
   -- so many requests
   abbrev pub ServeAt : Serving → Result (Unit {0}) Failure → Type 0
@@ -313,18 +313,18 @@ module _ {M O D S R E W : Type 0} (machines : Machine M O D S R) (offices : Offi
   Ends (job.Listing it) = Writes (ListAt machines offices contents machine machine' writer writer' it)
   Ends (job.Copy file to) = Writes (CopyAt machines offices contents machine machine' writer writer' file to)
   Ends (job.Audit file) = Writes (AuditAt machines offices contents machine machine' writer writer' file)
-  Ends (job.At counter None) = λ result.
-      (machine' ≡ machine) × AtControlSocket (machines.met counter) (remaining reader) (contents writer) (contents writer') result
-  Ends (job.At counter (Some file)) = λ result. (machine' ≡ machine)
-      × RowsAtControlSocket (machines.met counter) (remaining reader) (remaining reader') (contents writer) (contents writer') result
-  Ends (job.EachRow counter rows task) = λ result.
-      (machine' ≡ machine) × SendsRowsAt task (machines.met counter) (remaining reader) (contents writer) (contents writer') result
-  Ends (job.Replay counter log) = λ result.
-      (machine' ≡ machine) × ReplaysAt (machines.met counter) (remaining reader) (contents writer) (contents writer') result
+  Ends (job.At control_path None) = λ result.
+      (machine' ≡ machine) × AtControlSocket (machines.socket_connected control_path) (remaining reader) (contents writer) (contents writer') result
+  Ends (job.At control_path (Some file)) = λ result. (machine' ≡ machine)
+      × RowsAtControlSocket (machines.socket_connected control_path) (remaining reader) (remaining reader') (contents writer) (contents writer') result
+  Ends (job.EachRow control_path rows task) = λ result.
+      (machine' ≡ machine) × SendsRowsAt task (machines.socket_connected control_path) (remaining reader) (contents writer) (contents writer') result
+  Ends (job.Replay control_path log) = λ result.
+      (machine' ≡ machine) × ReplaysAt (machines.socket_connected control_path) (remaining reader) (contents writer) (contents writer') result
 
-  -- A job that is done and told: how it ended, its exit status, and what standard error got of that, with the cause where it is asked for.
-  pub record Performs (job : Job) (is_told : Bool) (errors errors' : Option (List ℕ)) (status : ℕ) : Type 0 where
+  -- A job and its report: how it ended, its exit status, and what standard error got of that, with the cause where it is asked for.
+  pub record Performs (job : Job) (is_why_asked : Bool) (errors errors' : Option (List ℕ)) (status : ℕ) : Type 0 where
     pub ending : Result (Unit {0}) Failure
     pub ends : Ends job ending
     pub exits : status ≡ exit_status ending
-    pub told : Explains is_told ending errors errors'
+    pub told : Explains is_why_asked ending errors errors'

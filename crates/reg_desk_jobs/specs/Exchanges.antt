@@ -8,17 +8,17 @@ use Rattle.reg_http_head.specs.Collected.{HoldsRequest}
 use Rattle.reg_http_head.specs.Frame.{IsUnfinished, Part, asked, refused}
 use Rattle.reg_http.specs.Added.{AddsARequestAtMost}
 use Rattle.reg_http.specs.Answers.{Answers}
-use Rattle.reg_http.specs.Asked.{path_of, asked as asks_for}
+use Rattle.reg_http.specs.RoutedRequests.{path_of, asked as asks_for}
 use Rattle.reg_http.specs.Bodies.{http_refusal}
-use Rattle.reg_http.specs.Exchanges.{IsEmpty, IsUntold, SaysNothing, TellsAnswered}
-use Rattle.reg_http.specs.Lists.{RespondsList, list_asked}
+use Rattle.reg_http.specs.Exchanges.{IsEmpty, IsMemoryAnswer, HasNoEffects, HasEffects}
+use Rattle.reg_http.specs.Lists.{RespondsList, list_request}
 use Rattle.reg_http.specs.RouteNames.{named_route, route_at}
-use Rattle.reg_http.specs.Told.{Told, plain}
+use Rattle.reg_http.specs.AnswerEffects.{AnswerEffects, plain}
 use Rattle.reg_http.specs.declared.exchange.Exchange.{Exchange as HttpExchange}
 use Rattle.reg_http.specs.declared.route.Route.{Route}
 use Rattle.reg_http.specs.declared.route.Route.TheVariants.{Requests, List as ListOf, Health, Metrics}
 use Rattle.reg_desk_jobs.specs.Admission.{AnswersLimited}
-use Rattle.reg_desk_jobs.specs.Watched.{ByGet, SaysHealth, SaysMetrics}
+use Rattle.reg_desk_jobs.specs.Watched.{ByGet, AnswersHealth, AnswersMetrics}
 use Rattle.reg_desk_jobs.specs.declared.http_exchanges.Dispatch.{Dispatch}
 use Rattle.reg_desk_jobs.specs.declared.http_exchanges.Dispatch.TheVariants.{ToRegister, ToLimits, ToList, ToHealth, ToMetrics}
 
@@ -34,20 +34,20 @@ dispatch true Metrics = ToMetrics
 dispatch true _ = ToRegister
 dispatch false _ = ToRegister
 
--- What a request that was read is told. The register is asked at most once, and then the records gain one request for revocation at most.
-module _ (signs : Signs) (now : ℕ) (who : Signatory) (before : Records) (it : Told) (after : Records) where
+-- The answer to a request that was read. The register is asked at most once, and then the records gain one request for revocation at most.
+module _ (signs : Signs) (now : ℕ) (signatory : Signatory) (before : Records) (it : AnswerEffects) (after : Records) where
   -- by what answers it
-  abbrev pub SaysBy : Dispatch → List ℕ → List ℕ → List ℕ → Type 0
-  SaysBy ToRegister method target body = Answers (Runs signs who) Asks (Replies signs who) Crls now before (asks_for method target body) it after
-  SaysBy ToLimits method target body = AnswersLimited signs now who before (asks_for method target body) it after
-  SaysBy ToList method target body = RespondsList before now (list_asked method target) it × (after ≡ before)
-  SaysBy ToHealth method target body = ByGet method (SaysHealth now before) it × (after ≡ before)
-  SaysBy ToMetrics method target body = ByGet method (SaysMetrics now before) it × (after ≡ before)
+  abbrev pub AnswersAtRoute : Dispatch → List ℕ → List ℕ → List ℕ → Type 0
+  AnswersAtRoute ToRegister method target body = Answers (Runs signs signatory) Asks (Replies signs signatory) Crls now before (asks_for method target body) it after
+  AnswersAtRoute ToLimits method target body = AnswersLimited signs now signatory before (asks_for method target body) it after
+  AnswersAtRoute ToList method target body = RespondsList before now (list_request method target) it × (after ≡ before)
+  AnswersAtRoute ToHealth method target body = ByGet method (AnswersHealth now before) it × (after ≡ before)
+  AnswersAtRoute ToMetrics method target body = ByGet method (AnswersMetrics now before) it × (after ≡ before)
 
   -- by a desk that is open, or is not
   abbrev pub Says : Bool → Part → Type 0
   Says is_open (refused status) = (it ≡ plain (http_refusal status)) × (after ≡ before)
-  Says is_open (asked method target body) = SaysBy (dispatch is_open (route_at (path_of target))) method target body
+  Says is_open (asked method target body) = AnswersAtRoute (dispatch is_open (route_at (path_of target))) method target body
 
 -- the route under which a request is counted: that of its target, or the one that its first line names
 abbrev pub IsRouteOf : List ℕ → Route → Type 0
@@ -58,20 +58,20 @@ IsRouteOf request route =
 -- One HTTP exchange (RFC 9112) of a desk at a moment, over the bytes that came on a connection: they begin with a whole request, and this was
 -- told to it; or they do not, and nothing was; or there was no memory for it, and the records are as they were.
 abbrev pub IsExchange : Bool → Signs → ℕ → Signatory → Records → List ℕ → HttpExchange → Records → Type 0
-IsExchange is_open signs now who before request exchange after =
-    ((part : Part) × (it : Told) × ∥ HoldsRequest request part ∥₁ × Says signs now who before it after is_open part × TellsAnswered now it exchange)
-    ⊎ (SaysNothing exchange × ((∥ IsUnfinished request ∥₁ × IsEmpty exchange) ⊎ IsUntold exchange) × (after ≡ before))
+IsExchange is_open signs now signatory before request exchange after =
+    ((part : Part) × (it : AnswerEffects) × ∥ HoldsRequest request part ∥₁ × Says signs now signatory before it after is_open part × HasEffects now it exchange)
+    ⊎ (HasNoEffects exchange × ((∥ IsUnfinished request ∥₁ × IsEmpty exchange) ⊎ IsMemoryAnswer exchange) × (after ≡ before))
 
 -- the same by its text alone; the records gain one request for revocation at most, and no count changes
-pub record AnswersAt (is_open : Bool) (signs : Signs) (now : ℕ) (who : Signatory) (before : Records) (request text : List ℕ) (after : Records) : Type 0 where
+pub record AnswersAt (is_open : Bool) (signs : Signs) (now : ℕ) (signatory : Signatory) (before : Records) (request text : List ℕ) (after : Records) : Type 0 where
   pub exchange : HttpExchange
-  pub is_exchange : IsExchange is_open signs now who before request exchange after
+  pub is_exchange : IsExchange is_open signs now signatory before request exchange after
   pub text_is : text ≡ exchange.text.items
   pub adds : AddsARequestAtMost now before after
 
--- the same at a moment that a clock told
+-- the same at a moment of a clock
 abbrev pub AnswersBy : Bool → Signs → (ℕ → Type 0) → Signatory → Records → List ℕ → List ℕ → Records → Type 0
-AnswersBy is_open signs told who before request text after = (now : ℕ) × told now × AnswersAt is_open signs now who before request text after
+AnswersBy is_open signs clock_reached signatory before request text after = (now : ℕ) × clock_reached now × AnswersAt is_open signs now signatory before request text after
 
 -- ---- lines
 

@@ -10,8 +10,8 @@ pub mod Deferring
 pub mod Digest
 pub mod Ends
 pub mod Exchanges
-pub mod Given
-pub mod Leaving
+pub mod SignerAnswers
+pub mod FinishedResponses
 pub mod Log
 pub mod LogEntries
 pub mod LogNames
@@ -25,11 +25,11 @@ pub mod Sample
 pub mod Schedules
 pub mod Sealing
 pub mod Serving
-pub mod Settlings
-pub mod Showings
-pub mod Told
+pub mod SerialDecisions
+pub mod RowLookUps
+pub mod FailureReports
 pub mod Validities
-pub mod Visits
+pub mod RegisterUses
 pub mod Watched
-pub mod WhoSigns
+pub mod Signers
 pub mod Syntax

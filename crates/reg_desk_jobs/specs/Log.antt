@@ -7,7 +7,7 @@ use Rattle.reg_core.specs.Serial.{serial_text}
 use Rattle.reg_http.specs.declared.answered.NamedRequest.{NamedRequest}
 use Rattle.reg_http.specs.RouteNames.{before}
 
--- whether a byte is told as it is: ASCII from the space to the tilde (RFC 20 2), but the quotation mark and the backslash
+-- whether a byte is logged as it is: ASCII from the space to the tilde (RFC 20 2), but the quotation mark and the backslash
 abbrev pub is_plain : ℕ → Bool
 is_plain byte = not (byte == 34) && (not (byte == 92) && (nat_le 32 byte && nat_lt byte 127))
 
@@ -15,9 +15,9 @@ is_plain byte = not (byte == 34) && (not (byte == 92) && (nat_le 32 byte && nat_
 abbrev pub digit : ℕ → ℕ
 digit number = cond (nat_lt number 10) (48 + number) (87 + number)
 
--- what a byte is told as: itself, or `\x` and its two hexadecimal digits
-unfoldable pub told_byte : ℕ → List ℕ
-told_byte byte = cond (is_plain byte) (byte ∷ []) (92 ∷ 120 ∷ digit (byte / 16) ∷ digit (byte % 16) ∷ [])
+-- how a byte is logged: itself, or `\x` and its two hexadecimal digits
+unfoldable pub quoted_byte : ℕ → List ℕ
+quoted_byte byte = cond (is_plain byte) (byte ∷ []) (92 ∷ 120 ∷ digit (byte / 16) ∷ digit (byte % 16) ∷ [])
 
 -- whether a byte ends a line: CR or LF
 abbrev pub ends_line : ℕ → Bool
@@ -27,9 +27,9 @@ ends_line byte = (byte == 13) || (byte == 10)
 abbrev pub first_line : List ℕ → List ℕ
 first_line text = before (position ends_line text) text
 
--- what a text is told as: the first 256 bytes of its first line, in quotation marks
-abbrev pub told_text : List ℕ → List ℕ
-told_text text = 34 ∷ flat_map told_byte (take 256 (first_line text)) ++ (34 ∷ [])
+-- how a text is logged: the first 256 bytes of its first line, in quotation marks
+abbrev pub quoted_text : List ℕ → List ℕ
+quoted_text text = 34 ∷ flat_map quoted_byte (take 256 (first_line text)) ++ (34 ∷ [])
 
 -- what the line of an exchange ends with where a signature was asked for and did not come
 abbrev pub unsigned_end : Bool → List ℕ
@@ -40,13 +40,13 @@ abbrev pub named_end : Option NamedRequest → List ℕ
 named_end None = []
 named_end (Some named) = codes " request" ++ (32 ∷ decimal named.id) ++ (32 ∷ serial_text named.serial) ++ option_map_or (λ word. 32 ∷ word) named.ground []
 
--- the line of an exchange, without LF: the moment, who asked, what was asked and answered, how many bytes the answer has, in how many
+-- the line of an exchange, without LF: the moment, the client, the request and the answer, how many bytes the answer has, in how many
 -- microseconds it was made, the request that it entered or decided, and whether a signature did not come
 abbrev pub exchange_line : ℕ → List ℕ → List ℕ → List ℕ → ℕ → Option NamedRequest → Bool → List ℕ
-exchange_line now who asked answered micros named is_unsigned =
-    moment_text now ++ (32 ∷ who) ++ (32 ∷ told_text asked) ++ (32 ∷ told_text answered) ++ (32 ∷ decimal (length answered)) ++ (32 ∷ decimal micros)
+exchange_line now signatory asked answered micros named is_unsigned =
+    moment_text now ++ (32 ∷ signatory) ++ (32 ∷ quoted_text asked) ++ (32 ∷ quoted_text answered) ++ (32 ∷ decimal (length answered)) ++ (32 ∷ decimal micros)
     ++ named_end named ++ unsigned_end is_unsigned
 
 -- the line of a connection that ended by a fault, without LF
 abbrev pub lost_line : ℕ → List ℕ → List ℕ → List ℕ
-lost_line now who why = moment_text now ++ (32 ∷ who) ++ codes " lost " ++ why
+lost_line now signatory why = moment_text now ++ (32 ∷ signatory) ++ codes " lost " ++ why

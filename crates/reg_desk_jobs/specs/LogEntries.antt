@@ -1,18 +1,18 @@
--- What a line of the log tells: an exchange, and what is to be sent once more for it.
+-- What a line of the log says: an exchange, and what is to be sent once more for it.
 use Rattle.std.specs.Prelude.{◌≡◌, ◌⊎◌, ℕ, ◌+◌, ◌==◌, Bool, false, ◌&&◌, ◌||◌, not, nat_lt, List, [], ◌∷◌, length, take, drop, get_or, codes, bytes_eq, if◌then◌else◌, IsFalse, IsTrue, Option, Some, None, option_map, unwrap_or}
 use Rattle.std.specs.List.{list_any, position}
 use Rattle.std.specs.Option.{option_map_or}
 use Rattle.reg_core.specs.Number.{number_of}
 use Rattle.reg_core.specs.Sequence.{◌>>=◌}
 use Rattle.reg_core.specs.Serial.{serial_of}
-use Rattle.reg_core_lists.specs.Asked.{label_of}
+use Rattle.reg_core_lists.specs.ListParameters.{label_of}
 use Rattle.reg_lines.specs.Fields.{fields_of}
 use Rattle.reg_lines.specs.Script.{line_of}
 use Rattle.reg_desk_jobs.specs.declared.log_entries.Entry.{Entry}
 use Rattle.reg_desk_jobs.specs.declared.log_entries.Entry.TheVariants.{Line, Request, Decision}
 use Rattle.reg_desk_jobs.specs.declared.log_entries.Logged.{Logged}
 use Rattle.reg_desk_jobs.specs.declared.log_entries.Logged.TheVariants.{Nothing, Unknown, Command}
-use Rattle.reg_desk_jobs.specs.declared.log_entries.Told.{Told}
+use Rattle.reg_desk_jobs.specs.declared.log_entries.ExchangeText.{ExchangeText}
 
 -- a quotation mark, of which the log puts none into a text
 abbrev pub is_mark : ℕ → Bool
@@ -25,17 +25,17 @@ has_mark text = list_any is_mark text
 unfoldable pub parted : List ℕ → Option (List ℕ × List ℕ)
 parted text = option_map (λ mark. (take mark text, drop (mark + 1) text)) (position is_mark text)
 
--- an exchange, as the log tells it: the moment and the client, what was asked and answered, and what stands behind
+-- an exchange, as the log has it: the moment and the client, what was asked and answered, and what stands behind
 pub record LoggedExchange : Type 0 where
   pub client : List ℕ
   pub asked : List ℕ
   pub answered : List ℕ
   pub behind : List ℕ
 
-abbrev pub exchange_of : Told → LoggedExchange
-exchange_of told = record { client = told.client.now; asked = told.asked.now; answered = told.answered.now; behind = told.behind.now }
+abbrev pub exchange_of : ExchangeText → LoggedExchange
+exchange_of logged_exchange = record { client = logged_exchange.client.now; asked = logged_exchange.asked.now; answered = logged_exchange.answered.now; behind = logged_exchange.behind.now }
 
--- the exchange that a line tells: what was asked and answered stands in quotation marks
+-- the exchange of a line of the log: what was asked and answered stands in quotation marks
 unfoldable pub exchange_in : List ℕ → Option LoggedExchange
 exchange_in line = do
   client ← parted line
@@ -74,7 +74,7 @@ request_named (number ∷ digits ∷ []) = decision_by number digits
 request_named (number ∷ digits ∷ word ∷ []) = request_by number digits word
 request_named (number ∷ digits ∷ word ∷ more ∷ rest) = None
 
--- what is told by the request that is named behind the bytes of the answer and the microseconds
+-- what the request says that is named behind the bytes of the answer and the microseconds
 unfoldable pub named_in : List (List ℕ) → Option Logged
 named_in [] = None
 named_in (front ∷ []) = None
@@ -107,29 +107,29 @@ is_control client = bytes_eq client (codes "control") || bytes_eq client (codes 
 
 -- a line at the control socket was accepted
 abbrev pub was_accepted : LoggedExchange → Bool
-was_accepted told = is_control (second_word told.client) && accepted told.answered
+was_accepted logged_exchange = is_control (second_word logged_exchange.client) && accepted logged_exchange.answered
 
--- what is told by an exchange that names no request: it counts at the control socket alone
+-- what an exchange says that names no request: it counts at the control socket alone
 unfoldable pub unnamed : LoggedExchange → Logged
-unnamed told =
-    if not (was_accepted told) then Nothing
-    else if is_of_request (first_word told.asked) then Unknown
-    else if not (enters (first_word told.asked)) then Nothing
-    else if is_whole told.asked then Command Line
+unnamed logged_exchange =
+    if not (was_accepted logged_exchange) then Nothing
+    else if is_of_request (first_word logged_exchange.asked) then Unknown
+    else if not (enters (first_word logged_exchange.asked)) then Nothing
+    else if is_whole logged_exchange.asked then Command Line
     else Unknown
 
--- what an exchange tells; one with another quotation mark is of two lines, of which the first was not written whole
+-- the parts of a logged exchange; one with another quotation mark is of two lines, of which the first was not written whole
 unfoldable pub logged_of : LoggedExchange → Logged
-logged_of told = if has_mark told.behind then Unknown else unwrap_or (named_in (fields_of told.behind)) (unnamed told)
+logged_of logged_exchange = if has_mark logged_exchange.behind then Unknown else unwrap_or (named_in (fields_of logged_exchange.behind)) (unnamed logged_exchange)
 
--- what a line of the log tells: no accepted command; or one that it does not tell whole; or one, by an exchange
-abbrev pub TellsNothing : List ℕ → Type 0
-TellsNothing line = ((exchange_in (line_of line) ≡ None) × IsFalse (has_mark (line_of line)))
-    ⊎ ((told : LoggedExchange) × (exchange_in (line_of line) ≡ Some told) × (logged_of told ≡ Nothing))
+-- what a line of the log has: no accepted command; or one that it does not tell whole; or one, by an exchange
+abbrev pub LogsNothing : List ℕ → Type 0
+LogsNothing line = ((exchange_in (line_of line) ≡ None) × IsFalse (has_mark (line_of line)))
+    ⊎ ((logged_exchange : LoggedExchange) × (exchange_in (line_of line) ≡ Some logged_exchange) × (logged_of logged_exchange ≡ Nothing))
 
-abbrev pub TellsPart : List ℕ → Type 0
-TellsPart line = ((exchange_in (line_of line) ≡ None) × IsTrue (has_mark (line_of line)))
-    ⊎ ((told : LoggedExchange) × (exchange_in (line_of line) ≡ Some told) × (logged_of told ≡ Unknown))
+abbrev pub LogsPart : List ℕ → Type 0
+LogsPart line = ((exchange_in (line_of line) ≡ None) × IsTrue (has_mark (line_of line)))
+    ⊎ ((logged_exchange : LoggedExchange) × (exchange_in (line_of line) ≡ Some logged_exchange) × (logged_of logged_exchange ≡ Unknown))
 
-abbrev pub Tells : List ℕ → LoggedExchange → Entry → Type 0
-Tells line told entry = (exchange_in (line_of line) ≡ Some told) × (logged_of told ≡ Command entry)
+abbrev pub LogsEntry : List ℕ → LoggedExchange → Entry → Type 0
+LogsEntry line logged_exchange entry = (exchange_in (line_of line) ≡ Some logged_exchange) × (logged_of logged_exchange ≡ Command entry)

@@ -7,18 +7,18 @@ use Rattle.reg_core.specs.declared.command.Reply.{Reply}
 use Rattle.reg_core.specs.declared.command.Reply.TheVariants as replied
 use Rattle.reg_http.specs.declared.answered.NamedRequest.{NamedRequest}
 use Rattle.reg_lines.specs.Fields.{fields_of}
-use Rattle.reg_lines.specs.Meaning.{LineMeans, tells}
+use Rattle.reg_lines.specs.Meaning.{LineMeans, means_command}
 use Rattle.reg_lines.specs.Script.{line_of}
-use Rattle.reg_lines.specs.declared.answered.Asked.TheVariants as asked
-use Rattle.reg_desk_jobs.specs.ControlWords.{settling_in}
+use Rattle.reg_lines.specs.declared.answered.LineKind.TheVariants as asked
+use Rattle.reg_desk_jobs.specs.ControlWords.{serial_decision_in}
 use Rattle.reg_desk_jobs.specs.declared.control_reply.LineOutcome.{LineOutcome}
 use Rattle.reg_desk_jobs.specs.declared.control_reply.LineOutcome.TheVariants.{CameTo}
 
 -- a line decides the request of a number: with a serial number, or by the number alone
 abbrev pub Decides : List ℕ → ℕ → Type 0
 Decides line id =
-    IsSomeAnd (settling_in (fields_of (line_of line))) (λ settling. settling.request ≡ id)
-    ⊎ (LineMeans (line_of line) (tells (Revoke id)) ⊎ LineMeans (line_of line) (tells (Decline id)))
+    IsSomeAnd (serial_decision_in (fields_of (line_of line))) (λ serial_decision. serial_decision.request ≡ id)
+    ⊎ (LineMeans (line_of line) (means_command (Revoke id)) ⊎ LineMeans (line_of line) (means_command (Decline id)))
 
 -- what is named of the request that a line decides: its number, and the serial number that the records have for it
 abbrev pub NamesDecided : Records → List ℕ → NamedRequest → Type 0

@@ -67,13 +67,13 @@ HasAll records input =
 
 -- nothing is missing, and nothing is written; or what is missing is written, and the register is behind the CRL; or a front of it, where the
 -- writer fails; or nothing was found
-abbrev pub TellsMissing : Option (List ℕ) → Option (List ℕ) → Result (List ℕ) Failure → Result (Unit {0}) Failure → Type 0
-TellsMissing out out' (Ok []) result = (result ≡ Ok tt) × (out' ≡ out)
-TellsMissing out out' (Ok (first ∷ rest)) result =
+abbrev pub ReportsMissing : Option (List ℕ) → Option (List ℕ) → Result (List ℕ) Failure → Result (Unit {0}) Failure → Type 0
+ReportsMissing out out' (Ok []) result = (result ≡ Ok tt) × (out' ≡ out)
+ReportsMissing out out' (Ok (first ∷ rest)) result =
     ((result ≡ Err failure.LacksPublished) × Appends out out' (first ∷ rest))
     ⊎ ((result ≡ Err (failure.Fault fault.Write)) × AppendsPrefix out out' (first ∷ rest))
-TellsMissing out out' (Err why) result = (result ≡ Err why) × (out' ≡ out)
+ReportsMissing out out' (Err why) result = (result ≡ Err why) × (out' ≡ out)
 
--- the CRL in an input is compared with the records, and what they lack of it is told
+-- the CRL in an input is compared with the records, and what they lack of it is reported
 abbrev pub Compares : Records → Option (List ℕ) → Option (List ℕ) → Option (List ℕ) → Result (Unit {0}) Failure → Type 0
-Compares records input out out' result = (found : Result (List ℕ) Failure) × FindsIn records input found × TellsMissing out out' found result
+Compares records input out out' result = (found : Result (List ℕ) Failure) × FindsIn records input found × ReportsMissing out out' found result

@@ -1,4 +1,4 @@
--- Why a command was refused, as it is told behind that.
+-- Why a command was refused, as the reply gives it.
 use Rattle.std.specs.Prelude.{◌≡◌, ℕ, ◌+◌, ◌-◌, ◌*◌, List, [], ◌∷◌, ◌++◌, codes, decimal, Option, Some, None}
 use Rattle.reg_core.specs.Calendar.{moment_text}
 use Rattle.reg_core.specs.Serial.{serial_text}
@@ -6,7 +6,7 @@ use Rattle.reg_desk_jobs.specs.declared.reasons.Reason.{Reason}
 use Rattle.reg_desk_jobs.specs.declared.reasons.Reason.TheVariants.{NoOrder, Filled, Latest, OtherSerial, ClockAhead, Unsigned, Wrong}
 use Rattle.reg_desk_jobs.specs.Syntax.{wrong_text}
 
--- what is told: what was noted, or nothing
+-- the reply: the kept reason, or none
 unfoldable pub kept_reason_text : List ℕ → List ℕ
 kept_reason_text [] = codes "why nothing\n"
 kept_reason_text (first ∷ rest) = codes "why " ++ first ∷ rest
@@ -15,19 +15,19 @@ kept_reason_text (first ∷ rest) = codes "why " ++ first ∷ rest
 abbrev pub last_second : ℕ → ℕ → ℕ
 last_second not_before days = not_before + (days * 86400 - 1)
 
--- what is told of a validity that is too long: the latest notAfter
+-- the reply where a validity is too long: the latest notAfter
 unfoldable pub latest_text : ℕ → List ℕ
 latest_text at = codes "notAfter at most " ++ moment_text at
 
--- what is told of a clock that is too far ahead: the last accepted moment
+-- the reply where the clock is too far ahead: the last accepted moment
 unfoldable pub ahead_text : ℕ → List ℕ
 ahead_text last = codes "the clock is more than 30 days past " ++ moment_text last
 
--- what is told of an order
+-- the fields of an order
 abbrev pub order_text : List ℕ → ℕ → List ℕ → List ℕ
-order_text front order end = front ++ decimal order ++ end
+order_text prefix order end = prefix ++ decimal order ++ end
 
--- what is told of a request that is for another serial number
+-- the reply where a request is for another serial number
 abbrev pub other_text : ℕ → ℕ → List ℕ
 other_text request serial = codes "request " ++ decimal request ++ codes " is for " ++ serial_text serial
 
@@ -43,5 +43,5 @@ reason_text (Unsigned number) = order_text (codes "CRL ") number (codes " has a 
 
 -- the line of a reason, with an LF, behind what stands before it
 abbrev pub IsReasonLine : List ℕ → Option Reason → List ℕ → Type 0
-IsReasonLine front (Some reason) line = line ≡ front ++ reason_text reason ++ 10 ∷ []
-IsReasonLine front None line = ⊥
+IsReasonLine prefix (Some reason) line = line ≡ prefix ++ reason_text reason ++ 10 ∷ []
+IsReasonLine prefix None line = ⊥

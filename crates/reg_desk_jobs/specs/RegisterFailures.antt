@@ -3,7 +3,7 @@ use Rattle.reg_office_api.specs.LookUps.{IsOfStore}
 use Rattle.reg_desk_cli.specs.declared.failure.Failure.{Failure}
 use Rattle.reg_desk_cli.specs.declared.failure.Failure.TheVariants as failure
 
--- of one that is made: want of memory, a failure of the store, or a file that has tables already
+-- of one that is made: out of memory, a failure of the store, or a file that has tables already
 abbrev pub IsMaking : Failure → Type 0
 IsMaking (failure.Fault fault) = IsOfStore fault
 IsMaking failure.NotEmpty = Unit {0}

@@ -2,7 +2,7 @@
 use Rattle.std.specs.Prelude.{◌≡◌, ◌⊎◌, ℕ, List}
 use Rattle.reg_desk_cli.specs.declared.failure.Failure.{Failure}
 use Rattle.reg_audit_rows.specs.declared.audit_result.AuditResult.{AuditResult}
-use Rattle.reg_desk_jobs.specs.WhoSigns.{HasCertificate, Signing}
+use Rattle.reg_desk_jobs.specs.Signers.{HasCertificate, Signing}
 use Rattle.reg_desk_jobs.specs.declared.machine.Machine.{Ghosts as Machine}
 
 module _ {M O D S R : Type 0} (machines : Machine M O D S R) (machine : M) (path : List ℕ) where

@@ -10,7 +10,7 @@ use Rattle.reg_desk_cli.specs.declared.failure.Failure.{Failure}
 use Rattle.reg_desk_cli.specs.declared.failure.Failure.TheVariants as failure
 use Rattle.reg_lines.specs.Script.{IsWholeLine, line_of}
 use Rattle.reg_desk_jobs.specs.Conversations.{AreWhole, IsCutOff, IsInput, IsOfTalk, TalksLine}
-use Rattle.reg_desk_jobs.specs.LogEntries.{LoggedExchange, Tells, TellsNothing, TellsPart, first_word, second_word}
+use Rattle.reg_desk_jobs.specs.LogEntries.{LoggedExchange, LogsEntry, LogsNothing, LogsPart, first_word, second_word}
 use Rattle.reg_desk_jobs.specs.declared.log_entries.Entry.{Entry}
 use Rattle.reg_desk_jobs.specs.declared.log_entries.Entry.TheVariants.{Line, Request, Decision}
 use Rattle.reg_desk_jobs.specs.declared.replay_job.Renumbered.{Renumbered}
@@ -24,19 +24,19 @@ number_now numbers logged = fold (λ number one. if one.logged == logged then on
 -- what is sent: the line that was asked; a request by its serial number and ground; a decision by its word, the number that the request has now, and
 -- its serial number
 abbrev pub text_to_send : List Renumbered → LoggedExchange → Entry → List ℕ
-text_to_send numbers told Line = told.asked
-text_to_send numbers told (Request id serial label) = codes "request" ++ (32 ∷ serial_text serial) ++ (32 ∷ label)
-text_to_send numbers told (Decision id serial) = first_word told.asked ++ (32 ∷ decimal (number_now numbers id)) ++ (32 ∷ serial_text serial)
+text_to_send numbers logged_exchange Line = logged_exchange.asked
+text_to_send numbers logged_exchange (Request id serial label) = codes "request" ++ (32 ∷ serial_text serial) ++ (32 ∷ label)
+text_to_send numbers logged_exchange (Decision id serial) = first_word logged_exchange.asked ++ (32 ∷ decimal (number_now numbers id)) ++ (32 ∷ serial_text serial)
 
 abbrev pub line_to_send : List Renumbered → LoggedExchange → Entry → List ℕ
-line_to_send numbers told entry = text_to_send numbers told entry ++ 10 ∷ []
+line_to_send numbers logged_exchange entry = text_to_send numbers logged_exchange entry ++ 10 ∷ []
 
 -- whether a reply is that of the log: in its first two words; in the first one of a decision, which may be late now; of a request, which may have
 -- been entered over HTTP, it says that it was entered
 abbrev pub agrees : LoggedExchange → Entry → List ℕ → Bool
-agrees told Line reply = bytes_eq (first_word reply) (first_word told.answered) && bytes_eq (second_word reply) (second_word told.answered)
-agrees told (Request id serial label) reply = bytes_eq (first_word reply) (codes "request")
-agrees told (Decision id serial) reply = bytes_eq (first_word reply) (first_word told.answered)
+agrees logged_exchange Line reply = bytes_eq (first_word reply) (first_word logged_exchange.answered) && bytes_eq (second_word reply) (second_word logged_exchange.answered)
+agrees logged_exchange (Request id serial label) reply = bytes_eq (first_word reply) (codes "request")
+agrees logged_exchange (Decision id serial) reply = bytes_eq (first_word reply) (first_word logged_exchange.answered)
 
 -- the number that a reply gives to a request
 abbrev pub renumbered : Entry → List ℕ → List Renumbered
@@ -55,39 +55,39 @@ StopsWith out line out' (Err why) = IsOfTalk why ⊎ ((why ≡ failure.Refused) 
 -- how far a replay is: what was sent, what is left of the replies, what was written, and the numbers that requests were given
 pub record ReplayState : Type 0 where
   pub sent : Option (List ℕ)
-  pub came : Option (List ℕ)
+  pub incoming : Option (List ℕ)
   pub out : Option (List ℕ)
   pub numbers : List Renumbered
 
 abbrev pub state_of : Option (List ℕ) → Option (List ℕ) → Option (List ℕ) → List Renumbered → ReplayState
-state_of sent came out numbers = record { sent = sent; came = came; out = out; numbers = numbers }
+state_of sent incoming out numbers = record { sent = sent; incoming = incoming; out = out; numbers = numbers }
 
 -- the command of an entry is sent; its reply is the log's, and the number that it gives is kept
 abbrev pub ReplyAgrees : ReplayState → LoggedExchange → Entry → ReplayState → Type 0
-ReplyAgrees s told entry t = (reply : List ℕ)
-    × TalksLine s.sent t.sent s.came t.came s.out t.out (line_to_send s.numbers told entry) reply
-    × IsTrue (agrees told entry (line_of reply)) × (t.numbers ≡ s.numbers ++ renumbered entry (line_of reply))
+ReplyAgrees s logged_exchange entry t = (reply : List ℕ)
+    × TalksLine s.sent t.sent s.incoming t.incoming s.out t.out (line_to_send s.numbers logged_exchange entry) reply
+    × IsTrue (agrees logged_exchange entry (line_of reply)) × (t.numbers ≡ s.numbers ++ renumbered entry (line_of reply))
 
 -- the command of an entry is sent; its reply is another one, and the line of the log is written behind it
 abbrev pub ReplyDiffers : ReplayState → LoggedExchange → Entry → List ℕ → ReplayState → Type 0
-ReplyDiffers s told entry line t = (reply : List ℕ) × (out : Option (List ℕ))
-    × TalksLine s.sent t.sent s.came t.came s.out out (line_to_send s.numbers told entry) reply
-    × IsFalse (agrees told entry (line_of reply)) × Appends out t.out line
+ReplyDiffers s logged_exchange entry line t = (reply : List ℕ) × (out : Option (List ℕ))
+    × TalksLine s.sent t.sent s.incoming t.incoming s.out out (line_to_send s.numbers logged_exchange entry) reply
+    × IsFalse (agrees logged_exchange entry (line_of reply)) × Appends out t.out line
 
--- how an entry ends, which a line of the log tells
+-- how the replay of an entry of the log ends
 abbrev pub EntryEnds : ReplayState → LoggedExchange → Entry → List ℕ → ReplayState → Result (Unit {0}) Failure → Type 0
-EntryEnds s told entry line t (Ok done) = ReplyAgrees s told entry t
-EntryEnds s told entry line t (Err why) = IsOfTalk why ⊎ ((why ≡ failure.Refused) × ReplyDiffers s told entry line t)
+EntryEnds s logged_exchange entry line t (Ok done) = ReplyAgrees s logged_exchange entry t
+EntryEnds s logged_exchange entry line t (Err why) = IsOfTalk why ⊎ ((why ≡ failure.Refused) × ReplyDiffers s logged_exchange entry line t)
 
--- a line of the log is replayed: it tells no accepted command, or one whose reply is the log's
+-- a line of the log is replayed: it has no accepted command, or one whose reply is the log's
 abbrev pub LineReplayed : ReplayState → List ℕ → ReplayState → Type 0
-LineReplayed s line t = (TellsNothing line × (t ≡ s)) ⊎ ((told : LoggedExchange) × (entry : Entry) × Tells line told entry × ReplyAgrees s told entry t)
+LineReplayed s line t = (LogsNothing line × (t ≡ s)) ⊎ ((logged_exchange : LoggedExchange) × (entry : Entry) × LogsEntry line logged_exchange entry × ReplyAgrees s logged_exchange entry t)
 
--- a replay stops at a line of the log, which is written: it does not tell a command whole, and nothing is sent; or the reply differs
+-- a replay stops at a line of the log, which is written: it does not have a command whole, and nothing is sent; or the reply differs
 abbrev pub LineStops : ReplayState → List ℕ → ReplayState → Type 0
 LineStops s line t =
-    (TellsPart line × (t.sent ≡ s.sent) × (t.came ≡ s.came) × Appends s.out t.out line)
-    ⊎ ((told : LoggedExchange) × (entry : Entry) × Tells line told entry × ReplyDiffers s told entry line t)
+    (LogsPart line × (t.sent ≡ s.sent) × (t.incoming ≡ s.incoming) × Appends s.out t.out line)
+    ⊎ ((logged_exchange : LoggedExchange) × (entry : Entry) × LogsEntry line logged_exchange entry × ReplyDiffers s logged_exchange entry line t)
 
 -- how a line of the log ends
 abbrev pub LineEnds : ReplayState → List ℕ → ReplayState → Result (Unit {0}) Failure → Type 0
@@ -114,14 +114,14 @@ ReplaysLog input s t (Err why) = IsOfTalk why
 -- the same, with no number given before
 abbrev pub Replays : Option (List ℕ) → Option (List ℕ) → Option (List ℕ) → Option (List ℕ) → Option (List ℕ) → Option (List ℕ) → Option (List ℕ)
     → Result (Unit {0}) Failure → Type 0
-Replays input sent sent' came came' out out' result =
-    (numbers : List Renumbered) × ReplaysLog input (state_of sent came out []) (state_of sent' came' out' numbers) result
+Replays input sent sent' incoming incoming' out out' result =
+    (numbers : List Renumbered) × ReplaysLog input (state_of sent incoming out []) (state_of sent' incoming' out' numbers) result
 
 -- over a connection, of which nothing more is known: it ended early with nothing written, or as it says
 abbrev pub ReplaysOver : Option (List ℕ) → Option (List ℕ) → Option (List ℕ) → Result (Unit {0}) Failure → Type 0
 ReplaysOver input out out' result =
     ((why : Failure) × (result ≡ Err why) × IsOfTalk why × (out' ≡ out))
-    ⊎ ((sent sent' came came' : Option (List ℕ)) × Replays input sent sent' came came' out out' result)
+    ⊎ ((sent sent' incoming incoming' : Option (List ℕ)) × Replays input sent sent' incoming incoming' out out' result)
 
 -- at the control socket at a path: no program listened there, or the log was replayed to the one that did
 abbrev pub ReplaysAt : Type 0 → Option (List ℕ) → Option (List ℕ) → Option (List ℕ) → Result (Unit {0}) Failure → Type 0

@@ -6,7 +6,7 @@ use Rattle.reg_core.specs.Calendar.{moment_of, moment_text}
 use Rattle.reg_core.specs.Sequence.{◌>>=◌}
 use Rattle.reg_core.specs.Serial.{serial_of, serial_text}
 use Rattle.reg_core.specs.declared.refusal.Fault.TheVariants as fault
-use Rattle.reg_core_lists.specs.Asked.{label_of}
+use Rattle.reg_core_lists.specs.ListParameters.{label_of}
 use Rattle.reg_desk_cli.specs.declared.failure.Failure.{Failure}
 use Rattle.reg_desk_cli.specs.declared.failure.Failure.TheVariants as failure
 use Rattle.reg_desk_cli.specs.declared.job.OrderTerms.{OrderTerms}
@@ -76,10 +76,10 @@ row_registration row reply =
 -- a connection to the control socket: what was sent, and what is left of the replies
 pub record Link : Type 0 where
   pub sent : Option (List ℕ)
-  pub came : Option (List ℕ)
+  pub incoming : Option (List ℕ)
 
 abbrev pub link_of : Option (List ℕ) → Option (List ℕ) → Link
-link_of sent came = record { sent = sent; came = came }
+link_of sent incoming = record { sent = sent; incoming = incoming }
 
 -- what is sent from one state of the connection to another, and the reply that the row has
 abbrev pub Exchange : Type 1
@@ -87,7 +87,7 @@ Exchange = Link → Link → List ℕ → Type 0
 
 -- a line is sent, and its reply is read
 abbrev pub Sends : List ℕ → Exchange
-Sends line s t reply = Appends s.sent t.sent line × Consumes s.came t.came reply
+Sends line s t reply = Appends s.sent t.sent line × Consumes s.incoming t.incoming reply
 
 -- whether a reply begins with a word
 abbrev pub has_first_word : List ℕ → List ℕ → Bool
@@ -131,8 +131,8 @@ module _ (task : RowTask) where
       ⊎ (IsFalse (is_passed_over task (line_of line)) × AnswersRow task (line_of line) s t reply)
 
   -- the same, with the reply written, and whether the line is done
-  abbrev pub LineTold : Link → Link → Option (List ℕ) → Option (List ℕ) → List ℕ → Bool → Type 0
-  LineTold s t out out' line done = (reply : List ℕ) × LineAnswered s t line reply × Appends out out' reply × (IsTrue done ↔ IsRowDone reply)
+  abbrev pub LineReplied : Link → Link → Option (List ℕ) → Option (List ℕ) → List ℕ → Bool → Type 0
+  LineReplied s t out out' line done = (reply : List ℕ) × LineAnswered s t line reply × Appends out out' reply × (IsTrue done ↔ IsRowDone reply)
 
   -- the replies to lines of the file, one for each, in their order
   abbrev pub LinesAnswered : Link → Link → List (List ℕ) → List (List ℕ) → Type 0

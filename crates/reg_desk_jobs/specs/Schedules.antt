@@ -7,7 +7,7 @@ use Rattle.reg_desk_cli.specs.ExitStatus.{failure_line}
 use Rattle.reg_desk_cli.specs.declared.failure.Failure.{Failure}
 use Rattle.reg_core.specs.declared.refusal.Fault.{Fault}
 use Rattle.reg_office_api.specs.Settings.{Reschedules}
-use Rattle.reg_desk_jobs.specs.Visits.{exit_of}
+use Rattle.reg_desk_jobs.specs.RegisterUses.{exit_of}
 
 -- steps are set as the schedule; those that are none are refused, and the records stay
 abbrev pub SetsSteps : List (ℕ × ℕ) → Result (Unit {0}) Failure → Records → Records → Type 0
@@ -15,15 +15,15 @@ SetsSteps steps result before after =
     ((why : Failure) × (result ≡ Err why) × IsNoSchedule steps why × (after ≡ before))
     ⊎ (IsSchedule steps × (set : Result (Unit {0}) Fault) × (result ≡ exit_of set) × Reschedules steps set before after)
 
--- the reply that tells it, without its LF
+-- its reply, without its LF
 abbrev pub set_line : Result (Unit {0}) Failure → List ℕ
 set_line (Ok done) = codes "schedule set"
 set_line (Err why) = failure_line why
 
 -- that is told, or nothing where there was no memory for it
-abbrev pub TellsSetting : Result (Unit {0}) Failure → List ℕ → Type 0
-TellsSetting set text = (text ≡ set_line set ++ 10 ∷ []) ⊎ (text ≡ [])
+abbrev pub RepliesSetting : Result (Unit {0}) Failure → List ℕ → Type 0
+RepliesSetting set text = (text ≡ set_line set ++ 10 ∷ []) ⊎ (text ≡ [])
 
 -- a line at the control socket that sets steps
 abbrev pub SetAt : List (ℕ × ℕ) → Records → List ℕ → Records → Type 0
-SetAt steps before text after = (result : Result (Unit {0}) Failure) × SetsSteps steps result before after × TellsSetting result text
+SetAt steps before text after = (result : Result (Unit {0}) Failure) × SetsSteps steps result before after × RepliesSetting result text

@@ -3,11 +3,11 @@ use Rattle.std.specs.Prelude.{◌≡◌, ℕ, List, codes, Ok}
 use Rattle.reg_core.specs.declared.command.Reply.TheVariants as reply
 use Rattle.reg_lines.specs.declared.answered.Answered.{Answered}
 use Rattle.reg_lines.specs.declared.answered.Answered.TheVariants.{CameTo}
-use Rattle.reg_lines.specs.declared.answered.Asked.{Asked}
+use Rattle.reg_lines.specs.declared.answered.LineKind.{LineKind}
 
 -- a line came to the first CRL of its register: CRLs are numbered from 1 on
 abbrev pub IsFirstCrl : Answered → Type 0
-IsFirstCrl answered = (what : Asked) × (entries : ℕ) × (answered ≡ CameTo what (Ok (reply.Crl 1 entries)))
+IsFirstCrl answered = (what : LineKind) × (entries : ℕ) × (answered ≡ CameTo what (Ok (reply.Crl 1 entries)))
 
 -- the line that says that this is no signature, with its LF
 unfoldable pub sealed_line : List ℕ

@@ -5,14 +5,14 @@ use Rattle.reg_core.specs.Records.{Records}
 use Rattle.reg_core.specs.declared.refusal.Fault.TheVariants as fault
 use Rattle.reg_office_api.specs.Signatories.{Signatory}
 use Rattle.reg_office_api.specs.CallSteps.{Signs}
-use Rattle.reg_desk_server.specs.Exchange.{Input, Outcome, Handles, asked_in}
+use Rattle.reg_desk_server.specs.Exchange.{Input, Outcome, Handles, requests_in}
 use Rattle.reg_desk_cli.specs.declared.job.Endpoint.{Endpoint}
 use Rattle.reg_desk_cli.specs.declared.job.Loopback.{Loopback}
 use Rattle.reg_desk_cli.specs.declared.job.Loopback.TheVariants.{V4, V6}
 use Rattle.reg_desk_cli.specs.declared.failure.Failure.{Failure}
 use Rattle.reg_desk_cli.specs.declared.failure.Failure.TheVariants as failure
 use Rattle.reg_desk_jobs.specs.Exchanges.{AnswersBy, Unmoved}
-use Rattle.reg_desk_jobs.specs.Leaving.{FinishesUnsigned, Meets}
+use Rattle.reg_desk_jobs.specs.FinishedResponses.{FinishesUnsigned, Meets}
 use Rattle.reg_desk_jobs.specs.ControlWords.{Word}
 use Rattle.reg_desk_jobs.specs.declared.unsigned_responses.Unsigned.{Unsigned}
 use Rattle.reg_io.specs.Put.{AppendsPrefix}
@@ -20,29 +20,29 @@ use Rattle.reg_io.specs.RunsOfAnswers.{Answered}
 
 -- What came of a request at a desk that is open or is not: its text is that of an exchange; or its answer was left to be signed, and whatever text
 -- finishes that is of one. In both the exchange is one over the records as they are where it stands among the others: so each answer is what they say at one moment
--- between its request and its sending, and a revocation that was answered before is in it. A signature that finishes it was given (`gave`) for
+-- between its request and its sending, and a revocation that was answered before is in it. A signature that finishes it was given (`signer_answered`) for
 -- exactly what is signed in it.
 abbrev pub Exchanging
     : Bool → Signs → (List ℕ → List ℕ → Type 0) → (ℕ → Type 0) → Signatory → Records → List ℕ → Outcome Unsigned → Records → Type 0
-Exchanging is_open signs gave told identity before request outcome after =
-    Meets (FinishesUnsigned gave) (λ text. AnswersBy is_open signs told identity before request text after) outcome
+Exchanging is_open signs signer_answered clock_reached identity before request outcome after =
+    Meets (FinishesUnsigned signer_answered) (λ text. AnswersBy is_open signs clock_reached identity before request text after) outcome
 
 -- a line at the control socket, which an open desk alone has
 abbrev pub OpenWord : Bool → Signs → (ℕ → Type 0) → Signatory → Records → List ℕ → List ℕ → Records → Type 0
-OpenWord is_open signs told identity before line text after = IsTrue is_open × Word signs told identity before line text after
+OpenWord is_open signs clock_reached identity before line text after = IsTrue is_open × Word signs clock_reached identity before line text after
 
 -- what requests, and lines at an open desk, made of the records: one after the other, and nothing else
 abbrev pub Serves
     : Bool → Signs → (List ℕ → List ℕ → Type 0) → (ℕ → Type 0) → List Input → List (Outcome Unsigned) → Signatory → Records → Records → Type 0
-Serves is_open signs gave told inputs outcomes identity before after =
-    Answered (Handles (Exchanging is_open signs gave told identity) (OpenWord is_open signs told identity) Unmoved) before inputs outcomes after
+Serves is_open signs signer_answered clock_reached inputs outcomes identity before after =
+    Answered (Handles (Exchanging is_open signs signer_answered clock_reached identity) (OpenWord is_open signs clock_reached identity) Unmoved) before inputs outcomes after
 
 -- this machine alone: an address of the loopback interface (RFC 1122 3.2.1.3, RFC 4291 2.5.3)
 abbrev pub loopback : Loopback → List ℕ
 loopback V4 = 127 ∷ 0 ∷ 0 ∷ 1 ∷ []
 loopback V6 = 0 ∷ 0 ∷ 0 ∷ 0 ∷ 0 ∷ 0 ∷ 0 ∷ 0 ∷ 0 ∷ 0 ∷ 0 ∷ 0 ∷ 0 ∷ 0 ∷ 0 ∷ 1 ∷ []
 
--- the line that tells the port
+-- the line with the port
 abbrev pub listening : ℕ → List ℕ
 listening port = codes "listening " ++ (decimal port ++ 10 ∷ [])
 
@@ -53,8 +53,8 @@ Unbound inputs result = (inputs ≡ []) × ((result ≡ Err (failure.Fault fault
 -- Serving ended after these were answered: done after all that were asked for. A fault of reading is a clock that could not be read, or
 -- sockets that failed; of writing, a line that was not told whole.
 abbrev pub Served : ℕ → ℕ → List Input → Option (List ℕ) → Option (List ℕ) → Result (Unit {0}) Failure → Type 0
-Served port requests inputs out out' (Ok done) = (asked_in inputs ≡ requests) × Appends out out' (listening port)
-Served port requests inputs out out' (Err (failure.Fault fault.Read)) = (asked_in inputs ≢ requests) × Appends out out' (listening port)
+Served port requests inputs out out' (Ok done) = (requests_in inputs ≡ requests) × Appends out out' (listening port)
+Served port requests inputs out out' (Err (failure.Fault fault.Read)) = (requests_in inputs ≢ requests) × Appends out out' (listening port)
 Served port requests inputs out out' (Err (failure.Fault fault.Write)) = (inputs ≡ []) × AppendsPrefix out out' (listening port)
 Served port requests inputs out out' (Err other) = ⊥
 
@@ -65,9 +65,9 @@ ServedAt contents writer writer' Bound port requests inputs result =
 
 -- a control socket was created at a path: a socket with the mode 0600
 abbrev pub IsControlSocket : (List ℕ → Type 0) → (List ℕ → ℕ → Type 0) → List ℕ → Type 0
-IsControlSocket laid has_mode path = laid path × has_mode path 384
+IsControlSocket socket_created has_mode path = socket_created path × has_mode path 384
 
--- a port of the loopback interface was bound, and a control socket was created where one is told
+-- a port of the loopback interface was bound, and a control socket was created where one is given
 abbrev pub IsBound : (List ℕ → ℕ → Type 0) → (List ℕ → Type 0) → (List ℕ → ℕ → Type 0) → Endpoint → Option (List ℕ) → Type 0
-IsBound bound laid has_mode at None = bound (loopback at.address) at.port
-IsBound bound laid has_mode at (Some control) = bound (loopback at.address) at.port × IsControlSocket laid has_mode control
+IsBound bound socket_created has_mode at None = bound (loopback at.address) at.port
+IsBound bound socket_created has_mode at (Some control) = bound (loopback at.address) at.port × IsControlSocket socket_created has_mode control

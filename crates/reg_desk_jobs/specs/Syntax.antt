@@ -3,7 +3,7 @@ use Rattle.std.specs.Prelude.{Bool, ◌||◌, List, [], ◌∷◌, ◌++◌, ℕ
 use Rattle.reg_core.specs.Calendar.{moment_of}
 use Rattle.reg_core.specs.Number.{number_of}
 use Rattle.reg_core.specs.Serial.{serial_of}
-use Rattle.reg_core_lists.specs.Asked.{label_of}
+use Rattle.reg_core_lists.specs.ListParameters.{label_of}
 use Rattle.reg_desk_jobs.specs.declared.syntax.Field.{Field}
 use Rattle.reg_desk_jobs.specs.declared.syntax.Field.TheVariants.{Name, Subscriber, Days, Order, Serial, NotBefore, NotAfter, Ground, Request}
 use Rattle.reg_desk_jobs.specs.declared.syntax.WrongField.{WrongField}
@@ -43,7 +43,7 @@ abbrev pub wrong_in : List (List ℕ) → Option WrongField
 wrong_in [] = None
 wrong_in (word ∷ fields) = option_and_then (λ wanted. first_wrong wanted fields) (fields_wanted word)
 
--- how it is told
+-- how it is written
 abbrev pub name_text : Field → List ℕ
 name_text Name = codes "NAME"
 name_text Subscriber = codes "SUBSCRIBER"

@@ -1,4 +1,4 @@
--- What an open register tells of itself, at two routes of its own: `/health` and `/metrics`.
+-- What an open register reports of itself, at two routes of its own: `/health` and `/metrics`.
 use Rattle.std.specs.Prelude.{◌≡◌, ◌⊎◌, ◌↔◌, ℕ, Bool, true, false, cond, List, codes, bytes_eq, Some, None, Result, Ok, Err, IsTrue, MatchBool, option_map}
 use Rattle.std.specs.declared.option.Option.{Option}
 use Rattle.reg_core.specs.Crls.{latest}
@@ -16,7 +16,7 @@ use Rattle.reg_crl_signer.specs.Signed.{IsCrlUnder}
 use Rattle.reg_desk_cli.specs.declared.desk.TheConstants.{VERSION}
 use Rattle.reg_http_head.specs.Response.{Response}
 use Rattle.reg_http.specs.Bodies.{json, only}
-use Rattle.reg_http.specs.Told.{Told, plain}
+use Rattle.reg_http.specs.AnswerEffects.{AnswerEffects, plain}
 use Rattle.reg_desk_metrics.specs.Healths.{health_of, health_text, is_well}
 use Rattle.reg_desk_metrics.specs.Metrics.{metrics_text}
 use Rattle.reg_desk_metrics.specs.Tallies.{has_crl_key, read_of, with_counted, with_read}
@@ -51,7 +51,7 @@ abbrev pub HasOverdue : Records → ℕ → Result ℕ Fault → Type 0
 HasOverdue records now (Ok count) = (overdue : Option Overdue) × (answer records now AskOverdue ≡ Ok (OverdueAre overdue)) × (count ≡ many_in overdue)
 HasOverdue records now (Err fault) = Unit {0}
 
--- who signs the CRLs, as it is counted
+-- the signer of the CRLs, as it is counted
 abbrev pub signing_by : CrlSigner → CrlSigning
 signing_by (signer.Holder holder) = signing.Key
 signing_by signer.Digest = signing.Digest
@@ -90,15 +90,15 @@ HasDue tally records now (Ok due) = (asked : Option ℕ) × (read : Option ReadC
 HasDue tally records now (Err (Refused refusal)) = answer records now AskNextCrl ≡ Err refusal
 HasDue tally records now (Err other) = Unit {0}
 
--- what was read in the latest CRL is noted, or nothing is
-abbrev pub NotesRead : Tally → Records → Tally → Type 0
-NotesRead tally records tally' = (tally' ≡ tally) ⊎ ((read : ReadCrl) × IsLatestRead tally records (Some read) × (tally' ≡ with_read read tally))
+-- what was read in the latest CRL is kept, or nothing is
+abbrev pub KeepsRead : Tally → Records → Tally → Type 0
+KeepsRead tally records tally' = (tally' ≡ tally) ⊎ ((read : ReadCrl) × IsLatestRead tally records (Some read) × (tally' ≡ with_read read tally))
 
 -- why the next CRL is due at once: the latest has no signature
-abbrev pub SaysUnsigned : Tally → Records → Option Reason → Type 0
-SaysUnsigned tally records (Some (Unsigned number)) = (read : ReadCrl) × IsLatestRead tally records (Some read) × IsTrue read.is_unsigned × (number ≡ read.number)
-SaysUnsigned tally records (Some other) = ⊥
-SaysUnsigned tally records None = (read : Option ReadCrl) × IsLatestRead tally records read × ((asked : Option ℕ) → due_behind read asked ≡ asked)
+abbrev pub IsDueUnsigned : Tally → Records → Option Reason → Type 0
+IsDueUnsigned tally records (Some (Unsigned number)) = (read : ReadCrl) × IsLatestRead tally records (Some read) × IsTrue read.is_unsigned × (number ≡ read.number)
+IsDueUnsigned tally records (Some other) = ⊥
+IsDueUnsigned tally records None = (read : Option ReadCrl) × IsLatestRead tally records read × ((asked : Option ℕ) → due_behind read asked ≡ asked)
 
 -- what a register has at a moment: its counts as the query has them, when its next CRL is due, and what stands there; or why it tells nothing
 abbrev pub HasFound : Tally → Records → ℕ → Result Numbers Fault → Type 0
@@ -143,15 +143,15 @@ abbrev pub metrics_response : List ℕ → Response
 metrics_response text = record { status = 200; kind = codes "text/plain; version=0.0.4; charset=utf-8"; allow = None; body = text }
 
 -- these routes have GET alone (RFC 9110 15.5.6)
-abbrev pub ByGet : List ℕ → (Told → Type 0) → Told → Type 0
+abbrev pub ByGet : List ℕ → (AnswerEffects → Type 0) → AnswerEffects → Type 0
 ByGet method Says it = MatchBool (bytes_eq method (codes "GET")) (Says it) (it ≡ plain (only (codes "GET")))
 
 -- its health: by what was found at a moment, with what was counted, and the moment that the operator accepted
-abbrev pub SaysHealth : ℕ → Records → Told → Type 0
-SaysHealth now records it = (tally : Tally) × (found : Result Numbers Fault) × HasFound tally records now found
+abbrev pub AnswersHealth : ℕ → Records → AnswerEffects → Type 0
+AnswersHealth now records it = (tally : Tally) × (found : Result Numbers Fault) × HasFound tally records now found
     × ((tally' : Tally) × (accepted : Option ℕ) × (it ≡ plain (health_response (health_of now found tally' accepted))))
 
--- its metrics: by what was found at a moment, with what was counted, and what was heard of connections
-abbrev pub SaysMetrics : ℕ → Records → Told → Type 0
-SaysMetrics now records it = (tally : Tally) × (found : Result Numbers Fault) × HasFound tally records now found
-    × ((tally' : Tally) × (heard : ConnectionTotals) × (it ≡ plain (metrics_response (metrics_text VERSION.now now found tally' heard))))
+-- its metrics: by what was found at a moment, with what was counted, and the totals of connections
+abbrev pub AnswersMetrics : ℕ → Records → AnswerEffects → Type 0
+AnswersMetrics now records it = (tally : Tally) × (found : Result Numbers Fault) × HasFound tally records now found
+    × ((tally' : Tally) × (connection_totals : ConnectionTotals) × (it ≡ plain (metrics_response (metrics_text VERSION.now now found tally' connection_totals))))

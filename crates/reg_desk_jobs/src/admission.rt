@@ -3,7 +3,7 @@
 
 ghost use Rattle.std.specs.Prelude.{◌≡◌, IfOk, None, replicate};
 ghost use Rattle.reg_office_api.specs.Leads.{Leads, Looks};
-ghost use Rattle.reg_http.specs.Asked.{asked, serial_asked};
+ghost use Rattle.reg_http.specs.RoutedRequests.{asked, requested_serial};
 ghost use Rattle.reg_desk_jobs.specs.Admission.{BeginsAdmitted, IsRefusedBy, MeetsLimits, after_request, after_request_if, is_rate_reached as reached_at, limit_by, after_one_more};
 
 use crate::machine::Machine;
@@ -43,12 +43,12 @@ impl RecentRequests {
         }
     }
 
-    fn note(&mut self, now: Moment)
+    fn count(&mut self, now: Moment)
         ensures { self.new ≡ after_one_more now self.old }
     {
-        let place = self.next % MOST_RECENT;
-        self.moments[place] = Some(now);
-        self.next = place + 1;
+        let index = self.next % MOST_RECENT;
+        self.moments[index] = Some(now);
+        self.next = index + 1;
     }
 }
 
@@ -84,9 +84,9 @@ pub(crate) fn begin_admitted<M: Machine>(
     body: &[u8],
 ) -> Result<Begun<Answered, Draft>, Memory>
     ensures moves { Leads M.Office.is_clean M.Office.stands
-        (λ who before after. BeginsAdmitted admission.old M.Office.signs now who before (asked method.now target.now body.now) result after)
+        (λ signatory before after. BeginsAdmitted admission.old M.Office.signs now signatory before (asked method.now target.now body.now) result after)
         office.old office.new }
-    ensures counted { IfOk result (λ begun. admission.new ≡ after_request_if now (serial_asked (asked method.now target.now body.now)) admission.old) }
+    ensures counted { IfOk result (λ begun. admission.new ≡ after_request_if now (requested_serial (asked method.now target.now body.now)) admission.old) }
 {
     let Some(serial) = serial_of(alloc, method, target, body)? else {
         return begin(alloc, method, target, body, now, office);
@@ -112,7 +112,7 @@ fn refusal_of<M: Machine>(
     if admission.recent.is_rate_reached(now) {
         return refused(alloc, status::TOO_MANY_REQUESTS);
     }
-    admission.recent.note(now);
+    admission.recent.count(now);
     match office.intake(now, serial, MOST_OPEN) {
         Ok(intake) => match limit_of(intake, is_ahead(now, intake.last, admission.accepted)) {
             Some(status) => refused(alloc, status),

@@ -7,7 +7,7 @@ ghost use Rattle.std.specs.Io.KnownBytes.{Appends, Consumes};
 ghost use Rattle.reg_desk_jobs.specs.Conversations.{AtControlSocket, IsOfTalk, IsReadAs, NextIs, RowsAtControlSocket, Talks, TalksLine, TalksOnce, TalksOver};
 
 use crate::machine::Machine;
-use crate::output_lines::say;
+use crate::output_lines::print_text;
 use reg_core::Fault;
 use reg_desk_cli::Failure;
 use reg_lines::{is_accepted, lines_of_rows};
@@ -29,9 +29,9 @@ pub(crate) enum Next {
 /// What the next line of a talk came to.
 #[derive(Clone, Copy)]
 enum Step {
-    /// It was told, and its reply was accepted or was not.
-    Told(bool),
-    /// It has no end, and was not told.
+    /// It was sent, and its reply was accepted or was not.
+    Replied(bool),
+    /// It has no end, and was not sent.
     Cut,
     /// There is none.
     End,
@@ -41,13 +41,13 @@ enum Step {
 pub fn at<M: Machine, R: Read, W: Write>(
     alloc: Global,
     machine: &M,
-    counter: &str,
+    control_path: &str,
     reader: &mut R,
     writer: &mut W,
 ) -> Result<(), Failure>
-    ensures { AtControlSocket (M.met counter.now) (R.remaining reader.old) (W.contents writer.old) (W.contents writer.new) result }
+    ensures { AtControlSocket (M.socket_connected control_path.now) (R.remaining reader.old) (W.contents writer.old) (W.contents writer.new) result }
 {
-    match machine.meet(counter) {
+    match machine.connect_to_socket(control_path) {
         Ok(link) => talk_over(alloc, &link, reader, writer),
         Err(_) => Err(Failure::Fault(Fault::Read)),
     }
@@ -57,14 +57,14 @@ pub fn at<M: Machine, R: Read, W: Write>(
 pub fn at_rows<M: Machine, R: Read, W: Write>(
     alloc: Global,
     machine: &M,
-    counter: &str,
+    control_path: &str,
     reader: &mut R,
     writer: &mut W,
 ) -> Result<(), Failure>
-    ensures { RowsAtControlSocket (M.met counter.now) (R.remaining reader.old) (R.remaining reader.new) (W.contents writer.old) (W.contents writer.new) result }
+    ensures { RowsAtControlSocket (M.socket_connected control_path.now) (R.remaining reader.old) (R.remaining reader.new) (W.contents writer.old) (W.contents writer.new) result }
 {
     match lines_of_rows(alloc, reader) {
-        Ok(lines) => at(alloc, machine, counter, &mut lines.as_slice(), writer),
+        Ok(lines) => at(alloc, machine, control_path, &mut lines.as_slice(), writer),
         Err(fault) => Err(Failure::Fault(fault)),
     }
 }
@@ -77,12 +77,12 @@ fn talk_over<R: Read, W: Write>(
 ) -> Result<(), Failure>
     ensures { TalksOver (R.remaining reader.old) (W.contents writer.old) (W.contents writer.new) result }
 {
-    let Ok(mut came) = BufReader::new(alloc, link) else {
+    let Ok(mut incoming) = BufReader::new(alloc, link) else {
         return Err(Failure::Fault(Fault::Memory));
     };
     let mut sent = link;
     match BufReader::new(alloc, reader) {
-        Ok(mut input) => talk(alloc, &mut input, writer, &mut came, &mut sent),
+        Ok(mut input) => talk(alloc, &mut input, writer, &mut incoming, &mut sent),
         Err(_) => Err(Failure::Fault(Fault::Memory)),
     }
 }
@@ -95,20 +95,20 @@ pub fn talk<R: BufRead, W: Write, C: BufRead, S: Write>(
     alloc: Global,
     input: &mut R,
     writer: &mut W,
-    came: &mut C,
+    incoming: &mut C,
     sent: &mut S,
 ) -> Result<(), Failure>
-    ensures { Talks (S.contents sent.old) (S.contents sent.new) (C.remaining came.old) (C.remaining came.new)
+    ensures { Talks (S.contents sent.old) (S.contents sent.new) (C.remaining incoming.old) (C.remaining incoming.new)
         (W.contents writer.old) (W.contents writer.new) (R.remaining input.old) result }
 {
     let mut is_accepted = true;
     for _ in 0..u64::MAX {
-        let step = match talk_once(alloc, input, writer, came, sent) {
+        let step = match talk_once(alloc, input, writer, incoming, sent) {
             Ok(step) => step,
             Err(why) => return Err(why),
         };
         match step {
-            Step::Told(accepted) => is_accepted = both(is_accepted, accepted),
+            Step::Replied(accepted) => is_accepted = both(is_accepted, accepted),
             Step::Cut => return Err(cut_off(is_accepted)),
             Step::End => return ended(is_accepted),
         }
@@ -146,10 +146,10 @@ fn talk_once<R: BufRead, W: Write, C: BufRead, S: Write>(
     alloc: Global,
     input: &mut R,
     writer: &mut W,
-    came: &mut C,
+    incoming: &mut C,
     sent: &mut S,
 ) -> Result<Step, Failure>
-    ensures { TalksOnce (S.contents sent.old) (S.contents sent.new) (C.remaining came.old) (C.remaining came.new)
+    ensures { TalksOnce (S.contents sent.old) (S.contents sent.new) (C.remaining incoming.old) (C.remaining incoming.new)
         (W.contents writer.old) (W.contents writer.new) (R.remaining input.old) (R.remaining input.new) result }
 {
     let next = next_line(alloc, input)?;
@@ -158,8 +158,8 @@ fn talk_once<R: BufRead, W: Write, C: BufRead, S: Write>(
         Next::Cut => return Ok(Step::Cut),
         Next::End => return Ok(Step::End),
     };
-    let reply = exchange(alloc, &line, writer, came, sent)?;
-    Ok(Step::Told(is_accepted(&reply)))
+    let reply = exchange(alloc, &line, writer, incoming, sent)?;
+    Ok(Step::Replied(is_accepted(&reply)))
 }
 
 /// Sends a line to a control socket, and writes its reply.
@@ -167,31 +167,31 @@ pub(crate) fn exchange<W: Write, C: BufRead, S: Write>(
     alloc: Global,
     line: &[u8],
     writer: &mut W,
-    came: &mut C,
+    incoming: &mut C,
     sent: &mut S,
 ) -> Result<Vec<u8>, Failure>
-    ensures ok { IfOk result (λ reply. TalksLine (S.contents sent.old) (S.contents sent.new) (C.remaining came.old) (C.remaining came.new)
+    ensures ok { IfOk result (λ reply. TalksLine (S.contents sent.old) (S.contents sent.new) (C.remaining incoming.old) (C.remaining incoming.new)
         (W.contents writer.old) (W.contents writer.new) line.now reply.items) }
     ensures err { IfErr result IsOfTalk }
 {
-    let reply = ask(alloc, line, came, sent)?;
-    say(writer, &reply)?;
+    let reply = request_reply(alloc, line, incoming, sent)?;
+    print_text(writer, &reply)?;
     Ok(reply)
 }
 
 /// Sends a line to a control socket, and reads its reply.
-pub(crate) fn ask<C: BufRead, S: Write>(
+pub(crate) fn request_reply<C: BufRead, S: Write>(
     alloc: Global,
     line: &[u8],
-    came: &mut C,
+    incoming: &mut C,
     sent: &mut S,
 ) -> Result<Vec<u8>, Failure>
     ensures sent { IfOk result (λ reply. Appends (S.contents sent.old) (S.contents sent.new) line.now) }
-    ensures came { IfOk result (λ reply. Consumes (C.remaining came.old) (C.remaining came.new) reply.items) }
+    ensures incoming { IfOk result (λ reply. Consumes (C.remaining incoming.old) (C.remaining incoming.new) reply.items) }
     ensures err { IfErr result IsOfTalk }
 {
-    say(sent, line)?;
-    next_reply(alloc, came)
+    print_text(sent, line)?;
+    next_reply(alloc, incoming)
 }
 
 pub(crate) fn next_line<R: BufRead>(alloc: Global, input: &mut R) -> Result<Next, Failure>
@@ -225,12 +225,12 @@ fn has_end(line: &[u8]) -> bool
     len > 0 && line[len - 1] == b'\n'
 }
 
-fn next_reply<C: BufRead>(alloc: Global, came: &mut C) -> Result<Vec<u8>, Failure>
-    ensures ok { IfOk result (λ reply. Consumes (C.remaining came.old) (C.remaining came.new) reply.items) }
+fn next_reply<C: BufRead>(alloc: Global, incoming: &mut C) -> Result<Vec<u8>, Failure>
+    ensures ok { IfOk result (λ reply. Consumes (C.remaining incoming.old) (C.remaining incoming.new) reply.items) }
     ensures err { IfErr result IsOfTalk }
 {
     let mut reply = Vec::new(alloc);
-    match came.read_until(b'\n', &mut reply) {
+    match incoming.read_until(b'\n', &mut reply) {
         Ok(_) if reply.ends_with(b"\n") => Ok(reply),
         _ => Err(Failure::Fault(Fault::Read)),
     }

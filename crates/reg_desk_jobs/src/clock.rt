@@ -1,7 +1,7 @@
-//! The moment that a clock tells.
+//! The moment of a clock.
 
 ghost use Rattle.std.specs.Prelude.{◌≡◌};
-ghost use Rattle.reg_desk_jobs.specs.Clocks.{TellsAt};
+ghost use Rattle.reg_desk_jobs.specs.Clocks.{IsMomentOfSeconds};
 
 use reg_core::Moment;
 
@@ -10,7 +10,7 @@ const LAST_SECOND: u64 = 253_402_300_799;
 
 /// The moment so many seconds after 1970 began, or the last one.
 pub(crate) fn moment_at(seconds: u64) -> Moment
-    ensures { TellsAt seconds result }
+    ensures { IsMomentOfSeconds seconds result }
 {
     match Moment::of_secs(seconds) {
         Some(moment) => moment,

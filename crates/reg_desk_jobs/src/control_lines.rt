@@ -3,24 +3,25 @@
 ghost use Rattle.std.specs.Prelude.{◌≡◌, ◌⊎◌, ◌↔◌, ◌<◌, ◌≤◌, [], IfSome, IsTrue, Some, codes, vec_capacity};
 ghost use Rattle.reg_lines.specs.Answer.{reply_of};
 ghost use Rattle.reg_office_api.specs.Leads.{Leads, Looks};
-ghost use Rattle.reg_desk_jobs.specs.ControlReplies.{IsSaid, ReportsLineOutcome, line_outcome_of};
+ghost use Rattle.reg_desk_jobs.specs.ControlReplies.{IsReplyText, ReportsLineOutcome, line_outcome_of};
 ghost use Rattle.reg_desk_jobs.specs.Counted.{CountsLine, SignatureFailed};
 ghost use Rattle.reg_desk_jobs.specs.ControlWords.{AtClock, CommandAt, HasCommand, IsAcceptedAfter, LineAt, MeetsClock, WordAt};
-ghost use Rattle.reg_desk_jobs.specs.Schedules.{SetAt, SetsSteps, TellsSetting};
-ghost use Rattle.reg_desk_jobs.specs.Settlings.{SettlesAt};
+ghost use Rattle.reg_desk_jobs.specs.Schedules.{SetAt, SetsSteps, RepliesSetting};
+ghost use Rattle.reg_desk_jobs.specs.SerialDecisions.{SettlesAt};
 
 use crate::control_reply::{ControlReply, LineOutcome};
 use crate::copy_job::answer_copy;
-use crate::decisions_by_serial::{answer_settling, named_before, named_by};
+use crate::decisions_by_serial::{answer_serial_decision, named_before, named_by};
 use crate::exchange_log::log_line;
-use crate::health_routes::note_due;
+use crate::health_routes::keep_due_reason;
 use crate::jobs::ended;
 use crate::machine::Machine;
 use crate::reasons::{
-    Reason, keep_reason_text, keep_reply_reason, note, note_syntax, reason_line, told_why,
+    Reason, keep_reason_text, keep_refusal_reason, keep_reply_reason, keep_syntax_reason,
+    reason_line, reason_reply,
 };
 use crate::show::{answer_help, answer_shown};
-use crate::words::{AcceptedClock, ControlWord, Settling, read_word};
+use crate::words::{AcceptedClock, ControlWord, SerialDecision, read_word};
 use reg_core::{Fault, Moment};
 use reg_desk_cli::{Failure, Steps, schedule_of};
 use reg_desk_metrics::{Tally, is_ahead};
@@ -28,8 +29,8 @@ use reg_lines::{Answered, CommandLine, LONGEST_REPLY, read_line, run_line};
 use reg_office_api::{LineReply, Office};
 use std::alloc::Global;
 
-/// Answers a line at the control socket, which began at these microseconds, at a moment, counts it, and puts it into the log, where there is
-/// one. The operator may accept the clock by it.
+/// Answers a line at the control socket at a moment, counts it, and logs it if there is a log. `began` is when the desk began to answer it, in
+/// microseconds. `accepted` is the moment of the last `accept-clock` line, which this line may be.
 pub(crate) fn answer_counted<M: Machine>(
     alloc: Global,
     office: &mut M::Office,
@@ -40,7 +41,7 @@ pub(crate) fn answer_counted<M: Machine>(
     began: u64,
     now: Moment,
     line: &[u8],
-    noted: &mut Vec<u8>,
+    last_reason: &mut Vec<u8>,
 ) -> Vec<u8>
     ensures moves { Leads M.Office.is_clean M.Office.stands
         (λ identity before after. WordAt accepted.old M.Office.signs now identity before line.now result.items after)
@@ -51,8 +52,17 @@ pub(crate) fn answer_counted<M: Machine>(
 {
     let failures = office.failure_counts();
     let named = named_before::<M>(alloc, office, machine, now, line);
-    let reply = answer_word::<M>(alloc, office, machine, file, accepted, now, line, noted);
-    note_due::<M>(alloc, office, tally, &reply.came, noted);
+    let reply = answer_word::<M>(
+        alloc,
+        office,
+        machine,
+        file,
+        accepted,
+        now,
+        line,
+        last_reason,
+    );
+    keep_due_reason::<M>(alloc, office, tally, &reply.came, last_reason);
     let is_unsigned = has_failed::<M>(office, failures);
     let micros = machine.micros().saturating_sub(began);
     tally.count_line(now, reply.came.effects(is_unsigned), micros);
@@ -78,7 +88,7 @@ fn answer_word<M: Machine>(
     accepted: &mut Option<Moment>,
     now: Moment,
     line: &[u8],
-    noted: &mut Vec<u8>,
+    last_reason: &mut Vec<u8>,
 ) -> ControlReply
     ensures moves { Leads M.Office.is_clean M.Office.stands
         (λ identity before after. WordAt accepted.old M.Office.signs now identity before line.now result.text.items after)
@@ -88,16 +98,21 @@ fn answer_word<M: Machine>(
 {
     match read_word(alloc, line) {
         Ok(ControlWord::Help) => answer_help(alloc),
-        Ok(ControlWord::Why) => told_why(alloc, noted),
-        Ok(ControlWord::Copy(path)) => answer_copy(alloc, machine, file, path, noted),
-        Ok(ControlWord::Show(shown)) => answer_shown::<M>(alloc, office, now, shown, noted),
-        Ok(ControlWord::Settle(settling)) => {
-            settle_by_clock::<M>(alloc, office, *accepted, now, settling, noted)
+        Ok(ControlWord::Why) => reason_reply(alloc, last_reason),
+        Ok(ControlWord::Copy(path)) => answer_copy(alloc, machine, file, path, last_reason),
+        Ok(ControlWord::Show(shown)) => answer_shown::<M>(alloc, office, now, shown, last_reason),
+        Ok(ControlWord::Settle(serial_decision)) => {
+            settle_by_clock::<M>(alloc, office, *accepted, now, serial_decision, last_reason)
         }
         Ok(ControlWord::AcceptClock(clock)) => accept_clock(alloc, clock, accepted),
-        Ok(ControlWord::Schedule(steps)) => answer_schedule::<M>(alloc, office, &steps, noted),
+        Ok(ControlWord::Schedule(steps)) => answer_schedule::<M>(
+            alloc,
+            office,
+            &steps,
+            last_reason,
+        ),
         Ok(ControlWord::Line(Some(command))) => {
-            answer_by_clock::<M>(alloc, office, *accepted, now, command, noted)
+            answer_by_clock::<M>(alloc, office, *accepted, now, command, last_reason)
         }
         Ok(ControlWord::Line(None)) => ControlReply::fault(alloc, Fault::Read),
         Err(_) => ControlReply::fault(alloc, Fault::Memory),
@@ -106,20 +121,20 @@ fn answer_word<M: Machine>(
 
 fn accept_clock(alloc: Global, clock: AcceptedClock, accepted: &mut Option<Moment>) -> ControlReply
     ensures accepted { accepted.new ≡ Some clock.moment }
-    ensures said { IsSaid (codes "clock accepted\n") result.text.items }
+    ensures said { IsReplyText (codes "clock accepted\n") result.text.items }
     ensures came { ReportsLineOutcome result.came result.text.items }
 {
     *accepted = Some(clock.moment);
     ControlReply::line(alloc, b"clock accepted", LineOutcome::Done)
 }
 
-/// The refusal of a command, as the clock is too far ahead; `None` if it is not.
+/// The refusal of a command because the clock is too far ahead, or a fault if that can't be found out; `None` if the command may run.
 fn refusal_by_clock<M: Machine>(
     alloc: Global,
     office: &mut M::Office,
     accepted: Option<Moment>,
     now: Moment,
-    noted: &mut Vec<u8>,
+    last_reason: &mut Vec<u8>,
 ) -> Option<ControlReply>
     ensures looks { Looks M.Office.is_clean M.Office.stands (λ records. MeetsClock accepted now records result) office.old office.new }
     ensures came { IfSome result (λ reply. ReportsLineOutcome reply.came reply.text.items) }
@@ -128,7 +143,7 @@ fn refusal_by_clock<M: Machine>(
         Ok(standing) if is_ahead(now, standing.last, accepted) => {
             let reply = clock_refused(alloc);
             let reason = Some(Reason::ClockAhead(standing.last));
-            keep_reason_text(reason_line(alloc, b"", reason), &reply.text, noted);
+            keep_reason_text(reason_line(alloc, b"", reason), &reply.text, last_reason);
             Some(reply)
         }
         Ok(_) => None,
@@ -137,7 +152,7 @@ fn refusal_by_clock<M: Machine>(
 }
 
 fn clock_refused(alloc: Global) -> ControlReply
-    ensures said { IsSaid (codes "bad-clock\n") result.text.items }
+    ensures said { IsReplyText (codes "bad-clock\n") result.text.items }
     ensures came { ReportsLineOutcome result.came result.text.items }
 {
     ControlReply::line(alloc, b"bad-clock", LineOutcome::Failed(Failure::BadClock))
@@ -148,17 +163,17 @@ fn settle_by_clock<M: Machine>(
     office: &mut M::Office,
     accepted: Option<Moment>,
     now: Moment,
-    settling: Settling,
-    noted: &mut Vec<u8>,
+    serial_decision: SerialDecision,
+    last_reason: &mut Vec<u8>,
 ) -> ControlReply
     ensures moves { Leads M.Office.is_clean M.Office.stands (λ identity before after. AtClock accepted now before
-        (SettlesAt M.Office.signs now identity before settling result.text.items after) result.text.items after)
+        (SettlesAt M.Office.signs now identity before serial_decision result.text.items after) result.text.items after)
         office.old office.new }
     ensures came { ReportsLineOutcome result.came result.text.items }
 {
-    match refusal_by_clock::<M>(alloc, office, accepted, now, noted) {
+    match refusal_by_clock::<M>(alloc, office, accepted, now, last_reason) {
         Some(refused) => refused,
-        None => answer_settling::<M>(alloc, office, now, settling, noted),
+        None => answer_serial_decision::<M>(alloc, office, now, serial_decision, last_reason),
     }
 }
 
@@ -168,7 +183,7 @@ fn answer_by_clock<M: Machine>(
     accepted: Option<Moment>,
     now: Moment,
     line: &[u8],
-    noted: &mut Vec<u8>,
+    last_reason: &mut Vec<u8>,
 ) -> ControlReply
     ensures moves { Leads M.Office.is_clean M.Office.stands
         (λ identity before after. LineAt accepted M.Office.signs now identity before line.now result.text.items after)
@@ -176,11 +191,11 @@ fn answer_by_clock<M: Machine>(
     ensures came { ReportsLineOutcome result.came result.text.items }
 {
     if !has_command(line) {
-        return answer_command_line::<M>(alloc, office, now, line, noted);
+        return answer_command_line::<M>(alloc, office, now, line, last_reason);
     }
-    match refusal_by_clock::<M>(alloc, office, accepted, now, noted) {
+    match refusal_by_clock::<M>(alloc, office, accepted, now, last_reason) {
         Some(refused) => refused,
-        None => answer_command_line::<M>(alloc, office, now, line, noted),
+        None => answer_command_line::<M>(alloc, office, now, line, last_reason),
     }
 }
 
@@ -195,13 +210,13 @@ fn has_command(line: &[u8]) -> bool
     }
 }
 
-/// Runs a command line, which has no end, at a moment. Room for its reply is made before.
+/// Runs a command line, given without its line end, at a moment. Memory for its reply is reserved before it runs.
 fn answer_command_line<M: Machine>(
     alloc: Global,
     office: &mut M::Office,
     now: Moment,
     line: &[u8],
-    noted: &mut Vec<u8>,
+    last_reason: &mut Vec<u8>,
 ) -> ControlReply
     ensures moves { Leads M.Office.is_clean M.Office.stands
         (λ identity before after. CommandAt M.Office.signs now identity before line.now result.text.items after)
@@ -212,18 +227,18 @@ fn answer_command_line<M: Machine>(
         return ControlReply::fault(alloc, Fault::Memory);
     };
     let answered = run_line(alloc, office, now, line);
-    let reply = answer_command::<M>(alloc, office, answered, room, noted);
-    note_syntax(alloc, line, &reply, noted);
+    let reply = answer_command::<M>(alloc, office, answered, room, last_reason);
+    keep_syntax_reason(alloc, line, &reply, last_reason);
     reply
 }
 
-/// Tells what a command line came to, in a room that is empty. Why it was refused, if it was, is noted.
+/// Writes the reply to a command line that ran into `room`, which is empty. If it was refused, keeps the reason for `why`.
 pub(crate) fn answer_command<M: Machine>(
     alloc: Global,
     office: &mut M::Office,
     answered: Answered,
     room: Vec<u8>,
-    noted: &mut Vec<u8>,
+    last_reason: &mut Vec<u8>,
 ) -> ControlReply
     requires empty { room.items ≡ [] }
     requires room { 84 ≤ vec_capacity room }
@@ -234,7 +249,7 @@ pub(crate) fn answer_command<M: Machine>(
     let refused = answered.refused();
     let reply = ControlReply::of(answered, room);
     if reply.came.kind() == LineReply::Refused {
-        note::<M>(alloc, office, refused, &reply.text, noted);
+        keep_refusal_reason::<M>(alloc, office, refused, &reply.text, last_reason);
     }
     reply
 }
@@ -243,7 +258,7 @@ fn answer_schedule<M: Machine>(
     alloc: Global,
     office: &mut M::Office,
     steps: &Steps,
-    noted: &mut Vec<u8>,
+    last_reason: &mut Vec<u8>,
 ) -> ControlReply
     ensures moves { Leads M.Office.is_clean M.Office.stands
         (λ identity before after. SetAt steps.now before result.text.items after) office.old office.new }
@@ -252,7 +267,7 @@ fn answer_schedule<M: Machine>(
     let set = set_steps::<M>(alloc, office, steps);
     let reply = set_reply(alloc, set);
     if reply.came.kind() == LineReply::Refused {
-        keep_reply_reason(&reply.text, noted);
+        keep_reply_reason(&reply.text, last_reason);
     }
     reply
 }
@@ -273,7 +288,7 @@ fn set_steps<M: Machine>(
 }
 
 fn set_reply(alloc: Global, set: Result<(), Failure>) -> ControlReply
-    ensures text { TellsSetting set result.text.items }
+    ensures text { RepliesSetting set result.text.items }
     ensures came { ReportsLineOutcome result.came result.text.items }
 {
     match set {

@@ -7,7 +7,7 @@ ghost use Rattle.reg_desk_jobs.specs.ControlReplies.{IsOf, line_outcome_of, crl_
 
 use reg_core::{Command, Fault, Outcome};
 use reg_desk_cli::Failure;
-use reg_lines::{Answered, Asked};
+use reg_lines::{Answered, LineKind};
 use reg_office_api::{LineEffects, LineReply, SignatureFate, StoreEffect};
 use std::alloc::{AllocError, Global};
 
@@ -15,7 +15,7 @@ use std::alloc::{AllocError, Global};
 #[derive(Clone, Copy)]
 pub(crate) enum LineOutcome {
     /// A command line: what it asked, and what that came to.
-    CameTo(Asked, Outcome),
+    CameTo(LineKind, Outcome),
     /// A command line: an OCSP response, and whether it refuses.
     Response(bool),
     /// Another word was done.
@@ -69,8 +69,8 @@ impl LineOutcome {
         ensures { result ≡ crl_fate is_unsigned self.now }
     {
         match self {
-            LineOutcome::CameTo(Asked::Command(Command::Crl), Ok(_)) => SignatureFate::Made,
-            LineOutcome::CameTo(Asked::Command(Command::Crl), Err(_)) => failed_if(is_unsigned),
+            LineOutcome::CameTo(LineKind::Command(Command::Crl), Ok(_)) => SignatureFate::Made,
+            LineOutcome::CameTo(LineKind::Command(Command::Crl), Err(_)) => failed_if(is_unsigned),
             _ => SignatureFate::NotAsked,
         }
     }
@@ -79,7 +79,7 @@ impl LineOutcome {
         ensures { result ≡ ocsp_fate is_unsigned self.now }
     {
         match self {
-            LineOutcome::CameTo(Asked::Ocsp, _) => failed_if(is_unsigned),
+            LineOutcome::CameTo(LineKind::Ocsp, _) => failed_if(is_unsigned),
             LineOutcome::Response(true) => failed_if(is_unsigned),
             LineOutcome::Response(false) if !is_unsigned => SignatureFate::Made,
             LineOutcome::Response(false) => SignatureFate::Failed,
@@ -91,7 +91,7 @@ impl LineOutcome {
         ensures { result ≡ store_effect self.now }
     {
         match self {
-            LineOutcome::CameTo(Asked::Command(_), Ok(_)) => StoreEffect::Written,
+            LineOutcome::CameTo(LineKind::Command(_), Ok(_)) => StoreEffect::Written,
             LineOutcome::CameTo(_, Err(Fault::Store)) => StoreEffect::Failed,
             LineOutcome::Failed(Failure::Fault(Fault::Store)) => StoreEffect::Failed,
             _ => StoreEffect::Unwritten,

@@ -17,19 +17,19 @@ const MOST_WAITING: usize = 4_096;
 /// Creates a socket at a path, which only its owner may connect to, and listens there without waiting. A socket at which no program listens
 /// any more is taken over. Errors: `AddrInUse` where a program listens there, `AlreadyExists` where something else than a socket lies there.
 pub(crate) fn create_control_socket<M: Machine>(machine: &M, path: &str) -> io::Result<UnixListener>
-    ensures { OnOk result (IsControlSocket M.laid M.has_mode path.now) }
+    ensures { OnOk result (IsControlSocket M.socket_created M.has_mode path.now) }
 {
     match create_for_owner(machine, path) {
         Ok(listener) => Ok(listener),
         Err(error) => {
-            machine.note(of_io(error.kind()));
+            machine.keep_cause(of_io(error.kind()));
             Err(error)
         }
     }
 }
 
 fn create_for_owner<M: Machine>(machine: &M, path: &str) -> io::Result<UnixListener>
-    ensures { OnOk result (IsControlSocket M.laid M.has_mode path.now) }
+    ensures { OnOk result (IsControlSocket M.socket_created M.has_mode path.now) }
 {
     let listener = replace_stale_socket(machine, path)?;
     machine.set_mode(path, OWNER_ALONE)?;
@@ -38,13 +38,13 @@ fn create_for_owner<M: Machine>(machine: &M, path: &str) -> io::Result<UnixListe
 }
 
 fn replace_stale_socket<M: Machine>(machine: &M, path: &str) -> io::Result<UnixListener>
-    ensures { OnOk result (M.laid path.now) }
+    ensures { OnOk result (M.socket_created path.now) }
 {
-    match machine.lay(path) {
+    match machine.create_socket(path) {
         Ok(listener) => Ok(listener),
         Err(error) if error.kind() == ErrorKind::AddrInUse => {
             remove_stale(machine, path)?;
-            machine.lay(path)
+            machine.create_socket(path)
         }
         Err(error) => Err(error),
     }
@@ -54,13 +54,13 @@ fn remove_stale<M: Machine>(machine: &M, path: &str) -> io::Result<()> {
     if !machine.is_socket(path)? {
         return Err(io::Error::from(ErrorKind::AlreadyExists));
     }
-    if !machine.is_deserted(path) {
+    if !machine.is_stale(path) {
         return Err(io::Error::from(ErrorKind::AddrInUse));
     }
     machine.unlink(path)
 }
 
-/// Closes the connections of those who connected before the mode was set.
+/// Closes the connections that were made before the mode was set.
 fn drop_waiting(listener: &UnixListener) {
     for _ in 0..MOST_WAITING {
         if listener.accept().is_err() {

@@ -3,13 +3,13 @@
 ghost use Rattle.std.specs.Prelude.{◌≡◌, ◌++◌, ◌∷◌, [], IfErr, IfOk};
 ghost use Rattle.reg_core.specs.Lines.{fault_line};
 ghost use Rattle.reg_desk_jobs.specs.ControlReplies.{IsOf, ReportsLineOutcome};
-ghost use Rattle.reg_desk_jobs.specs.Copies.{AnswersCopy, asks_copy as asks, copied_text};
+ghost use Rattle.reg_desk_jobs.specs.Copies.{AnswersCopy, is_copy_line as asks, copied_text};
 ghost use Rattle.reg_desk_jobs.specs.Ends.{CopyAt};
 ghost use Rattle.reg_office_api.specs.LookUps.{IsOfStore};
 
 use crate::control_reply::{ControlReply, LineOutcome};
 use crate::machine::Machine;
-use crate::output_lines::say_line;
+use crate::output_lines::print_line;
 use crate::reasons::{keep_reason_text, prefix_and_end};
 use reg_core::{Cause, Decimal, Fault};
 use reg_desk_cli::Failure;
@@ -25,20 +25,20 @@ pub struct Uncopied {
     pub cause: Option<Cause>,
 }
 
-pub(crate) fn asks_copy(line: &[u8]) -> bool
+pub(crate) fn is_copy_line(line: &[u8]) -> bool
     ensures { result ≡ asks line.now }
 {
     line.starts_with(b"copy ")
 }
 
-/// Copies the register that is open, whose file lies at a path, to another path, and tells that; who comes meanwhile waits. Where none is
+/// Copies the register that is open, whose file lies at a path, to another path, and replies that; other clients wait meanwhile. Where none is
 /// created, why is noted for the connection. No record changes.
 pub(crate) fn answer_copy<M: Machine>(
     alloc: Global,
     machine: &M,
     file: &str,
     path: Option<&str>,
-    noted: &mut Vec<u8>,
+    last_reason: &mut Vec<u8>,
 ) -> ControlReply
     ensures copied { AnswersCopy (M.copied_open file.now) result.text.items }
     ensures told { AnswersCopy (λ bytes. Unit {0}) result.text.items }
@@ -46,8 +46,8 @@ pub(crate) fn answer_copy<M: Machine>(
 {
     let began = machine.micros();
     match copy_to(machine, file, path) {
-        Ok(bytes) => told_copied(alloc, bytes, millis_since(machine, began)),
-        Err(why) => told_uncopied(alloc, why, noted),
+        Ok(bytes) => copied_reply(alloc, bytes, millis_since(machine, began)),
+        Err(why) => uncopied_reply(alloc, why, last_reason),
     }
 }
 
@@ -76,7 +76,7 @@ fn millis_since<M: Machine>(machine: &M, began: u64) -> u64 {
     machine.micros().saturating_sub(began) / 1_000
 }
 
-fn told_copied(alloc: Global, bytes: u64, millis: u64) -> ControlReply
+fn copied_reply(alloc: Global, bytes: u64, millis: u64) -> ControlReply
     ensures { IsOf (copied_text bytes millis) LineOutcome.Done result.text.items result.came }
 {
     ControlReply::made(alloc, copied_line(alloc, bytes, millis), LineOutcome::Done)
@@ -94,11 +94,11 @@ fn copied_line(alloc: Global, bytes: u64, millis: u64) -> Result<Vec<u8>, AllocE
     Ok(text)
 }
 
-fn told_uncopied(alloc: Global, why: Uncopied, noted: &mut Vec<u8>) -> ControlReply
+fn uncopied_reply(alloc: Global, why: Uncopied, last_reason: &mut Vec<u8>) -> ControlReply
     ensures { IsOf (fault_line why.fault ++ 10 ∷ []) (LineOutcome.Uncopied why.fault) result.text.items result.came }
 {
     let reply = ControlReply::uncopied(alloc, why.fault);
-    keep_reason_text(cause_text(alloc, why.cause), &reply.text, noted);
+    keep_reason_text(cause_text(alloc, why.cause), &reply.text, last_reason);
     reply
 }
 
@@ -107,7 +107,7 @@ fn cause_text(alloc: Global, cause: Option<Cause>) -> Option<Vec<u8>> {
     prefix_and_end(alloc, b"", line.as_bytes().strip_prefix(b"  ")?).ok()
 }
 
-/// Copies the register at a path, which no program has open, to another path, and tells it. It only reads what lies at the first.
+/// Copies the register at a path, which no program has open, to another path, and reports it. It only reads the files at the first.
 pub fn copy<M: Machine, W: Write>(
     alloc: Global,
     machine: &mut M,
@@ -121,5 +121,5 @@ pub fn copy<M: Machine, W: Write>(
     let began = machine.micros();
     let bytes = machine.copy(file, to)?;
     let millis = millis_since(machine, began);
-    say_line(writer, copied_line(alloc, bytes, millis))
+    print_line(writer, copied_line(alloc, bytes, millis))
 }

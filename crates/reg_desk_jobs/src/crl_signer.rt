@@ -1,14 +1,14 @@
 //! The signer of CRLs of a register that is opened.
 
 ghost use Rattle.std.specs.Prelude.{◌≡◌};
-ghost use Rattle.reg_desk_jobs.specs.WhoSigns.{signs_crls};
+ghost use Rattle.reg_desk_jobs.specs.Signers.{signs_crls};
 
 use reg_desk_cli::{Answerer, KeyHolder, Word};
 
 /// The signer of CRLs of a register that is opened.
 #[derive(Drop)]
 pub enum CrlSigner<'a> {
-    /// Nobody: each CRL comes to a fault of the signer.
+    /// No signer: each CRL comes to a fault of the signer.
     Nobody,
     /// A placeholder digest stands in place of a signature.
     Digest,
@@ -18,7 +18,7 @@ pub enum CrlSigner<'a> {
 
 impl<'a> CrlSigner<'a> {
     /// The signer that is given; or else a placeholder digest, or nobody beside a responder.
-    pub(crate) fn told(signer: &Option<KeyHolder<'a>>, answerer: &Answerer<'_>) -> CrlSigner<'a>
+    pub(crate) fn of(signer: &Option<KeyHolder<'a>>, answerer: &Answerer<'_>) -> CrlSigner<'a>
         ensures { result ≡ signs_crls signer.now answerer.now }
     {
         match (signer, answerer) {

@@ -5,48 +5,54 @@ ghost use Rattle.reg_core.specs.Records.{request_in};
 ghost use Rattle.reg_office_api.specs.Leads.{Leads};
 ghost use Rattle.reg_desk_jobs.specs.ControlReplies.{ReportsLineOutcome, ReportsFault};
 ghost use Rattle.reg_desk_jobs.specs.LogNames.{Decides, NamesRequest, NamesAccepted, NamesDecided};
-ghost use Rattle.reg_desk_jobs.specs.Settlings.{RunsAt, SettlesAt, request_of_row};
-ghost use Rattle.reg_desk_jobs.specs.Showings.{IsLookedUp};
+ghost use Rattle.reg_desk_jobs.specs.SerialDecisions.{RunsAt, SettlesAt, request_of_row};
+ghost use Rattle.reg_desk_jobs.specs.RowLookUps.{IsLookedUp};
 
 use crate::control_lines::answer_command;
 use crate::control_reply::{ControlReply, LineOutcome};
 use crate::machine::Machine;
 use crate::reasons::{Reason, keep_reason_text, reason_line};
 use crate::show::{find, report_fault};
-use crate::words::{Settling, Shown, settling_in};
+use crate::words::{SerialDecision, Shown, serial_decision_in};
 use reg_core::{Command, Fault, Moment, Refusal, Reply, RequestRow};
 use reg_core_lists::Row;
 use reg_http::NamedRequest;
-use reg_lines::{Answered, Asked, CommandLine, LONGEST_REPLY, command_in, read_line, without_end};
+use reg_lines::{
+    Answered, CommandLine, LONGEST_REPLY, LineKind, command_in, read_line, without_end,
+};
 use reg_office_api::Office;
 use std::alloc::Global;
 
 /// Revokes or declines a request, which is refused as [`Refusal::NoRequest`] where it is for another serial number.
-pub(crate) fn answer_settling<M: Machine>(
+pub(crate) fn answer_serial_decision<M: Machine>(
     alloc: Global,
     office: &mut M::Office,
     now: Moment,
-    settling: Settling,
-    noted: &mut Vec<u8>,
+    serial_decision: SerialDecision,
+    last_reason: &mut Vec<u8>,
 ) -> ControlReply
     ensures moves { Leads M.Office.is_clean M.Office.stands
-        (λ identity before after. SettlesAt M.Office.signs now identity before settling result.text.items after)
+        (λ identity before after. SettlesAt M.Office.signs now identity before serial_decision result.text.items after)
         office.old office.new }
     ensures came { ReportsLineOutcome result.came result.text.items }
 {
-    match find_request(alloc, office, now, settling.request) {
-        Ok(Some(request)) if request.serial != settling.serial => tell_other(alloc, request, noted),
-        Ok(_) => tell_run::<M>(alloc, office, now, settling.command, noted),
-        Err(fault) => report_fault(alloc, fault, noted),
+    match find_request(alloc, office, now, serial_decision.request) {
+        Ok(Some(request)) if request.serial != serial_decision.serial => answer_other(
+            alloc,
+            request,
+            last_reason,
+        ),
+        Ok(_) => answer_run::<M>(alloc, office, now, serial_decision.command, last_reason),
+        Err(fault) => report_fault(alloc, fault, last_reason),
     }
 }
 
-fn tell_run<M: Machine>(
+fn answer_run<M: Machine>(
     alloc: Global,
     office: &mut M::Office,
     now: Moment,
     command: Command,
-    noted: &mut Vec<u8>,
+    last_reason: &mut Vec<u8>,
 ) -> ControlReply
     ensures moves { Leads M.Office.is_clean M.Office.stands
         (λ identity before after. RunsAt M.Office.signs now identity before command result.text.items after)
@@ -57,18 +63,22 @@ fn tell_run<M: Machine>(
         return ControlReply::fault(alloc, Fault::Memory);
     };
     let outcome = office.run_one(alloc, now, &command);
-    let answered = Answered::CameTo(Asked::Command(command), outcome);
-    answer_command::<M>(alloc, office, answered, room, noted)
+    let answered = Answered::CameTo(LineKind::Command(command), outcome);
+    answer_command::<M>(alloc, office, answered, room, last_reason)
 }
 
-/// Refuses a request that is for another serial number, which `why` tells.
-fn tell_other(alloc: Global, request: RequestRow, noted: &mut Vec<u8>) -> ControlReply
+/// Refuses a request that is for another serial number, which `why` gives.
+fn answer_other(alloc: Global, request: RequestRow, last_reason: &mut Vec<u8>) -> ControlReply
     ensures told { ReportsFault (Fault.Refused Refusal.NoRequest) result.text.items }
     ensures came { ReportsLineOutcome result.came result.text.items }
 {
     let reply = ControlReply::fault(alloc, Fault::Refused(Refusal::NoRequest));
     let reason = Reason::OtherSerial(request.id, request.serial);
-    keep_reason_text(reason_line(alloc, b"", Some(reason)), &reply.text, noted);
+    keep_reason_text(
+        reason_line(alloc, b"", Some(reason)),
+        &reply.text,
+        last_reason,
+    );
     reply
 }
 
@@ -126,8 +136,8 @@ pub(crate) fn named_before<M: Machine>(
 fn decided_by(line: &[u8]) -> Option<u64>
     ensures { IfSome result (Decides line.now) }
 {
-    if let Some(settling) = settling_in(without_end(line)) {
-        return Some(settling.request);
+    if let Some(serial_decision) = serial_decision_in(without_end(line)) {
+        return Some(serial_decision.request);
     }
     match read_line(command_in(line)?) {
         Some(CommandLine::Command(Command::Revoke { request })) => Some(request),
@@ -141,7 +151,9 @@ pub(crate) fn named_by(came: &LineOutcome, before: Option<NamedRequest>) -> Opti
     ensures { NamesRequest came.now before result }
 {
     match came {
-        LineOutcome::CameTo(Asked::Command(command), Ok(reply)) => named_of(command, reply, before),
+        LineOutcome::CameTo(LineKind::Command(command), Ok(reply)) => named_of(
+            command, reply, before,
+        ),
         _ => None,
     }
 }

@@ -3,8 +3,8 @@
 ghost use Rattle.std.specs.Prelude.{◌≡◌, IfOk, IfSome, OnErr, option_copied};
 ghost use Rattle.reg_office_api.specs.Leads.{Leads};
 ghost use Rattle.reg_desk_jobs.specs.Deferring.{IsKnown, socket_for};
-ghost use Rattle.reg_desk_jobs.specs.Given.{GaveAt};
-ghost use Rattle.reg_desk_jobs.specs.WhoSigns.{crl_socket};
+ghost use Rattle.reg_desk_jobs.specs.SignerAnswers.{AnsweredAtPath};
+ghost use Rattle.reg_desk_jobs.specs.Signers.{crl_socket};
 ghost use Rattle.reg_desk_jobs.specs.ControlWords.{Word};
 
 use crate::control_lines::answer_counted;
@@ -142,7 +142,7 @@ pub(crate) fn known_of<M: Machine>(
     link: Option<SignatureRequest>,
 ) -> Result<Option<Known>, EventLoopFault>
     ensures moves { Leads M.Office.is_clean M.Office.stands (λ identity before after. after ≡ before) office.old office.new }
-    ensures known { IfOk result (λ found. IfSome found (IsKnown (GaveAt M.gave (socket_for signer.now answerer.now looked.wanted)) M.told)) }
+    ensures known { IfOk result (λ found. IfSome found (IsKnown (AnsweredAtPath M.signer_answered (socket_for signer.now answerer.now looked.wanted)) M.clock_reached)) }
     ensures err { OnErr result (office.new ≡ office.old) }
 {
     let Some(link) = link else {
@@ -175,7 +175,7 @@ fn recalled<M: Machine>(
     link: SignatureRequest,
 ) -> Option<Known>
     ensures moves { Leads M.Office.is_clean M.Office.stands (λ identity before after. after ≡ before) office.old office.new }
-    ensures known { IfSome result (IsKnown (GaveAt M.gave (socket_for signer.now answerer.now looked.wanted)) M.told) }
+    ensures known { IfSome result (IsKnown (AnsweredAtPath M.signer_answered (socket_for signer.now answerer.now looked.wanted)) M.clock_reached) }
 {
     if is_past(office, looked.moment) {
         return None;
@@ -200,7 +200,7 @@ fn is_past<O: Office>(office: &mut O, moment: Moment) -> bool
 }
 
 impl<'a, 'w, M: Machine> Desk<'a, 'w, M> {
-    /// Looks at what a line says: what is to be signed before it is told, where its signer has a key.
+    /// Looks at what a line says: what is to be signed before it is answered, where its signer has a key.
     pub(crate) fn look_for(&mut self, said: &CommandLine<'_>) -> Option<Deferred<Looked>>
         ensures open { self.new.is_open ≡ self.old.is_open }
         ensures moves { Leads M.Office.is_clean M.Office.stands (λ identity before after. after ≡ before)
@@ -210,7 +210,7 @@ impl<'a, 'w, M: Machine> Desk<'a, 'w, M> {
         socket_of(self.signer, self.answerer, wanted)?;
         let began = self.machine.micros();
         if wanted == Wanted::Answer && self.backoff.is_active(Duration::from_micros(began)) {
-            // Nobody signs it: its signer is backed off.
+            // It is not signed: its signer is backed off.
             let ticket = Looked {
                 wanted,
                 moment: Moment::EPOCH,
@@ -269,14 +269,14 @@ impl<'a, 'w, M: Machine> Desk<'a, 'w, M> {
     pub(crate) fn answer_known(
         &mut self,
         line: &[u8],
-        noted: &mut Vec<u8>,
+        last_reason: &mut Vec<u8>,
         looked: Looked,
         known: Known,
     ) -> Vec<u8>
-        requires { IsKnown (GaveAt M.gave (socket_for self.old.signer.now self.old.answerer.now looked.wanted)) M.told known }
+        requires { IsKnown (AnsweredAtPath M.signer_answered (socket_for self.old.signer.now self.old.answerer.now looked.wanted)) M.clock_reached known }
         ensures open { self.new.is_open ≡ self.old.is_open }
         ensures moves { Leads M.Office.is_clean M.Office.stands
-            (λ identity before after. Word M.Office.signs M.told identity before line.now result.items after) self.old.office self.new.office }
+            (λ identity before after. Word M.Office.signs M.clock_reached identity before line.now result.items after) self.old.office self.new.office }
     {
         let Known {
             moment,
@@ -294,7 +294,7 @@ impl<'a, 'w, M: Machine> Desk<'a, 'w, M> {
             looked.began,
             moment,
             line,
-            noted,
+            last_reason,
         );
         self.tally.set(tally);
         M::set_preset(&mut self.office, looked.wanted, None);

@@ -1,4 +1,4 @@
-//! A desk, as it answers who comes: HTTP requests, and lines at the control socket.
+//! A desk, as it answers clients: HTTP requests, and lines at the control socket.
 
 ghost use Rattle.std.specs.Prelude.{◌≡◌, IfOk, MatchOption, OnErr};
 
@@ -6,9 +6,9 @@ use crate::admission::Admission;
 use crate::control_lines::answer_counted;
 use crate::deferred_commands::{Looked, Wanted, known_of, socket_of};
 use crate::exchange_log::log_lost;
-use crate::http_exchanges::visit;
+use crate::http_exchanges::answer_http;
 use crate::machine::Machine;
-use crate::unsigned_responses::{Unsigned, finish_visit};
+use crate::unsigned_responses::{Unsigned, finish_http};
 use reg_crl_signer::{Backoff, SignatureRequest};
 use reg_desk_cli::{Answerer, KeyHolder};
 use reg_desk_metrics::{ConnectionTotals, Tally};
@@ -22,7 +22,7 @@ use std::io;
 use std::io::ErrorKind;
 use std::net::SocketAddr;
 
-/// A desk that answers HTTP requests, each at a moment of the clock. An open one tells of itself, too, and answers lines at the control
+/// A desk that answers HTTP requests, each at a moment of the clock. An open one reports on itself, too, and answers lines at the control
 /// socket.
 #[derive(Drop)]
 pub(crate) struct Desk<'a, 'w, M: Machine> {
@@ -34,12 +34,12 @@ pub(crate) struct Desk<'a, 'w, M: Machine> {
     /// The signer of CRLs, and the one of OCSP answers, as the command line names them.
     pub(crate) signer: &'a Option<KeyHolder<'w>>,
     pub(crate) answerer: &'a Answerer<'w>,
-    /// The back-off of lines from the signer of OCSP answers.
+    /// The back-off of the OCSP signer, for `ocsp` lines at the control socket.
     pub(crate) backoff: Backoff,
-    /// What was counted since the register was opened. No clause of the desk reads it: an answer that was left to be signed is counted where it
-    /// is finished, at which the desk stays as it is.
+    /// What was counted since the register was opened. No contract of the desk mentions it, and it is a `Cell`: `finish` takes `&self`, and counts
+    /// an answer whose signature came later.
     pub(crate) tally: &'a Cell<Tally>,
-    pub(crate) heard: &'a Cell<ConnectionTotals>,
+    pub(crate) connection_totals: &'a Cell<ConnectionTotals>,
     pub(crate) admission: Admission,
 }
 
@@ -49,9 +49,9 @@ impl<'a, 'w, M: Machine> Handler for Desk<'a, 'w, M> {
     ghost use Rattle.reg_desk_jobs.specs.ControlWords.{Word};
     ghost use Rattle.reg_desk_jobs.specs.Deferring.{socket_for};
     ghost use Rattle.reg_desk_jobs.specs.Exchanges.{AnswersBy};
-    ghost use Rattle.reg_desk_jobs.specs.Given.{AtTold, GaveAt, WasGiven};
-    ghost use Rattle.reg_desk_jobs.specs.Leaving.{FinishesUnsigned, Meets};
-    ghost use Rattle.reg_desk_jobs.specs.WhoSigns.{answer_socket};
+    ghost use Rattle.reg_desk_jobs.specs.SignerAnswers.{AtGivenPath, AnsweredAtPath, AnsweredAtSomePath};
+    ghost use Rattle.reg_desk_jobs.specs.FinishedResponses.{FinishesUnsigned, Meets};
+    ghost use Rattle.reg_desk_jobs.specs.Signers.{answer_socket};
     ghost use Rattle.reg_crl_signer.specs.SignatureRequest.{IsSignatureRequest};
 
     type Ticket = Unsigned;
@@ -59,57 +59,59 @@ impl<'a, 'w, M: Machine> Handler for Desk<'a, 'w, M> {
     type Line = Looked;
 
     ghost answers = { λ s request outcome t. (t.is_open ≡ s.is_open) × Leads M.Office.is_clean M.Office.stands
-        (λ identity before after. Meets (FinishesUnsigned (WasGiven M.gave))
-        (λ text. AnswersBy s.is_open M.Office.signs M.told identity before request text after) outcome)
+        (λ identity before after. Meets (FinishesUnsigned (AnsweredAtSomePath M.signer_answered))
+        (λ text. AnswersBy s.is_open M.Office.signs M.clock_reached identity before request text after) outcome)
         s.office t.office };
 
-    // only an open desk is told lines
-    ghost tells = { λ s line text t. IsTrue s.is_open × IsTrue t.is_open × Leads M.Office.is_clean M.Office.stands
-        (λ identity before after. Word M.Office.signs M.told identity before line text after) s.office t.office };
+    // only an open desk has a control socket
+    ghost answers_line = { λ s line text t. IsTrue s.is_open × IsTrue t.is_open × Leads M.Office.is_clean M.Office.stands
+        (λ identity before after. Word M.Office.signs M.clock_reached identity before line text after) s.office t.office };
 
     ghost defers = { λ s line t. (t.is_open ≡ s.is_open)
         × Leads M.Office.is_clean M.Office.stands (λ identity before after. after ≡ before) s.office t.office };
 
-    ghost finishes = { λ s. FinishesUnsigned (GaveAt M.gave (answer_socket s.signer.now s.answerer.now)) };
+    ghost finishes = { λ s. FinishesUnsigned (AnsweredAtPath M.signer_answered (answer_socket s.signer.now s.answerer.now)) };
 
     fn answer(
         &mut self,
-        peer: SocketAddr,
+        client: SocketAddr,
         request: &Collected,
     ) -> Result<Begun<Vec<u8>, Unsigned>, EventLoopFault> {
         let Ok(now) = self.machine.moment() else {
             return Err(EventLoopFault);
         };
         let mut tally = self.tally.get();
-        let begun = visit::<M>(
+        let begun = answer_http::<M>(
             self.alloc,
             &mut self.office,
             self.machine,
             self.is_open,
             &mut tally,
             &mut self.admission,
-            self.heard.get(),
+            self.connection_totals.get(),
             now,
-            peer,
+            client,
             request,
         );
         self.tally.set(tally);
         Ok(begun)
     }
 
-    fn ask(&self, ticket: &Unsigned) -> io::Result<SignatureRequest>
-        ensures { IfOk result (λ asking. AtTold (answer_socket self.now.signer.now self.now.answerer.now)
-            (λ path. M.asked path ticket.now.draft.message × IsSignatureRequest path ticket.now.draft.message asking)) }
+    fn request_signature(&self, ticket: &Unsigned) -> io::Result<SignatureRequest>
+        ensures { IfOk result (λ sent_request. AtGivenPath (answer_socket self.now.signer.now self.now.answerer.now)
+            (λ path. M.signature_requested path ticket.now.draft.message × IsSignatureRequest path ticket.now.draft.message sent_request)) }
     {
         match socket_of(self.signer, self.answerer, Wanted::Answer) {
-            Some(socket) => self.machine.ask(socket, ticket.draft.message()),
+            Some(socket) => self
+                .machine
+                .request_signature(socket, ticket.draft.message()),
             None => Err(io::Error::from(ErrorKind::NotFound)),
         }
     }
 
     fn finish(&self, ticket: Unsigned, link: Option<SignatureRequest>) -> Vec<u8> {
         let mut tally = self.tally.get();
-        let text = finish_visit::<M>(
+        let text = finish_http::<M>(
             self.alloc,
             self.machine,
             &mut tally,
@@ -122,7 +124,11 @@ impl<'a, 'w, M: Machine> Handler for Desk<'a, 'w, M> {
         text
     }
 
-    fn tell(&mut self, line: &[u8], noted: &mut Vec<u8>) -> Result<Vec<u8>, EventLoopFault> {
+    fn answer_line(
+        &mut self,
+        line: &[u8],
+        last_reason: &mut Vec<u8>,
+    ) -> Result<Vec<u8>, EventLoopFault> {
         if !self.is_open {
             return Err(EventLoopFault);
         }
@@ -141,7 +147,7 @@ impl<'a, 'w, M: Machine> Handler for Desk<'a, 'w, M> {
             began,
             now,
             line,
-            noted,
+            last_reason,
         );
         self.tally.set(tally);
         Ok(text)
@@ -155,8 +161,8 @@ impl<'a, 'w, M: Machine> Handler for Desk<'a, 'w, M> {
     }
 
     fn reach(&self, ticket: &Looked) -> io::Result<SignatureRequest>
-        ensures { IfOk result (λ asking. AtTold (socket_for self.now.signer.now self.now.answerer.now ticket.now.wanted)
-            (λ path. M.reached path × IsSignatureRequest path [] asking)) }
+        ensures { IfOk result (λ sent_request. AtGivenPath (socket_for self.now.signer.now self.now.answerer.now ticket.now.wanted)
+            (λ path. M.reached path × IsSignatureRequest path [] sent_request)) }
     {
         match socket_of(self.signer, self.answerer, ticket.wanted) {
             Some(socket) if !ticket.is_backed_off => self.machine.reach(socket),
@@ -167,16 +173,16 @@ impl<'a, 'w, M: Machine> Handler for Desk<'a, 'w, M> {
     fn answer_deferred(
         &mut self,
         line: &[u8],
-        noted: &mut Vec<u8>,
+        last_reason: &mut Vec<u8>,
         deferred: Deferred<Looked>,
         link: Option<SignatureRequest>,
     ) -> Result<Option<Vec<u8>>, EventLoopFault>
-        ensures ok { IfOk result (λ told. MatchOption told
+        ensures ok { IfOk result (λ answered. MatchOption answered
             ((self.new.is_open ≡ self.old.is_open)
             × Leads M.Office.is_clean M.Office.stands (λ identity before after. after ≡ before) self.old.office self.new.office)
             (λ text. IsTrue self.old.is_open × IsTrue self.new.is_open × Leads M.Office.is_clean M.Office.stands
-            (λ identity before after. Word M.Office.signs M.told identity before line.now text.items after) self.old.office self.new.office)) }
-        ensures err { OnErr result ((self.new ≡ self.old) × (noted.new ≡ noted.old)) }
+            (λ identity before after. Word M.Office.signs M.clock_reached identity before line.now text.items after) self.old.office self.new.office)) }
+        ensures err { OnErr result ((self.new ≡ self.old) × (last_reason.new ≡ last_reason.old)) }
     {
         if !self.is_open {
             return Err(EventLoopFault);
@@ -197,40 +203,50 @@ impl<'a, 'w, M: Machine> Handler for Desk<'a, 'w, M> {
         )?;
         self.backoff = self.backoff_after(asked, has_come);
         match known {
-            Some(known) => Ok(Some(self.answer_known(line, noted, ticket, known))),
+            Some(known) => Ok(Some(self.answer_known(line, last_reason, ticket, known))),
             None => Ok(None),
         }
     }
 
-    fn lose(&self, peer: Option<SocketAddr>, why: ConnectionFault) {
-        self.heard.set(with_loss(self.heard.get(), why));
-        log_lost(self.alloc, self.machine, peer, why);
+    fn report_lost(&self, client: Option<SocketAddr>, why: ConnectionFault) {
+        self.connection_totals
+            .set(with_loss(self.connection_totals.get(), why));
+        log_lost(self.alloc, self.machine, client, why);
     }
 
-    fn hold(&self, connection_counts: ConnectionCounts) {
-        self.heard.set(with_connection_counts(self.heard.get(), connection_counts));
+    fn keep_counts(&self, connection_counts: ConnectionCounts) {
+        self.connection_totals.set(with_connection_counts(
+            self.connection_totals.get(),
+            connection_counts,
+        ));
     }
 }
 
-fn with_loss(heard: ConnectionTotals, why: ConnectionFault) -> ConnectionTotals {
-    let mut heard = heard;
+fn with_loss(connection_totals: ConnectionTotals, why: ConnectionFault) -> ConnectionTotals {
+    let mut connection_totals = connection_totals;
     match why {
-        ConnectionFault::Broken => heard.broken = heard.broken.saturating_add(1),
-        ConnectionFault::Late => heard.late = heard.late.saturating_add(1),
-        ConnectionFault::Evicted => heard.evicted = heard.evicted.saturating_add(1),
-        ConnectionFault::Memory => heard.memory = heard.memory.saturating_add(1),
+        ConnectionFault::Broken => connection_totals.broken = connection_totals
+            .broken
+            .saturating_add(1),
+        ConnectionFault::Late => connection_totals.late = connection_totals.late.saturating_add(1),
+        ConnectionFault::Evicted => connection_totals.evicted = connection_totals
+            .evicted
+            .saturating_add(1),
+        ConnectionFault::Memory => connection_totals.memory = connection_totals
+            .memory
+            .saturating_add(1),
     }
-    heard
+    connection_totals
 }
 
 fn with_connection_counts(
-    heard: ConnectionTotals,
+    connection_totals: ConnectionTotals,
     connection_counts: ConnectionCounts,
 ) -> ConnectionTotals {
     ConnectionTotals {
-        peers: connection_counts.peers as u64,
-        counters: connection_counts.counters as u64,
+        open_http: connection_counts.open_http as u64,
+        open_control: connection_counts.open_control as u64,
         accepted: connection_counts.accepted,
-        ..heard
+        ..connection_totals
     }
 }

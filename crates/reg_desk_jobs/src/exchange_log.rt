@@ -17,7 +17,7 @@ pub(crate) fn log_exchange<M: Machine>(
     machine: &M,
     micros: u64,
     now: Moment,
-    peer: SocketAddr,
+    client: SocketAddr,
     request: &[u8],
     exchange: &Exchange,
 ) {
@@ -25,7 +25,7 @@ pub(crate) fn log_exchange<M: Machine>(
         return;
     }
     // What there is no memory for is left out.
-    let Ok(who) = name_of(alloc, Some(peer)) else {
+    let Ok(client_text) = name_of(alloc, Some(client)) else {
         return;
     };
     let is_unsigned = exchange.signature == SignatureFate::Failed;
@@ -34,7 +34,7 @@ pub(crate) fn log_exchange<M: Machine>(
         exchange_line(
             alloc,
             now,
-            who.as_bytes(),
+            client_text.as_bytes(),
             request,
             &exchange.text,
             micros,
@@ -77,19 +77,22 @@ pub(crate) fn log_line<M: Machine>(
 pub(crate) fn log_lost<M: Machine>(
     alloc: Global,
     machine: &M,
-    peer: Option<SocketAddr>,
+    client: Option<SocketAddr>,
     why: ConnectionFault,
 ) {
     if !machine.has_log() {
         return;
     }
-    let Ok(who) = name_of(alloc, peer) else {
+    let Ok(client_text) = name_of(alloc, client) else {
         return;
     };
     let Ok(now) = machine.moment() else {
         return;
     };
-    put(machine, lost_line(alloc, now, who.as_bytes(), word_of(why)));
+    put(
+        machine,
+        lost_line(alloc, now, client_text.as_bytes(), word_of(why)),
+    );
 }
 
 fn put<M: Machine>(machine: &M, line: Result<Vec<u8>, AllocError>) {
@@ -111,9 +114,9 @@ fn word_of(why: ConnectionFault) -> &'static [u8] {
 }
 
 /// The address of a client and its port, as `127.0.0.1:50000` or `[::1]:50000`.
-fn name_of(alloc: Global, peer: Option<SocketAddr>) -> Result<String, AllocError> {
-    match peer {
-        Some(peer) => format!(in alloc; "{peer}"),
+fn name_of(alloc: Global, client: Option<SocketAddr>) -> Result<String, AllocError> {
+    match client {
+        Some(client) => format!(in alloc; "{client}"),
         None => String::from_str(alloc, CONTROL_SOCKET),
     }
 }

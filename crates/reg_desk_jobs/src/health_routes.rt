@@ -1,4 +1,4 @@
-//! What an open desk tells of itself, at two routes of its own: `/health` and `/metrics`.
+//! What an open desk reports of itself, at two routes of its own: `/health` and `/metrics`.
 
 ghost use Rattle.std.specs.Prelude.{◌≡◌, ◌↔◌, ℕ, List, IsTrue, IfErr, IfOk, option_map};
 ghost use Rattle.reg_core.specs.Crls.{latest as latest_in, row_of};
@@ -8,11 +8,11 @@ ghost use Rattle.reg_core.specs.declared.command.Reply.TheVariants.{Counts as Co
 ghost use Rattle.reg_office_api.specs.Answered.{IsAnswered};
 ghost use Rattle.reg_office_api.specs.Leads.{Leads, Looks};
 ghost use Rattle.reg_office_api.specs.LookUps.{IsOfStore};
-ghost use Rattle.reg_http.specs.Told.{plain, told};
+ghost use Rattle.reg_http.specs.AnswerEffects.{plain, answer_effects};
 ghost use Rattle.reg_crl.specs.Signing.{sha1_algorithm};
 ghost use Rattle.reg_crl_signer.specs.Signed.{IsCrlUnder};
-ghost use Rattle.reg_desk_jobs.specs.Watched.{ByGet, Has, HasDue, HasFound, HasOverdue, HasRequests, IsCounted, IsLatestRead, IsCrlRead, IsReadAt, IsRecounted, IsUnsigned, NotesRead, Recounts, SaysHealth, SaysMetrics, SaysUnsigned};
-ghost use Rattle.reg_desk_jobs.specs.Watched.{due_after, health_response, health_status as status_told, many_in, metrics_response, signing_by};
+ghost use Rattle.reg_desk_jobs.specs.Watched.{ByGet, Has, HasDue, HasFound, HasOverdue, HasRequests, IsCounted, IsLatestRead, IsCrlRead, IsReadAt, IsRecounted, IsUnsigned, KeepsRead, Recounts, AnswersHealth, AnswersMetrics, IsDueUnsigned};
+ghost use Rattle.reg_desk_jobs.specs.Watched.{due_after, health_response, health_status as status_spec, many_in, metrics_response, signing_by};
 ghost use Rattle.reg_desk_cli.specs.declared.desk.TheConstants.{VERSION};
 ghost use Rattle.reg_desk_metrics.specs.Metrics.{metrics_text};
 
@@ -31,7 +31,7 @@ use reg_desk_metrics::{
 };
 use reg_http::{Answered, json, only_get};
 use reg_http_head::{Answer, status};
-use reg_lines::Asked;
+use reg_lines::LineKind;
 use reg_office_api::Office;
 use std::alloc::Global;
 
@@ -47,7 +47,7 @@ pub(crate) fn answer_health<M: Machine>(
     accepted: Option<Moment>,
 ) -> Result<Answered, Memory>
     ensures moves { Looks M.Office.is_clean M.Office.stands
-        (λ records. IfOk result (λ answered. ByGet method.now (SaysHealth now records) (told answered))) office.old office.new }
+        (λ records. IfOk result (λ answered. ByGet method.now (AnswersHealth now records) (answer_effects answered))) office.old office.new }
     ensures recounted { IsRecounted tally.old tally.new }
 {
     if method.as_str() != "GET" {
@@ -64,30 +64,30 @@ fn health_at<M: Machine>(
     accepted: Option<Moment>,
 ) -> Result<Answered, Memory>
     ensures moves { Looks M.Office.is_clean M.Office.stands
-        (λ records. IfOk result (λ answered. SaysHealth now records (told answered))) office.old office.new }
+        (λ records. IfOk result (λ answered. AnswersHealth now records (answer_effects answered))) office.old office.new }
     ensures recounted { IsRecounted tally.old tally.new }
 {
     let found = found_at::<M>(alloc, office, now, tally);
     health_answer(alloc, &Health::of(now, &found, tally, accepted))
 }
 
-/// Tells the metrics, at a moment. Requests for revocation that were not counted for a minute are counted for them.
+/// Answers with the metrics, at a moment. Requests for revocation that were not counted for a minute are counted for them.
 pub(crate) fn answer_metrics<M: Machine>(
     alloc: Global,
     office: &mut M::Office,
     method: &Method,
     now: Moment,
     tally: &mut Tally,
-    heard: ConnectionTotals,
+    connection_totals: ConnectionTotals,
 ) -> Result<Answered, Memory>
     ensures moves { Looks M.Office.is_clean M.Office.stands
-        (λ records. IfOk result (λ answered. ByGet method.now (SaysMetrics now records) (told answered))) office.old office.new }
+        (λ records. IfOk result (λ answered. ByGet method.now (AnswersMetrics now records) (answer_effects answered))) office.old office.new }
     ensures recounted { IsRecounted tally.old tally.new }
 {
     if method.as_str() != "GET" {
         return only_get(alloc);
     }
-    metrics_at::<M>(alloc, office, now, tally, heard)
+    metrics_at::<M>(alloc, office, now, tally, connection_totals)
 }
 
 fn metrics_at<M: Machine>(
@@ -95,15 +95,15 @@ fn metrics_at<M: Machine>(
     office: &mut M::Office,
     now: Moment,
     tally: &mut Tally,
-    heard: ConnectionTotals,
+    connection_totals: ConnectionTotals,
 ) -> Result<Answered, Memory>
     ensures moves { Looks M.Office.is_clean M.Office.stands
-        (λ records. IfOk result (λ answered. SaysMetrics now records (told answered))) office.old office.new }
+        (λ records. IfOk result (λ answered. AnswersMetrics now records (answer_effects answered))) office.old office.new }
     ensures recounted { IsRecounted tally.old tally.new }
 {
     recount::<M>(alloc, office, now, tally);
     let found = found_at::<M>(alloc, office, now, tally);
-    metrics_answer(alloc, now, &found, tally, heard)
+    metrics_answer(alloc, now, &found, tally, connection_totals)
 }
 
 fn found_at<M: Machine>(
@@ -143,7 +143,7 @@ fn due_at<M: Machine>(
     tally: &mut Tally,
 ) -> Result<Option<Moment>, Fault>
     ensures moves { Looks M.Office.is_clean M.Office.stands
-        (λ records. latest ≡ option_map row_of (latest_in records.crls) → (HasDue tally.old records now result × NotesRead tally.old records tally.new))
+        (λ records. latest ≡ option_map row_of (latest_in records.crls) → (HasDue tally.old records now result × KeepsRead tally.old records tally.new))
         office.old office.new }
     ensures read { IsCrlRead tally.old tally.new }
 {
@@ -154,7 +154,7 @@ fn due_at<M: Machine>(
     };
     match latest_read::<M>(alloc, office, latest, tally) {
         Ok(Some(read)) => {
-            tally.note_crl(read);
+            tally.keep_crl(read);
             Ok(due_behind(read, due))
         }
         Ok(None) => Ok(due),
@@ -226,21 +226,21 @@ fn is_digest(algorithm: &[u8]) -> bool
     algorithm == digest.algorithm()
 }
 
-/// Notes for the word `why`, where a line told when the next CRL is due, that it is due at once for want of a signature.
-pub(crate) fn note_due<M: Machine>(
+/// Keeps for the word `why`, where a reply says when the next CRL is due, that it is due at once for want of a signature.
+pub(crate) fn keep_due_reason<M: Machine>(
     alloc: Global,
     office: &mut M::Office,
     tally: &Tally,
     came: &LineOutcome,
-    noted: &mut Vec<u8>,
+    last_reason: &mut Vec<u8>,
 )
     ensures { Leads M.Office.is_clean M.Office.stands (λ identity before after. after ≡ before) office.old office.new }
 {
     match came {
-        LineOutcome::CameTo(Asked::Query(Query::NextCrl), Ok(_)) => {
+        LineOutcome::CameTo(LineKind::Query(Query::NextCrl), Ok(_)) => {
             let why = why_at_once::<M>(alloc, office, tally);
             if let Some(text) = reason_line(alloc, b"", why.unwrap_or(None)) {
-                *noted = text;
+                *last_reason = text;
             }
         }
         _ => {}
@@ -253,7 +253,7 @@ fn why_at_once<M: Machine>(
     office: &mut M::Office,
     tally: &Tally,
 ) -> Result<Option<Reason>, Fault>
-    ensures { Looks M.Office.is_clean M.Office.stands (λ records. IfOk result (SaysUnsigned tally.now records)) office.old office.new }
+    ensures { Looks M.Office.is_clean M.Office.stands (λ records. IfOk result (IsDueUnsigned tally.now records)) office.old office.new }
 {
     let standing = office.standing()?;
     match latest_read::<M>(alloc, office, standing.latest, tally)? {
@@ -344,7 +344,7 @@ fn requests_at<M: Machine>(
 }
 
 fn health_answer(alloc: Global, health: &Health) -> Result<Answered, Memory>
-    ensures { IfOk result (λ answered. told answered ≡ plain (health_response health.now)) }
+    ensures { IfOk result (λ answered. answer_effects answered ≡ plain (health_response health.now)) }
 {
     match health.text(alloc) {
         Ok(body) => Ok(Answered::plain(json(status_of(health.is_well()), body))),
@@ -353,7 +353,7 @@ fn health_answer(alloc: Global, health: &Health) -> Result<Answered, Memory>
 }
 
 fn status_of(is_well: bool) -> u16
-    ensures { result ≡ status_told is_well }
+    ensures { result ≡ status_spec is_well }
 {
     if is_well {
         status::OK
@@ -367,11 +367,11 @@ fn metrics_answer(
     now: Moment,
     found: &Found,
     tally: &Tally,
-    heard: ConnectionTotals,
+    connection_totals: ConnectionTotals,
 ) -> Result<Answered, Memory>
-    ensures { IfOk result (λ answered. told answered ≡ plain (metrics_response (metrics_text VERSION.now now found.now tally.now heard))) }
+    ensures { IfOk result (λ answered. answer_effects answered ≡ plain (metrics_response (metrics_text VERSION.now now found.now tally.now connection_totals))) }
 {
-    match metrics(alloc, VERSION, now, found, tally, heard) {
+    match metrics(alloc, VERSION, now, found, tally, connection_totals) {
         Ok(body) => Ok(Answered::plain(Answer {
             status: status::OK,
             kind: PROMETHEUS,

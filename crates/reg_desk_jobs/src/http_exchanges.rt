@@ -3,16 +3,16 @@
 ghost use Rattle.std.specs.Prelude.{◌≡◌};
 ghost use Rattle.reg_office_api.specs.Leads.{Leads};
 ghost use Rattle.reg_http_head.specs.Bytes.{collected_bytes};
-ghost use Rattle.reg_http.specs.Asked.{path_of};
-ghost use Rattle.reg_http.specs.Exchanges.{IsEmpty, SaysNothing};
+ghost use Rattle.reg_http.specs.RoutedRequests.{path_of};
+ghost use Rattle.reg_http.specs.Exchanges.{IsEmpty, HasNoEffects};
 ghost use Rattle.reg_http.specs.RouteNames.{named_route, route_at};
 ghost use Rattle.reg_http.specs.declared.exchange.Exchange.{Exchange as HttpExchange};
-ghost use Rattle.reg_http.specs.declared.exchange.Left.{Left as LeftOf};
+ghost use Rattle.reg_http.specs.declared.exchange.UnsignedResponse.{UnsignedResponse as UnsignedResponses};
 ghost use Rattle.reg_desk_server.specs.Outcomes.{outcome_of};
 ghost use Rattle.reg_desk_jobs.specs.Beginning.{AnswersBegun, BeginsAt, IsBegunRoute, ready_of};
 ghost use Rattle.reg_desk_jobs.specs.Counted.{CountsBegun};
 ghost use Rattle.reg_desk_jobs.specs.Exchanges.{dispatch};
-ghost use Rattle.reg_desk_jobs.specs.Given.{WasGiven};
+ghost use Rattle.reg_desk_jobs.specs.SignerAnswers.{AnsweredAtSomePath};
 ghost use Rattle.reg_desk_jobs.specs.Watched.{IsRecounted};
 ghost use Rattle.reg_desk_metrics.specs.declared.tally.Tally.{Tally as Tallies};
 ghost use Rattle.reg_io.specs.declared.begun.Begun.{Begun as BegunOf};
@@ -26,7 +26,8 @@ use http::Method;
 use reg_core::{Fault, Memory, Moment};
 use reg_desk_metrics::{ConnectionTotals, Tally};
 use reg_http::{
-    Answered, Exchange, Left, Route, answer_list, begin, begun_exchange, refuse, text_room,
+    Answered, Exchange, Route, UnsignedResponse, answer_list, begin, begun_exchange, refuse,
+    text_room,
 };
 use reg_http_head::{Collected, RequestRef};
 use reg_io::Begun;
@@ -68,27 +69,34 @@ fn dispatch_of(is_open: bool, route: Route) -> Dispatch
 
 /// Answers what came on a connection, at a moment, counts it, and puts it into the log, where there is one; or leaves what is to be signed
 /// for it, which is counted where it is finished.
-pub(crate) fn visit<M: Machine>(
+pub(crate) fn answer_http<M: Machine>(
     alloc: Global,
     office: &mut M::Office,
     machine: &M,
     is_open: bool,
     tally: &mut Tally,
     admission: &mut Admission,
-    heard: ConnectionTotals,
+    connection_totals: ConnectionTotals,
     now: Moment,
-    peer: SocketAddr,
+    client: SocketAddr,
     request: &Collected,
 ) -> Begun<Vec<u8>, Unsigned>
-    ensures { (begun : BegunOf HttpExchange LeftOf) × (asked : Tallies) × IsRecounted tally.old asked
+    ensures { (begun : BegunOf HttpExchange UnsignedResponses) × (asked : Tallies) × IsRecounted tally.old asked
         × Leads M.Office.is_clean M.Office.stands
-        (λ who before after. AnswersBegun (WasGiven M.gave) is_open M.Office.signs now who before (collected_bytes request.now) begun after)
+        (λ signatory before after. AnswersBegun (AnsweredAtSomePath M.signer_answered) is_open M.Office.signs now signatory before (collected_bytes request.now) begun after)
         office.old office.new
         × CountsBegun now (collected_bytes request.now) begun (outcome_of result) asked tally.new }
 {
     let began = machine.micros();
     match exchange_at::<M>(
-        alloc, office, is_open, tally, admission, heard, now, request,
+        alloc,
+        office,
+        is_open,
+        tally,
+        admission,
+        connection_totals,
+        now,
+        request,
     ) {
         Begun::Ready(exchange) => {
             let micros = machine.micros().saturating_sub(began);
@@ -98,14 +106,14 @@ pub(crate) fn visit<M: Machine>(
                 machine,
                 micros,
                 now,
-                peer,
+                client,
                 request.as_slice(),
                 &exchange,
             );
             Begun::Ready(exchange.text)
         }
         Begun::Unsigned(left) => {
-            Begun::Unsigned(unsigned_of(alloc, machine, left, now, began, peer, request))
+            Begun::Unsigned(unsigned_of(alloc, machine, left, now, began, client, request))
         }
     }
 }
@@ -117,12 +125,12 @@ fn exchange_at<M: Machine>(
     is_open: bool,
     tally: &mut Tally,
     admission: &mut Admission,
-    heard: ConnectionTotals,
+    connection_totals: ConnectionTotals,
     now: Moment,
     request: &Collected,
-) -> Begun<Exchange, Left>
+) -> Begun<Exchange, UnsignedResponse>
     ensures moves { Leads M.Office.is_clean M.Office.stands
-        (λ who before after. AnswersBegun (WasGiven M.gave) is_open M.Office.signs now who before (collected_bytes request.now) result after)
+        (λ signatory before after. AnswersBegun (AnsweredAtSomePath M.signer_answered) is_open M.Office.signs now signatory before (collected_bytes request.now) result after)
         office.old office.new }
     ensures route { IsBegunRoute (collected_bytes request.now) result }
     ensures recounted { IsRecounted tally.old tally.new }
@@ -140,7 +148,17 @@ fn exchange_at<M: Machine>(
         ) => {
             let route = Route::of(target);
             let begun = begin_at::<M>(
-                alloc, office, is_open, tally, admission, heard, now, route, &method, target, body,
+                alloc,
+                office,
+                is_open,
+                tally,
+                admission,
+                connection_totals,
+                now,
+                route,
+                &method,
+                target,
+                body,
             );
             begun_exchange(route, room, begun, now)
         }
@@ -158,7 +176,7 @@ fn exchange_at<M: Machine>(
 
 fn empty(alloc: Global, request: &Collected) -> Exchange
     ensures empty { IsEmpty result }
-    ensures nothing { SaysNothing result }
+    ensures nothing { HasNoEffects result }
     ensures route { result.route ≡ named_route (collected_bytes request.now) }
 {
     let route = Route::named_in(request.as_slice());
@@ -181,7 +199,7 @@ fn begin_at<M: Machine>(
     is_open: bool,
     tally: &mut Tally,
     admission: &mut Admission,
-    heard: ConnectionTotals,
+    connection_totals: ConnectionTotals,
     now: Moment,
     route: Route,
     method: &Method,
@@ -190,7 +208,7 @@ fn begin_at<M: Machine>(
 ) -> Result<Begun<Answered, Draft>, Memory>
     requires { route ≡ route_at (path_of target.now) }
     ensures moves { Leads M.Office.is_clean M.Office.stands
-        (λ who before after. BeginsAt is_open M.Office.signs now who before method.now target.now body.now result after)
+        (λ signatory before after. BeginsAt is_open M.Office.signs now signatory before method.now target.now body.now result after)
         office.old office.new }
     ensures recounted { IsRecounted tally.old tally.new }
 {
@@ -205,7 +223,7 @@ fn begin_at<M: Machine>(
             ready(answer_health::<M>(alloc, office, method, now, tally, accepted))
         }
         Dispatch::ToMetrics => {
-            ready(answer_metrics::<M>(alloc, office, method, now, tally, heard))
+            ready(answer_metrics::<M>(alloc, office, method, now, tally, connection_totals))
         }
     }
 }

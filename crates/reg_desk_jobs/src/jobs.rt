@@ -7,14 +7,14 @@ ghost use Rattle.reg_desk_metrics.specs.Ahead.{is_ahead};
 ghost use Rattle.reg_lines.specs.ByCalls.{Lines};
 ghost use Rattle.reg_lines.specs.Strict.{StrictEnds};
 ghost use Rattle.reg_desk_jobs.specs.Ends.{AuditAt, CrlAt, ImportByClock, ImportChecked, InitAt, KeyIdAt, MakesAt, ScheduleAt, ScriptAt};
-ghost use Rattle.reg_desk_jobs.specs.Ends.{SaysGiven, TellsBroken, PrintsLine, TellsSet, ReportsAuditResult};
-ghost use Rattle.reg_desk_jobs.specs.Visits.{exit_of, exit_of_run};
+ghost use Rattle.reg_desk_jobs.specs.Ends.{PrintsResult, PrintsBroken, PrintsLine, PrintsSetResult, ReportsAuditResult};
+ghost use Rattle.reg_desk_jobs.specs.RegisterUses.{exit_of, exit_of_run};
 ghost use Rattle.reg_office_api.specs.LookUps.{IsOfStore};
 ghost use Rattle.reg_audit_rows.specs.AuditLines.{broken_text, sound_text};
 
 use crate::lines_job::{is_ahead_of, run_script_over};
 use crate::machine::Machine;
-use crate::output_lines::say;
+use crate::output_lines::print_text;
 use crate::reasons::{Reason, keep_reason};
 use crate::registers::{audit_at, make, open_signed, open_unsigned};
 use reg_audit_rows::{AuditResult, Audited, BrokenRow, OTHER_SCHEMA, broken_line, sound_line};
@@ -90,7 +90,7 @@ fn make_at<M: Machine, W: Write>(
 {
     let register = make(machine, path, issuer, policy)?;
     machine.close(path, register);
-    say(writer, b"created\n")
+    print_text(writer, b"created\n")
 }
 
 /// Runs the script of standard input over the register at a path. Where a digest seals its first CRL, that is said at the front.
@@ -113,7 +113,7 @@ pub fn script<M: Machine, R: Read, W: Write>(
     ended(ran)
 }
 
-/// Imports standard input into the register at a path, at one moment: the one that is told, or the clock's as it begins, which is refused if it
+/// Imports standard input into the register at a path, at one moment: the one that is given, or the clock's as it begins, which is refused if it
 /// is too far ahead and the operator does not accept it. A strict import ends at the first refusal or fault, and runs no last row without its
 /// line end; why its last row was refused, if it was, is kept.
 pub fn import_rows<M: Machine, R: Read, W: Write>(
@@ -223,17 +223,17 @@ pub fn crl<M: Machine, W: Write>(
     let mut register = open_unsigned(machine, path)?;
     let given = register.crl_bytes(alloc, number);
     machine.close(path, register);
-    say_given(writer, given)
+    print_result(writer, given)
 }
 
-pub(crate) fn say_given<W: Write>(
+pub(crate) fn print_result<W: Write>(
     writer: &mut W,
     given: Result<Vec<u8>, Fault>,
 ) -> Result<(), Failure>
-    ensures { SaysGiven W.contents writer.old writer.new (items_of given) result }
+    ensures { PrintsResult W.contents writer.old writer.new (items_of given) result }
 {
     match given {
-        Ok(bytes) => say(writer, &bytes),
+        Ok(bytes) => print_text(writer, &bytes),
         Err(fault) => Err(Failure::Fault(fault)),
     }
 }
@@ -281,15 +281,15 @@ fn answer_setting<W: Write>(
     set: Result<(), Fault>,
 ) -> Result<(), Failure>
     requires { IfErr set IsOfStore }
-    ensures { TellsSet text.now W.contents writer.old writer.new set result }
+    ensures { PrintsSetResult text.now W.contents writer.old writer.new set result }
 {
     match set {
-        Ok(()) => say(writer, text),
+        Ok(()) => print_text(writer, text),
         Err(fault) => Err(Failure::Fault(fault)),
     }
 }
 
-/// Audits the register at a path, and tells what was found. It only reads: the place is as it was.
+/// Audits the register at a path, and reports what was found. It only reads: the files are as they were.
 pub fn audit<M: Machine, W: Write>(
     alloc: Global,
     machine: &M,
@@ -310,34 +310,34 @@ fn report_audit_result<W: Write>(
     ensures { ReportsAuditResult W.contents writer.old writer.new audit_result result }
 {
     match audit_result {
-        AuditResult::Sound(found) => tell_sound(alloc, writer, found),
-        AuditResult::Broken(broken) => tell_broken(alloc, writer, broken),
-        AuditResult::OtherSchema => say_broken(writer, OTHER_SCHEMA.as_bytes()),
+        AuditResult::Sound(found) => print_sound(alloc, writer, found),
+        AuditResult::Broken(broken) => print_broken(alloc, writer, broken),
+        AuditResult::OtherSchema => print_broken_text(writer, OTHER_SCHEMA.as_bytes()),
         AuditResult::Older => Err(Failure::OldVersion),
     }
 }
 
-fn tell_sound<W: Write>(alloc: Global, writer: &mut W, found: Audited) -> Result<(), Failure>
+fn print_sound<W: Write>(alloc: Global, writer: &mut W, found: Audited) -> Result<(), Failure>
     ensures { PrintsLine (sound_text found) W.contents writer.old writer.new result }
 {
     match sound_line(alloc, found) {
-        Ok(line) => say(writer, &line),
+        Ok(line) => print_text(writer, &line),
         Err(_) => Err(Failure::Fault(Fault::Memory)),
     }
 }
 
-fn tell_broken<W: Write>(alloc: Global, writer: &mut W, broken: BrokenRow) -> Result<(), Failure>
-    ensures { TellsBroken (broken_text broken) W.contents writer.old writer.new result }
+fn print_broken<W: Write>(alloc: Global, writer: &mut W, broken: BrokenRow) -> Result<(), Failure>
+    ensures { PrintsBroken (broken_text broken) W.contents writer.old writer.new result }
 {
     match broken_line(alloc, broken) {
-        Ok(line) => say_broken(writer, &line),
+        Ok(line) => print_broken_text(writer, &line),
         Err(_) => Err(Failure::Fault(Fault::Memory)),
     }
 }
 
-fn say_broken<W: Write>(writer: &mut W, line: &[u8]) -> Result<(), Failure>
-    ensures { TellsBroken line.now W.contents writer.old writer.new result }
+fn print_broken_text<W: Write>(writer: &mut W, line: &[u8]) -> Result<(), Failure>
+    ensures { PrintsBroken line.now W.contents writer.old writer.new result }
 {
-    say(writer, line)?;
+    print_text(writer, line)?;
     Err(Failure::Broken)
 }

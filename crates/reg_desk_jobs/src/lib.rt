@@ -43,7 +43,7 @@ pub use jobs::{audit, crl, ended, import_rows, init, key_identifier, schedule, s
 pub use lines_job::script_by_lines;
 pub use list_job::list;
 pub use machine::Machine;
-pub use open_job::hold_open;
+pub use open_job::serve_open;
 pub use output_lines::report_exit;
 pub use reasons::Reason;
 pub use replay_job::replay;

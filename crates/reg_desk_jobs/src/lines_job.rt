@@ -34,7 +34,7 @@ struct ScriptHost<'a, M: Machine> {
 impl<'a, M: Machine> Host for ScriptHost<'a, M> {
     ghost clocked = { λ host. host.is_clocked };
 
-    ghost told = { M.told };
+    ghost clock_reached = { M.clock_reached };
 
     fn is_clocked(&self) -> bool {
         self.is_clocked
@@ -89,7 +89,7 @@ pub fn script_by_lines<M: Machine, R: Read, W: Write>(
 
 /// Whether the lines run at the machine's clock, which is too far ahead and which the operator does not accept.
 fn refuses_clock<M: Machine>(machine: &M, office: &mut M::Office, way: Way) -> bool
-    ensures { Looks M.Office.is_clean M.Office.stands (λ records. IsTrue result → IsClockRefused way M.told records) office.old office.new }
+    ensures { Looks M.Office.is_clean M.Office.stands (λ records. IsTrue result → IsClockRefused way M.clock_reached records) office.old office.new }
 {
     if !way.is_clocked || way.accepts_clock {
         return false;
@@ -142,7 +142,7 @@ fn run_over<M: Machine, R: Read, W: Write>(
 ) -> Result<Ended, Fault>
     ensures { Leads M.Office.is_clean M.Office.stands
         (λ identity before after. LinesEnd (Lines M.Office.signs identity) R.remaining W.contents before after
-        reader.old reader.new writer.old writer.new M.told way.is_clocked way.is_strict result)
+        reader.old reader.new writer.old writer.new M.clock_reached way.is_clocked way.is_strict result)
         office.old office.new }
 {
     let host: ScriptHost<'_, M> = ScriptHost {

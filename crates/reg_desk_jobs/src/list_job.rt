@@ -8,7 +8,7 @@ ghost use Rattle.reg_core_lists.specs.Pages.{GivesWholeList};
 ghost use Rattle.reg_core_lists.specs.Texts.{opening_text, row_text};
 ghost use Rattle.reg_desk_jobs.specs.Ends.{IsMomentOf, ListAt};
 
-use crate::jobs::say_given;
+use crate::jobs::print_result;
 use crate::machine::Machine;
 use crate::registers::open_unsigned;
 use reg_core::{Fault, Moment};
@@ -33,16 +33,16 @@ pub fn list<M: Machine, W: Write>(
     let now = moment_of(machine, wanted.moment)?;
     let path = wanted.file.as_str();
     let mut register = open_unsigned(machine, path)?;
-    let given = given_list::<M>(alloc, &mut register, now, wanted);
+    let given = list_text::<M>(alloc, &mut register, now, wanted);
     machine.close(path, register);
-    say_given(writer, given)
+    print_result(writer, given)
 }
 
-fn moment_of<M: Machine>(machine: &M, told: Option<Moment>) -> Result<Moment, Failure>
-    ensures ok { IfOk result (IsMomentOf M.told told) }
+fn moment_of<M: Machine>(machine: &M, wanted_moment: Option<Moment>) -> Result<Moment, Failure>
+    ensures ok { IfOk result (IsMomentOf M.clock_reached wanted_moment) }
     ensures err { IfErr result (λ why. why ≡ Failure.Fault Fault.Read) }
 {
-    match told {
+    match wanted_moment {
         Some(now) => Ok(now),
         None => match machine.moment() {
             Ok(now) => Ok(now),
@@ -51,7 +51,7 @@ fn moment_of<M: Machine>(machine: &M, told: Option<Moment>) -> Result<Moment, Fa
     }
 }
 
-fn given_list<M: Machine>(
+fn list_text<M: Machine>(
     alloc: Global,
     register: &mut M::Office,
     now: Moment,

@@ -1,4 +1,4 @@
-//! What a line of the log tells: an exchange, and what is to be sent once more for it.
+//! Reads a line of the log for `desk replay`: the exchange that it records, and the command to send again.
 
 ghost use Rattle.std.specs.Prelude.{◌≡◌, ◌<◌, IfSome, length, option_map};
 ghost use Rattle.std.specs.List.{position};
@@ -6,58 +6,58 @@ ghost use Rattle.reg_lines.specs.Fields.{fields_of};
 ghost use Rattle.reg_desk_jobs.specs.LogEntries.{accepted, decision_by, enters, exchange_in, exchange_of, first_word, has_mark, is_control, is_mark, is_of_request, is_whole, logged_of, named_in, parted, request_by, request_named, second_word, unnamed, was_accepted};
 
 use crate::exchange_log::CONTROL_SOCKET;
-use crate::log_lines::MOST_TOLD;
+use crate::log_lines::MOST_QUOTED;
 use reg_core::{Label, Serial, read_number};
 use reg_lines::{Fields, is_accepted};
 
-/// An exchange, as a line of the log tells it.
+/// The parts of a line of the log. The request and the answer stand in quotation marks there.
 #[derive(Clone, Copy)]
-pub(crate) struct Told<'a> {
-    /// The moment and the client.
+pub(crate) struct ExchangeText<'a> {
+    /// The moment and the client, before the request.
     pub(crate) client: &'a [u8],
     pub(crate) asked: &'a [u8],
     pub(crate) answered: &'a [u8],
-    /// What stands behind these.
+    /// The fields after the answer: size, time, and perhaps `request ..` or `signer`.
     pub(crate) behind: &'a [u8],
 }
 
-/// What is sent once more.
+/// What `replay` sends again.
 #[derive(Clone, Copy)]
 pub(crate) enum Entry {
-    /// The line that was asked.
+    /// The logged line itself.
     Line,
-    /// A request that was entered.
+    /// A request for revocation that was entered, with the number that it had then.
     Request {
         id: u64,
         serial: Serial,
         ground: Label,
     },
-    /// That a request is revoked or declined.
+    /// A line that revoked or declined a request, which had this number then.
     Decision {
         id: u64,
         serial: Serial,
     },
 }
 
-/// What a line of the log tells.
+/// What a line of the log has for `replay`.
 #[derive(Clone, Copy)]
 pub(crate) enum Logged {
-    /// No command that was accepted.
+    /// No accepted command.
     Nothing,
-    /// A command that it does not tell whole, or whose request it does not name.
+    /// A command of which the log has only a part, or whose request it does not name.
     Unknown,
     Command(Entry),
 }
 
 #[tactic(auto, unfolding(crate::specs::LogEntries::exchange_in))]
-pub(crate) fn exchange_in(line: &[u8]) -> Option<Told<'_>>
+pub(crate) fn exchange_in(line: &[u8]) -> Option<ExchangeText<'_>>
     ensures { option_map exchange_of result ≡ exchange_in line.now }
 {
     let (client, rest) = parted(line)?;
     let (asked, rest) = parted(rest)?;
     let (_, rest) = parted(rest)?;
     let (answered, behind) = parted(rest)?;
-    Some(Told {
+    Some(ExchangeText {
         client,
         asked,
         answered,
@@ -65,7 +65,7 @@ pub(crate) fn exchange_in(line: &[u8]) -> Option<Told<'_>>
     })
 }
 
-/// A text up to its first quotation mark, and behind it.
+/// The text before the first quotation mark, and the text after it.
 #[tactic(auto, unfolding(crate::specs::LogEntries::parted))]
 fn parted(text: &[u8]) -> Option<(&[u8], &[u8])>
     ensures { option_map (λ p. (p.0.now, p.1.now)) result ≡ parted text.now }
@@ -88,19 +88,19 @@ pub(crate) fn has_mark(text: &[u8]) -> bool
 }
 
 #[tactic(auto, unfolding(crate::specs::LogEntries::logged_of))]
-pub(crate) fn logged_of(told: &Told<'_>) -> Logged
-    ensures { result ≡ logged_of (exchange_of told.now) }
+pub(crate) fn logged_of(logged_exchange: &ExchangeText<'_>) -> Logged
+    ensures { result ≡ logged_of (exchange_of logged_exchange.now) }
 {
-    if has_mark(told.behind) {
+    if has_mark(logged_exchange.behind) {
         return Logged::Unknown;
     }
-    match named_in(told.behind) {
+    match named_in(logged_exchange.behind) {
         Some(logged) => logged,
-        None => unnamed(told),
+        None => unnamed(logged_exchange),
     }
 }
 
-/// What is told by the request that is named behind the bytes of an answer and its microseconds, if one is.
+/// What follows from the request that the log names after the size and the time of the answer; `None` if it names none.
 #[tactic(auto, unfolding(crate::specs::LogEntries::named_in))]
 fn named_in(behind: &[u8]) -> Option<Logged>
     ensures { result ≡ named_in (fields_of behind.now) }
@@ -150,33 +150,33 @@ fn request_by(id: &[u8], serial: &[u8], word: &[u8]) -> Option<Entry>
     Some(Entry::Request { id, serial, ground })
 }
 
-/// What is told by an exchange that names no request: a line at the control socket is a command or a schedule, if it was accepted.
+/// What follows from a line of the log that names no request: a command only if it was accepted at the control socket and changes the register.
 #[tactic(auto, unfolding(crate::specs::LogEntries::unnamed))]
-fn unnamed(told: &Told<'_>) -> Logged
-    ensures { result ≡ unnamed (exchange_of told.now) }
+fn unnamed(logged_exchange: &ExchangeText<'_>) -> Logged
+    ensures { result ≡ unnamed (exchange_of logged_exchange.now) }
 {
-    if !was_accepted(told) {
+    if !was_accepted(logged_exchange) {
         return Logged::Nothing;
     }
-    let word = first_word(told.asked);
+    let word = first_word(logged_exchange.asked);
     if is_of_request(word) {
         Logged::Unknown
     } else if !enters(word) {
         Logged::Nothing
-    } else if is_whole(told.asked) {
+    } else if is_whole(logged_exchange.asked) {
         Logged::Command(Entry::Line)
     } else {
         Logged::Unknown
     }
 }
 
-fn was_accepted(told: &Told<'_>) -> bool
-    ensures { result ≡ was_accepted (exchange_of told.now) }
+fn was_accepted(logged_exchange: &ExchangeText<'_>) -> bool
+    ensures { result ≡ was_accepted (exchange_of logged_exchange.now) }
 {
-    is_control(second_word(told.client)) && accepted(told.answered)
+    is_control(second_word(logged_exchange.client)) && accepted(logged_exchange.answered)
 }
 
-/// Whether a client is the control socket: older desks call it `counter`.
+/// Whether a client is the control socket, which older desks log as `counter`.
 fn is_control(client: &[u8]) -> bool
     ensures { result ≡ is_control client.now }
 {
@@ -205,11 +205,11 @@ fn enters(word: &[u8]) -> bool
         || word == b"schedule".as_slice()
 }
 
-/// Whether the log tells a text as it came: it is not cut, and has no escape.
+/// Whether the log has all of a text as it came: it was not cut off, and has no escaped byte.
 fn is_whole(text: &[u8]) -> bool
     ensures { result ≡ is_whole text.now }
 {
-    text.len() < MOST_TOLD && !text.contains(&b'\\')
+    text.len() < MOST_QUOTED && !text.contains(&b'\\')
 }
 
 pub(crate) fn first_word(text: &[u8]) -> &[u8]
@@ -222,7 +222,7 @@ pub(crate) fn first_word(text: &[u8]) -> &[u8]
     }
 }
 
-/// The second word of a text; no bytes where it has one word.
+/// The second word of a text; empty if there is none.
 pub(crate) fn second_word(text: &[u8]) -> &[u8]
     ensures { result.now ≡ second_word text.now }
 {

@@ -2,34 +2,34 @@
 
 ghost use Rattle.std.specs.Prelude.{◌≡◌, ◌++◌, ◌∷◌, ◌<◌, ◌≤◌, [], IfOk, IfSome, OnOk, decimal, length, take};
 ghost use Rattle.std.specs.List.{flat_map, position};
-ghost use Rattle.reg_desk_jobs.specs.Log.{digit as hexadecimal, is_plain as plain, ends_line, first_line as first_line_of, told_text, told_byte, exchange_line as exchanged, lost_line as lost, named_end, unsigned_end};
+ghost use Rattle.reg_desk_jobs.specs.Log.{digit as hexadecimal, is_plain as plain, ends_line, first_line as first_line_of, quoted_text, quoted_byte, exchange_line as exchanged, lost_line as lost, named_end, unsigned_end};
 
 use reg_core::{Decimal, Moment};
 use reg_http::NamedRequest;
 use std::alloc::{AllocError, Global};
 
-/// How many bytes of a text the log tells at most.
-pub(crate) const MOST_TOLD: usize = 256;
+/// The most bytes of a text that the log has.
+pub(crate) const MOST_QUOTED: usize = 256;
 
-/// The line of an exchange, with no LF behind it. Who asked stands there as it is; what was asked and answered puts no control character and
+/// The line of an exchange, with no LF behind it. The client stands there as it is; what was asked and answered puts no control character and
 /// no byte outside ASCII there, so that no peer can put a line of its own into the log. A request that was entered or decided is named by its
 /// number and serial number, and one that was entered by its ground, too. Where a signature did not come, the last word is `signer`.
 pub(crate) fn exchange_line(
     alloc: Global,
     now: Moment,
-    who: &[u8],
+    client_text: &[u8],
     asked: &[u8],
     answered: &[u8],
     micros: u64,
     named: Option<NamedRequest>,
     is_unsigned: bool,
 ) -> Result<Vec<u8>, AllocError>
-    ensures { IfOk result (λ line. line.items ≡ exchanged now who.now asked.now answered.now micros named is_unsigned) }
+    ensures { IfOk result (λ line. line.items ≡ exchanged now client_text.now asked.now answered.now micros named is_unsigned) }
 {
     let mut line = Vec::from_slice(alloc, &now.text())?;
-    put_word(&mut line, who)?;
-    put_told(&mut line, asked)?;
-    put_told(&mut line, answered)?;
+    put_word(&mut line, client_text)?;
+    put_quoted(&mut line, asked)?;
+    put_quoted(&mut line, answered)?;
     put_number(&mut line, answered.len() as u64)?;
     put_number(&mut line, micros)?;
     put_named(&mut line, named)?;
@@ -41,13 +41,13 @@ pub(crate) fn exchange_line(
 pub(crate) fn lost_line(
     alloc: Global,
     now: Moment,
-    who: &[u8],
+    client_text: &[u8],
     why: &[u8],
 ) -> Result<Vec<u8>, AllocError>
-    ensures { IfOk result (λ line. line.items ≡ lost now who.now why.now) }
+    ensures { IfOk result (λ line. line.items ≡ lost now client_text.now why.now) }
 {
     let mut line = Vec::from_slice(alloc, &now.text())?;
-    put_word(&mut line, who)?;
+    put_word(&mut line, client_text)?;
     line.extend_from_slice(b" lost ")?;
     line.extend_from_slice(why)?;
     Ok(line)
@@ -91,11 +91,11 @@ fn put_unsigned(line: &mut Vec<u8>, is_unsigned: bool) -> Result<(), AllocError>
     line.extend_from_slice(b" signer")
 }
 
-fn put_told(line: &mut Vec<u8>, text: &[u8]) -> Result<(), AllocError>
-    ensures { OnOk result (line.new.items ≡ line.old.items ++ (32 ∷ told_text text.now)) }
+fn put_quoted(line: &mut Vec<u8>, text: &[u8]) -> Result<(), AllocError>
+    ensures { OnOk result (line.new.items ≡ line.old.items ++ (32 ∷ quoted_text text.now)) }
 {
     line.extend_from_slice(b" \"")?;
-    put_plainly(line, front_of(first_line(text)))?;
+    put_plainly(line, first_bytes(first_line(text)))?;
     line.push(b'"')?;
     Ok(())
 }
@@ -117,18 +117,18 @@ fn line_end(text: &[u8]) -> Option<usize>
         .position(|byte| *byte == b'\r' || *byte == b'\n')
 }
 
-fn front_of(text: &[u8]) -> &[u8]
+fn first_bytes(text: &[u8]) -> &[u8]
     ensures { result.now ≡ take 256 text.now }
 {
-    if text.len() > MOST_TOLD {
-        &text[..MOST_TOLD]
+    if text.len() > MOST_QUOTED {
+        &text[..MOST_QUOTED]
     } else {
         text
     }
 }
 
 fn put_plainly(line: &mut Vec<u8>, text: &[u8]) -> Result<(), AllocError>
-    ensures { OnOk result (line.new.items ≡ line.old.items ++ flat_map told_byte text.now) }
+    ensures { OnOk result (line.new.items ≡ line.old.items ++ flat_map quoted_byte text.now) }
 {
     for byte in text {
         put_byte(line, *byte)?;
@@ -136,9 +136,9 @@ fn put_plainly(line: &mut Vec<u8>, text: &[u8]) -> Result<(), AllocError>
     Ok(())
 }
 
-#[tactic(auto, unfolding(crate::specs::Log::told_byte))]
+#[tactic(auto, unfolding(crate::specs::Log::quoted_byte))]
 fn put_byte(line: &mut Vec<u8>, byte: u8) -> Result<(), AllocError>
-    ensures { OnOk result (line.new.items ≡ line.old.items ++ told_byte byte) }
+    ensures { OnOk result (line.new.items ≡ line.old.items ++ quoted_byte byte) }
 {
     if is_plain(byte) {
         line.push(byte)?;

@@ -16,10 +16,10 @@ use std::io;
 use std::os::unix::net::UnixStream;
 
 /// The machine that a job runs on. A job is handed nothing else of the system, so only a call of it can say that a file was opened, a port bound or
-/// the clock read; a clause that leads from one machine to another by such calls says that no other file was touched. Each method is one call of
-/// the system with the arguments that it was given: that the call does what its relation says, no clause can say. What takes more than one call is
-/// written over any machine ([`registers`](crate::registers), [`control_socket`](crate::control_socket)). Where no errors are named, they are what
-/// the system says.
+/// the clock read; a clause that relates two machines by such calls says that no other file was touched. Each method stands for one action
+/// of the system. Its relation, such as `claimed`, names the action; that the system performs it is assumed. What takes several actions is
+/// written over any machine ([`registers`](crate::registers), [`control_socket`](crate::control_socket)). Where no errors are named, they are
+/// the system's.
 pub trait Machine {
     ghost use Rattle.std.specs.Prelude.{◌≡◌, ◌≤◌, ◌⊎◌, ℕ, List, [], IsTrue, IsFalse, MatchBool, OnOk, OnErr, IfOk, IfErr, IfSome, length};
     ghost use Rattle.reg_office_api.specs.Leads.{Leads};
@@ -29,10 +29,10 @@ pub trait Machine {
     ghost use Rattle.reg_crl.specs.Signing.{Identity};
     ghost use Rattle.reg_desk_cli.specs.declared.failure.Failure.{Failure as Failing};
     ghost use Rattle.reg_audit_rows.specs.declared.audit_result.AuditResult.{AuditResult as AuditResults};
-    ghost use Rattle.reg_desk_jobs.specs.Clocks.{Tells};
-    ghost use Rattle.reg_desk_jobs.specs.Given.{WasGiven};
+    ghost use Rattle.reg_desk_jobs.specs.Clocks.{IsClockMoment};
+    ghost use Rattle.reg_desk_jobs.specs.SignerAnswers.{AnsweredAtSomePath};
     ghost use Rattle.reg_desk_jobs.specs.RegisterFailures.{IsMaking, IsOpening};
-    ghost use Rattle.reg_desk_jobs.specs.WhoSigns.{HasCertificate};
+    ghost use Rattle.reg_desk_jobs.specs.Signers.{HasCertificate};
     ghost use Rattle.reg_desk_jobs.specs.declared.crl_signer.CrlSigner.{CrlSigner as SignsCrls};
     ghost use Rattle.reg_crl_signer.specs.SignatureRequest.{IsSignatureRequest};
     ghost use Rattle.reg_crl_signer.specs.Forms.{HasForm};
@@ -47,7 +47,7 @@ pub trait Machine {
     /// A register's files that are open for reading alone.
     type Sources: Drop;
 
-    /// Who answers OCSP requests, with the certificate that stands with the answers.
+    /// The responder to OCSP requests, with the certificate that its answers contain.
     type Responder: Drop;
 
     // ---- files
@@ -70,7 +70,7 @@ pub trait Machine {
     ghost unconnected: { Self → List ℕ → Failing → Self → Type 0 };
     /// No statement ran over the database yet.
     ghost fresh: { Self.Database → Type 0 };
-    /// This is who answers, as the words say, once the certificates are read.
+    /// This responder answers, by the options, once the certificates are read.
     ghost certified: { Answering → Self.Responder → Type 0 };
     /// The register of the database was opened as this office, with this signer of CRLs and this responder.
     ghost opened: { Self.Database → SignsCrls → Self.Responder → Self.Office → Type 0 };
@@ -92,41 +92,41 @@ pub trait Machine {
     // ---- clock, ports and sockets
 
     /// The clock stood at so many whole seconds since 1970 began; at 0 also before that.
-    ghost stood: { ℕ → Type 0 };
-    /// The clock stood at this moment, or was past it.
-    ghost told: { ℕ → Type 0 };
+    ghost clock_read: { ℕ → Type 0 };
+    /// The clock has reached this moment.
+    ghost clock_reached: { ℕ → Type 0 };
     /// This port of this address was bound (four bytes, RFC 791 3.1, or sixteen, RFC 4291 2).
     ghost bound: { List ℕ → ℕ → Type 0 };
     /// A socket was created at this path.
-    ghost laid: { List ℕ → Type 0 };
+    ghost socket_created: { List ℕ → Type 0 };
     /// What lies at this path was given this mode.
     ghost has_mode: { List ℕ → ℕ → Type 0 };
-    /// No program listened any more at the socket at this path.
-    ghost deserted: { List ℕ → Type 0 };
+    /// The socket at this path was stale: no program listened at it.
+    ghost stale: { List ℕ → Type 0 };
     /// The program connected to the socket at this path.
-    ghost met: { List ℕ → Type 0 };
+    ghost socket_connected: { List ℕ → Type 0 };
     /// The signer at the socket at this path was asked to sign this message.
-    ghost asked: { List ℕ → List ℕ → Type 0 };
+    ghost signature_requested: { List ℕ → List ℕ → Type 0 };
     /// The program connected to the signer at the socket at this path.
     ghost reached: { List ℕ → Type 0 };
     /// The signer at this path gave this answer to this message.
-    ghost gave: { List ℕ → List ℕ → List ℕ → Type 0 };
+    ghost signer_answered: { List ℕ → List ℕ → List ℕ → Type 0 };
     /// This line was written to standard error.
     ghost warned: { List ℕ → Type 0 };
 
-    /// Creates an empty file, for its owner alone, at a path where nothing lies, and no log either, in one step: of two programs that do so at once
-    /// one has it. Answers whether it did: also a link that leads nowhere lies there, and what can't be looked at.
+    /// Creates an empty file, for its owner alone, at a path where there is neither a file nor its WAL, in one step: if two programs try at once,
+    /// one succeeds. `false` if something is there, even a dangling link, or if the path can't be examined.
     fn claim(&mut self, path: &str) -> Result<bool, Memory>
         ensures ours { IfOk result (λ is_ours. IsTrue is_ours → claimed self.old path.now self.new) }
         ensures lies { IfOk result (λ is_ours. IsFalse is_ours → lies self.old path.now) }
         ensures same { IfOk result (λ is_ours. IsFalse is_ours → self.new ≡ self.old) }
         ensures memory { OnErr result (self.new ≡ self.old) };
 
-    /// Whether something is found at a path, where a link leads.
+    /// Whether something is found at a path. Links are followed.
     fn is_there(&self, path: &str) -> bool
         ensures { MatchBool result (lies self.now path.now) (absent self.now path.now) };
 
-    /// Removes the file at a path, and its log. One that can't be removed, or is in use, stays.
+    /// Removes the file at a path, and its WAL. A file that can't be removed, or is in use, stays.
     fn remove(&mut self, path: &str)
         ensures { removed self.old path.now self.new };
 
@@ -147,14 +147,14 @@ pub trait Machine {
     /// The bytes of the file at a path; `None` where it can't be read.
     fn file(&self, path: &str) -> Option<Vec<u8>>;
 
-    /// Reads the certificates of who answers OCSP requests; `BadResponder` where one can't be read, is none, or has a key of another algorithm.
+    /// Reads the certificates of the responder to OCSP requests; `BadResponder` where one can't be read, is not a certificate, or has a key of another algorithm.
     fn certify(&self, answerer: &Answerer<'_>) -> Result<Self::Responder, Failure>
         ensures certified { IfOk result (certified answerer.now) }
         ensures told { OnErr result (HasCertificate answerer.now) }
         ensures faults { IfErr result IsOpening };
 
     /// Opens the register of a database, which is closed where that fails: `NotARegister` and `NewVersion` for other tables; `BadSigner` where the
-    /// latest CRL was signed under an algorithm that may not be followed, or the issuer's key is none of the algorithm; `BadResponder` where the
+    /// latest CRL's algorithm can't be followed by this signer's, or the issuer's key isn't of the signer's algorithm; `BadResponder` where the
     /// issuer's certificate has another key.
     fn open_in(
         &self,
@@ -175,7 +175,7 @@ pub trait Machine {
     ) -> Result<Self::Office, Failure>
         requires { fresh database }
         ensures made { IfOk result (made database) }
-        ensures stands { IfOk result (λ office. (who : Signatory) × Self.Office.stands who office (no_records issuer policy)) }
+        ensures stands { IfOk result (λ office. (signatory : Signatory) × Self.Office.stands signatory office (no_records issuer policy)) }
         ensures faults { IfErr result IsMaking };
 
     /// Closes the office whose file lies at a path.
@@ -188,7 +188,7 @@ pub trait Machine {
         ensures unread { IfErr result (unread self.now path.now) }
         ensures faults { IfErr result IsOpening };
 
-    /// Audits the register in files, without making an older version newer; `NotARegister` and `NewVersion` for other tables.
+    /// Audits the register in files, without migrating an older version; `NotARegister` and `NewVersion` for other tables.
     fn audit_in(&self, sources: Self::Sources) -> Result<AuditResult, Failure>
         ensures audited { IfOk result (audited sources) }
         ensures faults { IfErr result IsOpening };
@@ -209,8 +209,8 @@ pub trait Machine {
 
     /// The whole seconds of the clock since 1970 began; 0 where it stands before that.
     fn seconds(&self) -> io::Result<u64>
-        ensures stood { IfOk result stood }
-        ensures told { IfOk result (λ seconds. (now : ℕ) → now ≤ seconds → told now) };
+        ensures stood { IfOk result clock_read }
+        ensures told { IfOk result (λ seconds. (now : ℕ) → now ≤ seconds → clock_reached now) };
 
     /// The microseconds of a clock that never goes back; 0 where it can't be read.
     fn micros(&self) -> u64;
@@ -224,8 +224,8 @@ pub trait Machine {
         ensures { OnOk result (bound address port) };
 
     /// Creates a socket at a path, and listens there without waiting; `AddrInUse` where something lies there.
-    fn lay(&self, path: &str) -> io::Result<UnixListener>
-        ensures { OnOk result (laid path.now) };
+    fn create_socket(&self, path: &str) -> io::Result<UnixListener>
+        ensures { OnOk result (socket_created path.now) };
 
     /// Sets the mode of the file at a path.
     fn set_mode(&self, path: &str, mode: u32) -> io::Result<()>
@@ -235,21 +235,21 @@ pub trait Machine {
     fn is_socket(&self, path: &str) -> io::Result<bool>;
 
     /// Whether no program listens any more at the socket at a path: it refuses connections.
-    fn is_deserted(&self, path: &str) -> bool
-        ensures { IsTrue result → deserted path.now };
+    fn is_stale(&self, path: &str) -> bool
+        ensures { IsTrue result → stale path.now };
 
     /// Removes a socket at which no program listens any more.
     fn unlink(&self, path: &str) -> io::Result<()>
-        requires { deserted path.now };
+        requires { stale path.now };
 
     /// Connects to the socket at a path.
-    fn meet(&self, path: &str) -> io::Result<UnixStream>
-        ensures { OnOk result (met path.now) };
+    fn connect_to_socket(&self, path: &str) -> io::Result<UnixStream>
+        ensures { OnOk result (socket_connected path.now) };
 
-    /// Asks the signer at the socket at a path to sign a message, and waits for nothing: the connection on which the answer comes, up to its end;
+    /// Asks the signer at the socket at a path to sign a message, without waiting. Gives the connection on which the answer will come, up to its end;
     /// `WouldBlock` where the socket has no room for one more.
-    fn ask(&self, path: &str, message: &[u8]) -> io::Result<SignatureRequest>
-        ensures asked { OnOk result (asked path.now message.now) }
+    fn request_signature(&self, path: &str, message: &[u8]) -> io::Result<SignatureRequest>
+        ensures asked { OnOk result (signature_requested path.now message.now) }
         ensures kept { IfOk result (IsSignatureRequest path.now message.now) };
 
     /// Connects to a signer in the same way, with no message on the connection yet.
@@ -258,18 +258,18 @@ pub trait Machine {
         ensures kept { IfOk result (IsSignatureRequest path.now []) };
 
     /// The answer on a connection to a signer, once it is whole. `None` where it is not, is longer than 4,096 bytes, or memory is refused.
-    fn hear(alloc: Global, link: &mut SignatureRequest) -> Option<Vec<u8>>
-        ensures given { IfSome result (λ answer. (path message : List ℕ) → IsSignatureRequest path message link.old → gave path message answer.items) }
+    fn receive_answer(alloc: Global, link: &mut SignatureRequest) -> Option<Vec<u8>>
+        ensures given { IfSome result (λ answer. (path message : List ℕ) → IsSignatureRequest path message link.old → signer_answered path message answer.items) }
         ensures short { IfSome result (λ answer. length answer.items ≤ 4096) };
 
-    /// Presets the next signature of an office: what a signer gave for a message, or that it gave nothing. The signer is not asked then. `None` has
-    /// it asked again.
+    /// Presets the next signature of an office: what a signer gave for a message, or that it gave nothing. The office then doesn't ask the signer.
+    /// `None` removes the preset.
     fn set_preset(
         office: &mut Self::Office,
         wanted: Wanted,
         preset_signature: Option<PresetSignature>,
     )
-        requires { IfSome preset_signature (λ known. IfSome known.answer (λ answer. WasGiven gave known.message.items answer.items)) }
+        requires { IfSome preset_signature (λ known. IfSome known.answer (λ answer. AnsweredAtSomePath signer_answered known.message.items answer.items)) }
         ensures { Leads Self.Office.is_clean Self.Office.stands (λ identity before after. after ≡ before) office.old office.new };
 
     /// Whether exchanges are logged.
@@ -282,30 +282,30 @@ pub trait Machine {
     fn warn(&self, line: &[u8])
         ensures { warned line.now };
 
-    /// Keeps why a call failed.
-    fn note(&self, cause: Option<Cause>);
+    /// Keeps the cause of a failed call.
+    fn keep_cause(&self, cause: Option<Cause>);
 
-    /// Why the call failed that failed last, where that is known.
-    fn noted(&self) -> Option<Cause>;
+    /// The cause of the last failed call, if it is known.
+    fn last_cause(&self) -> Option<Cause>;
 
-    /// The moment of the clock, the last one where it is past that; `Read` where it can't be read.
+    /// The moment of the clock, or the last possible moment if the clock is past it; `Read` where it can't be read.
     final fn moment(&self) -> Result<Moment, Fault>
-        ensures told { IfOk result told }
-        ensures exact { IfOk result (Tells stood) }
+        ensures told { IfOk result clock_reached }
+        ensures exact { IfOk result (IsClockMoment clock_read) }
         ensures err { IfErr result (λ fault. fault ≡ Fault.Read) }
     {
         match self.seconds() {
             Ok(seconds) => Ok(moment_at(seconds)),
             Err(_) => {
-                self.note(Some(Cause::Clock));
+                self.keep_cause(Some(Cause::Clock));
                 Err(Fault::Read)
             }
         }
     }
 
-    /// A moment that the clock told before. `None` where the clock is behind it now.
+    /// An earlier moment of the clock. `None` where the clock is behind it now.
     final fn recall(&self, moment: Moment) -> Option<Moment>
-        ensures { IfSome result (λ recalled. told recalled × (recalled ≡ moment)) }
+        ensures { IfSome result (λ recalled. clock_reached recalled × (recalled ≡ moment)) }
     {
         match self.seconds() {
             Ok(seconds) if moment <= moment_at(seconds) => Some(moment),
@@ -314,6 +314,6 @@ pub trait Machine {
     }
 
     /// An answer that a signer gave is a signature, where it has the form of one.
-    ghost gave_signs: { (identity : Identity) (path message answer : List ℕ) → gave path message answer → HasForm identity answer
+    ghost answer_in_form_signs: { (identity : Identity) (path message answer : List ℕ) → signer_answered path message answer → HasForm identity answer
         → Self.Office.signs identity message answer };
 }

@@ -9,8 +9,8 @@ use reg_desk_cli::{Failure, KeptOpen};
 use std::io::{Read, Write};
 
 /// Keeps the register at a path open, until the program is ended. It is opened before the port is bound, and the port is bound
-/// before the control socket is created. If a published CRL is told, `reader` has its bytes, and a register that lacks something of it is not served.
-pub fn hold_open<M: Machine, R: Read, W: Write>(
+/// before the control socket is created. If a published CRL is given, `reader` has its bytes, and a register that lacks something of it is not served.
+pub fn serve_open<M: Machine, R: Read, W: Write>(
     rt: &HostRuntime,
     machine: &mut M,
     kept: &KeptOpen<'_>,

@@ -1,8 +1,8 @@
-//! What a job says.
+//! What a job writes.
 
 ghost use Rattle.std.specs.Prelude.{◌≡◌, ◌∷◌, [], ℕ, List, IfOk};
-ghost use Rattle.reg_desk_jobs.specs.Ends.{SaysText, PrintsLine};
-ghost use Rattle.reg_desk_jobs.specs.Told.{Adds, Explains, IsAnsweredLine, IsWritten, ReportsExit, AnswersReason};
+ghost use Rattle.reg_desk_jobs.specs.Ends.{PrintsText, PrintsLine};
+ghost use Rattle.reg_desk_jobs.specs.FailureReports.{Adds, Explains, IsReportedLine, IsWritten, ReportsExit, ReportsReason};
 
 use crate::reasons::{Reason, reason_line};
 use reg_core::{Cause, Fault};
@@ -11,9 +11,9 @@ use reg_io::write_whole;
 use std::alloc::{AllocError, Global};
 use std::io::Write;
 
-/// Says a text of the job; `Write` where the writer fails, or takes no byte of what is left.
-pub(crate) fn say<W: Write>(writer: &mut W, text: &[u8]) -> Result<(), Failure>
-    ensures { SaysText text.now (W.contents writer.old) (W.contents writer.new) result }
+/// Writes a text of the job; `Write` where the writer fails, or takes no byte of the rest.
+pub(crate) fn print_text<W: Write>(writer: &mut W, text: &[u8]) -> Result<(), Failure>
+    ensures { PrintsText text.now (W.contents writer.old) (W.contents writer.new) result }
 {
     match write_whole(writer, text) {
         Ok(()) => Ok(()),
@@ -21,21 +21,21 @@ pub(crate) fn say<W: Write>(writer: &mut W, text: &[u8]) -> Result<(), Failure>
     }
 }
 
-/// Says a line, or that there was no memory for it.
-pub(crate) fn say_line<W: Write>(
+/// Writes a line, or reports that there was no memory for it.
+pub(crate) fn print_line<W: Write>(
     writer: &mut W,
     line: Result<Vec<u8>, AllocError>,
 ) -> Result<(), Failure>
     ensures { (text : List ℕ) → IfOk line (λ made. made.items ≡ text) → PrintsLine text W.contents writer.old writer.new result }
 {
     match line {
-        Ok(line) => say(writer, &line),
+        Ok(line) => print_text(writer, &line),
         Err(_) => Err(Failure::Fault(Fault::Memory)),
     }
 }
 
-/// Tells on standard error why a job is not done, in one line; and where that is asked for and known, in one line more, the cause of a fault,
-/// or why a registration was refused at which the job ended. A device that fails is told nothing more.
+/// Reports on standard error why a job failed, in one line; and where that is asked for and known, in one line more, the cause of a fault,
+/// or why a registration was refused at which the job ended. Nothing more is written to a device that fails.
 pub fn report_exit<W: Write>(
     alloc: Global,
     errors: &mut W,
@@ -55,12 +55,12 @@ fn report_failure<W: Write>(errors: &mut W, ending: &Result<(), Failure>)
 {
     match ending {
         Ok(()) => {}
-        Err(failure) => answer_line(errors, failure.line().as_bytes()),
+        Err(failure) => report_line(errors, failure.line().as_bytes()),
     }
 }
 
-fn answer_line<W: Write>(errors: &mut W, line: &[u8])
-    ensures { IsAnsweredLine (W.contents errors.old) (W.contents errors.new) line.now }
+fn report_line<W: Write>(errors: &mut W, line: &[u8])
+    ensures { IsReportedLine (W.contents errors.old) (W.contents errors.new) line.now }
 {
     match write_whole(errors, line) {
         Ok(()) => put(errors, b"\n"),
@@ -77,7 +77,7 @@ fn put<W: Write>(errors: &mut W, text: &[u8])
     }
 }
 
-/// Tells in one line, where that is asked for and known, the cause of a fault by its exit status, or why a registration was refused by that
+/// Reports in one line, where that is asked for and known, the cause of a fault by its exit status, or why a registration was refused by that
 /// of a refusal.
 fn explain<W: Write>(
     alloc: Global,
@@ -95,15 +95,15 @@ fn explain<W: Write>(
     match (status, cause) {
         (1, Some(cause)) => {
             let line = cause.line();
-            answer_line(errors, line.as_bytes());
+            report_line(errors, line.as_bytes());
         }
-        (3, _) => answer_reason(alloc, errors, reason),
+        (3, _) => report_reason(alloc, errors, reason),
         _ => {}
     }
 }
 
-fn answer_reason<W: Write>(alloc: Global, errors: &mut W, reason: Option<Reason>)
-    ensures { AnswersReason (W.contents errors.old) (W.contents errors.new) }
+fn report_reason<W: Write>(alloc: Global, errors: &mut W, reason: Option<Reason>)
+    ensures { ReportsReason (W.contents errors.old) (W.contents errors.new) }
 {
     match reason_line(alloc, b"  ", reason) {
         Some(line) => put(errors, &line),

@@ -10,7 +10,7 @@ ghost use Rattle.reg_office_api.specs.Leads.{Looks};
 ghost use Rattle.reg_desk_jobs.specs.Conversations.{IsInput};
 ghost use Rattle.reg_desk_jobs.specs.Published.{AppendsMissing, Compares, FindsMissing, latest_number, missing_at, missing_crl, missing_revocation};
 
-use crate::output_lines::say;
+use crate::output_lines::print_text;
 use reg_core::{CrlRow, Decimal, Fault, Moment, Outcome, Query, Reply, Serial, Status};
 use reg_crl::{next_entry, read_crl};
 use reg_desk_cli::Failure;
@@ -37,7 +37,7 @@ pub(crate) fn check_published<O: Office, R: Read, W: Write>(
     if lines.is_empty() {
         return Ok(());
     }
-    say(writer, &lines)?;
+    print_text(writer, &lines)?;
     Err(Failure::LacksPublished)
 }
 

@@ -1,4 +1,4 @@
-//! Why a registration, or a decision of a request, was refused: as the word `why` at the control socket tells it behind the line, and a strict script or import under `--why`.
+//! Why a registration, or a decision of a request, was refused: as the word `why` at the control socket gives it after the line, and a strict script or import under `--why`.
 
 ghost use Rattle.std.specs.Prelude.{◌≡◌, ◌++◌, ◌∷◌, [], IfOk, IfSome};
 ghost use Rattle.reg_office_api.specs.Leads.{Leads};
@@ -16,7 +16,7 @@ use std::cell::Cell;
 
 const DAY: u64 = 86_400;
 
-/// Why a command was refused, where more is told of that than the refusal.
+/// Why a command was refused, where the reply says more than the refusal.
 #[derive(Clone, Copy, PartialEq, Eq)]
 pub enum Reason {
     /// There is no order of this number.
@@ -35,57 +35,66 @@ pub enum Reason {
     Unsigned(u64),
 }
 
-pub(crate) fn told_why(alloc: Global, noted: &[u8]) -> ControlReply
+pub(crate) fn reason_reply(alloc: Global, last_reason: &[u8]) -> ControlReply
     ensures { ReportsLineOutcome result.came result.text.items }
 {
-    ControlReply::made(alloc, why_reply(alloc, noted), LineOutcome::Done)
+    ControlReply::made(alloc, why_reply(alloc, last_reason), LineOutcome::Done)
 }
 
 #[tactic(auto, unfolding(crate::specs::Reasons::kept_reason_text))]
-fn why_reply(alloc: Global, noted: &[u8]) -> Result<Vec<u8>, AllocError>
-    ensures { IfOk result (λ text. text.items ≡ kept_reason_text noted.now) }
+fn why_reply(alloc: Global, last_reason: &[u8]) -> Result<Vec<u8>, AllocError>
+    ensures { IfOk result (λ text. text.items ≡ kept_reason_text last_reason.now) }
 {
     let mut text = Vec::from_slice(alloc, b"why ")?;
-    if noted.is_empty() {
+    if last_reason.is_empty() {
         text.extend_from_slice(b"nothing\n")?;
         return Ok(text);
     }
-    text.extend_from_slice(noted)?;
+    text.extend_from_slice(last_reason)?;
     Ok(text)
 }
 
-/// Notes why a line was refused by this reply. Where no command was, the register does not tell it, or there is no memory for it, that is
+/// Keeps why a line was refused by this reply. Where no command was refused, the register does not say it, or there is no memory for it, that is
 /// the reply itself.
-pub(crate) fn note<M: Machine>(
+pub(crate) fn keep_refusal_reason<M: Machine>(
     alloc: Global,
     office: &mut M::Office,
     refused: Option<RefusedCommand>,
     reply: &[u8],
-    noted: &mut Vec<u8>,
+    last_reason: &mut Vec<u8>,
 )
     ensures { Leads M.Office.is_clean M.Office.stands (λ identity before after. after ≡ before) office.old office.new }
 {
     match refused {
         Some(refused) => {
             let reason = reason_of::<M>(office, &refused);
-            keep_reason_text(reason_line(alloc, b"", reason), reply, noted);
+            keep_reason_text(reason_line(alloc, b"", reason), reply, last_reason);
         }
-        None => keep_reply_reason(reply, noted),
+        None => keep_reply_reason(reply, last_reason),
     }
 }
 
 /// Notes a text in place of what was noted; where there is none, or no memory for it, the reply.
-pub(crate) fn keep_reason_text(text: Option<Vec<u8>>, reply: &[u8], noted: &mut Vec<u8>) {
+pub(crate) fn keep_reason_text(text: Option<Vec<u8>>, reply: &[u8], last_reason: &mut Vec<u8>) {
     match text {
-        Some(text) => *noted = text,
-        None => keep_reply_reason(reply, noted),
+        Some(text) => *last_reason = text,
+        None => keep_reply_reason(reply, last_reason),
     }
 }
 
 /// Notes which field of a line is wrong by which it can't be read, in place of its reply; where the line can be read, nothing.
-pub(crate) fn note_syntax(alloc: Global, line: &[u8], reply: &ControlReply, noted: &mut Vec<u8>) {
+pub(crate) fn keep_syntax_reason(
+    alloc: Global,
+    line: &[u8],
+    reply: &ControlReply,
+    last_reason: &mut Vec<u8>,
+) {
     if reply.came.kind() == LineReply::Refused && read_line(line).is_none() {
-        keep_reason_text(reason_line(alloc, b"", syntax_of(line)), &reply.text, noted);
+        keep_reason_text(
+            reason_line(alloc, b"", syntax_of(line)),
+            &reply.text,
+            last_reason,
+        );
     }
 }
 
@@ -93,9 +102,9 @@ fn syntax_of(line: &[u8]) -> Option<Reason> {
     Some(Reason::Wrong(wrong_field(line)?))
 }
 
-pub(crate) fn keep_reply_reason(reply: &[u8], noted: &mut Vec<u8>) {
-    noted.clear();
-    let _ = noted.extend_from_slice(reply);
+pub(crate) fn keep_reply_reason(reply: &[u8], last_reason: &mut Vec<u8>) {
+    last_reason.clear();
+    let _ = last_reason.extend_from_slice(reply);
 }
 
 /// Why a command was refused, if it is a registration, as the register tells it. Nothing changes.
@@ -151,21 +160,21 @@ fn last_of(not_before: Moment, days: u64) -> Option<Moment>
 }
 
 /// A text and the words of a reason behind it, with an LF, where there is a reason and memory for them.
-pub(crate) fn reason_line(alloc: Global, front: &[u8], reason: Option<Reason>) -> Option<Vec<u8>>
-    ensures { IfSome result (λ text. IsReasonLine front.now reason text.items) }
+pub(crate) fn reason_line(alloc: Global, prefix: &[u8], reason: Option<Reason>) -> Option<Vec<u8>>
+    ensures { IfSome result (λ text. IsReasonLine prefix.now reason text.items) }
 {
     let words = reason_words(alloc, reason?).ok()?;
-    prefix_and_end(alloc, front, &words).ok()
+    prefix_and_end(alloc, prefix, &words).ok()
 }
 
 pub(crate) fn prefix_and_end(
     alloc: Global,
-    front: &[u8],
+    prefix: &[u8],
     words: &[u8],
 ) -> Result<Vec<u8>, AllocError>
-    ensures { IfOk result (λ text. text.items ≡ front.now ++ words.now ++ 10 ∷ []) }
+    ensures { IfOk result (λ text. text.items ≡ prefix.now ++ words.now ++ 10 ∷ []) }
 {
-    let mut text = Vec::from_slice(alloc, front)?;
+    let mut text = Vec::from_slice(alloc, prefix)?;
     text.extend_from_slice(words)?;
     text.push(b'\n')?;
     Ok(text)
@@ -218,11 +227,16 @@ fn other_text_of(alloc: Global, request: u64, serial: Serial) -> Result<Vec<u8>,
     Ok(text)
 }
 
-fn order_text_of(alloc: Global, front: &[u8], order: u64, end: &[u8]) -> Result<Vec<u8>, AllocError>
-    ensures { IfOk result (λ text. text.items ≡ order_text front.now order end.now) }
+fn order_text_of(
+    alloc: Global,
+    prefix: &[u8],
+    order: u64,
+    end: &[u8],
+) -> Result<Vec<u8>, AllocError>
+    ensures { IfOk result (λ text. text.items ≡ order_text prefix.now order end.now) }
 {
     let digits = Decimal::of(order);
-    let mut text = Vec::from_slice(alloc, front)?;
+    let mut text = Vec::from_slice(alloc, prefix)?;
     text.extend_from_slice(digits.as_bytes())?;
     text.extend_from_slice(end)?;
     Ok(text)

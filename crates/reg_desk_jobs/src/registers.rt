@@ -5,7 +5,7 @@ ghost use Rattle.reg_office_api.specs.Signatories.{Signatory};
 ghost use Rattle.reg_core.specs.Records.{no_records};
 ghost use Rattle.reg_desk_jobs.specs.RegisterFailures.{IsMaking, IsOpening};
 ghost use Rattle.reg_desk_jobs.specs.Registers.{Audits, Made, Opened, Unaudited, Unmade, Unopened};
-ghost use Rattle.reg_desk_jobs.specs.WhoSigns.{signing_told, unsigned};
+ghost use Rattle.reg_desk_jobs.specs.Signers.{signing_with, unsigned};
 
 use crate::crl_signer::CrlSigner;
 use crate::machine::Machine;
@@ -32,11 +32,11 @@ pub(crate) fn open_signed<M: Machine>(
     signer: &Option<KeyHolder<'_>>,
     answerer: &Answerer<'_>,
 ) -> Result<M::Office, Failure>
-    ensures ok { IfOk result (λ office. Opened M.Machine machine.old path.now (signing_told signer.now answerer.now) office machine.new) }
-    ensures err { IfErr result (λ why. Unopened M.Machine machine.old path.now (signing_told signer.now answerer.now) why machine.new) }
+    ensures ok { IfOk result (λ office. Opened M.Machine machine.old path.now (signing_with signer.now answerer.now) office machine.new) }
+    ensures err { IfErr result (λ why. Unopened M.Machine machine.old path.now (signing_with signer.now answerer.now) why machine.new) }
     ensures faults { IfErr result IsOpening }
 {
-    open_by(machine, path, &CrlSigner::told(signer, answerer), answerer)
+    open_by(machine, path, &CrlSigner::of(signer, answerer), answerer)
 }
 
 /// To open a path where no database is would make one, so the path is looked at before.
@@ -64,7 +64,7 @@ pub(crate) fn make<M: Machine>(
     policy: Policy,
 ) -> Result<M::Office, Failure>
     ensures ok { IfOk result (λ office. Made M.Machine machine.old path.now office machine.new) }
-    ensures stands { IfOk result (λ office. (who : Signatory) × M.Office.stands who office (no_records issuer policy)) }
+    ensures stands { IfOk result (λ office. (signatory : Signatory) × M.Office.stands signatory office (no_records issuer policy)) }
     ensures err { IfErr result (λ why. Unmade M.Machine machine.old path.now why machine.new) }
     ensures faults { IfErr result IsMaking }
 {

@@ -6,11 +6,11 @@ ghost use Rattle.reg_desk_jobs.specs.Replays.{EntryEnds, LineEnds, ReplaysAt, Re
 
 use crate::at_job::{Next, exchange, next_line};
 use crate::log_entries::{
-    Entry, Logged, Told, exchange_in, first_word, has_mark, logged_of, second_word,
+    Entry, ExchangeText, Logged, exchange_in, first_word, has_mark, logged_of, second_word,
 };
 use crate::log_lines::{put_number, put_word};
 use crate::machine::Machine;
-use crate::output_lines::say;
+use crate::output_lines::print_text;
 use reg_core::{Fault, read_number};
 use reg_desk_cli::Failure;
 use reg_lines::without_end;
@@ -32,13 +32,13 @@ struct Renumbered {
 pub fn replay<M: Machine, R: Read, W: Write>(
     alloc: Global,
     machine: &M,
-    counter: &str,
+    control_path: &str,
     reader: &mut R,
     writer: &mut W,
 ) -> Result<(), Failure>
-    ensures { ReplaysAt (M.met counter.now) (R.remaining reader.old) (W.contents writer.old) (W.contents writer.new) result }
+    ensures { ReplaysAt (M.socket_connected control_path.now) (R.remaining reader.old) (W.contents writer.old) (W.contents writer.new) result }
 {
-    match machine.meet(counter) {
+    match machine.connect_to_socket(control_path) {
         Ok(link) => replay_over(alloc, &link, reader, writer),
         Err(_) => Err(Failure::Fault(Fault::Read)),
     }
@@ -52,13 +52,22 @@ fn replay_over<R: Read, W: Write>(
 ) -> Result<(), Failure>
     ensures { ReplaysOver (R.remaining reader.old) (W.contents writer.old) (W.contents writer.new) result }
 {
-    let Ok(mut came) = BufReader::new(alloc, link) else {
+    let Ok(mut incoming) = BufReader::new(alloc, link) else {
         return Err(Failure::Fault(Fault::Memory));
     };
     let mut sent = link;
     let mut numbers = Vec::new(alloc);
     match BufReader::new(alloc, reader) {
-        Ok(mut log) => { replay_log(alloc, &mut log, &mut numbers, writer, &mut came, &mut sent) }
+        Ok(mut log) => {
+            replay_log(
+                alloc,
+                &mut log,
+                &mut numbers,
+                writer,
+                &mut incoming,
+                &mut sent,
+            )
+        }
         Err(_) => Err(Failure::Fault(Fault::Memory)),
     }
 }
@@ -68,16 +77,16 @@ fn replay_log<R: BufRead, W: Write, C: BufRead, S: Write>(
     log: &mut R,
     numbers: &mut Vec<Renumbered>,
     writer: &mut W,
-    came: &mut C,
+    incoming: &mut C,
     sent: &mut S,
 ) -> Result<(), Failure>
     ensures { ReplaysLog (R.remaining log.old)
-        (state_of (S.contents sent.old) (C.remaining came.old) (W.contents writer.old) numbers.old.items)
-        (state_of (S.contents sent.new) (C.remaining came.new) (W.contents writer.new) numbers.new.items) result }
+        (state_of (S.contents sent.old) (C.remaining incoming.old) (W.contents writer.old) numbers.old.items)
+        (state_of (S.contents sent.new) (C.remaining incoming.new) (W.contents writer.new) numbers.new.items) result }
 {
     for _ in 0..u64::MAX {
         match next_line(alloc, log)? {
-            Next::Line(line) => match replay_line(alloc, &line, numbers, writer, came, sent) {
+            Next::Line(line) => match replay_line(alloc, &line, numbers, writer, incoming, sent) {
                 Ok(()) => {}
                 Err(why) => return Err(why),
             },
@@ -93,19 +102,28 @@ fn replay_line<W: Write, C: BufRead, S: Write>(
     line: &[u8],
     numbers: &mut Vec<Renumbered>,
     writer: &mut W,
-    came: &mut C,
+    incoming: &mut C,
     sent: &mut S,
 ) -> Result<(), Failure>
-    ensures { LineEnds (state_of (S.contents sent.old) (C.remaining came.old) (W.contents writer.old) numbers.old.items) line.now
-        (state_of (S.contents sent.new) (C.remaining came.new) (W.contents writer.new) numbers.new.items) result }
+    ensures { LineEnds (state_of (S.contents sent.old) (C.remaining incoming.old) (W.contents writer.old) numbers.old.items) line.now
+        (state_of (S.contents sent.new) (C.remaining incoming.new) (W.contents writer.new) numbers.new.items) result }
 {
     let text = without_end(line);
     match exchange_in(text) {
-        Some(told) => match logged_of(&told) {
+        Some(logged_exchange) => match logged_of(&logged_exchange) {
             Logged::Nothing => Ok(()),
             Logged::Unknown => stop(writer, line),
             Logged::Command(entry) => {
-                replay_entry(alloc, line, &told, &entry, numbers, writer, came, sent)
+                replay_entry(
+                    alloc,
+                    line,
+                    &logged_exchange,
+                    &entry,
+                    numbers,
+                    writer,
+                    incoming,
+                    sent,
+                )
             }
         },
         None if has_mark(text) => stop(writer, line),
@@ -113,27 +131,27 @@ fn replay_line<W: Write, C: BufRead, S: Write>(
     }
 }
 
-/// Sends the command of an entry, which a line of the log tells.
+/// Sends the command of an entry of the log.
 fn replay_entry<W: Write, C: BufRead, S: Write>(
     alloc: Global,
     line: &[u8],
-    told: &Told<'_>,
+    logged_exchange: &ExchangeText<'_>,
     entry: &Entry,
     numbers: &mut Vec<Renumbered>,
     writer: &mut W,
-    came: &mut C,
+    incoming: &mut C,
     sent: &mut S,
 ) -> Result<(), Failure>
-    ensures { EntryEnds (state_of (S.contents sent.old) (C.remaining came.old) (W.contents writer.old) numbers.old.items)
-        (exchange_of told.now) entry.now line.now
-        (state_of (S.contents sent.new) (C.remaining came.new) (W.contents writer.new) numbers.new.items) result }
+    ensures { EntryEnds (state_of (S.contents sent.old) (C.remaining incoming.old) (W.contents writer.old) numbers.old.items)
+        (exchange_of logged_exchange.now) entry.now line.now
+        (state_of (S.contents sent.new) (C.remaining incoming.new) (W.contents writer.new) numbers.new.items) result }
 {
-    let Ok(command) = line_to_send(alloc, numbers, told, entry) else {
+    let Ok(command) = line_to_send(alloc, numbers, logged_exchange, entry) else {
         return Err(Failure::Fault(Fault::Memory));
     };
-    let reply = exchange(alloc, &command, writer, came, sent)?;
+    let reply = exchange(alloc, &command, writer, incoming, sent)?;
     let text = without_end(&reply);
-    if !agrees(told, entry, text) {
+    if !agrees(logged_exchange, entry, text) {
         return stop(writer, line);
     }
     match renumber(numbers, entry, text) {
@@ -146,7 +164,7 @@ fn replay_entry<W: Write, C: BufRead, S: Write>(
 fn stop<W: Write>(writer: &mut W, line: &[u8]) -> Result<(), Failure>
     ensures { StopsWith (W.contents writer.old) line.now (W.contents writer.new) result }
 {
-    say(writer, line)?;
+    print_text(writer, line)?;
     Err(Failure::Refused)
 }
 
@@ -154,13 +172,13 @@ fn stop<W: Write>(writer: &mut W, line: &[u8]) -> Result<(), Failure>
 fn line_to_send(
     alloc: Global,
     numbers: &[Renumbered],
-    told: &Told<'_>,
+    logged_exchange: &ExchangeText<'_>,
     entry: &Entry,
 ) -> Result<Vec<u8>, AllocError>
-    ensures { IfOk result (λ line. line.items ≡ line_to_send numbers.now (exchange_of told.now) entry.now) }
+    ensures { IfOk result (λ line. line.items ≡ line_to_send numbers.now (exchange_of logged_exchange.now) entry.now) }
 {
     let mut line = Vec::new(alloc);
-    put_text(&mut line, numbers, told, entry)?;
+    put_text(&mut line, numbers, logged_exchange, entry)?;
     line.push(b'\n')?;
     Ok(line)
 }
@@ -168,20 +186,20 @@ fn line_to_send(
 fn put_text(
     line: &mut Vec<u8>,
     numbers: &[Renumbered],
-    told: &Told<'_>,
+    logged_exchange: &ExchangeText<'_>,
     entry: &Entry,
 ) -> Result<(), AllocError>
-    ensures { OnOk result (line.new.items ≡ line.old.items ++ text_to_send numbers.now (exchange_of told.now) entry.now) }
+    ensures { OnOk result (line.new.items ≡ line.old.items ++ text_to_send numbers.now (exchange_of logged_exchange.now) entry.now) }
 {
     match *entry {
-        Entry::Line => line.extend_from_slice(told.asked),
+        Entry::Line => line.extend_from_slice(logged_exchange.asked),
         Entry::Request { serial, ground, .. } => {
             line.extend_from_slice(b"request")?;
             put_word(line, &serial.text())?;
             put_word(line, ground.as_bytes())
         }
         Entry::Decision { id, serial } => {
-            line.extend_from_slice(first_word(told.asked))?;
+            line.extend_from_slice(first_word(logged_exchange.asked))?;
             put_number(line, number_now(numbers, id))?;
             put_word(line, &serial.text())
         }
@@ -202,16 +220,16 @@ fn number_now(numbers: &[Renumbered], logged: u64) -> u64
 }
 
 /// Whether a reply is that of the log.
-fn agrees(told: &Told<'_>, entry: &Entry, reply: &[u8]) -> bool
-    ensures { result ≡ agrees (exchange_of told.now) entry.now reply.now }
+fn agrees(logged_exchange: &ExchangeText<'_>, entry: &Entry, reply: &[u8]) -> bool
+    ensures { result ≡ agrees (exchange_of logged_exchange.now) entry.now reply.now }
 {
     match entry {
         Entry::Line => {
-            first_word(reply) == first_word(told.answered)
-                && second_word(reply) == second_word(told.answered)
+            first_word(reply) == first_word(logged_exchange.answered)
+                && second_word(reply) == second_word(logged_exchange.answered)
         }
         Entry::Request { .. } => first_word(reply) == b"request".as_slice(),
-        Entry::Decision { .. } => first_word(reply) == first_word(told.answered),
+        Entry::Decision { .. } => first_word(reply) == first_word(logged_exchange.answered),
     }
 }
 

@@ -2,15 +2,15 @@
 //! socket of an open desk.
 
 ghost use Rattle.std.specs.Prelude.{◌≡◌, ◌<◌, ◌==◌, ◌↔◌, IfErr, IfOk, IfSome, IsTrue, length, option_map, position};
-ghost use Rattle.reg_core_lists.specs.Asked.{label_of};
+ghost use Rattle.reg_core_lists.specs.ListParameters.{label_of};
 ghost use Rattle.reg_desk_jobs.specs.Conversations.{IsOfTalk};
-ghost use Rattle.reg_desk_jobs.specs.RowTasks.{AnswersRow, IsRowDone, LineTold, OrdersRow, RegistersRow, RevokesRow, SendsRows, SendsRowsAt, SendsRowsOver, has_first_word, header_of, is_passed_over, link_of, parted_by_comma, registration_row_in, revocation_row_in, row_order, row_registration, row_request, row_revocation, row_status};
+ghost use Rattle.reg_desk_jobs.specs.RowTasks.{AnswersRow, IsRowDone, LineReplied, OrdersRow, RegistersRow, RevokesRow, SendsRows, SendsRowsAt, SendsRowsOver, has_first_word, header_of, is_passed_over, link_of, parted_by_comma, registration_row_in, revocation_row_in, row_order, row_registration, row_request, row_revocation, row_status};
 
-use crate::at_job::{Next, ask, both, cut_off, ended, next_line};
+use crate::at_job::{Next, both, cut_off, ended, next_line, request_reply};
 use crate::log_entries::{first_word, second_word};
 use crate::log_lines::{put_number, put_word};
 use crate::machine::Machine;
-use crate::output_lines::say;
+use crate::output_lines::print_text;
 use crate::syntax::read_moment;
 use reg_core::{Fault, Label, Moment, Serial};
 use reg_desk_cli::{Failure, OrderTerms, RowTask};
@@ -40,14 +40,14 @@ struct RegistrationRow {
 pub fn each_row<M: Machine, R: Read, W: Write>(
     alloc: Global,
     machine: &M,
-    counter: &str,
+    control_path: &str,
     task: RowTask,
     reader: &mut R,
     writer: &mut W,
 ) -> Result<(), Failure>
-    ensures { SendsRowsAt task (M.met counter.now) (R.remaining reader.old) (W.contents writer.old) (W.contents writer.new) result }
+    ensures { SendsRowsAt task (M.socket_connected control_path.now) (R.remaining reader.old) (W.contents writer.old) (W.contents writer.new) result }
 {
-    match machine.meet(counter) {
+    match machine.connect_to_socket(control_path) {
         Ok(link) => send_over(alloc, task, &link, reader, writer),
         Err(_) => Err(Failure::Fault(Fault::Read)),
     }
@@ -62,12 +62,12 @@ fn send_over<R: Read, W: Write>(
 ) -> Result<(), Failure>
     ensures { SendsRowsOver task (R.remaining reader.old) (W.contents writer.old) (W.contents writer.new) result }
 {
-    let Ok(mut came) = BufReader::new(alloc, link) else {
+    let Ok(mut incoming) = BufReader::new(alloc, link) else {
         return Err(Failure::Fault(Fault::Memory));
     };
     let mut sent = link;
     match BufReader::new(alloc, reader) {
-        Ok(mut rows) => send_each(alloc, task, &mut rows, writer, &mut came, &mut sent),
+        Ok(mut rows) => send_each(alloc, task, &mut rows, writer, &mut incoming, &mut sent),
         Err(_) => Err(Failure::Fault(Fault::Memory)),
     }
 }
@@ -77,16 +77,16 @@ fn send_each<R: BufRead, W: Write, C: BufRead, S: Write>(
     task: RowTask,
     rows: &mut R,
     writer: &mut W,
-    came: &mut C,
+    incoming: &mut C,
     sent: &mut S,
 ) -> Result<(), Failure>
-    ensures { SendsRows task (R.remaining rows.old) (link_of (S.contents sent.old) (C.remaining came.old))
-        (link_of (S.contents sent.new) (C.remaining came.new)) (W.contents writer.old) (W.contents writer.new) result }
+    ensures { SendsRows task (R.remaining rows.old) (link_of (S.contents sent.old) (C.remaining incoming.old))
+        (link_of (S.contents sent.new) (C.remaining incoming.new)) (W.contents writer.old) (W.contents writer.new) result }
 {
     let mut is_done = true;
     for _ in 0..u64::MAX {
         match next_line(alloc, rows)? {
-            Next::Line(line) => match send_line(alloc, task, &line, writer, came, sent) {
+            Next::Line(line) => match send_line(alloc, task, &line, writer, incoming, sent) {
                 Ok(done) => is_done = both(is_done, done),
                 Err(why) => return Err(why),
             },
@@ -103,19 +103,19 @@ fn send_line<W: Write, C: BufRead, S: Write>(
     task: RowTask,
     line: &[u8],
     writer: &mut W,
-    came: &mut C,
+    incoming: &mut C,
     sent: &mut S,
 ) -> Result<bool, Failure>
-    ensures ok { IfOk result (LineTold task (link_of (S.contents sent.old) (C.remaining came.old))
-        (link_of (S.contents sent.new) (C.remaining came.new)) (W.contents writer.old) (W.contents writer.new) line.now) }
+    ensures ok { IfOk result (LineReplied task (link_of (S.contents sent.old) (C.remaining incoming.old))
+        (link_of (S.contents sent.new) (C.remaining incoming.new)) (W.contents writer.old) (W.contents writer.new) line.now) }
     ensures err { IfErr result IsOfTalk }
 {
     let text = without_end(line);
     if is_passed_over(task, text) {
         return Ok(true);
     }
-    let reply = answer_row(alloc, task, text, came, sent)?;
-    say(writer, &reply)?;
+    let reply = answer_row(alloc, task, text, incoming, sent)?;
+    print_text(writer, &reply)?;
     Ok(is_done(&reply))
 }
 
@@ -123,11 +123,11 @@ fn answer_row<C: BufRead, S: Write>(
     alloc: Global,
     task: RowTask,
     text: &[u8],
-    came: &mut C,
+    incoming: &mut C,
     sent: &mut S,
 ) -> Result<Vec<u8>, Failure>
-    ensures ok { IfOk result (λ reply. AnswersRow task text.now (link_of (S.contents sent.old) (C.remaining came.old))
-        (link_of (S.contents sent.new) (C.remaining came.new)) reply.items) }
+    ensures ok { IfOk result (λ reply. AnswersRow task text.now (link_of (S.contents sent.old) (C.remaining incoming.old))
+        (link_of (S.contents sent.new) (C.remaining incoming.new)) reply.items) }
     ensures err { IfErr result IsOfTalk }
 {
     match task {
@@ -135,10 +135,10 @@ fn answer_row<C: BufRead, S: Write>(
             alloc,
             terms,
             registration_row_in(text),
-            came,
+            incoming,
             sent,
         ),
-        RowTask::Revoke => revoke_row(alloc, revocation_row_in(text), came, sent),
+        RowTask::Revoke => revoke_row(alloc, revocation_row_in(text), incoming, sent),
     }
 }
 
@@ -147,24 +147,24 @@ fn register_row<C: BufRead, S: Write>(
     alloc: Global,
     terms: OrderTerms,
     row: Option<RegistrationRow>,
-    came: &mut C,
+    incoming: &mut C,
     sent: &mut S,
 ) -> Result<Vec<u8>, Failure>
-    ensures ok { IfOk result (λ reply. RegistersRow terms row (link_of (S.contents sent.old) (C.remaining came.old))
-        (link_of (S.contents sent.new) (C.remaining came.new)) reply.items) }
+    ensures ok { IfOk result (λ reply. RegistersRow terms row (link_of (S.contents sent.old) (C.remaining incoming.old))
+        (link_of (S.contents sent.new) (C.remaining incoming.new)) reply.items) }
     ensures err { IfErr result IsOfTalk }
 {
     let Some(row) = row else {
-        return ask(alloc, b"register\n", came, sent);
+        return request_reply(alloc, b"register\n", incoming, sent);
     };
     let Ok(query) = status_line(alloc, &row) else {
         return Err(Failure::Fault(Fault::Memory));
     };
-    let status = ask(alloc, &query, came, sent)?;
+    let status = request_reply(alloc, &query, incoming, sent)?;
     if !has_first_word(&status, b"unknown") {
         return Ok(status);
     }
-    order_row(alloc, terms, &row, came, sent)
+    order_row(alloc, terms, &row, incoming, sent)
 }
 
 /// Makes an order, and registers the certificate of a row under it if the reply gives the order a number. The last reply.
@@ -172,51 +172,51 @@ fn order_row<C: BufRead, S: Write>(
     alloc: Global,
     terms: OrderTerms,
     row: &RegistrationRow,
-    came: &mut C,
+    incoming: &mut C,
     sent: &mut S,
 ) -> Result<Vec<u8>, Failure>
-    ensures ok { IfOk result (λ reply. OrdersRow terms row.now (link_of (S.contents sent.old) (C.remaining came.old))
-        (link_of (S.contents sent.new) (C.remaining came.new)) reply.items) }
+    ensures ok { IfOk result (λ reply. OrdersRow terms row.now (link_of (S.contents sent.old) (C.remaining incoming.old))
+        (link_of (S.contents sent.new) (C.remaining incoming.new)) reply.items) }
     ensures err { IfErr result IsOfTalk }
 {
     let Ok(order) = order_line(alloc, terms) else {
         return Err(Failure::Fault(Fault::Memory));
     };
-    let ordered = ask(alloc, &order, came, sent)?;
+    let ordered = request_reply(alloc, &order, incoming, sent)?;
     if !has_first_word(&ordered, b"order") {
         return Ok(ordered);
     }
     let Ok(registration) = registration_line(alloc, row, &ordered) else {
         return Err(Failure::Fault(Fault::Memory));
     };
-    ask(alloc, &registration, came, sent)
+    request_reply(alloc, &registration, incoming, sent)
 }
 
 /// Requests that a certificate be revoked, and revokes it if the reply gives the request a number. The last reply.
 fn revoke_row<C: BufRead, S: Write>(
     alloc: Global,
     row: Option<RevocationRow>,
-    came: &mut C,
+    incoming: &mut C,
     sent: &mut S,
 ) -> Result<Vec<u8>, Failure>
-    ensures ok { IfOk result (λ reply. RevokesRow row (link_of (S.contents sent.old) (C.remaining came.old))
-        (link_of (S.contents sent.new) (C.remaining came.new)) reply.items) }
+    ensures ok { IfOk result (λ reply. RevokesRow row (link_of (S.contents sent.old) (C.remaining incoming.old))
+        (link_of (S.contents sent.new) (C.remaining incoming.new)) reply.items) }
     ensures err { IfErr result IsOfTalk }
 {
     let Some(row) = row else {
-        return ask(alloc, b"request\n", came, sent);
+        return request_reply(alloc, b"request\n", incoming, sent);
     };
     let Ok(request) = request_line(alloc, &row) else {
         return Err(Failure::Fault(Fault::Memory));
     };
-    let entered = ask(alloc, &request, came, sent)?;
+    let entered = request_reply(alloc, &request, incoming, sent)?;
     if !has_first_word(&entered, b"request") {
         return Ok(entered);
     }
     let Ok(revocation) = revocation_line(alloc, &row, &entered) else {
         return Err(Failure::Fault(Fault::Memory));
     };
-    ask(alloc, &revocation, came, sent)
+    request_reply(alloc, &revocation, incoming, sent)
 }
 
 fn is_passed_over(task: RowTask, text: &[u8]) -> bool

@@ -3,11 +3,11 @@
 ghost use Rattle.std.specs.Prelude.{◌≡◌, ◌⊎◌, ◌++◌, ◌∷◌, [], List, None, Err, OnOk, IfErr, IsTrue, IsFalse, decimal, is_some, option_copied};
 ghost use Rattle.reg_office_api.specs.Leads.{Leads, Looks};
 ghost use Rattle.reg_desk_server.specs.Exchange.{Input, Outcome, Handles};
-ghost use Rattle.reg_desk_jobs.specs.Ends.{SaysText, ServeAt};
+ghost use Rattle.reg_desk_jobs.specs.Ends.{PrintsText, ServeAt};
 ghost use Rattle.reg_desk_cli.specs.declared.failure.Failure.{Failure as Failing};
-ghost use Rattle.reg_desk_jobs.specs.Given.{GaveAt};
+ghost use Rattle.reg_desk_jobs.specs.SignerAnswers.{AnsweredAtPath};
 ghost use Rattle.reg_desk_jobs.specs.Published.{Compares, HasAll};
-ghost use Rattle.reg_desk_jobs.specs.WhoSigns.{answer_socket};
+ghost use Rattle.reg_desk_jobs.specs.Signers.{answer_socket};
 ghost use Rattle.reg_desk_jobs.specs.declared.unsigned_responses.Unsigned.{Unsigned};
 ghost use Rattle.reg_desk_jobs.specs.Serving.{IsBound, Served, ServedAt, Serves, listening, loopback};
 ghost use Rattle.reg_io.specs.RunsOfAnswers.{Answered};
@@ -18,7 +18,7 @@ use crate::crl_signer::CrlSigner;
 use crate::desks::Desk;
 use crate::health_routes::{responder_end, signing_of};
 use crate::machine::Machine;
-use crate::output_lines::say;
+use crate::output_lines::print_text;
 use crate::published::check_published;
 use crate::registers::open_signed;
 use mio::net::{TcpListener, UnixListener};
@@ -35,7 +35,7 @@ const LOOPBACK: [u8; 4] = [127, 0, 0, 1];
 
 const LOOPBACK_V6: [u8; 16] = [0, 0, 0, 0, 0, 0, 0, 0, 0, 0, 0, 0, 0, 0, 0, 1];
 
-/// Answers so many requests over a register, which is opened before the port is bound. If a published CRL is told, `reader` has its bytes, and a
+/// Answers so many requests over a register, which is opened before the port is bound. If a published CRL is given, `reader` has its bytes, and a
 /// register that lacks something of it is not served.
 pub fn serve<M: Machine, R: Read, W: Write>(
     rt: &HostRuntime,
@@ -67,7 +67,7 @@ pub fn serve<M: Machine, R: Read, W: Write>(
     ending
 }
 
-/// Serves a register, and gives the office back. If a published CRL is told, the register must have all of it ([`check_published`]).
+/// Serves a register, and gives the office back. If a published CRL is given, the register must have all of it ([`check_published`]).
 pub(crate) fn serve_checked<'a, 'w, M: Machine, R: Read, W: Write>(
     rt: &HostRuntime,
     machine: &'a M,
@@ -76,7 +76,7 @@ pub(crate) fn serve_checked<'a, 'w, M: Machine, R: Read, W: Write>(
     signer: &'a Option<KeyHolder<'w>>,
     answerer: &'a Answerer<'w>,
     endpoint: Endpoint,
-    counter: Option<&str>,
+    control_path: Option<&str>,
     requests: u64,
     is_published: bool,
     reader: &mut R,
@@ -88,9 +88,9 @@ pub(crate) fn serve_checked<'a, 'w, M: Machine, R: Read, W: Write>(
         office result.0)
         ⊎ ((inputs : List Input) × (outcomes : List (Outcome Unsigned)) × Leads M.Office.is_clean M.Office.stands
         (λ identity before after. (IsTrue is_published → HasAll before (R.remaining reader.old))
-        × Serves (is_some counter.entry) M.Office.signs (GaveAt M.gave (answer_socket signer.now answerer.now)) M.told inputs outcomes identity before after)
+        × Serves (is_some control_path.entry) M.Office.signs (AnsweredAtPath M.signer_answered (answer_socket signer.now answerer.now)) M.clock_reached inputs outcomes identity before after)
         office result.0
-        × ServedAt W.contents writer.old writer.new (IsBound M.bound M.laid M.has_mode endpoint (option_copied counter.entry)) endpoint.port requests
+        × ServedAt W.contents writer.old writer.new (IsBound M.bound M.socket_created M.has_mode endpoint (option_copied control_path.entry)) endpoint.port requests
         inputs result.1) }
 {
     if is_published {
@@ -100,11 +100,20 @@ pub(crate) fn serve_checked<'a, 'w, M: Machine, R: Read, W: Write>(
         }
     }
     serve_desk(
-        rt, machine, office, file, signer, answerer, endpoint, counter, requests, writer,
+        rt,
+        machine,
+        office,
+        file,
+        signer,
+        answerer,
+        endpoint,
+        control_path,
+        requests,
+        writer,
     )
 }
 
-/// Binds the port, creates the control socket where one is told, tells the port, answers so many requests, and gives the office back.
+/// Binds the port, creates the control socket where one is given, prints the port, answers so many requests, and gives the office back.
 fn serve_desk<'a, 'w, M: Machine, W: Write>(
     rt: &HostRuntime,
     machine: &'a M,
@@ -113,37 +122,40 @@ fn serve_desk<'a, 'w, M: Machine, W: Write>(
     signer: &'a Option<KeyHolder<'w>>,
     answerer: &'a Answerer<'w>,
     endpoint: Endpoint,
-    counter: Option<&str>,
+    control_path: Option<&str>,
     requests: u64,
     writer: &mut W,
 ) -> (M::Office, Result<(), Failure>)
     ensures { (inputs : List Input) × (outcomes : List (Outcome Unsigned)) × Leads M.Office.is_clean M.Office.stands
-        (Serves (is_some counter.entry) M.Office.signs (GaveAt M.gave (answer_socket signer.now answerer.now)) M.told inputs outcomes)
+        (Serves (is_some control_path.entry) M.Office.signs (AnsweredAtPath M.signer_answered (answer_socket signer.now answerer.now)) M.clock_reached inputs outcomes)
         office result.0
-        × ServedAt W.contents writer.old writer.new (IsBound M.bound M.laid M.has_mode endpoint (option_copied counter.entry)) endpoint.port requests
+        × ServedAt W.contents writer.old writer.new (IsBound M.bound M.socket_created M.has_mode endpoint (option_copied control_path.entry)) endpoint.port requests
         inputs result.1 }
 {
     let event_loop: EventLoop<Desk<'_, '_, M>> = match event_loop_at(
-        rt, machine, endpoint, counter,
+        rt,
+        machine,
+        endpoint,
+        control_path,
     ) {
         Ok(event_loop) => event_loop,
         Err(why) => return (office, Err(why)),
     };
     let alloc = rt.alloc();
-    let signing = signing_of(&CrlSigner::told(signer, answerer));
+    let signing = signing_of(&CrlSigner::of(signer, answerer));
     let tally = Cell::new(Tally::new(signing, responder_end(machine, answerer)));
-    let heard = Cell::new(ConnectionTotals::nothing());
+    let connection_totals = Cell::new(ConnectionTotals::nothing());
     let mut desk: Desk<'_, '_, M> = Desk {
         office,
         alloc,
         machine,
-        is_open: counter.is_some(),
+        is_open: control_path.is_some(),
         file,
         signer,
         answerer,
         backoff: Backoff::none(),
         tally: &tally,
-        heard: &heard,
+        connection_totals: &connection_totals,
         admission: Admission::new(),
     };
     let ending = run_event_loop(rt, event_loop, &mut desk, endpoint.port, requests, writer);
@@ -154,18 +166,18 @@ fn event_loop_at<H: Handler, M: Machine>(
     rt: &HostRuntime,
     machine: &M,
     endpoint: Endpoint,
-    counter: Option<&str>,
+    control_path: Option<&str>,
 ) -> Result<EventLoop<H>, Failure>
-    ensures ok { OnOk result (IsBound M.bound M.laid M.has_mode endpoint (option_copied counter.entry)) }
+    ensures ok { OnOk result (IsBound M.bound M.socket_created M.has_mode endpoint (option_copied control_path.entry)) }
     ensures err { IfErr result (λ why. (why ≡ Failure.Fault Fault.Read) ⊎ (why ≡ Failure.Fault Fault.Memory)) }
 {
     let Ok(listener) = listen(machine, endpoint) else {
         return Err(Failure::Fault(Fault::Read));
     };
-    match counter {
+    match control_path {
         None => event_loop_over(rt, listener, None),
         Some(path) => match create_control_socket(machine, path) {
-            Ok(counter) => event_loop_over(rt, listener, Some(counter)),
+            Ok(control_path) => event_loop_over(rt, listener, Some(control_path)),
             Err(_) => Err(Failure::Fault(Fault::Read)),
         },
     }
@@ -183,11 +195,11 @@ fn listen<M: Machine>(machine: &M, endpoint: Endpoint) -> io::Result<TcpListener
 fn event_loop_over<H: Handler>(
     rt: &HostRuntime,
     listener: TcpListener,
-    counter: Option<UnixListener>,
+    control_path: Option<UnixListener>,
 ) -> Result<EventLoop<H>, Failure>
     ensures { IfErr result (λ why. (why ≡ Failure.Fault Fault.Read) ⊎ (why ≡ Failure.Fault Fault.Memory)) }
 {
-    match EventLoop::new(rt, listener, counter, MOST_HTTP_CONNECTIONS) {
+    match EventLoop::new(rt, listener, control_path, MOST_HTTP_CONNECTIONS) {
         Ok(event_loop) => Ok(event_loop),
         Err(error) if error.kind() == ErrorKind::OutOfMemory => {
             Err(Failure::Fault(Fault::Memory))
@@ -196,7 +208,7 @@ fn event_loop_over<H: Handler>(
     }
 }
 
-/// Tells the port, answers so many requests, and sends on what they were answered.
+/// Prints the port, answers so many requests, and sends on their answers.
 fn run_event_loop<H: Handler, W: Write>(
     rt: &HostRuntime,
     mut event_loop: EventLoop<H>,
@@ -206,7 +218,7 @@ fn run_event_loop<H: Handler, W: Write>(
     writer: &mut W,
 ) -> Result<(), Failure>
     ensures { (inputs : List Input) × (outcomes : List (Outcome H.Ticket))
-        × Answered (Handles H.answers H.tells H.defers) handler.old inputs outcomes handler.new
+        × Answered (Handles H.answers H.answers_line H.defers) handler.old inputs outcomes handler.new
         × Served port requests inputs (W.contents writer.old) (W.contents writer.new) result }
 {
     match print_port(writer, port) {
@@ -219,26 +231,26 @@ fn run_event_loop<H: Handler, W: Write>(
     if made != requests {
         return Err(Failure::Fault(Fault::Read));
     }
-    // Who does not take its answer in time is let go.
+    // A client that does not read its answer in time is closed.
     let _ = event_loop.finish(rt, handler);
     Ok(())
 }
 
 fn print_port<W: Write>(writer: &mut W, port: u16) -> Result<(), Failure>
-    ensures { SaysText (listening port) (W.contents writer.old) (W.contents writer.new) result }
+    ensures { PrintsText (listening port) (W.contents writer.old) (W.contents writer.new) result }
 {
-    match say(writer, b"listening ") {
+    match print_text(writer, b"listening ") {
         Ok(()) => answer_number(writer, port),
         Err(why) => Err(why),
     }
 }
 
 fn answer_number<W: Write>(writer: &mut W, number: u16) -> Result<(), Failure>
-    ensures { SaysText (decimal number ++ 10 ∷ []) (W.contents writer.old) (W.contents writer.new) result }
+    ensures { PrintsText (decimal number ++ 10 ∷ []) (W.contents writer.old) (W.contents writer.new) result }
 {
     let digits = Decimal::of(u64::from(number));
-    match say(writer, digits.as_bytes()) {
-        Ok(()) => say(writer, b"\n"),
+    match print_text(writer, digits.as_bytes()) {
+        Ok(()) => print_text(writer, b"\n"),
         Err(why) => Err(why),
     }
 }

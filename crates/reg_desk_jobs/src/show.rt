@@ -5,8 +5,8 @@ ghost use Rattle.reg_core_lists.specs.Lists.{key_of, page};
 ghost use Rattle.reg_core_lists.specs.Texts.{row_text};
 ghost use Rattle.reg_core_lists.specs.declared.texts.Form.TheVariants.{Json};
 ghost use Rattle.reg_office_api.specs.Leads.{Leads};
-ghost use Rattle.reg_desk_jobs.specs.ControlReplies.{IsSaid, ReportsLineOutcome, ReportsFault};
-ghost use Rattle.reg_desk_jobs.specs.Showings.{IsSeen, AnswersShown, found_text, help_text, is_shown, refusal_of, row_shown};
+ghost use Rattle.reg_desk_jobs.specs.ControlReplies.{IsReplyText, ReportsLineOutcome, ReportsFault};
+ghost use Rattle.reg_desk_jobs.specs.RowLookUps.{IsSeen, AnswersShown, found_text, help_text, is_shown, refusal_of, row_shown};
 
 use crate::control_reply::{ControlReply, LineOutcome};
 use crate::machine::Machine;
@@ -26,7 +26,7 @@ const WORDS: &[u8] =
     b"help: subscriber NAME | order SUBSCRIBER DAYS | register ORDER SERIAL NOTBEFORE NOTAFTER | request SERIAL GROUND | decline REQUEST [SERIAL] | revoke REQUEST [SERIAL] | crl | status SERIAL | counts | listing SERIAL | overdue | next-crl | ocsp HEX | show request REQUEST | show SERIAL | show subscriber NAME | why | accept-clock MOMENT | schedule MOMENT=DAYS .. | copy PATH | help";
 
 pub(crate) fn answer_help(alloc: Global) -> ControlReply
-    ensures told { IsSaid (help_text ++ 10 ∷ []) result.text.items }
+    ensures told { IsReplyText (help_text ++ 10 ∷ []) result.text.items }
     ensures came { ReportsLineOutcome result.came result.text.items }
 {
     ControlReply::line(alloc, WORDS, LineOutcome::Done)
@@ -38,7 +38,7 @@ pub(crate) fn answer_shown<M: Machine>(
     office: &mut M::Office,
     now: Moment,
     shown: Shown,
-    noted: &mut Vec<u8>,
+    last_reason: &mut Vec<u8>,
 ) -> ControlReply
     ensures moves { Leads M.Office.is_clean M.Office.stands
         (λ identity before after. AnswersShown before now shown result.text.items × (after ≡ before))
@@ -46,32 +46,32 @@ pub(crate) fn answer_shown<M: Machine>(
     ensures came { ReportsLineOutcome result.came result.text.items }
 {
     let found = find(alloc, office, now, &shown);
-    tell_found(alloc, &shown, found, noted)
+    answer_found(alloc, &shown, found, last_reason)
 }
 
-fn tell_found(
+fn answer_found(
     alloc: Global,
     shown: &Shown,
     found: Result<Option<Row>, Fault>,
-    noted: &mut Vec<u8>,
+    last_reason: &mut Vec<u8>,
 ) -> ControlReply
-    ensures told { IsSaid (found_text shown.now found) result.text.items }
+    ensures told { IsReplyText (found_text shown.now found) result.text.items }
     ensures came { ReportsLineOutcome result.came result.text.items }
 {
     match found {
         Ok(Some(row)) => ControlReply::made(alloc, row_line(alloc, row), LineOutcome::Done),
-        Ok(None) => report_fault(alloc, Fault::Refused(refusal_of(shown)), noted),
-        Err(fault) => report_fault(alloc, fault, noted),
+        Ok(None) => report_fault(alloc, Fault::Refused(refusal_of(shown)), last_reason),
+        Err(fault) => report_fault(alloc, fault, last_reason),
     }
 }
 
-/// Tells a fault, which is noted for `why`.
-pub(crate) fn report_fault(alloc: Global, fault: Fault, noted: &mut Vec<u8>) -> ControlReply
+/// Replies a fault, which is kept for `why`.
+pub(crate) fn report_fault(alloc: Global, fault: Fault, last_reason: &mut Vec<u8>) -> ControlReply
     ensures told { ReportsFault fault result.text.items }
     ensures came { ReportsLineOutcome result.came result.text.items }
 {
     let reply = ControlReply::fault(alloc, fault);
-    keep_reply_reason(&reply.text, noted);
+    keep_reply_reason(&reply.text, last_reason);
     reply
 }
 
@@ -190,8 +190,8 @@ fn serial_before(serial: Serial) -> Option<Serial>
     ensures above_0 { 1 ≤ serial }
 {
     let mut bytes = serial.bytes20();
-    for place in 0..SERIAL_BYTES {
-        let at = SERIAL_BYTES - 1 - place;
+    for index in 0..SERIAL_BYTES {
+        let at = SERIAL_BYTES - 1 - index;
         if bytes[at] > 0 {
             bytes[at] -= 1;
             return Serial::from_bytes20(&bytes);

@@ -1,8 +1,8 @@
-//! What is wrong with a line that can't be read: the field of its command that is missing or has another form, as `why` tells it.
+//! What is wrong with a line that can't be read: the field of its command that is missing or has another form, as `why` gives it.
 
 ghost use Rattle.std.specs.Prelude.{◌≡◌, ◌++◌, [], IfOk, is_some, option_map};
 ghost use Rattle.reg_core.specs.Calendar.{moment_of};
-ghost use Rattle.reg_core_lists.specs.Asked.{label_of};
+ghost use Rattle.reg_core_lists.specs.ListParameters.{label_of};
 ghost use Rattle.reg_desk_jobs.specs.Syntax.{fields_wanted, first_wrong, form_text, is_written, name_text, wrong_in, wrong_text};
 ghost use Rattle.reg_lines.specs.Fields.{fields_of};
 

@@ -3,9 +3,9 @@
 ghost use Rattle.std.specs.Prelude.{◌≡◌, ◌≤◌, IfSome, length, option_map};
 ghost use Rattle.reg_desk_jobs.specs.Counted.{CountsFinished};
 ghost use Rattle.reg_desk_jobs.specs.Deferring.{socket_for};
-ghost use Rattle.reg_desk_jobs.specs.Given.{GaveAt};
-ghost use Rattle.reg_desk_jobs.specs.Leaving.{IsFinished, IsSignatureOf, fate_of};
-ghost use Rattle.reg_desk_jobs.specs.WhoSigns.{answer_socket};
+ghost use Rattle.reg_desk_jobs.specs.SignerAnswers.{AnsweredAtPath};
+ghost use Rattle.reg_desk_jobs.specs.FinishedResponses.{IsFinished, IsSignatureOf, fate_of};
+ghost use Rattle.reg_desk_jobs.specs.Signers.{answer_socket};
 
 use crate::deferred_commands::{Wanted, socket_of};
 use crate::exchange_log::log_exchange;
@@ -14,14 +14,14 @@ use reg_core::Moment;
 use reg_crl_signer::{SignatureRequest, has_form};
 use reg_desk_cli::{Answerer, KeyHolder};
 use reg_desk_metrics::Tally;
-use reg_http::{Exchange, Left, Route};
+use reg_http::{Exchange, Route, UnsignedResponse};
 use reg_http_head::Collected;
 use reg_ocsp::{Draft, slice_of};
 use reg_office_api::SignatureFate;
 use std::alloc::Global;
 use std::net::SocketAddr;
 
-/// How many bytes of what was asked are kept for the log: as many as it tells of a text.
+/// How many bytes of what was asked are kept for the log: as many as it has of a text.
 const MOST_KEPT: usize = 256;
 
 /// An OCSP answer that is left to be signed.
@@ -35,8 +35,8 @@ pub struct Unsigned {
     pub(crate) route: Route,
     /// When it was begun, in microseconds.
     pub(crate) began: u64,
-    /// Who asked.
-    pub(crate) peer: SocketAddr,
+    /// The client's address, as text.
+    pub(crate) client: SocketAddr,
     /// The front of what was asked, where there is a log.
     pub(crate) asked: Vec<u8>,
 }
@@ -45,23 +45,23 @@ pub struct Unsigned {
 pub(crate) fn unsigned_of<M: Machine>(
     alloc: Global,
     machine: &M,
-    left: Left,
+    left: UnsignedResponse,
     moment: Moment,
     began: u64,
-    peer: SocketAddr,
+    client: SocketAddr,
     request: &Collected,
 ) -> Unsigned
     ensures draft { result.draft ≡ left.draft }
     ensures moment { result.moment ≡ moment }
     ensures route { result.route ≡ left.route }
 {
-    let Left { route, draft } = left;
+    let UnsignedResponse { route, draft } = left;
     Unsigned {
         draft,
         moment,
         route,
         began,
-        peer,
+        client,
         asked: kept_of(alloc, machine, request.as_slice()),
     }
 }
@@ -71,8 +71,8 @@ fn kept_of<M: Machine>(alloc: Global, machine: &M, request: &[u8]) -> Vec<u8> {
     if !machine.has_log() {
         return Vec::new(alloc);
     }
-    let front = &request[..request.len().min(MOST_KEPT)];
-    match Vec::from_slice(alloc, front) {
+    let prefix = &request[..request.len().min(MOST_KEPT)];
+    match Vec::from_slice(alloc, prefix) {
         Ok(kept) => kept,
         Err(_) => Vec::new(alloc),
     }
@@ -80,7 +80,7 @@ fn kept_of<M: Machine>(alloc: Global, machine: &M, request: &[u8]) -> Vec<u8> {
 
 /// The text that finishes an answer, with what came on a connection, or without a signature. It is counted by the moment and the route of the
 /// answer, and put into the log, where there is one.
-pub(crate) fn finish_visit<M: Machine>(
+pub(crate) fn finish_http<M: Machine>(
     alloc: Global,
     machine: &M,
     tally: &mut Tally,
@@ -89,7 +89,7 @@ pub(crate) fn finish_visit<M: Machine>(
     unsigned: Unsigned,
     link: Option<SignatureRequest>,
 ) -> Vec<u8>
-    ensures { CountsFinished (GaveAt M.gave (answer_socket signer.now answerer.now)) unsigned result.items tally.old tally.new }
+    ensures { CountsFinished (AnsweredAtPath M.signer_answered (answer_socket signer.now answerer.now)) unsigned result.items tally.old tally.new }
 {
     let signature = signature_of::<M>(alloc, signer, answerer, &unsigned.draft, link);
     let exchange = finish(alloc, &unsigned, &signature);
@@ -100,7 +100,7 @@ pub(crate) fn finish_visit<M: Machine>(
         machine,
         micros,
         unsigned.moment,
-        unsigned.peer,
+        unsigned.client,
         &unsigned.asked,
         &exchange,
     );
@@ -114,7 +114,7 @@ fn signature_of<M: Machine>(
     draft: &Draft,
     link: Option<SignatureRequest>,
 ) -> Option<Vec<u8>>
-    ensures signed { IsSignatureOf (GaveAt M.gave (answer_socket signer.now answerer.now)) draft.now (option_map (λ signature. signature.items) result) }
+    ensures signed { IsSignatureOf (AnsweredAtPath M.signer_answered (answer_socket signer.now answerer.now)) draft.now (option_map (λ signature. signature.items) result) }
     ensures short { IfSome result (λ signature. length signature.items ≤ 4096) }
 {
     let answer = received_answer::<M>(
@@ -132,7 +132,7 @@ fn signature_of<M: Machine>(
     }
 }
 
-/// What came on a connection, where what signs was asked on it, and for the answer to this message.
+/// What came on a connection, where the signer was asked on it to sign this message.
 pub(crate) fn received_answer<M: Machine>(
     alloc: Global,
     signer: &Option<KeyHolder<'_>>,
@@ -141,7 +141,7 @@ pub(crate) fn received_answer<M: Machine>(
     message: &[u8],
     link: Option<SignatureRequest>,
 ) -> Option<Vec<u8>>
-    ensures given { IfSome result (λ answer. GaveAt M.gave (socket_for signer.now answerer.now wanted) message.now answer.items) }
+    ensures given { IfSome result (λ answer. AnsweredAtPath M.signer_answered (socket_for signer.now answerer.now wanted) message.now answer.items) }
     ensures short { IfSome result (λ answer. length answer.items ≤ 4096) }
 {
     let socket = socket_of(signer, answerer, wanted)?;
@@ -149,7 +149,7 @@ pub(crate) fn received_answer<M: Machine>(
     if !link.is_for(socket, message) {
         return None;
     }
-    match M::hear(alloc, &mut link) {
+    match M::receive_answer(alloc, &mut link) {
         Some(answer) => Some(answer),
         None => None,
     }

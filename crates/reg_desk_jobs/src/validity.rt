@@ -3,7 +3,7 @@
 ghost use Rattle.std.specs.Prelude.{◌≡◌, ◌≢◌, ℕ, Some, IfNone, IfSome, length};
 ghost use Rattle.reg_core.specs.Calendar.{IsMoment, moment_text};
 ghost use Rattle.reg_der.specs.ValueReading.{Gives};
-ghost use Rattle.reg_desk_jobs.specs.Validities.{century as century_told, dated as dated_told, generalized_text as generalized_told, not_after_at, validity_time_at, utc_time_text as utc_told, validity_at};
+ghost use Rattle.reg_desk_jobs.specs.Validities.{century as century_spec, dated as dated_spec, generalized_text as generalized_spec, not_after_at, validity_time_at, utc_time_text as utc_spec, validity_at};
 
 use reg_core::Moment;
 use reg_der::tags::{GENERALIZED_TIME, INTEGER, SEQUENCE, TAGGED_0, UTC_TIME};
@@ -58,7 +58,7 @@ fn time_text(tag: u8, digits: &[u8]) -> Option<[u8; 20]>
 
 /// The text of a UTCTime `YYMMDDHHMMSSZ`, of the years 1950 to 2049.
 fn utc_text(digits: &[u8]) -> Option<[u8; 20]>
-    ensures { result ≡ utc_told digits.now }
+    ensures { result ≡ utc_spec digits.now }
 {
     if digits.len() != 13 {
         return None;
@@ -68,7 +68,7 @@ fn utc_text(digits: &[u8]) -> Option<[u8; 20]>
 
 /// The text of a GeneralizedTime `YYYYMMDDHHMMSSZ`.
 fn generalized_text(digits: &[u8]) -> Option<[u8; 20]>
-    ensures { result ≡ generalized_told digits.now }
+    ensures { result ≡ generalized_spec digits.now }
 {
     if digits.len() != 15 {
         return None;
@@ -77,7 +77,7 @@ fn generalized_text(digits: &[u8]) -> Option<[u8; 20]>
 }
 
 fn century(decade: u8) -> (u8, u8)
-    ensures { result ≡ century_told decade }
+    ensures { result ≡ century_spec decade }
 {
     if decade < b'5' {
         (b'2', b'0')
@@ -88,7 +88,7 @@ fn century(decade: u8) -> (u8, u8)
 
 fn dated(century: (u8, u8), digits: &[u8]) -> [u8; 20]
     requires { length digits.now ≡ 13 }
-    ensures { result ≡ dated_told century digits.now }
+    ensures { result ≡ dated_spec century digits.now }
 {
     [
         century.0, century.1, digits[0], digits[1], b'-', digits[2], digits[3], b'-', digits[4],

@@ -2,12 +2,12 @@
 
 ghost use Rattle.std.specs.Prelude.{◌≡◌, IfOk};
 ghost use Rattle.reg_core.specs.Calendar.{moment_of};
-ghost use Rattle.reg_core_lists.specs.Asked.{label_of};
+ghost use Rattle.reg_core_lists.specs.ListParameters.{label_of};
 ghost use Rattle.reg_desk_cli.specs.WordValues.{steps_of};
-ghost use Rattle.reg_desk_jobs.specs.ControlWords.{IsWord, accepted_by_word, accepted_in, settling_by, settling_in, shown_by, shown_in, steps_set};
+ghost use Rattle.reg_desk_jobs.specs.ControlWords.{IsWord, accepted_by_word, accepted_in, serial_decision_by, serial_decision_in, shown_by, shown_in, steps_set};
 ghost use Rattle.reg_lines.specs.Fields.{fields_of};
 
-use crate::copy_job::{asks_copy, path_in};
+use crate::copy_job::{is_copy_line, path_in};
 use reg_core::{Command, Label, Moment, Serial, read_number};
 use reg_desk_cli::{Steps, read_step};
 use reg_lines::{Fields, command_in, without_end};
@@ -25,7 +25,7 @@ pub(crate) enum ControlWord<'a> {
     /// It asks for a row.
     Show(Shown),
     /// It revokes or declines a request that it names with its serial number.
-    Settle(Settling),
+    Settle(SerialDecision),
     /// It accepts the clock.
     AcceptClock(AcceptedClock),
     /// It sets another schedule, of these steps.
@@ -53,7 +53,7 @@ pub(crate) struct AcceptedClock {
 
 /// A command that decides a request, and the serial number that the request is to be for.
 #[derive(Clone, Copy)]
-pub(crate) struct Settling {
+pub(crate) struct SerialDecision {
     pub(crate) command: Command,
     pub(crate) request: u64,
     pub(crate) serial: Serial,
@@ -69,14 +69,14 @@ pub(crate) fn read_word(alloc: Global, line: &[u8]) -> Result<ControlWord<'_>, A
     if text == b"why".as_slice() {
         return Ok(ControlWord::Why);
     }
-    if asks_copy(line) {
+    if is_copy_line(line) {
         return Ok(ControlWord::Copy(path_in(line)));
     }
     if let Some(shown) = shown_in(text) {
         return Ok(ControlWord::Show(shown));
     }
-    if let Some(settling) = settling_in(text) {
-        return Ok(ControlWord::Settle(settling));
+    if let Some(serial_decision) = serial_decision_in(text) {
+        return Ok(ControlWord::Settle(serial_decision));
     }
     if let Some(moment) = accepted_in(text) {
         return Ok(ControlWord::AcceptClock(AcceptedClock { moment }));
@@ -125,22 +125,22 @@ fn read_name(text: &[u8]) -> Option<Label>
     Label::of(text)
 }
 
-pub(crate) fn settling_in(text: &[u8]) -> Option<Settling>
-    ensures { result ≡ settling_in (fields_of text.now) }
+pub(crate) fn serial_decision_in(text: &[u8]) -> Option<SerialDecision>
+    ensures { result ≡ serial_decision_in (fields_of text.now) }
 {
     let mut fields = Fields::of(text);
     let word = fields.next()?;
     let request = fields.next()?;
     let serial = fields.next()?;
     if fields.is_empty() {
-        read_settling(word, read_number(request)?, Serial::read(serial)?)
+        read_serial_decision(word, read_number(request)?, Serial::read(serial)?)
     } else {
         None
     }
 }
 
-fn read_settling(word: &[u8], request: u64, serial: Serial) -> Option<Settling>
-    ensures { result ≡ settling_by word.now request serial }
+fn read_serial_decision(word: &[u8], request: u64, serial: Serial) -> Option<SerialDecision>
+    ensures { result ≡ serial_decision_by word.now request serial }
 {
     let command = if word == b"revoke".as_slice() {
         Command::Revoke { request }
@@ -149,7 +149,7 @@ fn read_settling(word: &[u8], request: u64, serial: Serial) -> Option<Settling>
     } else {
         return None;
     };
-    Some(Settling {
+    Some(SerialDecision {
         command,
         request,
         serial,

@@ -54,15 +54,15 @@ pub answers_begin : (text answers : List ℕ) → text ≡ text ++ answers_prefi
 unfolding answers_prefix
 answers_begin text answers = sym (append-nil text)
 
-answers_next : (answers : List ℕ) (place : ℕ) → answers_prefix answers (place + 1) ≡ answers_prefix answers place ++ answer_text place (slice_index_or answers place 0)
+answers_next : (answers : List ℕ) (index : ℕ) → answers_prefix answers (index + 1) ≡ answers_prefix answers index ++ answer_text index (slice_index_or answers index 0)
 unfolding answers_prefix
-answers_next answers place = rw add-one
+answers_next answers index = rw add-one
 
-pub answers_more : (before text more answers : List ℕ) (place : ℕ) → text ≡ before ++ answers_prefix answers place
-    → more ≡ text ++ answer_text place (slice_index_or answers place 0) → more ≡ before ++ answers_prefix answers (place + 1)
-answers_more before text more answers place is added =
-    one_more before (answers_prefix answers place) text (answer_text place (slice_index_or answers place 0)) more is added
-    ∙ ap (λ (it : List ℕ). before ++ it) (sym (answers_next answers place))
+pub answers_more : (before text more answers : List ℕ) (index : ℕ) → text ≡ before ++ answers_prefix answers index
+    → more ≡ text ++ answer_text index (slice_index_or answers index 0) → more ≡ before ++ answers_prefix answers (index + 1)
+answers_more before text more answers index is added =
+    one_more before (answers_prefix answers index) text (answer_text index (slice_index_or answers index 0)) more is added
+    ∙ ap (λ (it : List ℕ). before ++ it) (sym (answers_next answers index))
 
 -- ---- routes
 
@@ -72,18 +72,18 @@ routes_begin text tally = sym (append-nil text)
 
 -- what a route puts there
 abbrev route_at : Tally → List ℕ → ℕ → List ℕ
-route_at tally name place = route_text name (slice_index_or tally.route_micros place 0) (slice_index_or tally.route_counts place 0)
+route_at tally name index = route_text name (slice_index_or tally.route_micros index 0) (slice_index_or tally.route_counts index 0)
 
-routes_next : (tally : Tally) (place : ℕ) → routes_front tally (place + 1) ≡ routes_front tally place ++ route_at tally (route_name place) place
+routes_next : (tally : Tally) (index : ℕ) → routes_front tally (index + 1) ≡ routes_front tally index ++ route_at tally (route_name index) index
 unfolding routes_front
-routes_next tally place = rw add-one
+routes_next tally index = rw add-one
 
-pub routes_more : (before text more name : List ℕ) (tally : Tally) (place : ℕ) → text ≡ before ++ routes_front tally place
-    → more ≡ text ++ route_at tally name place → name ≡ route_name place → more ≡ before ++ routes_front tally (place + 1)
-routes_more before text more name tally place is added named =
-    one_more before (routes_front tally place) text (route_at tally name place) more is added
-    ∙ ap (λ (it : List ℕ). before ++ (routes_front tally place ++ route_at tally it place)) named
-    ∙ ap (λ (it : List ℕ). before ++ it) (sym (routes_next tally place))
+pub routes_more : (before text more name : List ℕ) (tally : Tally) (index : ℕ) → text ≡ before ++ routes_front tally index
+    → more ≡ text ++ route_at tally name index → name ≡ route_name index → more ≡ before ++ routes_front tally (index + 1)
+routes_more before text more name tally index is added named =
+    one_more before (routes_front tally index) text (route_at tally name index) more is added
+    ∙ ap (λ (it : List ℕ). before ++ (routes_front tally index ++ route_at tally it index)) named
+    ∙ ap (λ (it : List ℕ). before ++ it) (sym (routes_next tally index))
 
 -- ---- ranges
 
@@ -91,28 +91,28 @@ pub sum_begin : (buckets : List ℕ) → 0 ≡ sum_of buckets 0
 unfolding sum_of
 sum_begin buckets = refl
 
-sum_next : (buckets : List ℕ) (place : ℕ) → sum_of buckets (place + 1) ≡ min (sum_of buckets place + slice_index_or buckets place 0) greatest
+sum_next : (buckets : List ℕ) (index : ℕ) → sum_of buckets (index + 1) ≡ min (sum_of buckets index + slice_index_or buckets index 0) greatest
 unfolding sum_of
-sum_next buckets place = rw add-one
+sum_next buckets index = rw add-one
 
-pub sum_more : (sum more : ℕ) (buckets : List ℕ) (place : ℕ) → sum ≡ sum_of buckets place → more ≡ min (sum + slice_index_or buckets place 0) greatest
-    → more ≡ sum_of buckets (place + 1)
-sum_more sum more buckets place is added =
-    added ∙ ap (λ (it : ℕ). min (it + slice_index_or buckets place 0) greatest) is ∙ sym (sum_next buckets place)
+pub sum_more : (sum more : ℕ) (buckets : List ℕ) (index : ℕ) → sum ≡ sum_of buckets index → more ≡ min (sum + slice_index_or buckets index 0) greatest
+    → more ≡ sum_of buckets (index + 1)
+sum_more sum more buckets index is added =
+    added ∙ ap (λ (it : ℕ). min (it + slice_index_or buckets index 0) greatest) is ∙ sym (sum_next buckets index)
 
 pub buckets_begin : (text buckets : List ℕ) → text ≡ text ++ buckets_text buckets 0
 unfolding buckets_text
 buckets_begin text buckets = sym (append-nil text)
 
-buckets_next : (buckets : List ℕ) (place : ℕ)
-    → buckets_text buckets (place + 1) ≡ buckets_text buckets place ++ bucket_text (bucket_name place) (sum_of buckets (place + 1))
+buckets_next : (buckets : List ℕ) (index : ℕ)
+    → buckets_text buckets (index + 1) ≡ buckets_text buckets index ++ bucket_text (bucket_name index) (sum_of buckets (index + 1))
 unfolding buckets_text
-buckets_next buckets place = rw add-one
+buckets_next buckets index = rw add-one
 
-pub buckets_more : (before text more name buckets : List ℕ) (place count : ℕ) → text ≡ before ++ buckets_text buckets place → more ≡ text ++ bucket_text name count
-    → name ≡ bucket_name place → count ≡ sum_of buckets (place + 1) → more ≡ before ++ buckets_text buckets (place + 1)
-buckets_more before text more name buckets place count is added named counted =
-    one_more before (buckets_text buckets place) text (bucket_text name count) more is added
-    ∙ ap (λ (it : List ℕ). before ++ (buckets_text buckets place ++ bucket_text it count)) named
-    ∙ ap (λ (it : ℕ). before ++ (buckets_text buckets place ++ bucket_text (bucket_name place) it)) counted
-    ∙ ap (λ (it : List ℕ). before ++ it) (sym (buckets_next buckets place))
+pub buckets_more : (before text more name buckets : List ℕ) (index count : ℕ) → text ≡ before ++ buckets_text buckets index → more ≡ text ++ bucket_text name count
+    → name ≡ bucket_name index → count ≡ sum_of buckets (index + 1) → more ≡ before ++ buckets_text buckets (index + 1)
+buckets_more before text more name buckets index count is added named counted =
+    one_more before (buckets_text buckets index) text (bucket_text name count) more is added
+    ∙ ap (λ (it : List ℕ). before ++ (buckets_text buckets index ++ bucket_text it count)) named
+    ∙ ap (λ (it : ℕ). before ++ (buckets_text buckets index ++ bucket_text (bucket_name index) it)) counted
+    ∙ ap (λ (it : List ℕ). before ++ it) (sym (buckets_next buckets index))

@@ -1,4 +1,4 @@
--- Whether all is well with an open register, and the text that tells it.
+-- Whether all is well with an open register, and the text for it.
 use Rattle.std.specs.Prelude.{ℕ, Bool, true, false, cond, not, ◌&&◌, ◌-◌, ◌/◌, max, nat_lt, List, [], ◌∷◌, ◌++◌, codes, Some, None, Result, Ok, Err}
 use Rattle.std.specs.Option.{option_or}
 use Rattle.std.specs.declared.option.Option.{Option}
@@ -53,7 +53,7 @@ abbrev pub rows_since : ℕ → Result Numbers Fault → Option ℕ
 rows_since now (Ok numbers) = cond (is_filling numbers.standing) (Some now) None
 rows_since now (Err fault) = None
 
--- since when the store fails: as was counted, or now, where it tells nothing
+-- since when the store fails: as was counted, or now, where it answers nothing
 abbrev pub store_since_at : ℕ → Result Numbers Fault → Option ℕ → Option ℕ
 store_since_at now (Ok numbers) since = since
 store_since_at now (Err (Refused why)) since = since
@@ -89,11 +89,11 @@ member name since = name ++ since_text since
 unfoldable pub crl_text : Bool → Option ℕ → List ℕ
 crl_text has_no_crl crl = codes ",\"crl\":" ++ cond has_no_crl (codes "\"at-once\"") (since_text crl)
 
--- the members of who signs
+-- the members of the signer
 unfoldable pub signers_text : Option ℕ → Option ℕ → List ℕ
 signers_text crl ocsp = member (codes ",\"crl_signer\":") crl ++ member (codes ",\"ocsp_signer\":") ocsp
 
--- the member that tells whether all is well, and the name of the last
+-- the member for whether all is well, and the name of the last
 unfoldable pub health_member : Bool → List ℕ
 health_member is_well = cond is_well (codes ",\"status\":\"ok\",\"store\":") (codes ",\"status\":\"failing\",\"store\":")
 

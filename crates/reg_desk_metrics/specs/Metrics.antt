@@ -1,5 +1,5 @@
--- The metrics of an open register, in the text form of Prometheus, version 0.0.4: each family with its lines of help and of type, which stand in the name
--- of its first series.
+-- The metrics of an open register, in the text form of Prometheus, version 0.0.4. The HELP and TYPE lines of a family are in the constant that names its
+-- first series.
 use Rattle.std.specs.Prelude.{ℕ, zero, suc, ◌==◌, ◌+◌, ◌-◌, ◌/◌, ◌%◌, ◌^◌, min, List, [], ◌∷◌, ◌++◌, codes, slice_index_or, if◌then◌else◌, Some, None, Result, Ok, Err}
 use Rattle.std.specs.declared.option.Option.{Option}
 use Rattle.reg_core.specs.declared.command.Counts.{Counts}
@@ -10,7 +10,7 @@ use Rattle.reg_core.specs.declared.rows.CrlRow.{CrlRow}
 use Rattle.reg_office_api.specs.declared.register_summary.Rows.{Rows}
 use Rattle.reg_desk_metrics.specs.Samples.{moment_or_none, sample, sample_of_seconds}
 use Rattle.reg_desk_metrics.specs.Tallies.{greatest}
-use Rattle.reg_desk_metrics.specs.declared.names.TheConstants.{ACCEPTED, ACCEPTED_LINES, ANSWER, ANSWER_CODE, ANSWERED, BEHIND, BROKEN, BUILD, CAP, CERTIFICATE_ROWS, CLOCK, COUNTED, COUNTERS, CRL_AGE, CRL_DUE, CRL_FAILING, CRL_LAST, CRL_LAST_FAILED, CRL_NUMBER, CRL_ROWS, CRL_SIGNED, CRL_UNSIGNED, EVICTED, EXPIRED, FAULTS, GOOD, LABEL_END, LAST_COMMAND, LATE, NEXT_UPDATE, NO_MEMORY, OCSP_BY_SIGNER, OCSP_BY_STORE, OCSP_FAILING, OCSP_LAST, OCSP_LAST_FAILED, OCSP_SIGNED, OCSP_UNSIGNED, OPEN, ORDER_ROWS, OVERDUE, PEERS, READABLE, REFUSED_LINES, REQUEST_ROWS, RESPONDER_ENDS, REVOKED, ROUTE_COUNT, ROUTE_SECONDS, ROUTE_SUM, SECONDS, SECONDS_COUNT, SECONDS_SUM, SECONDS_TO, STORE_FAILING, SUBSCRIBER_ROWS, THIS_UPDATE}
+use Rattle.reg_desk_metrics.specs.declared.names.TheConstants.{ACCEPTED, ACCEPTED_LINES, ANSWER, ANSWER_CODE, ANSWERED, BEHIND, BROKEN, BUILD, CAP, CERTIFICATE_ROWS, CLOCK, COUNTED, OPEN_CONTROL, CRL_AGE, CRL_DUE, CRL_FAILING, CRL_LAST, CRL_LAST_FAILED, CRL_NUMBER, CRL_ROWS, CRL_SIGNED, CRL_UNSIGNED, EVICTED, EXPIRED, FAULTS, GOOD, LABEL_END, LAST_COMMAND, LATE, NEXT_UPDATE, NO_MEMORY, OCSP_BY_SIGNER, OCSP_BY_STORE, OCSP_FAILING, OCSP_LAST, OCSP_LAST_FAILED, OCSP_SIGNED, OCSP_UNSIGNED, OPEN, ORDER_ROWS, OVERDUE, OPEN_HTTP, READABLE, REFUSED_LINES, REQUEST_ROWS, RESPONDER_ENDS, REVOKED, ROUTE_COUNT, ROUTE_SECONDS, ROUTE_SUM, SECONDS, SECONDS_COUNT, SECONDS_SUM, SECONDS_TO, STORE_FAILING, SUBSCRIBER_ROWS, THIS_UPDATE}
 use Rattle.reg_desk_metrics.specs.declared.numbers.ConnectionTotals.{ConnectionTotals}
 use Rattle.reg_desk_metrics.specs.declared.numbers.Numbers.{Numbers}
 use Rattle.reg_desk_metrics.specs.declared.numbers.Requests.{Requests}
@@ -40,7 +40,7 @@ issued_text now crl life =
     sample CRL_NUMBER.now crl.number ++ sample THIS_UPDATE.now crl.this_update
     ++ sample NEXT_UPDATE.now (min (crl.this_update + life) greatest) ++ sample CRL_AGE.now (now - crl.this_update)
 
--- the latest CRL, of a life in seconds; number 0 where there is none
+-- the latest CRL, with the life of CRLs in seconds; number 0 if there is none
 abbrev pub crl_text : ℕ → Option CrlRow → ℕ → List ℕ
 crl_text now (Some crl) life = issued_text now crl life
 crl_text now None life = sample CRL_NUMBER.now 0
@@ -51,129 +51,129 @@ rows_text rows cap =
     sample SUBSCRIBER_ROWS.now rows.subscribers ++ sample ORDER_ROWS.now rows.orders ++ sample CERTIFICATE_ROWS.now rows.certificates
     ++ sample REQUEST_ROWS.now rows.requests ++ sample CRL_ROWS.now rows.crls ++ sample CAP.now cap
 
--- what a register has
+-- the numbers of a register
 unfoldable pub numbers_text : ℕ → Numbers → List ℕ
 numbers_text now numbers =
     sample READABLE.now 1 ++ certificates_text numbers.counts ++ rows_text numbers.standing.rows numbers.standing.cap
     ++ sample LAST_COMMAND.now numbers.standing.last
     ++ crl_text now numbers.standing.latest numbers.standing.crl_life ++ sample CRL_DUE.now (moment_or_none numbers.due)
 
--- the same, or that it tells nothing
+-- the same, or that the register refuses or can't be read
 unfoldable pub register_text : ℕ → Result Numbers Fault → List ℕ
 register_text now (Ok numbers) = numbers_text now numbers
 register_text now (Err fault) = sample READABLE.now 0
 
--- requests for revocation, where they were counted
+-- requests for revocation, if they were counted
 unfoldable pub requests_text : Option Requests → List ℕ
 requests_text None = []
 requests_text (Some counted) = sample OPEN.now counted.waiting ++ sample OVERDUE.now counted.overdue ++ sample COUNTED.now counted.at
 
--- the name of a route, and of a status, by its place
+-- the name of a route, and of a status, by its index
 unfoldable pub route_name : ℕ → List ℕ
-route_name place =
-    if place == 0 then codes "/ocsp"
-    else if place == 1 then codes "/ocsp/{request}"
-    else if place == 2 then codes "/crl"
-    else if place == 3 then codes "/crl/{number}"
-    else if place == 4 then codes "/status/{serial}"
-    else if place == 5 then codes "/counts"
-    else if place == 6 then codes "/requests"
-    else if place == 7 then codes "/list/{word}"
-    else if place == 8 then codes "/health"
-    else if place == 9 then codes "/metrics"
+route_name index =
+    if index == 0 then codes "/ocsp"
+    else if index == 1 then codes "/ocsp/{request}"
+    else if index == 2 then codes "/crl"
+    else if index == 3 then codes "/crl/{number}"
+    else if index == 4 then codes "/status/{serial}"
+    else if index == 5 then codes "/counts"
+    else if index == 6 then codes "/requests"
+    else if index == 7 then codes "/list/{word}"
+    else if index == 8 then codes "/health"
+    else if index == 9 then codes "/metrics"
     else codes "other"
 
 unfoldable pub code_name : ℕ → List ℕ
-code_name place =
-    if place == 0 then codes "200"
-    else if place == 1 then codes "400"
-    else if place == 2 then codes "404"
-    else if place == 3 then codes "405"
-    else if place == 4 then codes "409"
-    else if place == 5 then codes "411"
-    else if place == 6 then codes "413"
-    else if place == 7 then codes "429"
-    else if place == 8 then codes "431"
-    else if place == 9 then codes "500"
-    else if place == 10 then codes "503"
+code_name index =
+    if index == 0 then codes "200"
+    else if index == 1 then codes "400"
+    else if index == 2 then codes "404"
+    else if index == 3 then codes "405"
+    else if index == 4 then codes "409"
+    else if index == 5 then codes "411"
+    else if index == 6 then codes "413"
+    else if index == 7 then codes "429"
+    else if index == 8 then codes "431"
+    else if index == 9 then codes "500"
+    else if index == 10 then codes "503"
     else codes "none"
 
--- how often there was an answer of the route and the status of a place; nothing of one that there was not
+-- how many answers had the route and the status of an index; nothing if there was none
 abbrev pub answer_text : ℕ → ℕ → List ℕ
-answer_text place count =
+answer_text index count =
     if count == 0 then []
-    else ANSWER.now ++ route_name (place / 12) ++ ANSWER_CODE.now ++ code_name (place % 12) ++ sample LABEL_END.now count
+    else ANSWER.now ++ route_name (index / 12) ++ ANSWER_CODE.now ++ code_name (index % 12) ++ sample LABEL_END.now count
 
--- the first so many places, in their order
+-- the same for the first indexes, in order
 unfoldable pub answers_prefix : List ℕ → ℕ → List ℕ
 answers_prefix answers zero = []
-answers_prefix answers (suc place) = answers_prefix answers place ++ answer_text place (slice_index_or answers place 0)
+answers_prefix answers (suc index) = answers_prefix answers index ++ answer_text index (slice_index_or answers index 0)
 
 -- the answers, by route and status
 abbrev pub answers_text : List ℕ → List ℕ
 answers_text answers = ANSWERED.now ++ answers_prefix answers 132
 
--- the lines at the counter
+-- the lines at the control socket, by their reply
 unfoldable pub lines_text : Tally → List ℕ
 lines_text tally = sample ACCEPTED_LINES.now tally.accepted ++ sample REFUSED_LINES.now tally.refused ++ sample FAULTS.now tally.faults
 
--- signatures: how many came, and how many did not
+-- signatures: how many were received, and how many failed
 unfoldable pub signed_text : Signing → Signing → List ℕ
 signed_text crls ocsp =
-    sample CRL_SIGNED.now crls.came ++ sample OCSP_SIGNED.now ocsp.came
+    sample CRL_SIGNED.now crls.received ++ sample OCSP_SIGNED.now ocsp.received
     ++ sample CRL_UNSIGNED.now crls.failed ++ sample OCSP_UNSIGNED.now ocsp.failed
 
--- when the last one came, and when one did not come last
+-- when a signature was last received, and when one last failed
 unfoldable pub last_text : Signing → Signing → List ℕ
 last_text crls ocsp =
     sample CRL_LAST.now (moment_or_none crls.last) ++ sample OCSP_LAST.now (moment_or_none ocsp.last)
     ++ sample CRL_LAST_FAILED.now (moment_or_none crls.last_failed) ++ sample OCSP_LAST_FAILED.now (moment_or_none ocsp.last_failed)
 
--- since when nothing is signed, and since when the store fails
+-- since when signatures fail, and since when the store fails
 unfoldable pub signers_text : Tally → List ℕ
 signers_text tally =
     sample CRL_FAILING.now (moment_or_none tally.crls.failing_since) ++ sample OCSP_FAILING.now (moment_or_none tally.ocsp.failing_since)
     ++ sample STORE_FAILING.now (moment_or_none tally.store_since)
 
--- the connections, and those that ended by a fault
+-- the connections: open and accepted ones; then those that ended by a fault
 unfoldable pub connections_text : ConnectionTotals → List ℕ
-connections_text heard = sample PEERS.now heard.peers ++ sample COUNTERS.now heard.counters ++ sample ACCEPTED.now heard.accepted
+connections_text connection_totals = sample OPEN_HTTP.now connection_totals.open_http ++ sample OPEN_CONTROL.now connection_totals.open_control ++ sample ACCEPTED.now connection_totals.accepted
 
 unfoldable pub lost_text : ConnectionTotals → List ℕ
-lost_text heard =
-    sample BROKEN.now heard.broken ++ sample LATE.now heard.late ++ sample EVICTED.now heard.evicted ++ sample NO_MEMORY.now heard.memory
+lost_text connection_totals =
+    sample BROKEN.now connection_totals.broken ++ sample LATE.now connection_totals.late ++ sample EVICTED.now connection_totals.evicted ++ sample NO_MEMORY.now connection_totals.memory
 
--- the end of a range in seconds, by its place
+-- the upper bound of a bucket in seconds, by its index
 unfoldable pub bucket_name : ℕ → List ℕ
-bucket_name place =
-    if place == 0 then codes "0.0001"
-    else if place == 1 then codes "0.0003"
-    else if place == 2 then codes "0.001"
-    else if place == 3 then codes "0.003"
-    else if place == 4 then codes "0.01"
-    else if place == 5 then codes "0.03"
-    else if place == 6 then codes "0.1"
-    else if place == 7 then codes "0.3"
-    else if place == 8 then codes "1"
-    else if place == 9 then codes "3"
-    else if place == 10 then codes "10"
+bucket_name index =
+    if index == 0 then codes "0.0001"
+    else if index == 1 then codes "0.0003"
+    else if index == 2 then codes "0.001"
+    else if index == 3 then codes "0.003"
+    else if index == 4 then codes "0.01"
+    else if index == 5 then codes "0.03"
+    else if index == 6 then codes "0.1"
+    else if index == 7 then codes "0.3"
+    else if index == 8 then codes "1"
+    else if index == 9 then codes "3"
+    else if index == 10 then codes "10"
     else codes "+Inf"
 
--- how many exchanges took no longer than the end of a range
+-- how many exchanges took no longer than a bucket's upper bound
 abbrev pub bucket_text : List ℕ → ℕ → List ℕ
 bucket_text name count = SECONDS_TO.now ++ name ++ sample LABEL_END.now count
 
--- the sum of the first so many ranges, up to the greatest number
+-- the sum of the first buckets, at most `greatest`
 unfoldable pub sum_of : List ℕ → ℕ → ℕ
 sum_of buckets zero = 0
-sum_of buckets (suc place) = min (sum_of buckets place + slice_index_or buckets place 0) greatest
+sum_of buckets (suc index) = min (sum_of buckets index + slice_index_or buckets index 0) greatest
 
--- the first so many ranges in their order, each with those below it
+-- the first buckets in order, each with the counts of those below it
 unfoldable pub buckets_text : List ℕ → ℕ → List ℕ
 buckets_text buckets zero = []
-buckets_text buckets (suc place) = buckets_text buckets place ++ bucket_text (bucket_name place) (sum_of buckets (suc place))
+buckets_text buckets (suc index) = buckets_text buckets index ++ bucket_text (bucket_name index) (sum_of buckets (suc index))
 
--- the seconds of exchanges, as a histogram
+-- how long exchanges took, as a histogram in seconds
 unfoldable pub seconds_text : Tally → List ℕ
 seconds_text tally =
     SECONDS.now ++ buckets_text tally.buckets 12 ++ sample_of_seconds SECONDS_SUM.now tally.micros ++ sample SECONDS_COUNT.now (sum_of tally.buckets 12)
@@ -183,11 +183,11 @@ unfoldable pub route_text : List ℕ → ℕ → ℕ → List ℕ
 route_text name micros count =
     ROUTE_SUM.now ++ name ++ sample_of_seconds LABEL_END.now micros ++ ROUTE_COUNT.now ++ name ++ sample LABEL_END.now count
 
--- the first so many routes, in their order
+-- the first routes, in order
 unfoldable pub routes_front : Tally → ℕ → List ℕ
 routes_front tally zero = []
-routes_front tally (suc place) =
-    routes_front tally place ++ route_text (route_name place) (slice_index_or tally.route_micros place 0) (slice_index_or tally.route_counts place 0)
+routes_front tally (suc index) =
+    routes_front tally index ++ route_text (route_name index) (slice_index_or tally.route_micros index 0) (slice_index_or tally.route_counts index 0)
 
 abbrev pub routes_text : Tally → List ℕ
 routes_text tally = ROUTE_SECONDS.now ++ routes_front tally 11
@@ -196,14 +196,14 @@ routes_text tally = ROUTE_SECONDS.now ++ routes_front tally 11
 unfoldable pub failures_text : Tally → List ℕ
 failures_text tally = sample OCSP_BY_SIGNER.now tally.ocsp_unsigned ++ sample OCSP_BY_STORE.now tally.ocsp_unread
 
--- when the responder's certificate ends, where that is known
+-- notAfter of the responder's certificate, if it is known
 abbrev pub responder_text : Option ℕ → List ℕ
 responder_text None = []
 responder_text (Some at) = sample RESPONDER_ENDS.now at
 
--- all of it
+-- the whole text
 abbrev pub metrics_text : List ℕ → ℕ → Result Numbers Fault → Tally → ConnectionTotals → List ℕ
-metrics_text version now found tally heard =
+metrics_text version now found tally connection_totals =
     build_text version ++ clock_text now found ++ register_text now found ++ requests_text tally.requests ++ answers_text tally.answers ++ lines_text tally
-    ++ signed_text tally.crls tally.ocsp ++ last_text tally.crls tally.ocsp ++ signers_text tally ++ connections_text heard ++ lost_text heard ++ seconds_text tally
+    ++ signed_text tally.crls tally.ocsp ++ last_text tally.crls tally.ocsp ++ signers_text tally ++ connections_text connection_totals ++ lost_text connection_totals ++ seconds_text tally
     ++ routes_text tally ++ failures_text tally ++ responder_text tally.responder_ends

@@ -21,6 +21,6 @@ fraction micros =
     46 ∷ digit_at micros 100000 ∷ digit_at micros 10000 ∷ digit_at micros 1000 ∷ digit_at micros 100 ∷ digit_at micros 10
     ∷ digit_at micros 1 ∷ []
 
--- a sample of a time in microseconds, told in seconds
+-- a sample of a time in microseconds, written in seconds
 abbrev pub sample_of_seconds : List ℕ → ℕ → List ℕ
 sample_of_seconds series micros = series ++ decimal (micros / 1000000) ++ fraction micros ++ 10 ∷ []

@@ -29,11 +29,11 @@ one_more count = min (count + 1) greatest
 
 -- one more at a place
 abbrev pub bumped : List ℕ → ℕ → List ℕ
-bumped counts place = slice_set counts place (one_more (slice_index_or counts place 0))
+bumped counts index = slice_set counts index (one_more (slice_index_or counts index 0))
 
 -- so much more at a place
 abbrev pub with_amount : List ℕ → ℕ → ℕ → List ℕ
-with_amount sums place amount = slice_set sums place (min (slice_index_or sums place 0 + amount) greatest)
+with_amount sums index amount = slice_set sums index (min (slice_index_or sums index 0 + amount) greatest)
 
 -- the places of the routes, and of the statuses
 abbrev pub route_number : Route → ℕ
@@ -84,13 +84,13 @@ bucket_of micros =
 
 -- no signature was asked for yet
 abbrev pub nothing_signed : Signing
-nothing_signed = record { came = 0; failed = 0; last = None; last_failed = None; failing_since = None }
+nothing_signed = record { received = 0; failed = 0; last = None; last_failed = None; failing_since = None }
 
 -- signatures of one kind after an exchange at a moment: one came, and nothing fails any more; or one did not, and they fail since then, or since one
 -- before it that no other came after
 abbrev pub signing_after : SignatureFate → ℕ → Signing → Signing
 signing_after signature.NotAsked now before = before
-signing_after signature.Made now before = record before { came = one_more before.came; last = Some now; failing_since = None }
+signing_after signature.Made now before = record before { received = one_more before.received; last = Some now; failing_since = None }
 signing_after signature.Failed now before =
     record before { failed = one_more before.failed; last_failed = Some now; failing_since = option_or before.failing_since (Some now) }
 
@@ -126,15 +126,15 @@ with_route number micros tally = record tally {
 }
 
 -- whether a route is asked for OCSP responses
-abbrev pub asks_ocsp : Route → Bool
-asks_ocsp routes.Ocsp = true
-asks_ocsp routes.OcspRest = true
-asks_ocsp _ = false
+abbrev pub is_ocsp_line : Route → Bool
+is_ocsp_line routes.Ocsp = true
+is_ocsp_line routes.OcspRest = true
+is_ocsp_line _ = false
 
 -- whether an exchange gave an OCSP response, which has status 200 (RFC 6960 A.2)
 abbrev pub response_by : Route → Option ℕ → Bool
 response_by route None = false
-response_by route (Some code) = (code == 200) && asks_ocsp route
+response_by route (Some code) = (code == 200) && is_ocsp_line route
 
 abbrev pub has_response : Exchange → Bool
 has_response exchange = response_by exchange.route exchange.status
@@ -148,7 +148,7 @@ with_cause other effect tally = tally
 abbrev pub with_failure : Exchange → Tally → Tally
 with_failure exchange tally = cond (has_response exchange) (with_cause exchange.signature exchange.store tally) tally
 
--- what became of the signature of a CRL: none was asked for where nobody signs
+-- what became of the signature of a CRL: none was requested where there is no signer
 abbrev pub fate_by : CrlSigning → SignatureFate → SignatureFate
 fate_by Nobody fate = signature.NotAsked
 fate_by other fate = fate

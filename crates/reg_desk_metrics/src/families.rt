@@ -1,17 +1,17 @@
 //! The metrics of an open register, in the text form of Prometheus, version 0.0.4.
 
 ghost use Rattle.std.specs.Prelude.{◌≡◌, ◌++◌, IfOk, OnOk};
-ghost use Rattle.reg_desk_metrics.specs.Metrics.{answer_text, answers_text, seconds_behind as behind_told, bucket_name as bucket_named, bucket_text, buckets_text, certificates_text, clock_text, code_name as code_named, connections_text, crl_text as crl_told, issued_text, last_text, lines_text, lost_text, metrics_text, numbers_text, register_text, requests_text, rows_text, route_name as route_named, route_text, routes_text, build_text, failures_text, responder_text, seconds_text, signers_text, signed_text, sum_of};
+ghost use Rattle.reg_desk_metrics.specs.Metrics.{answer_text, answers_text, seconds_behind as behind_spec, bucket_name as bucket_named, bucket_text, buckets_text, certificates_text, clock_text, code_name as code_named, connections_text, crl_text as crl_since_spec, issued_text, last_text, lines_text, lost_text, metrics_text, numbers_text, register_text, requests_text, rows_text, route_name as route_named, route_text, routes_text, build_text, failures_text, responder_text, seconds_text, signers_text, signed_text, sum_of};
 
 use crate::names::{
     ACCEPTED, ACCEPTED_LINES, ANSWER, ANSWER_CODE, ANSWERED, BEHIND, BROKEN, BUILD, CAP,
-    CERTIFICATE_ROWS, CLOCK, COUNTED, COUNTERS, CRL_AGE, CRL_DUE, CRL_FAILING, CRL_LAST,
-    CRL_LAST_FAILED, CRL_NUMBER, CRL_ROWS, CRL_SIGNED, CRL_UNSIGNED, EVICTED, EXPIRED, FAULTS,
-    GOOD, LABEL_END, LAST_COMMAND, LATE, NEXT_UPDATE, NO_MEMORY, OCSP_BY_SIGNER, OCSP_BY_STORE,
-    OCSP_FAILING, OCSP_LAST, OCSP_LAST_FAILED, OCSP_SIGNED, OCSP_UNSIGNED, OPEN, ORDER_ROWS,
-    OVERDUE, PEERS, READABLE, REFUSED_LINES, REQUEST_ROWS, RESPONDER_ENDS, REVOKED, ROUTE_COUNT,
-    ROUTE_SECONDS, ROUTE_SUM, SECONDS, SECONDS_COUNT, SECONDS_SUM, SECONDS_TO, STORE_FAILING,
-    SUBSCRIBER_ROWS, THIS_UPDATE,
+    CERTIFICATE_ROWS, CLOCK, COUNTED, CRL_AGE, CRL_DUE, CRL_FAILING, CRL_LAST, CRL_LAST_FAILED,
+    CRL_NUMBER, CRL_ROWS, CRL_SIGNED, CRL_UNSIGNED, EVICTED, EXPIRED, FAULTS, GOOD, LABEL_END,
+    LAST_COMMAND, LATE, NEXT_UPDATE, NO_MEMORY, OCSP_BY_SIGNER, OCSP_BY_STORE, OCSP_FAILING,
+    OCSP_LAST, OCSP_LAST_FAILED, OCSP_SIGNED, OCSP_UNSIGNED, OPEN, OPEN_CONTROL, OPEN_HTTP,
+    ORDER_ROWS, OVERDUE, READABLE, REFUSED_LINES, REQUEST_ROWS, RESPONDER_ENDS, REVOKED,
+    ROUTE_COUNT, ROUTE_SECONDS, ROUTE_SUM, SECONDS, SECONDS_COUNT, SECONDS_SUM, SECONDS_TO,
+    STORE_FAILING, SUBSCRIBER_ROWS, THIS_UPDATE,
 };
 use crate::numbers::{ConnectionTotals, Found, Numbers, Requests};
 use crate::samples::{put_moment, put_sample, put_seconds};
@@ -21,10 +21,10 @@ use reg_core::{Counts, CrlRow, Fault, Moment, Refusal};
 use reg_office_api::Rows;
 use std::alloc::{AllocError, Global};
 
-/// The bytes of room that are made for the text.
+/// The bytes that are reserved for the text.
 const ROOM: usize = 12_288;
 
-/// The metrics of a register at a moment: the program's version, what was found there, what was counted and what was heard.
+/// The metrics of an open register at a moment: the program's version, the register's numbers, what the desk counted, and its connections.
 ///
 /// # Errors
 ///
@@ -35,9 +35,9 @@ pub fn metrics(
     now: Moment,
     found: &Found,
     tally: &Tally,
-    heard: ConnectionTotals,
+    connection_totals: ConnectionTotals,
 ) -> Result<Vec<u8>, AllocError>
-    ensures { IfOk result (λ text. text.items ≡ metrics_text version.now now found.now tally.now heard) }
+    ensures { IfOk result (λ text. text.items ≡ metrics_text version.now now found.now tally.now connection_totals) }
 {
     let mut text = Vec::with_capacity(alloc, ROOM)?;
     put_build(&mut text, version)?;
@@ -49,8 +49,8 @@ pub fn metrics(
     put_signed(&mut text, tally.crls, tally.ocsp)?;
     put_last(&mut text, tally.crls, tally.ocsp)?;
     put_signers(&mut text, tally)?;
-    put_connections(&mut text, heard)?;
-    put_lost(&mut text, heard)?;
+    put_connections(&mut text, connection_totals)?;
+    put_lost(&mut text, connection_totals)?;
     put_times(&mut text, tally)?;
     put_routes(&mut text, tally)?;
     put_failures(&mut text, tally)?;
@@ -69,7 +69,7 @@ fn put_build(text: &mut Vec<u8>, version: &str) -> Result<(), AllocError>
 
 /// How many seconds the clock is behind the last command.
 fn behind(now: Moment, found: &Found) -> u64
-    ensures { result ≡ behind_told now found.now }
+    ensures { result ≡ behind_spec now found.now }
 {
     match *found {
         Err(Fault::Refused(Refusal::ClockBack { last })) => last.secs().saturating_sub(now.secs()),
@@ -140,7 +140,7 @@ fn put_crl(
     latest: Option<CrlRow>,
     life: u64,
 ) -> Result<(), AllocError>
-    ensures { OnOk result (text.new.items ≡ text.old.items ++ crl_told now latest life) }
+    ensures { OnOk result (text.new.items ≡ text.old.items ++ crl_since_spec now latest life) }
 {
     match latest {
         Some(crl) => put_issued(text, now, crl, life),
@@ -174,10 +174,10 @@ fn put_requests(text: &mut Vec<u8>, requests: Option<Requests>) -> Result<(), Al
 }
 
 #[tactic(auto, unfolding(crate::specs::Metrics::route_name))]
-fn route_name(place: usize) -> &'static str
-    ensures { result.now ≡ route_named place }
+fn route_name(index: usize) -> &'static str
+    ensures { result.now ≡ route_named index }
 {
-    match place {
+    match index {
         0 => "/ocsp",
         1 => "/ocsp/{request}",
         2 => "/crl",
@@ -193,10 +193,10 @@ fn route_name(place: usize) -> &'static str
 }
 
 #[tactic(auto, unfolding(crate::specs::Metrics::code_name))]
-fn code_name(place: usize) -> &'static str
-    ensures { result.now ≡ code_named place }
+fn code_name(index: usize) -> &'static str
+    ensures { result.now ≡ code_named index }
 {
-    match place {
+    match index {
         0 => "200",
         1 => "400",
         2 => "404",
@@ -216,22 +216,22 @@ fn put_answers(text: &mut Vec<u8>, answers: &[u64; ANSWERS]) -> Result<(), Alloc
     ensures { OnOk result (text.new.items ≡ text.old.items ++ answers_text answers.now) }
 {
     text.extend_from_slice(ANSWERED.as_bytes())?;
-    for place in 0..ANSWERS {
-        put_answer(text, place, answers[place])?;
+    for index in 0..ANSWERS {
+        put_answer(text, index, answers[index])?;
     }
     Ok(())
 }
 
-fn put_answer(text: &mut Vec<u8>, place: usize, count: u64) -> Result<(), AllocError>
-    ensures { OnOk result (text.new.items ≡ text.old.items ++ answer_text place count) }
+fn put_answer(text: &mut Vec<u8>, index: usize, count: u64) -> Result<(), AllocError>
+    ensures { OnOk result (text.new.items ≡ text.old.items ++ answer_text index count) }
 {
     if count == 0 {
         return Ok(());
     }
     text.extend_from_slice(ANSWER.as_bytes())?;
-    text.extend_from_slice(route_name(place / CODES).as_bytes())?;
+    text.extend_from_slice(route_name(index / CODES).as_bytes())?;
     text.extend_from_slice(ANSWER_CODE.as_bytes())?;
-    text.extend_from_slice(code_name(place % CODES).as_bytes())?;
+    text.extend_from_slice(code_name(index % CODES).as_bytes())?;
     put_sample(text, LABEL_END, count)
 }
 
@@ -248,8 +248,8 @@ fn put_lines(text: &mut Vec<u8>, tally: &Tally) -> Result<(), AllocError>
 fn put_signed(text: &mut Vec<u8>, crls: Signing, ocsp: Signing) -> Result<(), AllocError>
     ensures { OnOk result (text.new.items ≡ text.old.items ++ signed_text crls ocsp) }
 {
-    put_sample(text, CRL_SIGNED, crls.came)?;
-    put_sample(text, OCSP_SIGNED, ocsp.came)?;
+    put_sample(text, CRL_SIGNED, crls.received)?;
+    put_sample(text, OCSP_SIGNED, ocsp.received)?;
     put_sample(text, CRL_UNSIGNED, crls.failed)?;
     put_sample(text, OCSP_UNSIGNED, ocsp.failed)
 }
@@ -274,30 +274,33 @@ fn put_signers(text: &mut Vec<u8>, tally: &Tally) -> Result<(), AllocError>
 }
 
 #[tactic(auto, unfolding(crate::specs::Metrics::connections_text))]
-fn put_connections(text: &mut Vec<u8>, heard: ConnectionTotals) -> Result<(), AllocError>
-    ensures { OnOk result (text.new.items ≡ text.old.items ++ connections_text heard) }
+fn put_connections(
+    text: &mut Vec<u8>,
+    connection_totals: ConnectionTotals,
+) -> Result<(), AllocError>
+    ensures { OnOk result (text.new.items ≡ text.old.items ++ connections_text connection_totals) }
 {
-    put_sample(text, PEERS, heard.peers)?;
-    put_sample(text, COUNTERS, heard.counters)?;
-    put_sample(text, ACCEPTED, heard.accepted)
+    put_sample(text, OPEN_HTTP, connection_totals.open_http)?;
+    put_sample(text, OPEN_CONTROL, connection_totals.open_control)?;
+    put_sample(text, ACCEPTED, connection_totals.accepted)
 }
 
 #[tactic(auto, unfolding(crate::specs::Metrics::lost_text))]
-fn put_lost(text: &mut Vec<u8>, heard: ConnectionTotals) -> Result<(), AllocError>
-    ensures { OnOk result (text.new.items ≡ text.old.items ++ lost_text heard) }
+fn put_lost(text: &mut Vec<u8>, connection_totals: ConnectionTotals) -> Result<(), AllocError>
+    ensures { OnOk result (text.new.items ≡ text.old.items ++ lost_text connection_totals) }
 {
-    put_sample(text, BROKEN, heard.broken)?;
-    put_sample(text, LATE, heard.late)?;
-    put_sample(text, EVICTED, heard.evicted)?;
-    put_sample(text, NO_MEMORY, heard.memory)
+    put_sample(text, BROKEN, connection_totals.broken)?;
+    put_sample(text, LATE, connection_totals.late)?;
+    put_sample(text, EVICTED, connection_totals.evicted)?;
+    put_sample(text, NO_MEMORY, connection_totals.memory)
 }
 
-/// The end of a range, in seconds, by its place.
+/// The upper bound of a bucket of the histogram, in seconds, by the bucket's index.
 #[tactic(auto, unfolding(crate::specs::Metrics::bucket_name))]
-fn bucket_name(place: usize) -> &'static str
-    ensures { result.now ≡ bucket_named place }
+fn bucket_name(index: usize) -> &'static str
+    ensures { result.now ≡ bucket_named index }
 {
-    match place {
+    match index {
         0 => "0.0001",
         1 => "0.0003",
         2 => "0.001",
@@ -328,9 +331,9 @@ fn put_buckets(text: &mut Vec<u8>, buckets: &[u64; BUCKETS]) -> Result<u64, Allo
         × (text.new.items ≡ text.old.items ++ buckets_text buckets.now 12)) }
 {
     let mut sum: u64 = 0;
-    for place in 0..BUCKETS {
-        sum = sum.saturating_add(buckets[place]);
-        put_bucket(text, bucket_name(place), sum)?;
+    for index in 0..BUCKETS {
+        sum = sum.saturating_add(buckets[index]);
+        put_bucket(text, bucket_name(index), sum)?;
     }
     Ok(sum)
 }
@@ -347,12 +350,12 @@ fn put_routes(text: &mut Vec<u8>, tally: &Tally) -> Result<(), AllocError>
     ensures { OnOk result (text.new.items ≡ text.old.items ++ routes_text tally.now) }
 {
     text.extend_from_slice(ROUTE_SECONDS.as_bytes())?;
-    for place in 0..ROUTES {
+    for index in 0..ROUTES {
         put_route(
             text,
-            route_name(place),
-            tally.route_micros[place],
-            tally.route_counts[place],
+            route_name(index),
+            tally.route_micros[index],
+            tally.route_counts[index],
         )?;
     }
     Ok(())

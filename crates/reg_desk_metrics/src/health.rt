@@ -1,7 +1,7 @@
-//! Whether all is well with an open register, and since when what is not.
+//! Whether all is well with an open register; if not, what fails, and since when.
 
 ghost use Rattle.std.specs.Prelude.{◌≡◌, ◌++◌, IfOk, OnOk};
-ghost use Rattle.reg_desk_metrics.specs.Healths.{clock_of as clock_told, crl_since as crl_told, crl_text as crl_said, has_no_crl as lacks_crl, health_of, health_text, is_none as is_without, is_filling as fills, is_well as all_well, if_past as past_told, member, rows_since as rows_told, signers_text, since_text, health_member, store_since_at as store_told};
+ghost use Rattle.reg_desk_metrics.specs.Healths.{clock_of as clock_spec, crl_since as crl_since_spec, crl_text as crl_spec, has_no_crl as lacks_crl, health_of, health_text, is_none as is_without, is_filling as fills, is_well as all_well, if_past as past_spec, member, rows_since as all_row_lines, signers_text, since_text, health_member, store_since_at as store_spec};
 
 use crate::ahead::is_ahead;
 use crate::numbers::Found;
@@ -10,18 +10,18 @@ use reg_core::{Fault, Moment, Refusal};
 use reg_office_api::{Rows, Standing};
 use std::alloc::{AllocError, Global};
 
-/// What is not well with an open register; nothing where each is none.
+/// What is not well with an open register. All is well if each is `None`, and `has_no_crl` is false.
 #[derive(Clone, Copy, PartialEq, Eq)]
 pub struct Health {
-    /// Up to when the clock is behind the last command; now, if it is too far ahead or past its end.
+    /// The moment of the last command, if the clock is behind it; now, if the clock is too far ahead or past its end.
     pub(crate) clock: Option<Moment>,
-    /// There is no CRL yet.
+    /// The next CRL is due at once: there is none yet, or the latest one has a placeholder digest and the desk has a signer.
     pub(crate) has_no_crl: bool,
-    /// Since when the next CRL is due.
+    /// Since when the next CRL is late.
     pub(crate) crl: Option<Moment>,
-    /// Since when no CRL is signed.
+    /// Since when signatures of CRLs fail.
     pub(crate) crl_signer: Option<Moment>,
-    /// Since when no OCSP answer is signed.
+    /// Since when signatures of OCSP answers fail.
     pub(crate) ocsp_signer: Option<Moment>,
     /// Now, if less than a fifth of the cap is left in a table.
     pub(crate) rows: Option<Moment>,
@@ -30,7 +30,7 @@ pub struct Health {
 }
 
 impl Health {
-    /// The health of a register at a moment, by what was found there, what was counted, and the moment that the operator accepted.
+    /// The health of a register at a moment, by its numbers, the desk's tally, and the moment of the last `accept-clock`.
     pub fn of(now: Moment, found: &Found, tally: &Tally, accepted: Option<Moment>) -> Health
         ensures { result ≡ health_of now found.now tally.now accepted }
     {
@@ -58,11 +58,11 @@ impl Health {
             && is_none(self.store)
     }
 
-    /// The text that tells it, as JSON (RFC 8259): each member is null, or since when it is not well.
+    /// The answer to `GET /health`, as JSON (RFC 8259): each member but `status` is null, or since when it is not well.
     ///
     /// # Errors
     ///
-    /// [`AllocError`], where memory is refused.
+    /// [`AllocError`], if there is no memory.
     #[tactic(auto, unfolding(crate::specs::Healths::health_text))]
     pub fn text(&self, alloc: Global) -> Result<Vec<u8>, AllocError>
         ensures { IfOk result (λ text. text.items ≡ health_text self.now) }
@@ -89,7 +89,7 @@ fn is_none(moment: Option<Moment>) -> bool
 }
 
 fn clock_of(now: Moment, found: &Found, accepted: Option<Moment>) -> Option<Moment>
-    ensures { result ≡ clock_told now found.now accepted }
+    ensures { result ≡ clock_spec now found.now accepted }
 {
     match *found {
         Ok(numbers) if is_ahead(now, numbers.standing.last, accepted) => Some(now),
@@ -110,7 +110,7 @@ fn has_no_crl(found: &Found) -> bool
 
 /// Since when the next CRL is due, where that moment is past.
 fn crl_since(now: Moment, found: &Found) -> Option<Moment>
-    ensures { result ≡ crl_told now found.now }
+    ensures { result ≡ crl_since_spec now found.now }
 {
     match found {
         Ok(numbers) => past(now, numbers.due),
@@ -119,7 +119,7 @@ fn crl_since(now: Moment, found: &Found) -> Option<Moment>
 }
 
 fn past(now: Moment, due: Option<Moment>) -> Option<Moment>
-    ensures { result ≡ past_told now due }
+    ensures { result ≡ past_spec now due }
 {
     match due {
         Some(at) => { if at < now { Some(at) } else { None } }
@@ -128,7 +128,7 @@ fn past(now: Moment, due: Option<Moment>) -> Option<Moment>
 }
 
 fn rows_of(now: Moment, found: &Found) -> Option<Moment>
-    ensures { result ≡ rows_told now found.now }
+    ensures { result ≡ all_row_lines now found.now }
 {
     match found {
         Ok(numbers) if is_filling(&numbers.standing) => Some(now),
@@ -154,9 +154,9 @@ fn is_filling(standing: &Standing) -> bool
     standing.cap.saturating_sub(most) < standing.cap / 5
 }
 
-/// Since when the store fails, as was counted; or now, where it tells nothing.
+/// Since when the store fails, as was counted; or else now, if the register can't be read.
 fn store_of(now: Moment, found: &Found, since: Option<Moment>) -> Option<Moment>
-    ensures { result ≡ store_told now found.now since }
+    ensures { result ≡ store_spec now found.now since }
 {
     match *found {
         Ok(_) => since,
@@ -165,7 +165,7 @@ fn store_of(now: Moment, found: &Found, since: Option<Moment>) -> Option<Moment>
     }
 }
 
-/// Puts a moment behind a text, in quotation marks, or null.
+/// Appends a moment in quotation marks, or null.
 fn put_since(text: &mut Vec<u8>, since: Option<Moment>) -> Result<(), AllocError>
     ensures { OnOk result (text.new.items ≡ text.old.items ++ since_text since) }
 {
@@ -182,7 +182,7 @@ fn put_since(text: &mut Vec<u8>, since: Option<Moment>) -> Result<(), AllocError
 
 #[tactic(auto, unfolding(crate::specs::Healths::crl_text))]
 fn put_crl(text: &mut Vec<u8>, has_no_crl: bool, crl: Option<Moment>) -> Result<(), AllocError>
-    ensures { OnOk result (text.new.items ≡ text.old.items ++ crl_said has_no_crl crl) }
+    ensures { OnOk result (text.new.items ≡ text.old.items ++ crl_spec has_no_crl crl) }
 {
     text.extend_from_slice(b",\"crl\":")?;
     if has_no_crl {
@@ -210,7 +210,7 @@ fn put_member(text: &mut Vec<u8>, name: &[u8], since: Option<Moment>) -> Result<
     put_since(text, since)
 }
 
-/// Puts the word that tells whether all is well behind a text, and the name of the last member.
+/// Appends the member `status`, and the name of the last member.
 #[tactic(auto, unfolding(crate::specs::Healths::health_member))]
 fn put_status(text: &mut Vec<u8>, is_well: bool) -> Result<(), AllocError>
     ensures { OnOk result (text.new.items ≡ text.old.items ++ health_member is_well) }

@@ -95,10 +95,10 @@ pub(crate) const OCSP_FAILING: &str = "desk_signer_failing_since_timestamp_secon
 pub(crate) const STORE_FAILING: &str =
     "# HELP desk_store_failing_since_timestamp_seconds Since when the store fails, 0 where it does not: no command was entered since.\n# TYPE desk_store_failing_since_timestamp_seconds gauge\ndesk_store_failing_since_timestamp_seconds ";
 
-pub(crate) const PEERS: &str =
+pub(crate) const OPEN_HTTP: &str =
     "# HELP desk_connections Connections that are open.\n# TYPE desk_connections gauge\ndesk_connections{at=\"port\"} ";
 
-pub(crate) const COUNTERS: &str = "desk_connections{at=\"counter\"} ";
+pub(crate) const OPEN_CONTROL: &str = "desk_connections{at=\"counter\"} ";
 
 pub(crate) const ACCEPTED: &str =
     "# HELP desk_connections_accepted_total Connections that were accepted at the port.\n# TYPE desk_connections_accepted_total counter\ndesk_connections_accepted_total ";

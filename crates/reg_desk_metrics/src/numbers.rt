@@ -1,4 +1,4 @@
-//! What is told that was not counted here.
+//! Numbers for `/health` and `/metrics` that the tally does not count.
 
 use reg_core::{Counts, Fault, Moment};
 use reg_office_api::Standing;
@@ -12,24 +12,24 @@ pub struct Numbers {
     pub standing: Standing,
 }
 
-/// What a register has, or why it tells nothing.
+/// The register's numbers, or why they can't be read.
 pub type Found = Result<Numbers, Fault>;
 
-/// Its requests for revocation at a moment. To count them takes a walk, so they are told with that moment.
+/// Its requests for revocation at a moment. To count them takes a walk, so they are reported with that moment.
 #[derive(Clone, Copy, PartialEq, Eq)]
 pub struct Requests {
     /// When they were counted.
     pub at: Moment,
-    /// Those that wait for a decision.
+    /// The open ones.
     pub waiting: u64,
-    /// Those of them whose limit has passed.
+    /// The overdue ones among them.
     pub overdue: u64,
 }
 
 /// Who signs the CRLs of an open desk.
 #[derive(Clone, Copy, PartialEq, Eq)]
 pub enum CrlSigning {
-    /// The holder of the issuer's key.
+    /// The signer with the issuer's key.
     Key,
     /// A placeholder digest stands in place of a signature.
     Digest,
@@ -45,12 +45,12 @@ pub struct ReadCrl {
     pub is_unsigned: bool,
 }
 
-/// What is heard of connections.
+/// Counts of connections.
 #[derive(Clone, Copy, PartialEq, Eq)]
 pub struct ConnectionTotals {
-    /// Connections at the port, and at the control socket.
-    pub peers: u64,
-    pub counters: u64,
+    /// Open connections at the port, and at the control socket.
+    pub open_http: u64,
+    pub open_control: u64,
     pub accepted: u64,
     /// Connections that ended by a fault, and why.
     pub broken: u64,
@@ -62,8 +62,8 @@ pub struct ConnectionTotals {
 impl ConnectionTotals {
     pub fn nothing() -> ConnectionTotals {
         ConnectionTotals {
-            peers: 0,
-            counters: 0,
+            open_http: 0,
+            open_control: 0,
             accepted: 0,
             broken: 0,
             late: 0,

@@ -1,7 +1,7 @@
 //! Samples of the text form of Prometheus, version 0.0.4, each behind a text.
 
 ghost use Rattle.std.specs.Prelude.{◌≡◌, ◌<◌, ◌++◌, OnOk};
-ghost use Rattle.reg_desk_metrics.specs.Samples.{digit_at as digit_told, moment_or_none, fraction as fraction_told, sample, sample_of_seconds};
+ghost use Rattle.reg_desk_metrics.specs.Samples.{digit_at as digit_spec, moment_or_none, fraction as fraction_spec, sample, sample_of_seconds};
 
 use reg_core::{Decimal, Moment};
 use std::alloc::AllocError;
@@ -45,7 +45,7 @@ pub(crate) fn put_seconds(text: &mut Vec<u8>, series: &str, micros: u64) -> Resu
 
 /// The point, and the six digits behind it.
 fn fraction(micros: u64) -> [u8; 7]
-    ensures { result ≡ fraction_told micros }
+    ensures { result ≡ fraction_spec micros }
 {
     [
         b'.',
@@ -61,7 +61,7 @@ fn fraction(micros: u64) -> [u8; 7]
 /// The decimal digit of a number at a unit.
 fn digit_at(number: u64, unit: u64) -> u8
     requires { 0 < unit }
-    ensures { result ≡ digit_told number unit }
+    ensures { result ≡ digit_spec number unit }
 {
     b'0' + (number / unit % 10) as u8
 }

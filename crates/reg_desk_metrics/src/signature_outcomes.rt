@@ -9,11 +9,11 @@ use reg_office_api::{SignatureFate, StoreEffect};
 /// What became of the signatures of one kind.
 #[derive(Clone, Copy, PartialEq, Eq)]
 pub(crate) struct Signing {
-    pub(crate) came: u64,
+    pub(crate) received: u64,
     pub(crate) failed: u64,
     pub(crate) last: Option<Moment>,
     pub(crate) last_failed: Option<Moment>,
-    /// Since when none came, where the last one did not.
+    /// Since when signatures fail; `None` if the last one was received.
     pub(crate) failing_since: Option<Moment>,
 }
 
@@ -22,7 +22,7 @@ impl Signing {
         ensures { result ≡ nothing_signed }
     {
         Signing {
-            came: 0,
+            received: 0,
             failed: 0,
             last: None,
             last_failed: None,
@@ -36,7 +36,7 @@ impl Signing {
         match fate {
             SignatureFate::NotAsked => self,
             SignatureFate::Made => Signing {
-                came: self.came.saturating_add(1),
+                received: self.received.saturating_add(1),
                 last: Some(now),
                 failing_since: None,
                 ..self

@@ -1,7 +1,7 @@
 //! What a desk counts while it is open: each exchange once. Sums stop at the greatest number.
 
 ghost use Rattle.std.specs.Prelude.{◌≡◌, ◌<◌};
-ghost use Rattle.reg_desk_metrics.specs.Tallies.{is_new, bumped, bucket_of as bucket_told, route_number as number_of_route, code_number as number_of_code, with_seconds as timed, with_exchange, with_line, outcomes_counted, with_reply_to_line, with_counted, wants_requests as wants_counted, has_crl_key as has_key, read_of, with_read, with_amount, asks_ocsp, has_response, with_route, with_failure, fate_by};
+ghost use Rattle.reg_desk_metrics.specs.Tallies.{is_new, bumped, bucket_of as bucket_spec, route_number as number_of_route, code_number as number_of_code, with_seconds as timed, with_exchange, with_line, outcomes_counted, with_reply_to_line, with_counted, wants_requests as wants_counted, has_crl_key as has_key, read_of, with_read, with_amount, is_ocsp_line, has_response, with_route, with_failure, fate_by};
 
 use crate::numbers::{CrlSigning, ReadCrl, Requests};
 use crate::signature_outcomes::{Signing, store_after};
@@ -9,7 +9,7 @@ use reg_core::Moment;
 use reg_http::{Exchange, Route};
 use reg_office_api::{LineEffects, LineReply, SignatureFate, StoreEffect};
 
-/// How many statuses answers are counted by, how many pairs of a route and a status there are, how many ranges of seconds, and how many routes.
+/// The numbers of HTTP statuses, of pairs of a route and a status, of buckets of the histogram, and of routes.
 pub(crate) const CODES: usize = 12;
 
 pub(crate) const ANSWERS: usize = 132;
@@ -21,9 +21,9 @@ pub(crate) const ROUTES: usize = 11;
 /// What was counted.
 #[derive(Clone, Copy)]
 pub struct Tally {
-    /// Answers by route and status, each route's behind the other.
+    /// Answers by route and status: the index is the route's number times `CODES`, plus the status's number.
     pub(crate) answers: [u64; ANSWERS],
-    /// Lines that were accepted, that were refused, and that came to a fault.
+    /// Lines at the control socket that were accepted, that were refused, and whose reply was a fault.
     pub(crate) accepted: u64,
     pub(crate) refused: u64,
     pub(crate) faults: u64,
@@ -34,7 +34,7 @@ pub struct Tally {
     /// Answers by route, and how long each route's took, in microseconds.
     pub(crate) route_counts: [u64; ROUTES],
     pub(crate) route_micros: [u64; ROUTES],
-    /// OCSP responses that were internalError, since the signer failed, and since the store did.
+    /// OCSP responses that were internalError because the signer failed, and because the store failed.
     pub(crate) ocsp_unsigned: u64,
     pub(crate) ocsp_unread: u64,
     pub(crate) crls: Signing,
@@ -43,28 +43,28 @@ pub struct Tally {
     /// The requests for revocation, when they were counted last.
     pub(crate) requests: Option<Requests>,
     pub(crate) crl_signing: CrlSigning,
-    /// notAfter of the responder's certificate (RFC 5280 4.1.2.5), where that is known.
+    /// notAfter of the responder's certificate (RFC 5280 4.1.2.5), if it is known.
     pub(crate) responder_ends: Option<Moment>,
-    /// The CRL that was read last.
+    /// What was read in the CRL that was read last.
     pub(crate) read: Option<ReadCrl>,
 }
 
-fn bump<const N: usize>(counts: &mut [u64; N], place: usize)
-    requires { place < N }
-    ensures { counts.new ≡ bumped counts.old place }
+fn bump<const N: usize>(counts: &mut [u64; N], index: usize)
+    requires { index < N }
+    ensures { counts.new ≡ bumped counts.old index }
 {
-    counts[place] = counts[place].saturating_add(1);
+    counts[index] = counts[index].saturating_add(1);
 }
 
-fn add<const N: usize>(sums: &mut [u64; N], place: usize, amount: u64)
-    requires { place < N }
-    ensures { sums.new ≡ with_amount sums.old place amount }
+fn add<const N: usize>(sums: &mut [u64; N], index: usize, amount: u64)
+    requires { index < N }
+    ensures { sums.new ≡ with_amount sums.old index amount }
 {
-    sums[place] = sums[place].saturating_add(amount);
+    sums[index] = sums[index].saturating_add(amount);
 }
 
 fn is_ocsp(route: Route) -> bool
-    ensures { result ≡ asks_ocsp route }
+    ensures { result ≡ is_ocsp_line route }
 {
     match route {
         Route::Ocsp => true,
@@ -74,7 +74,7 @@ fn is_ocsp(route: Route) -> bool
 }
 
 /// Whether an exchange gave an OCSP response, which has status 200 (RFC 6960 A.2).
-fn gave_response(exchange: &Exchange) -> bool
+fn sent_response(exchange: &Exchange) -> bool
     ensures { result ≡ has_response exchange.now }
 {
     match exchange.status {
@@ -102,7 +102,7 @@ fn route_number(route: Route) -> usize
     }
 }
 
-/// The number of a status; the last one is that of no answer, and of a status that no answer has.
+/// The number of a status; the last number is for no answer, and for any other status.
 #[tactic(auto, unfolding(crate::specs::Tallies::code_number))]
 fn code_number(status: Option<u16>) -> usize
     ensures number { result ≡ number_of_code status }
@@ -129,7 +129,7 @@ fn code_number(status: Option<u16>) -> usize
 
 #[tactic(auto, unfolding(crate::specs::Tallies::bucket_of))]
 fn bucket_of(micros: u64) -> usize
-    ensures bucket { result ≡ bucket_told micros }
+    ensures bucket { result ≡ bucket_spec micros }
     ensures within { result < 12 }
 {
     match micros {
@@ -148,7 +148,7 @@ fn bucket_of(micros: u64) -> usize
     }
 }
 
-/// What became of the signature of a CRL: none was asked for where nobody signs.
+/// What became of the signature of a CRL: it was not requested if the desk has no signer for CRLs.
 fn fate_at(signing: CrlSigning, fate: SignatureFate) -> SignatureFate
     ensures { result ≡ fate_by signing fate }
 {
@@ -159,7 +159,7 @@ fn fate_at(signing: CrlSigning, fate: SignatureFate) -> SignatureFate
 }
 
 impl Tally {
-    /// Nothing was counted yet, at a desk whose CRLs are signed so, and whose responder's certificate ends then.
+    /// A tally with nothing counted, of a desk whose CRLs are signed in this way, with notAfter of its responder's certificate.
     pub fn new(crl_signing: CrlSigning, responder_ends: Option<Moment>) -> Tally
         ensures { is_new crl_signing responder_ends result }
     {
@@ -184,7 +184,7 @@ impl Tally {
         }
     }
 
-    /// Counts an exchange of a moment, whose text was made in so many microseconds.
+    /// Counts an HTTP exchange at a moment, whose answer took `micros` microseconds.
     pub fn count_exchange(&mut self, now: Moment, exchange: &Exchange, micros: u64)
         ensures { self.new ≡ with_exchange now exchange.now micros self.old }
     {
@@ -196,7 +196,7 @@ impl Tally {
         self.add_route(number, micros);
         self.add_seconds(micros);
         self.add_failure(exchange);
-        self.hear(
+        self.count_outcomes(
             now,
             SignatureFate::NotAsked,
             exchange.signature,
@@ -204,16 +204,16 @@ impl Tally {
         );
     }
 
-    /// Counts a line that was answered at a moment, in so many microseconds.
+    /// Counts a line that was answered at a moment, which took `micros` microseconds.
     pub fn count_line(&mut self, now: Moment, line: LineEffects, micros: u64)
         ensures { self.new ≡ with_line now line micros self.old }
     {
         self.add_line(line.reply);
         self.add_seconds(micros);
-        self.hear(now, line.crl, line.ocsp, line.store);
+        self.count_outcomes(now, line.crl, line.ocsp, line.store);
     }
 
-    /// Whether the requests for revocation are to be counted at a moment: they were not within a minute before it.
+    /// Whether the requests for revocation are to be counted at a moment: not if they were counted less than a minute before.
     pub fn wants_requests(&self, now: Moment) -> bool
         ensures { result ≡ wants_counted now self.now.requests }
     {
@@ -223,7 +223,7 @@ impl Tally {
         }
     }
 
-    /// Notes the requests for revocation.
+    /// Keeps the numbers of requests for revocation.
     pub fn set_requests(&mut self, requests: Requests)
         ensures { self.new ≡ with_counted requests self.old }
     {
@@ -250,8 +250,8 @@ impl Tally {
         }
     }
 
-    /// Notes what was read in a CRL.
-    pub fn note_crl(&mut self, read: ReadCrl)
+    /// Keeps what was read in a CRL.
+    pub fn keep_crl(&mut self, read: ReadCrl)
         ensures { self.new ≡ with_read read self.old }
     {
         self.read = Some(read);
@@ -286,7 +286,7 @@ impl Tally {
     fn add_failure(&mut self, exchange: &Exchange)
         ensures { self.new ≡ with_failure exchange.now self.old }
     {
-        if !gave_response(exchange) {
+        if !sent_response(exchange) {
             return;
         }
         match (exchange.signature, exchange.store) {
@@ -298,7 +298,13 @@ impl Tally {
         }
     }
 
-    fn hear(&mut self, now: Moment, crl: SignatureFate, ocsp: SignatureFate, store: StoreEffect)
+    fn count_outcomes(
+        &mut self,
+        now: Moment,
+        crl: SignatureFate,
+        ocsp: SignatureFate,
+        store: StoreEffect,
+    )
         ensures { self.new ≡ outcomes_counted now crl ocsp store self.old }
     {
         self.crls = self.crls.after(fate_at(self.crl_signing, crl), now);

@@ -8,9 +8,9 @@ use Rattle.reg_office_api.specs.CallSteps.{Signs}
 use Rattle.reg_office.specs.Calls.{LeadsOver, StandsFor}
 
 -- where its store and who signs are the same, what stood stands
-pub same_stands : {C : Type 0} (g : Ghosts C) (signs : Signs) (old new : Held C) (who who' : Signatory) → new ≡ old → who' ≡ who
-    → LeadsOver g signs (λ those before after. after ≡ before) (old, who) (new, who')
-same_stands {C = C} g signs old new who who' stored same = (
+pub same_stands : {C : Type 0} (g : Ghosts C) (signs : Signs) (old new : Held C) (signatory signatory' : Signatory) → new ≡ old → signatory' ≡ signatory
+    → LeadsOver g signs (λ those before after. after ≡ before) (old, signatory) (new, signatory')
+same_stands {C = C} g signs old new signatory signatory' stored same = (
   (λ clean. subst (λ (held : Held C). HasCleanDisk (state g held)) stored clean),
   (λ those before stood clean.
       (before, refl, subst (λ (office : Held C × Signatory). StandsFor g signs office those before) (λ i. (sym stored i, sym same i)) stood)),

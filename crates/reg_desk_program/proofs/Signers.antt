@@ -10,7 +10,7 @@ use Rattle.reg_core.specs.Records.{Crl, Records}
 use Rattle.reg_core.specs.Sound.{SoundRows}
 use Rattle.reg_crl.specs.Signing.{Identity, sha1_algorithm}
 use Rattle.reg_der.specs.Der.{tlv, length_octets}
-use Rattle.reg_desk_jobs.specs.WhoSigns.{IsSigning, identity_told}
+use Rattle.reg_desk_jobs.specs.Signers.{IsSigning, identity_of_holder}
 use Rattle.reg_desk_jobs.specs.declared.crl_signer.CrlSigner.{CrlSigner}
 use Rattle.reg_desk_program.specs.StoreSigners.{SignsAfter, SignsFor}
 use Rattle.reg_crl_signer.specs.Algorithms.{identifier_of}
@@ -25,7 +25,7 @@ use Rattle.reg_desk_cli.specs.declared.job.KeyHolder.{KeyHolder}
 module _ {C : Type 0} (g : Ghosts C) (old between new : Held C) (answers : Identity → Responder) (identity : Identity) where
   -- who signs behind that CRL signs for what the register is opened for
   pub signs_for : (crls : CrlSigner) (told : Option KeyHolder) (last : Option (List ℕ))
-      → ((key : List ℕ) (who : Identity) → who ≡ identity_told told key → IsSigning crls key who)
+      → ((key : List ℕ) (signatory : Identity) → signatory ≡ identity_of_holder told key → IsSigning crls key signatory)
       → Looked g old between → Looked g between new
       → ((records : Records) → Shows g old records → SoundRows records → HasCleanDisk (state g between)
       → last ≡ option_map (λ crl. crl.bytes) (latest records.crls))

@@ -35,18 +35,18 @@ abbrev pub tables_of : {D : Type 0} {g : disk.Ghosts D} → FoundSound g → Dat
 tables_of found = (file_state found.audited.connection).now
 
 -- a register that was opened over the very tables that were audited: those of a file that is read alone, and then of one that is written
-pub record OpensSame {A D : Type 0} {a : disk.Ghosts A} {g : disk.Ghosts D} (found : FoundSound a) (register : Held (FileStore D g)) (who : Signatory) : Type 0 where
+pub record OpensSame {A D : Type 0} {a : disk.Ghosts A} {g : disk.Ghosts D} (found : FoundSound a) (register : Held (FileStore D g)) (signatory : Signatory) : Type 0 where
   pub signing : CrlSigner
-  pub opened : IsOpenedFrom signing register who
+  pub opened : IsOpenedFrom signing register signatory
   pub same : (file_state opened.connection).now ≡ tables_of found
 
 -- There are records that the audited tables show: they are sound, what is kept beside them follows from them, and they are as many as
 -- was told. And whatever records the tables show, they stand in each register that is opened over these tables, where each stored CRL
--- has the signature of who signs there, or below some number, the next one at the latest, the digest's seal: that an audit does not tell.
+-- has the signature of the signer there, or below some number, the next one at the latest, the digest's seal: that an audit does not tell.
 pub record StandsOnceAudited {A D : Type 0} {a : disk.Ghosts A} (g : disk.Ghosts D) (signs : Identity → List ℕ → List ℕ → Type 0) (found : FoundSound a) : Type 0 where
   pub shown : ShowsSound (tables_of found)
   pub counted : CountedBy found.audit_result shown.records
   pub stand : (records : Records) (columns : Columns) → AreBoth (tables_of found) records columns
-      → (register : Held (FileStore D g)) (who : Signatory) → OpensSame found register who
-      → (since : ℕ) → since ≤ next_number records.crls → CrlsSigned (sealed_until since signs who.crls) records
-      → Stands over_files signs register who.crls records
+      → (register : Held (FileStore D g)) (signatory : Signatory) → OpensSame found register signatory
+      → (since : ℕ) → since ≤ next_number records.crls → CrlsSigned (sealed_until since signs signatory.crls) records
+      → Stands over_files signs register signatory.crls records

@@ -22,7 +22,7 @@ use Rattle.reg_audit.specs.Complete.{ShowsSound}
 use Rattle.reg_audit.specs.Stored.{IsSomeCrl}
 use Rattle.reg_audit.specs.ReadableValues.{HasAllowedDays}
 use Rattle.reg_audit.specs.Presumed.{IsPresumed}
-use Rattle.reg_audit.specs.AuditResults.{CountedBy, DeniedBy, IsSound, TellsOf}
+use Rattle.reg_audit.specs.AuditResults.{CountedBy, DeniedBy, IsSound, ReportsTables}
 use Rattle.reg_audit_rows.specs.declared.audit_result.AuditResult.{AuditResult}
 use Rattle.reg_office_api.specs.CallSteps.{Signs}
 use Rattle.reg_office_api.specs.Signatories.{Signatory}
@@ -37,7 +37,7 @@ use Rattle.reg_office.specs.Calls.{seen}
 use Rattle.reg_office.specs.Stands.{Stands}
 use Rattle.reg_office.specs.declared.office.Office.{Office}
 use Rattle.reg_office.specs.declared.responder.Responder.{Responder}
-use Rattle.reg_desk_jobs.specs.WhoSigns.{EmbedsOwn, Follows, IsSigning}
+use Rattle.reg_desk_jobs.specs.Signers.{EmbedsOwn, Follows, IsSigning}
 use Rattle.reg_desk_jobs.specs.declared.crl_signer.CrlSigner.{CrlSigner}
 
 -- tables showed the records of a register, of this program's version or of an older one
@@ -51,24 +51,24 @@ module _ {C : Type 0} (g : Ghosts C) (connection : Held C) where
   IsWhole = HasCleanDisk (state g connection) → Opens (state g connection) × IsLive (state g connection)
 
   -- What a register holds that was opened over it shows the records that it showed, also those that its tables showed as ones of an
-  -- older version. Who signs CRLs is as it was told, or as the latest CRL tells where nothing will be signed; over the issuer's key, and
+  -- older version. The signer of CRLs is the one that was given, or that of the latest CRL where nothing will be signed; over the issuer's key, and
   -- under the algorithm of the latest CRL, or behind one that the digest sealed. A certificate that stands with OCSP answers by the
   -- issuer's key is of that key. A stop leaves the records that it showed.
-  pub record OpensOver (signing : CrlSigner) (register : Held C) (who : Signatory) : Type 0 where
+  pub record OpensOver (signing : CrlSigner) (register : Held C) (signatory : Signatory) : Type 0 where
     pub kept : (records : Records) → ShowsKept g connection records → ShowsKept g register records
     pub migrated : (version : OlderVersion) (records : Records) → ShowsOlder version g connection records → SoundRows records → ShowsKept g register records
     pub clean : doubt (state g connection).is_clean ≤ doubt (state g register).is_clean
-    pub told : (records : Records) → Showed g connection records → HasCleanDisk (state g register) → IsSigning signing records.issuer.key who.crls
+    pub told : (records : Records) → Showed g connection records → HasCleanDisk (state g register) → IsSigning signing records.issuer.key signatory.crls
     pub follows : (records : Records) → Showed g connection records → SoundRows records → HasCleanDisk (state g register)
-        → Follows records who.crls.algorithm
-    pub embeds : (records : Records) → Showed g connection records → HasCleanDisk (state g register) → EmbedsOwn records.issuer.key who.answers
+        → Follows records signatory.crls.algorithm
+    pub embeds : (records : Records) → Showed g connection records → HasCleanDisk (state g register) → EmbedsOwn records.issuer.key signatory.answers
     pub leaves : IsWhole → (records : Records) → ShowsKept g connection records → LeavesThese g register records
 
   -- In what a register holds that was made over it these records stand, and a stop leaves them, or one change more; it had no table, index
   -- or view.
-  pub record MakesOver (signs : Signs) (register : Held C) (who : Identity) (records : Records) : Type 0 where
-    pub stands : Stands g signs register who records
-    pub leaves : IsWhole → LeavesReported g signs register who records
+  pub record MakesOver (signs : Signs) (register : Held C) (signatory : Identity) (records : Records) : Type 0 where
+    pub stands : Stands g signs register signatory records
+    pub leaves : IsWhole → LeavesReported g signs register signatory records
     pub empty : connection.schema ≡ no_schema
     pub clean : doubt (state g connection).is_clean ≤ doubt (state g register).is_clean
 
@@ -79,10 +79,10 @@ module _ {D : Type 0} {g : disk.Ghosts D} where
     pub whole : HasCleanDisk (file_state connection) → IsOpened connection
 
   -- what a register holds was opened over a connection to a file
-  pub record IsOpenedFrom (signing : CrlSigner) (register : Held (FileStore D g)) (who : Signatory) : Type 0 where
+  pub record IsOpenedFrom (signing : CrlSigner) (register : Held (FileStore D g)) (signatory : Signatory) : Type 0 where
     pub connection : Held (FileStore D g)
     pub connects : IsConnection connection
-    pub opens : OpensOver over_files connection signing register who
+    pub opens : OpensOver over_files connection signing register signatory
 
   -- what a register holds was made by a connection to a database with no table, index or view
   pub record IsMadeFrom (connection register : Held (FileStore D g)) : Type 0 where
@@ -100,7 +100,7 @@ module _ {D : Type 0} {g : disk.Ghosts D} where
 -- records follows from them, the office was made with days that a schedule can allow, and they are as many as was told; and there are
 -- such records, where what is presumed of the connection holds. Where a row was told, they showed no such records whose values are a
 -- register's; and where it was not told for the bytes of a CRL, none whatever the bytes of CRLs are. That it is of an older version, or
--- of other tables, is told where they say so.
+-- of other tables, is reported where they say so.
 pub record Says {D : Type 0} {g : disk.Ghosts D} (connection after : Held (FileStore D g)) (audit_result : AuditResult) : Type 0 where
   pub sound : (records : Records) (columns : Columns) → ShowsBoth over_files connection records columns → HasCleanDisk (file_state after)
       → IsSound audit_result → Sound IsSomeCrl records × Kept columns records × HasAllowedDays columns
@@ -109,7 +109,7 @@ pub record Says {D : Type 0} {g : disk.Ghosts D} (connection after : Held (FileS
       → CountedBy audit_result records
   pub broken : (records : Records) (columns : Columns) → ShowsBoth over_files connection records columns → HasCleanDisk (file_state after)
       → DeniedBy audit_result records columns
-  pub tells : HasCleanDisk (file_state after) → TellsOf audit_result (file_state connection).now
+  pub tells : HasCleanDisk (file_state after) → ReportsTables audit_result (file_state connection).now
   pub register : IsSound audit_result → IsRegister (file_state after)
   pub stays : Stays (file_state connection) (file_state after)
 
@@ -125,7 +125,7 @@ pub record IsAuditOf {D : Type 0} (g : disk.Ghosts D) (image : Image) (audit_res
   pub audited : IsAudited g audit_result
   pub found : HasCleanDisk (file_state audited.connection) → FindsIn image (file_state audited.connection)
 
--- how it is told why files are not opened
+-- the lines that say why files are not opened
 abbrev pub failure_of : Unread → Failure
 failure_of unread.Nothing = failure.NotARegister
 failure_of (unread.Fault why) = failure.Fault why.fault

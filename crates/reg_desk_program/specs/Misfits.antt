@@ -1,8 +1,8 @@
--- Why who is to sign for a register does not fit it.
+-- Why a signer does not fit a register.
 use Rattle.std.specs.Prelude.{◌≡◌, ◌⊎◌, ℕ, List, Option, Some}
 use Rattle.reg_core.specs.declared.cause.Cause.{Cause}
 use Rattle.reg_core.specs.declared.cause.Cause.TheVariants as cause
-use Rattle.reg_desk_jobs.specs.WhoSigns.{MayFollow}
+use Rattle.reg_desk_jobs.specs.Signers.{MayFollow}
 use Rattle.reg_crl_signer.specs.Algorithms.{identifier_of}
 use Rattle.reg_crl_signer.specs.Signed.{IsCrlUnder}
 use Rattle.reg_crl_signer.specs.declared.algorithm.Algorithm.{Algorithm}

@@ -13,12 +13,12 @@ use Rattle.reg_office.specs.Stands.{SoundFor}
 use Rattle.reg_store_tables.specs.Kept.{ShowsKept}
 use Rattle.reg_desk_program.specs.Files.{IsOpenedFrom}
 
--- An office: its store, and who signs for it. In one that is opened, the sound records that the file's tables showed stand. And of those
+-- An office: its store, and its signers. In one that is opened, the sound records that the file's tables showed stand. And of those
 -- that stand in one, wherever its calls have led to: once the machine has stopped, in the middle of the last call or behind it, and a
--- register is opened again, they stand there, or those after one change more, to which no acceptance was told.
+-- register is opened again, they stand there, or those after one change more, for which no acceptance was replied.
 pub record LeavesWhatWasReported {D : Type 0} (g : disk.Ghosts D) (signs : Signs) : Type 0 where
   pub begins : (signing : CrlSigner) (office : Held (FileStore D g) × Signatory) (opened : IsOpenedFrom signing office.0 office.1) (records : Records)
       → ShowsKept over_files opened.connection records → SoundFor signs office.1.crls records
       → StandsFor over_files signs office office.1 records
-  pub leaves : (office : Held (FileStore D g) × Signatory) (who : Signatory) (records : Records)
-      → StandsFor over_files signs office who records → OpensReported over_files signs office.0 who.crls records
+  pub leaves : (office : Held (FileStore D g) × Signatory) (signatory : Signatory) (records : Records)
+      → StandsFor over_files signs office signatory records → OpensReported over_files signs office.0 signatory.crls records

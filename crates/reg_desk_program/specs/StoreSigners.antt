@@ -1,4 +1,4 @@
--- Who signs for the register of a store, found by a look at its records.
+-- The signers of the register of a store, found by a look at its records.
 use Rattle.std.specs.Prelude.{◌≡◌, ℕ, List, Option, Some, None}
 use Rattle.sqlite.specs.Held.{Held, state}
 use Rattle.sqlite.specs.State.{HasCleanDisk}
@@ -7,7 +7,7 @@ use Rattle.reg_office_api.specs.Signatories.{Responder}
 use Rattle.reg_core.specs.Records.{Records}
 use Rattle.reg_core.specs.Sound.{SoundRows}
 use Rattle.reg_crl.specs.Signing.{Identity}
-use Rattle.reg_desk_jobs.specs.WhoSigns.{EmbedsOwn, Follows, IsSigning, MayFollow, identity_told}
+use Rattle.reg_desk_jobs.specs.Signers.{EmbedsOwn, Follows, IsSigning, MayFollow, identity_of_holder}
 use Rattle.reg_desk_jobs.specs.declared.crl_signer.CrlSigner.{CrlSigner}
 use Rattle.reg_desk_jobs.specs.declared.crl_signer.CrlSigner.TheVariants.{Nobody, Digest, Holder}
 use Rattle.reg_crl_signer.specs.Signed.{IsCrlUnder}
@@ -15,17 +15,17 @@ use Rattle.reg_store_tables.specs.Shows.{Shows}
 use Rattle.reg_desk_cli.specs.declared.job.KeyHolder.{KeyHolder}
 
 -- under which path the signer of CRLs is asked, where one holds a key
-abbrev pub IsAskedAt : CrlSigner → Option (List ℕ) → Type 0
-IsAskedAt Nobody path = Unit {0}
-IsAskedAt Digest path = path ≡ None
-IsAskedAt (Holder holder) path = path ≡ Some holder.socket
+abbrev pub SignerAtPath : CrlSigner → Option (List ℕ) → Type 0
+SignerAtPath Nobody path = Unit {0}
+SignerAtPath Digest path = path ≡ None
+SignerAtPath (Holder holder) path = path ≡ Some holder.socket
 
--- A store before the look and after it; and who answers OCSP requests, where this one signs CRLs.
+-- A store before the look and after it; and the responder to OCSP requests, where this is the signer of CRLs.
 module _ {C : Type 0} (g : Ghosts C) (old new : Held C) (answers : Identity → Responder) (identity : Identity) where
-  -- The signer is as it is told, over the issuer's key, or the digest; what is signed under its algorithm may stand behind the latest CRL;
+  -- The signer is as it is given, over the issuer's key, or the digest; what is signed under its algorithm may stand behind the latest CRL;
   -- and a certificate that stands with the answers of the issuer is of that key.
   pub record SignsAfter (holder : Option KeyHolder) (latest : Option (List ℕ)) : Type 0 where
-    pub told : (records : Records) → Shows g old records → HasCleanDisk (state g new) → identity ≡ identity_told holder records.issuer.key
+    pub told : (records : Records) → Shows g old records → HasCleanDisk (state g new) → identity ≡ identity_of_holder holder records.issuer.key
     pub follows : (crl : List ℕ) → latest ≡ Some crl → (other : List ℕ) → IsCrlUnder crl other → MayFollow identity.algorithm other
     pub embeds : (records : Records) → Shows g old records → HasCleanDisk (state g new)
         → (crls : Identity) → EmbedsOwn records.issuer.key (answers crls)

@@ -1,42 +1,42 @@
-//! How far an audit is, told on standard error.
+//! The progress of an audit, shown on standard error.
 
 use crate::host::Host;
 use crate::progress::seconds;
 use reg_audit::ProgressObserver;
 
-/// Tells at most once a second how many rows an audit read and how many CRLs it compared, where that is to be told.
+/// Shows at most once a second how many rows an audit read and how many CRLs it compared, where that is wanted.
 #[derive(Drop)]
 pub(crate) struct AuditProgress {
     rt: HostRuntime,
-    is_told: bool,
+    shows_progress: bool,
     rows: usize,
     crls: usize,
-    told: u64,
+    last_shown: u64,
 }
 
 impl AuditProgress {
     pub(crate) fn of(host: &Host<'_>) -> AuditProgress {
         AuditProgress {
             rt: host.rt,
-            is_told: host.is_watched,
+            shows_progress: host.is_watched,
             rows: 0,
             crls: 0,
-            told: seconds(&host.rt),
+            last_shown: seconds(&host.rt),
         }
     }
 
-    fn tell(&mut self) {
-        if !self.is_told {
+    fn show(&mut self) {
+        if !self.shows_progress {
             return;
         }
         let now = seconds(&self.rt);
-        if now == self.told {
+        if now == self.last_shown {
             return;
         }
-        self.told = now;
+        self.last_shown = now;
         let rows = self.rows;
         let crls = self.crls;
-        // What can't be told is left out.
+        // A line that can't be written is left out.
         drop(eprintln!(self.rt; "{rows} rows read, {crls} CRLs compared"));
     }
 }
@@ -44,11 +44,11 @@ impl AuditProgress {
 impl ProgressObserver for AuditProgress {
     fn rows_read(&mut self, count: usize) {
         self.rows = self.rows.saturating_add(count);
-        self.tell();
+        self.show();
     }
 
     fn crl_compared(&mut self) {
         self.crls = self.crls.saturating_add(1);
-        self.tell();
+        self.show();
     }
 }

@@ -1,4 +1,4 @@
-//! Who signs for a register in a file.
+//! The signers of a register in a file.
 
 ghost use Rattle.std.specs.Prelude.{◌≡◌, ◌↔◌, ◌⊎◌, List, ℕ, Some, Option, option_copied, option_map, IsTrue, IfOk, IfErr, MatchOption};
 ghost use Rattle.sqlite.specs.Held.{state};
@@ -7,13 +7,13 @@ ghost use Rattle.reg_core.specs.Crls.{latest};
 ghost use Rattle.reg_core.specs.Records.{Records};
 ghost use Rattle.reg_core.specs.Sound.{SoundRows};
 ghost use Rattle.reg_desk_jobs.specs.RegisterFailures.{IsOpening};
-ghost use Rattle.reg_desk_jobs.specs.WhoSigns.{MayFollow, identity_told};
+ghost use Rattle.reg_desk_jobs.specs.Signers.{MayFollow, identity_of_holder};
 ghost use Rattle.reg_office.specs.Answering.{answers_by};
 ghost use Rattle.reg_crl_signer.specs.Forms.{identity_of};
 ghost use Rattle.reg_crl_signer.specs.KeysOrDigests.{either_path};
 ghost use Rattle.reg_crl_signer.specs.Signed.{IsCrlUnder};
 ghost use Rattle.reg_desk_program.specs.Misfits.{Differs, IsKnownAlgorithm, IsMisfit, IsMisfitAfter};
-ghost use Rattle.reg_desk_program.specs.StoreSigners.{IsAskedAt, SignsAfter, SignsFor};
+ghost use Rattle.reg_desk_program.specs.StoreSigners.{SignerAtPath, SignsAfter, SignsFor};
 ghost use Rattle.reg_store_tables.specs.Shows.{Shows};
 ghost use Rattle.reg_desk_cli.specs.declared.job.KeyHolder.{KeyHolder};
 ghost use Rattle.reg_store_tables.specs.Stays.{Looked};
@@ -48,8 +48,8 @@ pub(crate) fn signer_for<C: Alter>(
     responder: &Responder<FileSigner>,
 ) -> Result<FileSigner, Failure>
     ensures signs { IfOk result (λ signer. SignsFor C.Store tables.old tables.new
-        (λ who. answers_by ⟦<FileSigner as Signer>⟧.identity who responder.now) (⟦<FileSigner as Signer>⟧.identity signer) crls.now) }
-    ensures asks { IfOk result (λ signer. IsAskedAt crls.now (either_path ⟦<FileDevice as Device>⟧ signer)) }
+        (λ signatory. answers_by ⟦<FileSigner as Signer>⟧.identity signatory responder.now) (⟦<FileSigner as Signer>⟧.identity signer) crls.now) }
+    ensures asks { IfOk result (λ signer. SignerAtPath crls.now (either_path ⟦<FileDevice as Device>⟧ signer)) }
     ensures looked { Looked C.Store tables.old tables.new }
     ensures faults { IfErr result IsOpening }
 {
@@ -69,7 +69,7 @@ fn silent_after<C: Alter>(
     responder: &Responder<FileSigner>,
 ) -> Result<FileSigner, Failure>
     ensures signs { IfOk result (λ signer. (told : Option KeyHolder) × SignsAfter C.Store tables.old tables.new
-        (λ who. answers_by ⟦<FileSigner as Signer>⟧.identity who responder.now) (⟦<FileSigner as Signer>⟧.identity signer)
+        (λ signatory. answers_by ⟦<FileSigner as Signer>⟧.identity signatory responder.now) (⟦<FileSigner as Signer>⟧.identity signer)
         told (option_map (λ bytes. bytes.items) latest.now)) }
     ensures looked { Looked C.Store tables.old tables.new }
     ensures faults { IfErr result IsOpening }
@@ -101,7 +101,7 @@ fn signer_after<C: Alter>(
     responder: &Responder<FileSigner>,
 ) -> Result<FileSigner, Failure>
     ensures signs { IfOk result (λ signer. SignsAfter C.Store tables.old tables.new
-        (λ who. answers_by ⟦<FileSigner as Signer>⟧.identity who responder.now) (⟦<FileSigner as Signer>⟧.identity signer)
+        (λ signatory. answers_by ⟦<FileSigner as Signer>⟧.identity signatory responder.now) (⟦<FileSigner as Signer>⟧.identity signer)
         (option_copied told.entry) (option_map (λ bytes. bytes.items) latest.now)) }
     ensures asks { IfOk result (λ signer.
         either_path ⟦<FileDevice as Device>⟧ signer ≡ option_map (λ holder. holder.socket) (option_copied told.entry)) }
@@ -112,23 +112,23 @@ fn signer_after<C: Alter>(
     if !embeds_own(responder, issuer.key()) {
         return Err(Failure::BadResponder);
     }
-    let signer = signer_told(host, told, issuer.key())?;
+    let signer = open_signer(host, told, issuer.key())?;
     match misfit(latest, signer.algorithm()) {
         None => Ok(signer),
         Some(why) => {
-            host.note(Some(why));
+            host.keep_cause(Some(why));
             Err(Failure::BadSigner)
         }
     }
 }
 
 /// Who signs over an issuer's key, as it is told. Where the key is none of the algorithm, that is noted.
-fn signer_told(
+fn open_signer(
     host: &Host<'_>,
     told: Option<&KeyHolder<'_>>,
     key: &[u8],
 ) -> Result<FileSigner, Failure>
-    ensures ok { IfOk result (λ signer. ⟦<FileSigner as Signer>⟧.identity signer ≡ identity_told (option_copied told.entry) key.now) }
+    ensures ok { IfOk result (λ signer. ⟦<FileSigner as Signer>⟧.identity signer ≡ identity_of_holder (option_copied told.entry) key.now) }
     ensures asks { IfOk result (λ signer.
         either_path ⟦<FileDevice as Device>⟧ signer ≡ option_map (λ holder. holder.socket) (option_copied told.entry)) }
     ensures faults { IfErr result IsOpening }
@@ -139,7 +139,7 @@ fn signer_told(
     match key_signer(&host.rt, holder.socket.as_str(), holder.algorithm, key) {
         Ok(signer) => Ok(signer),
         Err(Failure::BadSigner) => {
-            host.note(Some(Cause::OtherKey));
+            host.keep_cause(Some(Cause::OtherKey));
             Err(Failure::BadSigner)
         }
         Err(why) => Err(why),

@@ -1,6 +1,6 @@
 //! The program as the machine runs it: a job over standard input and output.
 
-use crate::dispatch::perform_untold;
+use crate::dispatch::perform_unreported;
 use crate::host::{Host, open_log};
 use crate::input::Input;
 use crate::progress::{CountedOutput, report_opening};
@@ -25,17 +25,17 @@ pub fn run_desk(rt: &HostRuntime, invocation: &Invocation<'_>) -> u8 {
         Ok(input) => input,
         Err(error) => return report_fault(rt, invocation, Fault::Read, &error),
     };
-    let noted = Cell::new(None);
+    let last_cause = Cell::new(None);
     let mut errors = rt.stderr();
     let mut host = Host {
         rt: *rt,
-        noted: &noted,
+        last_cause: &last_cause,
         has_log: invocation.has_log,
         log_file,
         is_watched: errors.is_terminal(),
     };
-    let mut output = CountedOutput::of(rt, &invocation.job, &noted);
-    perform_untold(
+    let mut output = CountedOutput::of(rt, &invocation.job, &last_cause);
+    perform_unreported(
         rt,
         &mut host,
         &invocation.job,
@@ -62,7 +62,7 @@ fn check_log(rt: &HostRuntime, log_file: Option<&str>) -> io::Result<()> {
     Ok(())
 }
 
-/// Tells a fault for which nothing is done, and gives the exit status.
+/// Reports a fault for which nothing is done, and gives the exit status.
 fn report_fault(
     rt: &HostRuntime,
     invocation: &Invocation<'_>,

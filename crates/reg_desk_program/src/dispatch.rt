@@ -1,4 +1,4 @@
-//! A job is done, and its end told.
+//! Runs a job and reports its end.
 
 ghost use Rattle.reg_desk_jobs.specs.Ends.{Ends, Performs};
 
@@ -6,8 +6,8 @@ use crate::memory::script_in_memory;
 use reg_core::{Cause, of_terms};
 use reg_desk_cli::{Failure, Job, status_of};
 use reg_desk_jobs::{
-    Machine, Reason, at, at_rows, audit, copy, crl, each_row, hold_open, import_rows, init,
-    key_identifier, list, replay, report_exit, schedule, script, script_by_lines, serve,
+    Machine, Reason, at, at_rows, audit, copy, crl, each_row, import_rows, init, key_identifier,
+    list, replay, report_exit, schedule, script, script_by_lines, serve, serve_open,
 };
 use std::cell::Cell;
 use std::io::{Read, Write};
@@ -30,14 +30,14 @@ pub fn perform<M: Machine, R: Read, W: Write, E: Write>(
 {
     let reason = Cell::new(None);
     let ending = run(rt, machine, job, &reason, reader, writer);
-    note_terms(machine, job, &ending);
+    keep_terms_cause(machine, job, &ending);
     let alloc = rt.alloc();
     report_exit(
         alloc,
         errors,
         &ending,
         is_explained,
-        machine.noted(),
+        machine.last_cause(),
         reason.get(),
     );
     status_of(&ending)
@@ -45,7 +45,7 @@ pub fn perform<M: Machine, R: Read, W: Write, E: Write>(
 
 /// Does the same, and says nothing of it. Where a caller's machine is known, the clause of [`perform`] would be written out over its files and
 /// sockets, where nothing stands on it, and take the prover minutes.
-pub(crate) fn perform_untold<M: Machine, R: Read, W: Write, E: Write>(
+pub(crate) fn perform_unreported<M: Machine, R: Read, W: Write, E: Write>(
     rt: &HostRuntime,
     machine: &mut M,
     job: &Job<'_>,
@@ -88,19 +88,36 @@ fn run<M: Machine, R: Read, W: Write>(
         Job::Import(rows) => import_rows(alloc, machine, rows, reason, reader, writer),
         Job::Crl { file, number } => crl(alloc, machine, file.as_str(), *number, writer),
         Job::Serve(serving) => serve(rt, machine, serving, reader, writer),
-        Job::Open(kept) => hold_open(rt, machine, kept, reader, writer),
+        Job::Open(kept) => serve_open(rt, machine, kept, reader, writer),
         Job::At {
-            counter,
+            control_path,
             rows: None,
-        } => at(alloc, &*machine, counter.as_str(), reader, writer),
+        } => at(alloc, &*machine, control_path.as_str(), reader, writer),
         Job::At {
-            counter,
+            control_path,
             rows: Some(_),
-        } => at_rows(alloc, &*machine, counter.as_str(), reader, writer),
-        Job::EachRow { counter, task, .. } => {
-            each_row(alloc, &*machine, counter.as_str(), *task, reader, writer)
+        } => at_rows(alloc, &*machine, control_path.as_str(), reader, writer),
+        Job::EachRow {
+            control_path,
+            task,
+            ..
+        } => {
+            each_row(
+                alloc,
+                &*machine,
+                control_path.as_str(),
+                *task,
+                reader,
+                writer,
+            )
         }
-        Job::Replay { counter, .. } => replay(alloc, &*machine, counter.as_str(), reader, writer),
+        Job::Replay { control_path, .. } => replay(
+            alloc,
+            &*machine,
+            control_path.as_str(),
+            reader,
+            writer,
+        ),
         Job::Schedule { file, steps } => schedule(alloc, machine, file.as_str(), steps, writer),
         Job::KeyId { file, key_id } => key_identifier(
             alloc,
@@ -115,9 +132,9 @@ fn run<M: Machine, R: Read, W: Write>(
     }
 }
 
-fn note_terms<M: Machine>(machine: &M, job: &Job<'_>, ending: &Result<(), Failure>) {
+fn keep_terms_cause<M: Machine>(machine: &M, job: &Job<'_>, ending: &Result<(), Failure>) {
     if let Err(Failure::BadPolicy) = ending {
-        machine.note(wrong_terms(job));
+        machine.keep_cause(wrong_terms(job));
     }
 }
 

@@ -24,8 +24,8 @@ pub(crate) fn audit_over<D: Disk + Drop>(
 {
     let mut connection = connection;
     let mut progress = AuditProgress::of(host);
-    let told = judge(host.rt.alloc(), &mut connection, &mut progress);
-    match told {
+    let judged = judge(host.rt.alloc(), &mut connection, &mut progress);
+    match judged {
         Ok(audit_result) => Ok(audit_result),
         Err(fault) => Err(Failure::from(fault)),
     }

@@ -14,7 +14,7 @@ use std::alloc::Global;
 /// A signer's process behind a socket of the machine, which is not asked for a while after a timeout.
 pub type FileDevice = BackoffDevice<SocketDevice<UnixConnection>, HostRuntime>;
 
-/// The signer of a register in a file: what holds the key behind a socket, or the digest.
+/// The signer of a register in a file: a program behind a socket, or the placeholder digest.
 pub type FileSigner = KeyOrDigest<FileDevice>;
 
 /// An office over a file, with its checks for damage.
@@ -30,7 +30,7 @@ pub struct FileOffice {
 impl reg_office_api::Office for FileOffice {
     ghost is_clean = { λ it. ⟦<OfficeInFile as reg_office_api::Office>⟧.is_clean it.office };
 
-    ghost stands = { λ who it records. ⟦<OfficeInFile as reg_office_api::Office>⟧.stands who it.office records };
+    ghost stands = { λ signatory it records. ⟦<OfficeInFile as reg_office_api::Office>⟧.stands signatory it.office records };
 
     ghost signs = { ⟦<OfficeInFile as reg_office_api::Office>⟧.signs };
 

@@ -53,7 +53,7 @@ const TOO_MANY: i32 = 23;
 pub struct Host<'a> {
     pub(crate) rt: HostRuntime,
     /// Where it keeps why a call failed.
-    pub(crate) noted: &'a Cell<Option<Cause>>,
+    pub(crate) last_cause: &'a Cell<Option<Cause>>,
     /// Whether exchanges are logged on standard error.
     pub(crate) has_log: bool,
     /// The path of the file in which they are logged, where one is told.
@@ -77,7 +77,7 @@ impl<'a> Host<'a> {
     fn fault_of(&self, why: FileFault) -> Fault
         ensures { result ≡ why.fault }
     {
-        self.note(why.cause);
+        self.keep_cause(why.cause);
         why.fault
     }
 
@@ -85,7 +85,7 @@ impl<'a> Host<'a> {
         match TcpListener::bind(&self.rt, address) {
             Ok(listener) => Ok(listener),
             Err(error) => {
-                self.note(of_port(error.kind()));
+                self.keep_cause(of_port(error.kind()));
                 Err(error)
             }
         }
@@ -98,7 +98,7 @@ impl<'a> Host<'a> {
             Ok(()) => Ok(true),
             Err(ClaimFault::Memory) => Err(Memory),
             Err(ClaimFault::Taken(cause)) => {
-                self.note(cause);
+                self.keep_cause(cause);
                 Ok(false)
             }
         }
@@ -113,7 +113,7 @@ impl<'a> Machine for Host<'a> {
     ghost use Rattle.sqlite.specs.Files.{over_files};
     ghost use Rattle.reg_crl.specs.Signing.{Identity};
     ghost use Rattle.reg_desk_files.specs.Overlaid.{image};
-    ghost use Rattle.reg_desk_jobs.specs.WhoSigns.{IsAnswering};
+    ghost use Rattle.reg_desk_jobs.specs.Signers.{IsAnswering};
     ghost use Rattle.reg_office.specs.Answering.{signatory_of};
     ghost use Rattle.reg_desk_program.specs.Files.{IsAuditOf, IsConnection, IsMadeFrom, OpensFor};
 
@@ -161,29 +161,29 @@ impl<'a> Machine for Host<'a> {
 
     ghost copied_open = { λ path bytes. Unsaid path };
 
-    ghost stood = { λ seconds. Unsaid seconds };
+    ghost clock_read = { λ seconds. Unsaid seconds };
 
-    ghost told = { λ now. Unsaid now };
+    ghost clock_reached = { λ now. Unsaid now };
 
     ghost bound = { λ address port. Unsaid address };
 
-    ghost laid = { λ path. Unsaid path };
+    ghost socket_created = { λ path. Unsaid path };
 
     ghost has_mode = { λ path mode. Unsaid path };
 
-    ghost deserted = { λ path. Unsaid path };
+    ghost stale = { λ path. Unsaid path };
 
-    ghost met = { λ path. Unsaid path };
+    ghost socket_connected = { λ path. Unsaid path };
 
-    ghost asked = { λ path message. Unsaid path };
+    ghost signature_requested = { λ path message. Unsaid path };
 
     ghost reached = { λ path. Unsaid path };
 
-    ghost gave = { λ path message answer. Unsaid path };
+    ghost signer_answered = { λ path message answer. Unsaid path };
 
     ghost warned = { λ line. Unsaid line };
 
-    ghost gave_signs = { λ identity path message answer given form. inr (inr (path, ∣ tt ∣₁), form) };
+    ghost answer_in_form_signs = { λ identity path message answer given form. inr (inr (path, ∣ tt ∣₁), form) };
 
     fn claim(&mut self, path: &str) -> Result<bool, Memory> {
         self.is_claimed(claim_file(&self.rt, path))
@@ -307,7 +307,7 @@ impl<'a> Machine for Host<'a> {
         self.bind(SocketAddr::from((address, port)))
     }
 
-    fn lay(&self, path: &str) -> io::Result<UnixListener> {
+    fn create_socket(&self, path: &str) -> io::Result<UnixListener> {
         UnixListener::bind(&self.rt, path)
     }
 
@@ -320,7 +320,7 @@ impl<'a> Machine for Host<'a> {
         Ok(found.file_type().is_socket())
     }
 
-    fn is_deserted(&self, path: &str) -> bool {
+    fn is_stale(&self, path: &str) -> bool {
         match UnwaitingStream::connect(&self.rt, path) {
             Ok(_) => false,
             Err(error) => error.kind() == ErrorKind::ConnectionRefused,
@@ -331,18 +331,18 @@ impl<'a> Machine for Host<'a> {
         fs::remove_file(&self.rt, path)
     }
 
-    fn meet(&self, path: &str) -> io::Result<UnixStream> {
+    fn connect_to_socket(&self, path: &str) -> io::Result<UnixStream> {
         match UnixStream::connect(&self.rt, path) {
             Ok(stream) => Ok(stream),
             Err(error) => {
-                self.note(of_io(error.kind()));
+                self.keep_cause(of_io(error.kind()));
                 Err(error)
             }
         }
     }
 
-    fn ask(&self, path: &str, message: &[u8]) -> io::Result<SignatureRequest> {
-        match SignatureRequest::ask(&self.rt, path, message) {
+    fn request_signature(&self, path: &str, message: &[u8]) -> io::Result<SignatureRequest> {
+        match SignatureRequest::send_to(&self.rt, path, message) {
             Ok(link) => Ok(link),
             Err(error) => Err(for_room(error)),
         }
@@ -355,7 +355,7 @@ impl<'a> Machine for Host<'a> {
         }
     }
 
-    fn hear(alloc: Global, link: &mut SignatureRequest) -> Option<Vec<u8>>
+    fn receive_answer(alloc: Global, link: &mut SignatureRequest) -> Option<Vec<u8>>
         ensures given { IfSome result (λ answer. (path message : List ℕ) → IsSignatureRequest path message link.old → Unsaid path) }
         ensures short { IfSome result (λ answer. length answer.items ≤ 4096) }
     {
@@ -395,12 +395,12 @@ impl<'a> Machine for Host<'a> {
         let _ = write_whole(&mut errors, line);
     }
 
-    fn note(&self, cause: Option<Cause>) {
-        self.noted.set(cause);
+    fn keep_cause(&self, cause: Option<Cause>) {
+        self.last_cause.set(cause);
     }
 
-    fn noted(&self) -> Option<Cause> {
-        self.noted.get()
+    fn last_cause(&self) -> Option<Cause> {
+        self.last_cause.get()
     }
 }
 

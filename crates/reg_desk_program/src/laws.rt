@@ -26,9 +26,9 @@ pub fn the_digest_is_a_seal<D: Device>()
     ensures { IsSeal (SignsBoth D.answers) digest }
 {}
 
-/// A stop at any moment of a job leaves the records that its replies tell, or these after one change more.
+/// A stop at any moment of a job leaves the records that its replies report, or these after one change more.
 ///
-/// [`perform`](crate::perform) ends with the register that a job opened and closed (`Visits` in `Ends`): it leads from records that stand, by all
+/// [`perform`](crate::perform) ends with the register that a job opened and closed (`UsesRegister` in `Ends`): it leads from records that stand, by all
 /// that was replied, to others that stand. In a register of this program's version that is opened, the sound records stand that its file showed
 /// (`begins`). After a stop at any moment (`leaves`), a register that is opened again from what the disk left has the records that stood, or these
 /// after one change more, to which no acceptance was told. So no accepted command is lost. Which change that is, of commands run one after another,

@@ -1,9 +1,9 @@
-//! Who answers OCSP requests for a register in a file.
+//! The responder to OCSP requests for a register in a file.
 
 ghost use Rattle.std.specs.Prelude.{◌≡◌, ◌⊎◌, IsTrue, IfOk, IfErr, OnErr};
 ghost use Rattle.reg_crl.specs.Signing.{Identity};
 ghost use Rattle.reg_desk_jobs.specs.RegisterFailures.{IsOpening};
-ghost use Rattle.reg_desk_jobs.specs.WhoSigns.{EmbedsOwn, HasCertificate, IsAnswering, IsDelegate};
+ghost use Rattle.reg_desk_jobs.specs.Signers.{EmbedsOwn, HasCertificate, IsAnswering, IsDelegate};
 ghost use Rattle.reg_office.specs.Answering.{answers_by, signatory_of};
 ghost use Rattle.reg_desk_cli.specs.declared.job.Answerer.TheVariants.{Issuer};
 
@@ -73,7 +73,7 @@ fn certificate_at(host: &Host<'_>, path: &str) -> Result<Certificate, Failure>
             return Err(Failure::Fault(Fault::Memory));
         }
         Err(error) => {
-            host.note(of_io(error.kind()));
+            host.keep_cause(of_io(error.kind()));
             return Err(Failure::BadResponder);
         }
     };

@@ -1,4 +1,4 @@
-//! How far a long job is, told on standard error where that is a terminal.
+//! The progress of a long job, shown on standard error where that is a terminal.
 
 use reg_core::{Cause, of_io};
 use reg_desk_cli::Job;
@@ -12,17 +12,17 @@ const LARGE: u64 = 67_108_864;
 
 const MEGABYTE: u64 = 1_000_000;
 
-/// Standard output, to which a script or an import writes a line for each line or row that is done. Once a second it tells how many were.
+/// Standard output, to which a script or an import writes a line for each line or row that is done. Once a second it shows how many were.
 #[derive(Drop)]
 pub(crate) struct CountedOutput<'a> {
     rt: &'a HostRuntime,
     output: Stdout,
-    noted: &'a Cell<Option<Cause>>,
-    is_told: bool,
+    last_cause: &'a Cell<Option<Cause>>,
+    shows_progress: bool,
     lines: u64,
     /// The seconds of the clock when it began, and when it told last.
     began: u64,
-    told: u64,
+    last_shown: u64,
 }
 
 impl<'a> CountedOutput<'a> {
@@ -30,33 +30,33 @@ impl<'a> CountedOutput<'a> {
     pub(crate) fn of(
         rt: &'a HostRuntime,
         job: &Job<'_>,
-        noted: &'a Cell<Option<Cause>>,
+        last_cause: &'a Cell<Option<Cause>>,
     ) -> CountedOutput<'a> {
         let output = rt.stdout();
-        let is_told = is_long(job) && rt.stderr().is_terminal() && !output.is_terminal();
+        let shows_progress = is_long(job) && rt.stderr().is_terminal() && !output.is_terminal();
         let now = seconds(rt);
         CountedOutput {
             rt,
             output,
-            noted,
-            is_told,
+            last_cause,
+            shows_progress,
             lines: 0,
             began: now,
-            told: now,
+            last_shown: now,
         }
     }
 
     fn count(&mut self) {
         self.lines = self.lines.saturating_add(1);
         let now = seconds(self.rt);
-        if now == self.told {
+        if now == self.last_shown {
             return;
         }
-        self.told = now;
+        self.last_shown = now;
         let gone = now.saturating_sub(self.began);
         let each = self.lines.checked_div(gone).unwrap_or(self.lines);
         let lines = self.lines;
-        // What can't be told is left out.
+        // A line that can't be written is left out.
         drop(eprintln!(self.rt; "{lines} lines done, {each} a second"));
     }
 }
@@ -66,11 +66,11 @@ impl<'a> Write for CountedOutput<'a> {
         let count = match self.output.write(buf) {
             Ok(count) => count,
             Err(error) => {
-                self.noted.set(of_io(error.kind()));
+                self.last_cause.set(of_io(error.kind()));
                 return Err(error);
             }
         };
-        if self.is_told && buf.ends_with(b"\n") {
+        if self.shows_progress && buf.ends_with(b"\n") {
             self.count();
         }
         Ok(count)
@@ -81,7 +81,7 @@ impl<'a> Write for CountedOutput<'a> {
     }
 }
 
-/// Tells that a large file is opened, where standard error is a terminal.
+/// Shows that a large file is opened, where standard error is a terminal.
 pub(crate) fn report_opening(rt: &HostRuntime, job: &Job<'_>) {
     let Some(path) = file_of(job) else {
         return;

@@ -2,29 +2,29 @@
 use Rattle.std.proofs.Common.{◌≡◌, ℕ, ◌+◌, List, [], ◌∷◌, ◌++◌, refl, arith, inl, inr}
 use Rattle.reg_io.proofs.PublicLaws.{answered_append}
 use Rattle.std.specs.Prelude.{Result, Ok, Err, OnOk, OnErr, take}
-use Rattle.reg_desk_server.specs.ControlLines.{Deferring, Telling, TellingLater}
-use Rattle.reg_desk_server.specs.Exchange.{Input, request, line, Outcome, said, later, asked_in, Handles, Exchanged}
+use Rattle.reg_desk_server.specs.ControlLines.{DefersFirstLine, AnswersFirstLine, AnswersDeferred}
+use Rattle.reg_desk_server.specs.Exchange.{Input, request, line, Outcome, said, later, requests_in, Handles, Exchanged}
 use Rattle.reg_desk_server.specs.Handling.{Handled}
-use Rattle.reg_desk_server.specs.Held.{unsent_of}
+use Rattle.reg_desk_server.specs.Buffers.{unsent_of}
 use Rattle.reg_desk_server.specs.declared.control_connection.ControlConnection.{ControlConnection}
 use Rattle.reg_desk_server.specs.declared.handler.Handler.{Ghosts}
 
 -- the requests of two lists
-pub asked_in_append : (first rest : List Input) → asked_in (first ++ rest) ≡ asked_in first + asked_in rest
+pub asked_in_append : (first rest : List Input) → requests_in (first ++ rest) ≡ requests_in first + requests_in rest
 asked_in_append [] rest = omega arith
 asked_in_append (request bytes ∷ first) rest = omega (arith, asked_in_append first rest)
 asked_in_append (line bytes ∷ first) rest = asked_in_append first rest
 
 -- nothing was exchanged
-pub exchanged_none : {S T : Type 0} (answers : S → List ℕ → Outcome T → S → Type 0) (tells : S → List ℕ → List ℕ → S → Type 0)
-    (defers : S → List ℕ → S → Type 0) (s t : S) (made made' : ℕ) → t ≡ s → made' ≡ made → Exchanged answers tells defers s t made made'
-exchanged_none answers tells defers s t made made' same count =
+pub exchanged_none : {S T : Type 0} (answers : S → List ℕ → Outcome T → S → Type 0) (answers_line : S → List ℕ → List ℕ → S → Type 0)
+    (defers : S → List ℕ → S → Type 0) (s t : S) (made made' : ℕ) → t ≡ s → made' ≡ made → Exchanged answers answers_line defers s t made made'
+exchanged_none answers answers_line defers s t made made' same count =
     record { inputs = []; outcomes = []; run = same; counted = omega (arith, count) }
 
 module _ {S T L : Type 0} (g : Ghosts S T L) where
   -- nothing was exchanged
   pub handled_none : (s t : S) (made made' : ℕ) → t ≡ s → made' ≡ made → Handled g s t made made'
-  handled_none = exchanged_none g.answers g.tells g.defers
+  handled_none = exchanged_none g.answers g.answers_line g.defers
 
   -- a request was answered
   pub handled_request : (s t : S) (made made' : ℕ) (bytes : List ℕ) (outcome : Outcome T) → g.answers s bytes outcome t → made' ≡ made + 1
@@ -37,7 +37,7 @@ module _ {S T L : Type 0} (g : Ghosts S T L) where
   }
 
   -- a line was answered
-  pub handled_line : (s t : S) (made : ℕ) (bytes text : List ℕ) → g.tells s bytes text t → Handled g s t made made
+  pub handled_line : (s t : S) (made : ℕ) (bytes text : List ℕ) → g.answers_line s bytes text t → Handled g s t made made
   handled_line s t made bytes text step = record {
     inputs = line bytes ∷ [];
     outcomes = said text ∷ [];
@@ -51,25 +51,25 @@ module _ {S T L : Type 0} (g : Ghosts S T L) where
   handled_then s m t made made' made'' first rest = record {
     inputs = first.inputs ++ rest.inputs;
     outcomes = first.outcomes ++ rest.outcomes;
-    run = answered_append (Handles g.answers g.tells g.defers) s m t first.inputs first.outcomes rest.inputs rest.outcomes first.run rest.run;
+    run = answered_append (Handles g.answers g.answers_line g.defers) s m t first.inputs first.outcomes rest.inputs rest.outcomes first.run rest.run;
     counted = omega (arith, first.counted, rest.counted, asked_in_append first.inputs rest.inputs);
   }
 
   -- a line was answered, or none was there
-  pub handled_telling : {P : Type 0} (s t : S) (made : ℕ) (old new : ControlConnection P) → Telling g.tells s t old new → Handled g s t made made
-  handled_telling s t made old new (inl told) = handled_line s t made (take told.0 old.came.items) (unsent_of new.unsent) told.3
+  pub handled_telling : {P : Type 0} (s t : S) (made : ℕ) (old new : ControlConnection P) → AnswersFirstLine g.answers_line s t old new → Handled g s t made made
+  handled_telling s t made old new (inl told) = handled_line s t made (take told.0 old.arrived.items) (unsent_of new.unsent) told.3
   handled_telling s t made old new (inr silent) = handled_none s t made made silent.1 refl
 
   -- or it stopped before
   pub handled_told : {P U E : Type 0} (Q : Type 0) (r : Result U E) (s t : S) (made : ℕ) (old new : ControlConnection P)
-      → OnOk r (Telling g.tells s t old new) → OnErr r (Q × (t ≡ s)) → Handled g s t made made
+      → OnOk r (AnswersFirstLine g.answers_line s t old new) → OnErr r (Q × (t ≡ s)) → Handled g s t made made
   handled_told Q (Ok u) s t made old new told stopped = handled_telling s t made old new told
   handled_told Q (Err e) s t made old new told stopped = handled_none s t made made stopped.1 refl
 
   -- a line was looked at, or none was
-  pub handled_deferring : {P : Type 0} (s t : S) (made : ℕ) (old : ControlConnection P) → Deferring g.defers s t old → Handled g s t made made
+  pub handled_deferring : {P : Type 0} (s t : S) (made : ℕ) (old : ControlConnection P) → DefersFirstLine g.defers s t old → Handled g s t made made
   handled_deferring s t made old (inl looked) = record {
-    inputs = line (take looked.0 old.came.items) ∷ [];
+    inputs = line (take looked.0 old.arrived.items) ∷ [];
     outcomes = later ∷ [];
     run = (t, looked.2, refl);
     counted = omega arith;
@@ -78,7 +78,7 @@ module _ {S T L : Type 0} (g : Ghosts S T L) where
 
   -- a line that was looked at was answered then, or looked at again; or it stopped before
   pub handled_told_later : {P U E : Type 0} (Q : Type 0) (r : Result U E) (s t : S) (made : ℕ) (old new : ControlConnection P)
-      → OnOk r (TellingLater g.tells g.defers s t old new) → OnErr r (Q × (t ≡ s)) → Handled g s t made made
+      → OnOk r (AnswersDeferred g.answers_line g.defers s t old new) → OnErr r (Q × (t ≡ s)) → Handled g s t made made
   handled_told_later Q (Ok u) s t made old new (inl told) stopped = handled_telling s t made old new told
   handled_told_later Q (Ok u) s t made old new (inr looked) stopped = handled_deferring s t made old looked.0
   handled_told_later Q (Err e) s t made old new told stopped = handled_none s t made made stopped.1 refl

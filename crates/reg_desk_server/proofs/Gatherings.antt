@@ -4,7 +4,7 @@ use Rattle.std.specs.Prelude.{Option, Some, None, true, false}
 use Rattle.std.specs.Io.KnownBytes.{Consumes}
 use Rattle.std.proofs.KnownBytes.{Consumes-nil, Consumes-trans}
 use Rattle.std.proofs.lemmas.List.{append-nil, append_assoc}
-use Rattle.reg_desk_server.specs.Held.{Receives, SendsUnsent, unsent_of}
+use Rattle.reg_desk_server.specs.Buffers.{Receives, SendsUnsent, unsent_of}
 use Rattle.reg_desk_server.specs.ControlLines.{Advances, Gathers, StaysEnded}
 use Rattle.reg_desk_server.specs.declared.control_connection.ControlConnection.{ControlConnection}
 use Rattle.reg_desk_server.specs.declared.request_bytes.Received.{Received}
@@ -23,8 +23,8 @@ gathers_taken a b x y received.OutOfMemory ended is took =
     let (kept, lost, parted, after) = took.held in
     record { kept = kept; lost = lost; consumed = subst (Consumes a b) parted took.consumed; held = after; whole = inr (is refl) }
 gathers_taken a b x y other ended is took =
-    let all = subst (Consumes a b) (sym (append-nil took.came)) took.consumed in
-    record { kept = took.came; lost = []; consumed = all; held = took.held; whole = inl refl }
+    let all = subst (Consumes a b) (sym (append-nil took.arrived)) took.consumed in
+    record { kept = took.arrived; lost = []; consumed = all; held = took.held; whole = inl refl }
 
 -- what goes on has not ended
 pub goes_on : (ended : Bool) → ended ≡ false → ended ≡ true → ⊥
@@ -58,7 +58,7 @@ gathers_then a b c x y z ended ended' goes first rest = record {
 -- a reply was sent on, and then what came was received
 pub advances_taken : {S : Type 0} (contents remaining : S → Option (List ℕ)) (old new : ControlConnection S) (m : S) (u : Unsent) (rests : Sent)
     → SendsUnsent contents old.link m old.unsent u rests → new.unsent ≡ u
-    → Gathers (remaining m) (remaining new.link) old.came.items new.came.items new.has_ended
+    → Gathers (remaining m) (remaining new.link) old.arrived.items new.arrived.items new.has_ended
     → StaysEnded old new → Advances contents remaining old new
 advances_taken contents remaining old new m u rests sent same gathered over = record {
   between = m;

@@ -6,8 +6,8 @@ use Rattle.std.proofs.KnownBytes.{Appends-trans, Consumes-trans}
 use Rattle.std.proofs.lemmas.List.{append_assoc, drop-drop, take-take, take_all}
 use Rattle.reg_io.specs.Mark.{EndsWith, FirstMark, HasNoMark}
 use Rattle.reg_io.proofs.PublicLaws.{no_mark_in_front}
-use Rattle.reg_desk_server.specs.Stages.{HoldsAnswer, HoldsRest, IsDropped, Sends}
-use Rattle.reg_desk_server.specs.Held.{AddsTo, Receives, SendsOn}
+use Rattle.reg_desk_server.specs.Stages.{HasUnsentText, HasUnsentRest, IsDropped, Sends}
+use Rattle.reg_desk_server.specs.Buffers.{AddsTo, Receives, SendsOn}
 use Rattle.reg_desk_server.specs.declared.http_connection.HttpConnection.{HttpConnection}
 use Rattle.reg_desk_server.specs.declared.http_connection.Stage.{Stage}
 use Rattle.reg_desk_server.specs.declared.http_connection.Stage.TheVariants as stage
@@ -17,21 +17,21 @@ use Rattle.reg_desk_server.specs.declared.unsent.Sent.{Sent}
 use Rattle.reg_desk_server.specs.declared.unsent.Sent.TheVariants as sent
 
 -- bytes that came before stand before those that came then
-pub adds_then : (x y z first came : List ℕ) (t : Received) → y ≡ x ++ first → AddsTo y came z t → AddsTo x (first ++ came) z t
-adds_then x y z first came received.OutOfMemory before (kept, lost, parted, after) = (
+pub adds_then : (x y z first arrived : List ℕ) (t : Received) → y ≡ x ++ first → AddsTo y arrived z t → AddsTo x (first ++ arrived) z t
+adds_then x y z first arrived received.OutOfMemory before (kept, lost, parted, after) = (
   first ++ kept,
   lost,
   ap (λ (l : List ℕ). first ++ l) parted ∙ sym (append_assoc first kept lost),
   after ∙ ap (λ (l : List ℕ). l ++ kept) before ∙ append_assoc x first kept,
 )
-adds_then x y z first came other before after = after ∙ ap (λ (l : List ℕ). l ++ came) before ∙ append_assoc x first came
+adds_then x y z first arrived other before after = after ∙ ap (λ (l : List ℕ). l ++ arrived) before ∙ append_assoc x first arrived
 
 -- some were received, and then others
 pub takes_then : (a b c : Option (List ℕ)) (x y z : List ℕ) (t : Received) → Receives a b x y received.More → Receives b c y z t → Receives a c x z t
 takes_then a b c x y z t first rest = record {
-  came = first.came ++ rest.came;
-  consumed = Consumes-trans a b c first.came rest.came first.consumed rest.consumed;
-  held = adds_then x y z first.came rest.came t first.held rest.held;
+  arrived = first.arrived ++ rest.arrived;
+  consumed = Consumes-trans a b c first.arrived rest.arrived first.consumed rest.consumed;
+  held = adds_then x y z first.arrived rest.arrived t first.held rest.held;
 }
 
 -- some was sent, and then more
@@ -73,18 +73,18 @@ pub dropped_then : (a b c : Option (List ℕ)) → IsDropped a b → IsDropped b
 dropped_then a b c first rest = (first.0 ++ rest.0, Consumes-trans a b c first.0 rest.0 first.1 rest.1)
 
 -- where nothing is left of an answer that is held, that is the rest
-none_left : {T : Type 0} (at : Stage T) (rest : List ℕ) → HoldsRest at rest → HoldsAnswer at [] → rest ≡ []
+none_left : {T : Type 0} (at : Stage T) (rest : List ℕ) → HasUnsentRest at rest → HasUnsentText at [] → rest ≡ []
 none_left (stage.Sending unsent exact) rest left empty = left ∙ sym empty
 none_left _ rest left empty = absurd empty
 
 -- all of an answer was sent, and the client has it
 pub sends_last : {S H T L : Type 0} (contents : S → Option (List ℕ)) (old between new : HttpConnection S H T L) → Sends contents old between
-    → HoldsAnswer between.stage [] → new.link ≡ between.link → new.stage ≡ stage.Draining → Sends contents old new
+    → HasUnsentText between.stage [] → new.link ≡ between.link → new.stage ≡ stage.Draining → Sends contents old new
 sends_last {S = S} {T = T} contents old between new sends empty same drains text holds =
     let (went, rest, parted, appended, left) = sends text holds in (
       went,
       rest,
       parted,
       subst (λ (v : S). Appends (contents old.link) (contents v) went) (sym same) appended,
-      subst (λ (v : Stage T). HoldsRest v rest) (sym drains) (none_left between.stage rest left empty),
+      subst (λ (v : Stage T). HasUnsentRest v rest) (sym drains) (none_left between.stage rest left empty),
     )

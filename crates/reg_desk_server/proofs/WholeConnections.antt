@@ -10,11 +10,11 @@ use Rattle.reg_io.specs.Mark.{FirstMark}
 use Rattle.reg_io.proofs.PublicLaws.{byte_first}
 use Rattle.reg_http_head.specs.Bytes.{collected_bytes}
 use Rattle.reg_http_head.specs.declared.collected.Collected.{Collected}
-use Rattle.reg_desk_server.specs.Connections.{FinishesOnce, HasServed, HasAnsweredLines, IsAnsweredOnce, IsListedBy, KeepsServed, ServesOn, SinceAccepted, TellsNoneAnew, TellsOneAnew, WasAnswered, WasLeft, more_came, more_went, nothing_yet}
-use Rattle.reg_desk_server.specs.ControlLines.{Deferring, Gathers, IsFresh, SameLines, SameLinkAndEnd, Telling, TellingLater}
+use Rattle.reg_desk_server.specs.Connections.{FinishesOnce, HasServed, HasAnsweredLines, IsAnsweredOnce, IsAnsweredBy, KeepsServed, ServesOn, SinceAccepted, AnswersNoMoreLines, AnswersOneMoreLine, WasAnswered, WasLeftUnsigned, more_received, more_sent, nothing_yet}
+use Rattle.reg_desk_server.specs.ControlLines.{DefersFirstLine, Gathers, IsFresh, SameLines, SameLinkAndEnd, AnswersFirstLine, AnswersDeferred}
 use Rattle.reg_desk_server.specs.Exchange.{Outcome, said, pending, later}
-use Rattle.reg_desk_server.specs.Stages.{Answering, Finishing, HasReceived, HoldsAnswer, HoldsRest, IsDraining, IsDropped, IsHeld, AwaitsSignature, KeepsSigning}
-use Rattle.reg_desk_server.specs.Held.{unsent_of}
+use Rattle.reg_desk_server.specs.Stages.{Answering, Finishing, HasReceived, HasUnsentText, HasUnsentRest, IsDraining, IsDropped, KeepsOutcome, AwaitsSignature, KeepsSigning}
+use Rattle.reg_desk_server.specs.Buffers.{unsent_of}
 use Rattle.reg_desk_server.specs.declared.control_connection.ControlConnection.{ControlConnection}
 use Rattle.reg_desk_server.specs.declared.handler.Handler.{Ghosts}
 use Rattle.reg_desk_server.specs.declared.http_connection.HttpConnection.{HttpConnection}
@@ -48,11 +48,11 @@ lost_on front held held' lost kept lost' ended ended' (inr ends) grows whole ove
 part_on : (gone went rest text : List ℕ) → text ≡ went ++ rest → gone ++ text ≡ gone ++ went ++ rest
 part_on gone went rest text parted = ap (λ (l : List ℕ). gone ++ l) parted ∙ sym (append_assoc gone went rest)
 
-module _ {S H : Type 0} (contents remaining : S → Option (List ℕ)) (tells : H → List ℕ → List ℕ → H → Type 0) where
+module _ {S H : Type 0} (contents remaining : S → Option (List ℕ)) (answers_line : H → List ℕ → List ℕ → H → Type 0) where
   -- on a connection that was accepted no line was answered
-  pub told_none : (peer : ControlConnection S) → IsFresh peer → HasAnsweredLines contents remaining tells peer.link peer [] []
-  told_none peer fresh = record {
-    came = [];
+  pub told_none : (connection : ControlConnection S) → IsFresh connection → HasAnsweredLines contents remaining answers_line connection.link connection [] []
+  told_none connection fresh = record {
+    arrived = [];
     gone = [];
     lost = [];
     since = nothing_yet;
@@ -63,18 +63,18 @@ module _ {S H : Type 0} (contents remaining : S → Option (List ℕ)) (tells : 
   }
 
   -- it went on
-  pub told_on : TellsNoneAnew contents remaining tells
+  pub told_on : AnswersNoMoreLines contents remaining answers_line
   told_on first old new lines replies was step =
       let it = step.gathered in
       let (lost, front, whole) =
-      lost_on (concat lines) old.came.items new.came.items was.lost it.kept it.lost old.has_ended new.has_ended was.whole it.held it.whole step.over in
+      lost_on (concat lines) old.arrived.items new.arrived.items was.lost it.kept it.lost old.has_ended new.has_ended was.whole it.held it.whole step.over in
       record {
-        came = was.came ++ (it.kept ++ it.lost);
+        arrived = was.arrived ++ (it.kept ++ it.lost);
         gone = was.gone ++ step.went;
         lost = lost;
         since =
-            more_came was.came (was.gone ++ step.went) (it.kept ++ it.lost) step.between new.link
-            (more_went was.came was.gone step.went old.link step.between was.since step.appended)
+            more_received was.arrived (was.gone ++ step.went) (it.kept ++ it.lost) step.between new.link
+            (more_sent was.arrived was.gone step.went old.link step.between was.since step.appended)
             it.consumed;
         told = ap (λ (l : List ℕ). l ++ (it.kept ++ it.lost)) was.told ∙ front;
         answered = was.answered ∙ part_on was.gone step.went (unsent_of new.unsent) (unsent_of old.unsent) step.parted;
@@ -84,16 +84,16 @@ module _ {S H : Type 0} (contents remaining : S → Option (List ℕ)) (tells : 
 
   -- its first line was answered
   told_more : (first : S) (s t : H) (old new : ControlConnection S) (lines replies : List (List ℕ)) (end : ℕ)
-      → HasAnsweredLines contents remaining tells first old lines replies → SameLinkAndEnd old new → FirstMark (10 ∷ []) old.came.items end
-      → unsent_of old.unsent ≡ [] → tells s (take end old.came.items) (unsent_of new.unsent) t → new.came.items ≡ drop end old.came.items
-      → HasAnsweredLines contents remaining tells first new (lines ++ take end old.came.items ∷ []) (replies ++ unsent_of new.unsent ∷ [])
+      → HasAnsweredLines contents remaining answers_line first old lines replies → SameLinkAndEnd old new → FirstMark (10 ∷ []) old.arrived.items end
+      → unsent_of old.unsent ≡ [] → answers_line s (take end old.arrived.items) (unsent_of new.unsent) t → new.arrived.items ≡ drop end old.arrived.items
+      → HasAnsweredLines contents remaining answers_line first new (lines ++ take end old.arrived.items ∷ []) (replies ++ unsent_of new.unsent ∷ [])
   told_more first s t old new lines replies end was same mark none step rest =
-      let held = old.came.items in
+      let held = old.arrived.items in
       record {
-        came = was.came;
+        arrived = was.arrived;
         gone = was.gone;
         lost = was.lost;
-        since = subst (SinceAccepted contents remaining first was.came was.gone) (sym same.0) was.since;
+        since = subst (SinceAccepted contents remaining first was.arrived was.gone) (sym same.0) was.since;
         told =
             was.told
             ∙ ap (λ (l : List ℕ). l ++ was.lost)
@@ -104,18 +104,18 @@ module _ {S H : Type 0} (contents remaining : S → Option (List ℕ)) (tells : 
         answered =
             concat_more replies (unsent_of new.unsent)
             ∙ ap (λ (l : List ℕ). l ++ unsent_of new.unsent) (was.answered ∙ ap (λ (l : List ℕ). was.gone ++ l) none ∙ append-nil was.gone);
-        each = AllZip-push (IsListedBy tells) lines replies (take end held) (unsent_of new.unsent) was.each (byte_first 10 held end mark, (s, t, step));
+        each = AllZip-push (IsAnsweredBy answers_line) lines replies (take end held) (unsent_of new.unsent) was.each (byte_first 10 held end mark, (s, t, step));
         whole = subst (λ (ended : Bool). (was.lost ≡ []) ⊎ (ended ≡ true)) (sym same.1) was.whole;
       }
 
   -- nothing was held or sent anew
   told_same : (first : S) (old new : ControlConnection S) (lines replies : List (List ℕ)) → SameLinkAndEnd old new → SameLines old new
-      → HasAnsweredLines contents remaining tells first old lines replies → HasAnsweredLines contents remaining tells first new lines replies
+      → HasAnsweredLines contents remaining answers_line first old lines replies → HasAnsweredLines contents remaining answers_line first new lines replies
   told_same first old new lines replies same as_held was = record {
-    came = was.came;
+    arrived = was.arrived;
     gone = was.gone;
     lost = was.lost;
-    since = subst (SinceAccepted contents remaining first was.came was.gone) (sym same.0) was.since;
+    since = subst (SinceAccepted contents remaining first was.arrived was.gone) (sym same.0) was.since;
     told = was.told ∙ ap (λ (l : List ℕ). concat lines ++ l ++ was.lost) (sym as_held.0);
     answered = was.answered ∙ ap (λ (l : List ℕ). was.gone ++ l) (sym as_held.1);
     each = was.each;
@@ -123,16 +123,16 @@ module _ {S H : Type 0} (contents remaining : S → Option (List ℕ)) (tells : 
   }
 
   -- its first line was answered, or none
-  pub told_next : TellsOneAnew contents remaining tells (Telling tells) (λ s t _. t ≡ s)
+  pub told_next : AnswersOneMoreLine contents remaining answers_line (AnswersFirstLine answers_line) (λ s t _. t ≡ s)
   told_next first s t old new lines replies was same (inl (end, mark, none, step, rest)) =
-      inl (take end old.came.items, step, told_more first s t old new lines replies end was same mark none step rest)
+      inl (take end old.arrived.items, step, told_more first s t old new lines replies end was same mark none step rest)
   told_next first s t old new lines replies was same (inr (none, nothing, as_held)) =
       inr (nothing, told_same first old new lines replies same as_held was)
 
   -- the same of one that was looked at, or is once more
-  pub told_later : (defers : H → List ℕ → H → Type 0) → TellsOneAnew contents remaining tells (TellingLater tells defers) (Deferring defers)
+  pub told_later : (defers : H → List ℕ → H → Type 0) → AnswersOneMoreLine contents remaining answers_line (AnswersDeferred answers_line defers) (DefersFirstLine defers)
   told_later defers first s t old new lines replies was same (inl (inl (end, mark, none, step, rest))) =
-      inl (take end old.came.items, step, told_more first s t old new lines replies end was same mark none step rest)
+      inl (take end old.arrived.items, step, told_more first s t old new lines replies end was same mark none step rest)
   told_later defers first s t old new lines replies was same (inl (inr (none, nothing, as_held))) =
       inr (inr nothing, told_same first old new lines replies same as_held was)
   told_later defers first s t old new lines replies was same (inr (looked, as_held)) =
@@ -146,110 +146,110 @@ finishes_once finishes s other after same = same
 
 module _ {H T : Type 0} (answers : H → List ℕ → Outcome T → H → Type 0) (finishes : T → List ℕ → Type 0) where
   -- what was answered or left still was, where more came
-  left_behind : (came more : List ℕ) (ticket : T) → WasLeft answers came ticket → WasLeft answers (came ++ more) ticket
-  left_behind came more ticket (asked, dropped, came_so, by) =
+  left_behind : (arrived more : List ℕ) (ticket : T) → WasLeftUnsigned answers arrived ticket → WasLeftUnsigned answers (arrived ++ more) ticket
+  left_behind arrived more ticket (asked, dropped, came_so, by) =
       (asked, dropped ++ more, ap (λ (l : List ℕ). l ++ more) came_so ∙ append_assoc asked dropped more, by)
 
-  answered_behind : (came more text : List ℕ) → WasAnswered answers finishes came text → WasAnswered answers finishes (came ++ more) text
-  answered_behind came more text (asked, dropped, came_so, by) =
+  answered_behind : (arrived more text : List ℕ) → WasAnswered answers finishes arrived text → WasAnswered answers finishes (arrived ++ more) text
+  answered_behind arrived more text (asked, dropped, came_so, by) =
       (asked, dropped ++ more, ap (λ (l : List ℕ). l ++ more) came_so ∙ append_assoc asked dropped more, by)
 
   -- an answer by the same text
-  answered_as : (came text other : List ℕ) → text ≡ other → WasAnswered answers finishes came text → WasAnswered answers finishes came other
-  answered_as came text other same was = subst (λ (l : List ℕ). WasAnswered answers finishes came l) same was
+  answered_as : (arrived text other : List ℕ) → text ≡ other → WasAnswered answers finishes arrived text → WasAnswered answers finishes arrived other
+  answered_as arrived text other same was = subst (λ (l : List ℕ). WasAnswered answers finishes arrived l) same was
 
   -- more of a request was received
-  asking_on : (collected : Collected) (after : Stage T) (came gone bytes kept lost : List ℕ) (ended ended' : Bool)
-      → IsAnsweredOnce answers finishes came gone (stage.Receiving collected) ended → HasReceived after bytes → bytes ≡ collected_bytes collected ++ kept
+  asking_on : (collected : Collected) (after : Stage T) (arrived gone bytes kept lost : List ℕ) (ended ended' : Bool)
+      → IsAnsweredOnce answers finishes arrived gone (stage.Receiving collected) ended → HasReceived after bytes → bytes ≡ collected_bytes collected ++ kept
       → (lost ≡ []) ⊎ (ended' ≡ true) → (ended ≡ true → (bytes ≡ collected_bytes collected) × (ended' ≡ true))
-      → IsAnsweredOnce answers finishes (came ++ (kept ++ lost)) gone after ended'
-  asking_on collected (stage.Receiving more) came gone bytes kept lost ended ended' was asks grows whole over =
+      → IsAnsweredOnce answers finishes (arrived ++ (kept ++ lost)) gone after ended'
+  asking_on collected (stage.Receiving more) arrived gone bytes kept lost ended ended' was asks grows whole over =
       let (all, joined, still) = lost_on [] (collected_bytes collected) bytes was.1 kept lost ended ended' was.3 grows whole over in
       (was.0, all, ap (λ (l : List ℕ). l ++ (kept ++ lost)) was.2 ∙ joined ∙ ap (λ (l : List ℕ). l ++ all) asks, still)
-  asking_on collected _ came gone bytes kept lost ended ended' was asks grows whole over = absurd asks
+  asking_on collected _ arrived gone bytes kept lost ended ended' was asks grows whole over = absurd asks
 
   -- an answer is still left to be signed
-  waiting_on : (after : Stage T) (came gone : List ℕ) (ticket : T) (ended : Bool) → gone ≡ [] → WasLeft answers came ticket → AwaitsSignature after ticket
-      → IsAnsweredOnce answers finishes came gone after ended
-  waiting_on (stage.Signing kept link exact) came gone ticket ended none was waits =
-      (none, subst (λ (kept : T). WasLeft answers came kept) (sym waits) was)
-  waiting_on _ came gone ticket ended none was waits = absurd waits
+  waiting_on : (after : Stage T) (arrived gone : List ℕ) (ticket : T) (ended : Bool) → gone ≡ [] → WasLeftUnsigned answers arrived ticket → AwaitsSignature after ticket
+      → IsAnsweredOnce answers finishes arrived gone after ended
+  waiting_on (stage.Signing kept link exact) arrived gone ticket ended none was waits =
+      (none, subst (λ (kept : T). WasLeftUnsigned answers arrived kept) (sym waits) was)
+  waiting_on _ arrived gone ticket ended none was waits = absurd waits
 
   -- an answer was sent on
-  sending_on : (after : Stage T) (came gone went rest text : List ℕ) (ended : Bool) → WasAnswered answers finishes came (gone ++ text)
-      → text ≡ went ++ rest → HoldsRest after rest → IsAnsweredOnce answers finishes came (gone ++ went) after ended
-  sending_on (stage.Sending unsent exact) came gone went rest text ended was parted left =
-      answered_as came (gone ++ text) (gone ++ went ++ unsent_of unsent)
+  sending_on : (after : Stage T) (arrived gone went rest text : List ℕ) (ended : Bool) → WasAnswered answers finishes arrived (gone ++ text)
+      → text ≡ went ++ rest → HasUnsentRest after rest → IsAnsweredOnce answers finishes arrived (gone ++ went) after ended
+  sending_on (stage.Sending unsent exact) arrived gone went rest text ended was parted left =
+      answered_as arrived (gone ++ text) (gone ++ went ++ unsent_of unsent)
       (part_on gone went rest text parted ∙ ap (λ (l : List ℕ). gone ++ went ++ l) left)
       was
-  sending_on stage.Draining came gone went rest text ended was parted left =
-      answered_as came (gone ++ text) (gone ++ went)
+  sending_on stage.Draining arrived gone went rest text ended was parted left =
+      answered_as arrived (gone ++ text) (gone ++ went)
       (part_on gone went rest text parted ∙ ap (λ (l : List ℕ). gone ++ went ++ l) left ∙ append-nil (gone ++ went))
       was
-  sending_on _ came gone went rest text ended was parted left = absurd left
+  sending_on _ arrived gone went rest text ended was parted left = absurd left
 
   -- the client still has its answer
-  leaving_on : (after : Stage T) (came gone : List ℕ) (ended : Bool) → WasAnswered answers finishes came gone → IsDraining after
-      → IsAnsweredOnce answers finishes came gone after ended
-  leaving_on stage.Draining came gone ended was left = was
-  leaving_on _ came gone ended was left = absurd left
+  leaving_on : (after : Stage T) (arrived gone : List ℕ) (ended : Bool) → WasAnswered answers finishes arrived gone → IsDraining after
+      → IsAnsweredOnce answers finishes arrived gone after ended
+  leaving_on stage.Draining arrived gone ended was left = was
+  leaving_on _ arrived gone ended was left = absurd left
 
   -- an answer that is held is one
-  answered_by : (after : Stage T) (came gone text : List ℕ) (ended : Bool) → gone ≡ [] → WasAnswered answers finishes came text → HoldsAnswer after text
-      → IsAnsweredOnce answers finishes came gone after ended
-  answered_by (stage.Sending unsent exact) came gone text ended none was holds =
-      answered_as came text (gone ++ unsent_of unsent) (holds ∙ ap (λ (l : List ℕ). l ++ unsent_of unsent) (sym none)) was
-  answered_by _ came gone text ended none was holds = absurd holds
+  answered_by : (after : Stage T) (arrived gone text : List ℕ) (ended : Bool) → gone ≡ [] → WasAnswered answers finishes arrived text → HasUnsentText after text
+      → IsAnsweredOnce answers finishes arrived gone after ended
+  answered_by (stage.Sending unsent exact) arrived gone text ended none was holds =
+      answered_as arrived text (gone ++ unsent_of unsent) (holds ∙ ap (λ (l : List ℕ). l ++ unsent_of unsent) (sym none)) was
+  answered_by _ arrived gone text ended none was holds = absurd holds
 
   -- all is as it was, where from then on no more is waited for
-  same_on : (before after : Stage T) (came gone : List ℕ) (ended ended' : Bool) → after ≡ before → (ended ≡ true → ended' ≡ true)
-      → IsAnsweredOnce answers finishes came gone before ended → IsAnsweredOnce answers finishes came gone after ended'
-  same_on before after came gone ended ended' same ends was =
-      subst (λ (at : Stage T). IsAnsweredOnce answers finishes came gone at ended') (sym same) (go before was)
+  same_on : (before after : Stage T) (arrived gone : List ℕ) (ended ended' : Bool) → after ≡ before → (ended ≡ true → ended' ≡ true)
+      → IsAnsweredOnce answers finishes arrived gone before ended → IsAnsweredOnce answers finishes arrived gone after ended'
+  same_on before after arrived gone ended ended' same ends was =
+      subst (λ (at : Stage T). IsAnsweredOnce answers finishes arrived gone at ended') (sym same) (go before was)
     where
       over : (lost : List ℕ) → (lost ≡ []) ⊎ (ended ≡ true) → (lost ≡ []) ⊎ (ended' ≡ true)
       over lost (inl none) = inl none
       over lost (inr is) = inr (ends is)
 
-      go : (at : Stage T) → IsAnsweredOnce answers finishes came gone at ended → IsAnsweredOnce answers finishes came gone at ended'
+      go : (at : Stage T) → IsAnsweredOnce answers finishes arrived gone at ended → IsAnsweredOnce answers finishes arrived gone at ended'
       go (stage.Receiving collected) it = (it.0, it.1, it.2, over it.1 it.3)
       go other it = it
 
   -- a request was answered, or waits for a signature
-  outcome_on : (after : Stage T) (asked dropped came gone : List ℕ) (ended : Bool) (s t : H) (outcome : Outcome T) → gone ≡ [] → came ≡ asked ++ dropped
-      → answers s asked outcome t → IsHeld outcome after → IsAnsweredOnce answers finishes came gone after ended
-  outcome_on after asked dropped came gone ended s t (said text) none came_so by held =
-      answered_by after came gone text ended none (asked, dropped, came_so, inl (s, t, by)) held
-  outcome_on after asked dropped came gone ended s t (pending ticket) none came_so by held =
-      waiting_on after came gone ticket ended none (asked, dropped, came_so, (s, t, by)) held
-  outcome_on after asked dropped came gone ended s t later none came_so by held = absurd held
+  outcome_on : (after : Stage T) (asked dropped arrived gone : List ℕ) (ended : Bool) (s t : H) (outcome : Outcome T) → gone ≡ [] → arrived ≡ asked ++ dropped
+      → answers s asked outcome t → KeepsOutcome outcome after → IsAnsweredOnce answers finishes arrived gone after ended
+  outcome_on after asked dropped arrived gone ended s t (said text) none came_so by held =
+      answered_by after arrived gone text ended none (asked, dropped, came_so, inl (s, t, by)) held
+  outcome_on after asked dropped arrived gone ended s t (pending ticket) none came_so by held =
+      waiting_on after arrived gone ticket ended none (asked, dropped, came_so, (s, t, by)) held
+  outcome_on after asked dropped arrived gone ended s t later none came_so by held = absurd held
 
   -- one step of the handler
-  pub answering_on : (s t : H) (before after : Stage T) (came gone : List ℕ) (ended ended' : Bool) → IsAnsweredOnce answers finishes came gone before ended
-      → Answering answers s t before after → (ended ≡ true → ended' ≡ true) → IsAnsweredOnce answers finishes came gone after ended'
-  answering_on s t (stage.Receiving collected) after came gone ended ended' was (outcome, by, held) ends =
-      outcome_on after (collected_bytes collected) was.1 came gone ended' s t outcome was.0 was.2 by held
-  answering_on s t other after came gone ended ended' was same ends = same_on other after came gone ended ended' same ends was
+  pub answering_on : (s t : H) (before after : Stage T) (arrived gone : List ℕ) (ended ended' : Bool) → IsAnsweredOnce answers finishes arrived gone before ended
+      → Answering answers s t before after → (ended ≡ true → ended' ≡ true) → IsAnsweredOnce answers finishes arrived gone after ended'
+  answering_on s t (stage.Receiving collected) after arrived gone ended ended' was (outcome, by, held) ends =
+      outcome_on after (collected_bytes collected) was.1 arrived gone ended' s t outcome was.0 was.2 by held
+  answering_on s t other after arrived gone ended ended' was same ends = same_on other after arrived gone ended ended' same ends was
 
   -- what was left was finished
-  pub finishing_on : (before after : Stage T) (came gone : List ℕ) (ended ended' : Bool) → IsAnsweredOnce answers finishes came gone before ended
-      → Finishing finishes before after → (ended ≡ true → ended' ≡ true) → IsAnsweredOnce answers finishes came gone after ended'
-  finishing_on (stage.Signing ticket link exact) after came gone ended ended' (none, (asked, dropped, came_so, by)) (text, finished, holds) ends =
-      answered_by after came gone text ended' none (asked, dropped, came_so, inr (ticket, finished, by)) holds
-  finishing_on other after came gone ended ended' was same ends = same_on other after came gone ended ended' same ends was
+  pub finishing_on : (before after : Stage T) (arrived gone : List ℕ) (ended ended' : Bool) → IsAnsweredOnce answers finishes arrived gone before ended
+      → Finishing finishes before after → (ended ≡ true → ended' ≡ true) → IsAnsweredOnce answers finishes arrived gone after ended'
+  finishing_on (stage.Signing ticket link exact) after arrived gone ended ended' (none, (asked, dropped, came_so, by)) (text, finished, holds) ends =
+      answered_by after arrived gone text ended' none (asked, dropped, came_so, inr (ticket, finished, by)) holds
+  finishing_on other after arrived gone ended ended' was same ends = same_on other after arrived gone ended ended' same ends was
 
   -- a signature was asked for, or nothing was done
-  pub resting_on : (before after : Stage T) (came gone : List ℕ) (ended ended' : Bool) → IsAnsweredOnce answers finishes came gone before ended
-      → KeepsSigning before after → (ended ≡ true → ended' ≡ true) → IsAnsweredOnce answers finishes came gone after ended'
-  resting_on (stage.Signing ticket link exact) after came gone ended ended' was waits ends = waiting_on after came gone ticket ended' was.0 was.1 waits
-  resting_on other after came gone ended ended' was same ends = same_on other after came gone ended ended' same ends was
+  pub resting_on : (before after : Stage T) (arrived gone : List ℕ) (ended ended' : Bool) → IsAnsweredOnce answers finishes arrived gone before ended
+      → KeepsSigning before after → (ended ≡ true → ended' ≡ true) → IsAnsweredOnce answers finishes arrived gone after ended'
+  resting_on (stage.Signing ticket link exact) after arrived gone ended ended' was waits ends = waiting_on after arrived gone ticket ended' was.0 was.1 waits
+  resting_on other after arrived gone ended ended' was same ends = same_on other after arrived gone ended ended' same ends was
 
 module _ {S H T L : Type 0} (contents remaining : S → Option (List ℕ)) (g : Ghosts H T L) where
   -- a connection that was accepted
-  pub served_none : (peer : HttpConnection S H T L) → HasReceived peer.stage [] → HasServed contents remaining g peer.link peer
-  served_none peer asks = record { came = []; gone = []; since = nothing_yet; once = go peer.stage asks }
+  pub served_none : (connection : HttpConnection S H T L) → HasReceived connection.stage [] → HasServed contents remaining g connection.link connection
+  served_none connection asks = record { arrived = []; gone = []; since = nothing_yet; once = go connection.stage asks }
     where
-      go : (at : Stage T) → HasReceived at [] → IsAnsweredOnce g.answers (FinishesOnce g.finishes) [] [] at (is_some peer.fault)
+      go : (at : Stage T) → HasReceived at [] → IsAnsweredOnce g.answers (FinishesOnce g.finishes) [] [] at (is_some connection.fault)
       go (stage.Receiving collected) asks = (refl, [], asks ∙ sym (append-nil (collected_bytes collected)), inl refl)
       go _ asks = absurd asks
 
@@ -257,66 +257,66 @@ module _ {S H T L : Type 0} (contents remaining : S → Option (List ℕ)) (g : 
   pub served_on : ServesOn contents remaining g
   served_on first old new was receives sends drops = go old.stage was.once receives sends drops
     where
-      go : (at : Stage T) → IsAnsweredOnce g.answers (FinishesOnce g.finishes) was.came was.gone at (is_some old.fault)
+      go : (at : Stage T) → IsAnsweredOnce g.answers (FinishesOnce g.finishes) was.arrived was.gone at (is_some old.fault)
           → ((bytes : List ℕ) → HasReceived at bytes
           → (bytes' : List ℕ) × HasReceived new.stage bytes' × Gathers (remaining old.link) (remaining new.link) bytes bytes' (is_some new.fault)
           × (is_some old.fault ≡ true → (bytes' ≡ bytes) × (is_some new.fault ≡ true)))
-          → ((text : List ℕ) → HoldsAnswer at text
+          → ((text : List ℕ) → HasUnsentText at text
           → (went : List ℕ) × (rest : List ℕ) × (text ≡ went ++ rest) × Appends (contents old.link) (contents new.link) went
-          × HoldsRest new.stage rest)
+          × HasUnsentRest new.stage rest)
           → (((ticket : T) → AwaitsSignature at ticket → AwaitsSignature new.stage ticket × IsDropped (remaining old.link) (remaining new.link))
           × (IsDraining at → IsDraining new.stage × IsDropped (remaining old.link) (remaining new.link)))
           → HasServed contents remaining g first new
       go (stage.Receiving collected) once receives sends drops =
           let (bytes, asks, it, over) = receives (collected_bytes collected) refl in
           record {
-            came = was.came ++ (it.kept ++ it.lost);
+            arrived = was.arrived ++ (it.kept ++ it.lost);
             gone = was.gone;
-            since = more_came was.came was.gone (it.kept ++ it.lost) old.link new.link was.since it.consumed;
+            since = more_received was.arrived was.gone (it.kept ++ it.lost) old.link new.link was.since it.consumed;
             once =
-                asking_on g.answers (FinishesOnce g.finishes) collected new.stage was.came was.gone bytes it.kept it.lost (is_some old.fault)
+                asking_on g.answers (FinishesOnce g.finishes) collected new.stage was.arrived was.gone bytes it.kept it.lost (is_some old.fault)
                 (is_some new.fault) once asks it.held it.whole over;
           }
       go (stage.Signing ticket link exact) once receives sends drops =
           let (waits, dropped) = drops.0 ticket refl in
           record {
-            came = was.came ++ dropped.0;
+            arrived = was.arrived ++ dropped.0;
             gone = was.gone;
-            since = more_came was.came was.gone dropped.0 old.link new.link was.since dropped.1;
+            since = more_received was.arrived was.gone dropped.0 old.link new.link was.since dropped.1;
             once =
-                waiting_on g.answers (FinishesOnce g.finishes) new.stage (was.came ++ dropped.0) was.gone ticket (is_some new.fault) once.0
-                (left_behind g.answers (FinishesOnce g.finishes) was.came dropped.0 ticket once.1)
+                waiting_on g.answers (FinishesOnce g.finishes) new.stage (was.arrived ++ dropped.0) was.gone ticket (is_some new.fault) once.0
+                (left_behind g.answers (FinishesOnce g.finishes) was.arrived dropped.0 ticket once.1)
                 waits;
           }
       go (stage.Sending unsent exact) once receives sends drops =
           let (went, rest, parted, appended, left) = sends (unsent_of unsent) refl in
           record {
-            came = was.came;
+            arrived = was.arrived;
             gone = was.gone ++ went;
-            since = more_went was.came was.gone went old.link new.link was.since appended;
+            since = more_sent was.arrived was.gone went old.link new.link was.since appended;
             once =
-                sending_on g.answers (FinishesOnce g.finishes) new.stage was.came was.gone went rest (unsent_of unsent) (is_some new.fault) once
+                sending_on g.answers (FinishesOnce g.finishes) new.stage was.arrived was.gone went rest (unsent_of unsent) (is_some new.fault) once
                 parted left;
           }
       go stage.Draining once receives sends drops =
           let (left, dropped) = drops.1 tt in
           record {
-            came = was.came ++ dropped.0;
+            arrived = was.arrived ++ dropped.0;
             gone = was.gone;
-            since = more_came was.came was.gone dropped.0 old.link new.link was.since dropped.1;
+            since = more_received was.arrived was.gone dropped.0 old.link new.link was.since dropped.1;
             once =
-                leaving_on g.answers (FinishesOnce g.finishes) new.stage (was.came ++ dropped.0) was.gone (is_some new.fault)
-                (answered_behind g.answers (FinishesOnce g.finishes) was.came dropped.0 was.gone once)
+                leaving_on g.answers (FinishesOnce g.finishes) new.stage (was.arrived ++ dropped.0) was.gone (is_some new.fault)
+                (answered_behind g.answers (FinishesOnce g.finishes) was.arrived dropped.0 was.gone once)
                 left;
           }
 
   -- its stage alone changed
-  pub served_by : (step : Stage T → Stage T → Type 0) → ((before after : Stage T) (came gone : List ℕ) (ended ended' : Bool)
-      → IsAnsweredOnce g.answers (FinishesOnce g.finishes) came gone before ended → step before after → (ended ≡ true → ended' ≡ true)
-      → IsAnsweredOnce g.answers (FinishesOnce g.finishes) came gone after ended') → KeepsServed contents remaining g step
+  pub served_by : (step : Stage T → Stage T → Type 0) → ((before after : Stage T) (arrived gone : List ℕ) (ended ended' : Bool)
+      → IsAnsweredOnce g.answers (FinishesOnce g.finishes) arrived gone before ended → step before after → (ended ≡ true → ended' ≡ true)
+      → IsAnsweredOnce g.answers (FinishesOnce g.finishes) arrived gone after ended') → KeepsServed contents remaining g step
   served_by step changes first old new was same stepped ends = record {
-    came = was.came;
+    arrived = was.arrived;
     gone = was.gone;
-    since = subst (SinceAccepted contents remaining first was.came was.gone) (sym same) was.since;
-    once = changes old.stage new.stage was.came was.gone (is_some old.fault) (is_some new.fault) was.once stepped ends;
+    since = subst (SinceAccepted contents remaining first was.arrived was.gone) (sym same) was.since;
+    once = changes old.stage new.stage was.arrived was.gone (is_some old.fault) (is_some new.fault) was.once stepped ends;
   }

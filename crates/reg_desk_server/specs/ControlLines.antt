@@ -2,7 +2,7 @@
 use Rattle.std.specs.Prelude.{◌≡◌, ℕ, Bool, true, false, List, [], ◌∷◌, ◌++◌, ◌⊎◌, Option, take, drop}
 use Rattle.std.specs.Io.KnownBytes.{Appends, Consumes}
 use Rattle.reg_io.specs.Mark.{FirstMark, HasNoMark}
-use Rattle.reg_desk_server.specs.Held.{unsent_of}
+use Rattle.reg_desk_server.specs.Buffers.{unsent_of}
 use Rattle.reg_desk_server.specs.declared.control_connection.ControlConnection.{ControlConnection}
 use Rattle.reg_desk_server.specs.declared.request_bytes.Received.{Received}
 use Rattle.reg_desk_server.specs.declared.request_bytes.Received.TheVariants as received
@@ -18,7 +18,7 @@ FirstLineEnds bytes end = FirstMark (10 ∷ []) bytes end
 module _ {S : Type 0} where
   -- it was just accepted: nothing came, and nothing goes out
   abbrev pub IsFresh : ControlConnection S → Type 0
-  IsFresh peer = (peer.came.items ≡ []) × (unsent_of peer.unsent ≡ []) × (peer.has_ended ≡ false)
+  IsFresh connection = (connection.arrived.items ≡ []) × (unsent_of connection.unsent ≡ []) × (connection.has_ended ≡ false)
 
   -- its link is as it was, and it has ended if it had
   abbrev pub SameLinkAndEnd : ControlConnection S → ControlConnection S → Type 0
@@ -26,28 +26,28 @@ module _ {S : Type 0} where
 
   -- where it has ended nothing more is held, and it stays so
   abbrev pub StaysEnded : ControlConnection S → ControlConnection S → Type 0
-  StaysEnded old new = old.has_ended ≡ true → (new.came.items ≡ old.came.items) × (new.has_ended ≡ true)
+  StaysEnded old new = old.has_ended ≡ true → (new.arrived.items ≡ old.arrived.items) × (new.has_ended ≡ true)
 
   -- what came is held as it was, and so is what goes out
   abbrev pub SameLines : ControlConnection S → ControlConnection S → Type 0
-  SameLines old new = (new.came.items ≡ old.came.items) × (unsent_of new.unsent ≡ unsent_of old.unsent)
+  SameLines old new = (new.arrived.items ≡ old.arrived.items) × (unsent_of new.unsent ≡ unsent_of old.unsent)
 
 module _ {H S : Type 0} where
   -- The first line of what came was answered by this text, and is gone from what is held, where nothing of an older text was left; where
   -- no line was whole, or something was left, nothing was answered.
-  abbrev pub Telling : (H → List ℕ → List ℕ → H → Type 0) → H → H → ControlConnection S → ControlConnection S → Type 0
-  Telling tells s t old new =
-      ((end : ℕ) × FirstLineEnds old.came.items end × (unsent_of old.unsent ≡ [])
-      × tells s (take end old.came.items) (unsent_of new.unsent) t × (new.came.items ≡ drop end old.came.items))
-      ⊎ ((unsent_of old.unsent ≡ [] → HasNoLine old.came.items) × (t ≡ s) × SameLines old new)
+  abbrev pub AnswersFirstLine : (H → List ℕ → List ℕ → H → Type 0) → H → H → ControlConnection S → ControlConnection S → Type 0
+  AnswersFirstLine answers_line s t old new =
+      ((end : ℕ) × FirstLineEnds old.arrived.items end × (unsent_of old.unsent ≡ [])
+      × answers_line s (take end old.arrived.items) (unsent_of new.unsent) t × (new.arrived.items ≡ drop end old.arrived.items))
+      ⊎ ((unsent_of old.unsent ≡ [] → HasNoLine old.arrived.items) × (t ≡ s) × SameLines old new)
 
   -- the first line of what came was looked at, and not answered; or none was looked at
-  abbrev pub Deferring : (H → List ℕ → H → Type 0) → H → H → ControlConnection S → Type 0
-  Deferring defers s t old = ((end : ℕ) × FirstLineEnds old.came.items end × defers s (take end old.came.items) t) ⊎ (t ≡ s)
+  abbrev pub DefersFirstLine : (H → List ℕ → H → Type 0) → H → H → ControlConnection S → Type 0
+  DefersFirstLine defers s t old = ((end : ℕ) × FirstLineEnds old.arrived.items end × defers s (take end old.arrived.items) t) ⊎ (t ≡ s)
 
   -- the same line was then answered, as any is; or it was looked at once more, and all that is held is as it was
-  abbrev pub TellingLater : (H → List ℕ → List ℕ → H → Type 0) → (H → List ℕ → H → Type 0) → H → H → ControlConnection S → ControlConnection S → Type 0
-  TellingLater tells defers s t old new = Telling tells s t old new ⊎ (Deferring defers s t old × SameLines old new)
+  abbrev pub AnswersDeferred : (H → List ℕ → List ℕ → H → Type 0) → (H → List ℕ → H → Type 0) → H → H → ControlConnection S → ControlConnection S → Type 0
+  AnswersDeferred answers_line defers s t old new = AnswersFirstLine answers_line s t old new ⊎ (DefersFirstLine defers s t old × SameLines old new)
 
 -- What came next on a connection is held behind what was, in its order and whole. Where memory is out the last of it may be lost,
 -- and then the connection has ended.
@@ -60,7 +60,7 @@ pub record Gathers (input left : Option (List ℕ)) (before after : List ℕ) (e
 
 -- the same of a control connection, by the bytes that a link will give
 abbrev pub GathersOn : {S : Type 0} → (S → Option (List ℕ)) → ControlConnection S → ControlConnection S → Type 0
-GathersOn remaining old new = Gathers (remaining old.link) (remaining new.link) old.came.items new.came.items new.has_ended
+GathersOn remaining old new = Gathers (remaining old.link) (remaining new.link) old.arrived.items new.arrived.items new.has_ended
 
 -- whether nothing more comes on a connection where receiving ended so
 abbrev pub ends_by : Received → Bool
@@ -77,5 +77,5 @@ pub record Advances {S : Type 0} (contents remaining : S → Option (List ℕ)) 
   pub went : List ℕ
   pub appended : Appends (contents old.link) (contents between) went
   pub parted : unsent_of old.unsent ≡ went ++ unsent_of new.unsent
-  pub gathered : Gathers (remaining between) (remaining new.link) old.came.items new.came.items new.has_ended
+  pub gathered : Gathers (remaining between) (remaining new.link) old.arrived.items new.arrived.items new.has_ended
   pub over : StaysEnded old new

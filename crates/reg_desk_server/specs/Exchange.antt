@@ -15,16 +15,16 @@ pub data Outcome (T : Type 0) : Type 0 where
   later : Outcome T
 
 -- how many requests are among these
-abbrev pub asked_in : List Input → ℕ
-asked_in [] = zero
-asked_in (request bytes ∷ inputs) = suc (asked_in inputs)
-asked_in (line bytes ∷ inputs) = asked_in inputs
+abbrev pub requests_in : List Input → ℕ
+requests_in [] = zero
+requests_in (request bytes ∷ inputs) = suc (requests_in inputs)
+requests_in (line bytes ∷ inputs) = requests_in inputs
 
-module _ {S T : Type 0} (answers : S → List ℕ → Outcome T → S → Type 0) (tells : S → List ℕ → List ℕ → S → Type 0) (defers : S → List ℕ → S → Type 0) where
+module _ {S T : Type 0} (answers : S → List ℕ → Outcome T → S → Type 0) (answers_line : S → List ℕ → List ℕ → S → Type 0) (defers : S → List ℕ → S → Type 0) where
   -- the relation of a handler before and after it to what came and what came of it: a line is answered at once, or only looked at
   abbrev pub Handles : S → Input → Outcome T → S → Type 0
   Handles s (request bytes) outcome t = answers s bytes outcome t
-  Handles s (line bytes) (said text) t = tells s bytes text t
+  Handles s (line bytes) (said text) t = answers_line s bytes text t
   Handles s (line bytes) (pending ticket) t = ⊥
   Handles s (line bytes) later t = defers s bytes t
 
@@ -34,4 +34,4 @@ module _ {S T : Type 0} (answers : S → List ℕ → Outcome T → S → Type 0
     pub inputs : List Input
     pub outcomes : List (Outcome T)
     pub run : Answered Handles s inputs outcomes t
-    pub counted : made' ≡ made + asked_in inputs
+    pub counted : made' ≡ made + requests_in inputs

@@ -5,7 +5,7 @@ use Rattle.reg_desk_server.specs.declared.handler.Handler.{Ghosts}
 
 -- the handler went from s to t by exchanges with clients and by lines of control connections, and their requests were counted
 abbrev pub Handled : {H T L : Type 0} → Ghosts H T L → H → H → ℕ → ℕ → Type 0
-Handled g = Exchanged g.answers g.tells g.defers
+Handled g = Exchanged g.answers g.answers_line g.defers
 
 -- the same by lines alone, of which none is counted
 abbrev pub AnsweredLines : {H T L : Type 0} → Ghosts H T L → H → H → Type 0

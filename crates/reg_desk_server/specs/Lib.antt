@@ -2,6 +2,6 @@ pub mod Connections
 pub mod ControlLines
 pub mod Exchange
 pub mod Handling
-pub mod Held
+pub mod Buffers
 pub mod Outcomes
 pub mod Stages

@@ -5,7 +5,7 @@ use Rattle.std.specs.Io.KnownBytes.{Appends, Consumes}
 use Rattle.reg_http_head.specs.Bytes.{collected_bytes}
 use Rattle.reg_desk_server.specs.Exchange.{Outcome, said, pending, later}
 use Rattle.reg_desk_server.specs.ControlLines.{Gathers}
-use Rattle.reg_desk_server.specs.Held.{unsent_of}
+use Rattle.reg_desk_server.specs.Buffers.{unsent_of}
 use Rattle.reg_desk_server.specs.declared.http_connection.HttpConnection.{HttpConnection}
 use Rattle.reg_desk_server.specs.declared.http_connection.Stage.{Stage}
 use Rattle.reg_desk_server.specs.declared.http_connection.Stage.TheVariants as stage
@@ -16,9 +16,9 @@ HasReceived (stage.Receiving collected) bytes = bytes ≡ collected_bytes collec
 HasReceived other bytes = ⊥
 
 -- an answer of which this is left
-abbrev pub HoldsAnswer : {T : Type 0} → Stage T → List ℕ → Type 0
-HoldsAnswer (stage.Sending unsent exact) text = text ≡ unsent_of unsent
-HoldsAnswer other text = ⊥
+abbrev pub HasUnsentText : {T : Type 0} → Stage T → List ℕ → Type 0
+HasUnsentText (stage.Sending unsent exact) text = text ≡ unsent_of unsent
+HasUnsentText other text = ⊥
 
 -- an answer of which this is left to be signed
 abbrev pub AwaitsSignature : {T : Type 0} → Stage T → T → Type 0
@@ -26,19 +26,19 @@ AwaitsSignature (stage.Signing kept link exact) ticket = kept ≡ ticket
 AwaitsSignature other ticket = ⊥
 
 -- what came of a request: its text is held; or what was left of it is
-abbrev pub IsHeld : {T : Type 0} → Outcome T → Stage T → Type 0
-IsHeld (said text) after = HoldsAnswer after text
-IsHeld (pending ticket) after = AwaitsSignature after ticket
-IsHeld later after = ⊥
+abbrev pub KeepsOutcome : {T : Type 0} → Outcome T → Stage T → Type 0
+KeepsOutcome (said text) after = HasUnsentText after text
+KeepsOutcome (pending ticket) after = AwaitsSignature after ticket
+KeepsOutcome later after = ⊥
 
 -- a request is answered by what the handler says to what came, or waits for what it left; where none is received, all is as it was
 abbrev pub Answering : {H T : Type 0} → (H → List ℕ → Outcome T → H → Type 0) → H → H → Stage T → Stage T → Type 0
-Answering {T = T} answers s t (stage.Receiving collected) after = (outcome : Outcome T) × answers s (collected_bytes collected) outcome t × IsHeld outcome after
+Answering {T = T} answers s t (stage.Receiving collected) after = (outcome : Outcome T) × answers s (collected_bytes collected) outcome t × KeepsOutcome outcome after
 Answering answers s t other after = after ≡ other
 
 -- an answer that was left to be signed is finished by a text for what was left of it; where none was, all is as it was
 abbrev pub Finishing : {T : Type 0} → (T → List ℕ → Type 0) → Stage T → Stage T → Type 0
-Finishing finishes (stage.Signing ticket link exact) after = (text : List ℕ) × finishes ticket text × HoldsAnswer after text
+Finishing finishes (stage.Signing ticket link exact) after = (text : List ℕ) × finishes ticket text × HasUnsentText after text
 Finishing finishes other after = after ≡ other
 
 -- an answer that is left to be signed still is, and so is the same; where none is, all is as it was
@@ -52,10 +52,10 @@ IsDraining stage.Draining = Unit {0}
 IsDraining other = ⊥
 
 -- an answer of which this is left; where nothing is, the client may have it
-abbrev pub HoldsRest : {T : Type 0} → Stage T → List ℕ → Type 0
-HoldsRest (stage.Sending unsent exact) rest = rest ≡ unsent_of unsent
-HoldsRest stage.Draining rest = rest ≡ []
-HoldsRest other rest = ⊥
+abbrev pub HasUnsentRest : {T : Type 0} → Stage T → List ℕ → Type 0
+HasUnsentRest (stage.Sending unsent exact) rest = rest ≡ unsent_of unsent
+HasUnsentRest stage.Draining rest = rest ≡ []
+HasUnsentRest other rest = ⊥
 
 -- some bytes came, and nothing is held of them
 abbrev pub IsDropped : Option (List ℕ) → Option (List ℕ) → Type 0
@@ -73,9 +73,9 @@ module _ {S H T L : Type 0} where
   -- what went out of an answer are its next bytes, and the rest is held
   abbrev pub Sends : (S → Option (List ℕ)) → HttpConnection S H T L → HttpConnection S H T L → Type 0
   Sends contents old new =
-      (text : List ℕ) → HoldsAnswer old.stage text
+      (text : List ℕ) → HasUnsentText old.stage text
       → (went : List ℕ) × (rest : List ℕ) × (text ≡ went ++ rest) × Appends (contents old.link) (contents new.link) went
-      × HoldsRest new.stage rest
+      × HasUnsentRest new.stage rest
 
   -- what comes where an answer is left to be signed, or the client has it, is dropped, and nothing else is done
   abbrev pub Drops : (S → Option (List ℕ)) → HttpConnection S H T L → HttpConnection S H T L → Type 0

@@ -102,8 +102,14 @@ impl Acceptor {
             return Ok(false);
         }
         match self.next.take() {
-            Some((link, peer)) => {
-                let connection = HttpConnection::new(shared.alloc, link, peer, self.accepted, now);
+            Some((link, client)) => {
+                let connection = HttpConnection::new(
+                    shared.alloc,
+                    link,
+                    client,
+                    self.accepted,
+                    now,
+                );
                 if let Some(slot) = connections.slots.free.pop() {
                     connections.drive(slot, connection, shared, now);
                 }
@@ -126,10 +132,10 @@ impl Acceptor {
             return Ok(());
         }
         match self.listener.accept() {
-            Ok((link, peer)) => {
+            Ok((link, client)) => {
                 self.accepted += 1;
                 self.has_more = false;
-                self.next = Some((link, peer));
+                self.next = Some((link, client));
                 Ok(())
             }
             Err(error) => self.after_fault(&error, connections, shared),
@@ -170,7 +176,7 @@ impl Acceptor {
         }
     }
 
-    /// Has the listener told as ready once more, if a connection waits. Where it can't be polled, one may.
+    /// Has the listener reported as ready once more, if a connection waits. Where it can't be polled, one may.
     fn poll_again(&mut self, poller: &Poller)
         ensures { self.new.accepted ≡ self.old.accepted }
     {

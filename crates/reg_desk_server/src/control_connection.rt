@@ -1,8 +1,8 @@
-//! One control connection, whose lines are answered in turn.
+//! One control connection, whose lines are answered in their order.
 
 ghost use Rattle.std.specs.Prelude.{◌≡◌, ◌≤◌, ◌⊎◌, [], length, drop, Some, false, MatchOption, IfNone, OnOk, OnErr};
-ghost use Rattle.reg_desk_server.specs.Held.{AddsTo, Receives, unsent_of};
-ghost use Rattle.reg_desk_server.specs.ControlLines.{Advances, Deferring, FirstLineEnds, GathersOn, HasNoLine, IsFresh, SameLinkAndEnd, StaysEnded, Telling, TellingLater, ends_by};
+ghost use Rattle.reg_desk_server.specs.Buffers.{AddsTo, Receives, unsent_of};
+ghost use Rattle.reg_desk_server.specs.ControlLines.{Advances, DefersFirstLine, FirstLineEnds, GathersOn, HasNoLine, IsFresh, SameLinkAndEnd, StaysEnded, AnswersFirstLine, AnswersDeferred, ends_by};
 
 use crate::handler::{Deferred, EventLoopFault, Handler};
 use crate::http_connection::Next;
@@ -19,19 +19,19 @@ const LONGEST_LINE: usize = 8_194;
 
 const MOST_READS: usize = 4;
 
-/// How often a line is looked at before it is answered, at the most: then it is answered as it is, and its signer is waited for.
+/// How often a line's signature is requested in the background, at most. After that the line is answered at once, and the loop waits for its signer.
 const MOST_LOOKS: u32 = 3;
 
 #[derive(Drop)]
 pub struct ControlConnection<S: Link> {
     pub(crate) link: S,
-    pub(crate) came: Vec<u8>,
+    pub(crate) arrived: Vec<u8>,
     pub(crate) unsent: Unsent,
     pub(crate) has_ended: bool,
     pub(crate) is_registered: bool,
-    /// How often the first line was looked at, and is not answered yet.
+    /// How often the first line was passed to `Handler::defer` since the last reply.
     pub(crate) looks: u32,
-    pub(crate) noted: Vec<u8>,
+    pub(crate) last_reason: Vec<u8>,
 }
 
 #[tactic(auto, using(crate::proofs::Holdings::found_or_none))]
@@ -48,20 +48,20 @@ impl<S: Link> ControlConnection<S> {
     {
         ControlConnection {
             link,
-            came: Vec::new(alloc),
+            arrived: Vec::new(alloc),
             unsent: Unsent::new(Vec::new(alloc)),
             has_ended: false,
             is_registered: false,
             looks: 0,
-            noted: Vec::new(alloc),
+            last_reason: Vec::new(alloc),
         }
     }
 
     pub fn advance(&mut self, room: &mut [u8]) -> Next
         ensures advances { Advances S.Write.contents S.Read.remaining self.old self.new }
 
-        // Once the reply before it was sent, a line that is whole is due, also where the client has ended its side.
-        ensures whole { unsent_of self.new.unsent ≡ [] → (result ≡ Next.Due) ⊎ HasNoLine self.new.came.items }
+        // Once the previous reply is sent, a whole line is due, even if the client has half-closed.
+        ensures whole { unsent_of self.new.unsent ≡ [] → (result ≡ Next.Due) ⊎ HasNoLine self.new.arrived.items }
     {
         let sent = self.unsent.send_on(&mut self.link);
         if self.unsent.len() == 0 {
@@ -73,12 +73,12 @@ impl<S: Link> ControlConnection<S> {
         }
     }
 
-    /// Receives what came, until a line is whole. Where the client has ended its side, nothing more comes.
+    /// Reads until a line is whole, at most `MOST_READS` times. After a half-close nothing more comes.
     fn receive(&mut self, room: &mut [u8]) -> Next
         ensures gathers { GathersOn S.Read.remaining self.old self.new }
         ensures ended { StaysEnded self.old self.new }
         ensures unsent { self.new.unsent ≡ self.old.unsent }
-        ensures whole { (result ≡ Next.Due) ⊎ HasNoLine self.new.came.items }
+        ensures whole { (result ≡ Next.Due) ⊎ HasNoLine self.new.arrived.items }
     {
         for _ in 0..MOST_READS {
             if let Some(next) = self.after_reading() {
@@ -88,57 +88,57 @@ impl<S: Link> ControlConnection<S> {
                 return Next::Poll(Interest::READABLE);
             }
         }
-        // The last read may have brought the end of a line, behind which nothing comes before it is answered.
+        // The last read may have completed a line. Its client may wait for the reply and send nothing more.
         match self.after_reading() {
             Some(next) => next,
             None => Next::Poll(Interest::READABLE),
         }
     }
 
-    /// What is to be done where nothing more is to be read: a line is whole, or what there is of one is none. `None` otherwise.
+    /// The next step if no more is to be read: `Due` if a line is whole; `Close` if the input ended without one, or it is too long. Else `None`.
     fn after_reading(&self) -> Option<Next>
         ensures goes_on { IfNone result (self.now.has_ended ≡ false) }
-        ensures whole { (result ≡ Some Next.Due) ⊎ HasNoLine self.now.came.items }
+        ensures whole { (result ≡ Some Next.Due) ⊎ HasNoLine self.now.arrived.items }
     {
-        match line_end(self.came.as_slice()) {
+        match line_end(self.arrived.as_slice()) {
             Some(_) => Some(Next::Due),
             None if self.has_ended => Some(Next::Close),
-            None if self.came.len() >= LONGEST_LINE => Some(Next::Close),
+            None if self.arrived.len() >= LONGEST_LINE => Some(Next::Close),
             None => None,
         }
     }
 
-    /// Whether more may have come behind what one read gave.
+    /// Reads once. `false` if the read would block; `true` if another may give more, or the end was found.
     fn receive_once(&mut self, room: &mut [u8]) -> bool
         ensures gathers { GathersOn S.Read.remaining self.old self.new }
         ensures unsent { self.new.unsent ≡ self.old.unsent }
-        ensures waits { result ≡ false → self.new.came.items ≡ self.old.came.items }
+        ensures waits { result ≡ false → self.new.arrived.items ≡ self.old.arrived.items }
     {
-        let received = gather(&mut self.link, &mut self.came, room);
+        let received = gather(&mut self.link, &mut self.arrived, room);
         self.has_ended = is_end(received);
         !matches!(received, Received::Blocked)
     }
 
     fn due_line(&self) -> Option<usize>
-        ensures { MatchOption result (unsent_of self.now.unsent ≡ [] → HasNoLine self.now.came.items)
-            (λ end. (unsent_of self.now.unsent ≡ []) × FirstLineEnds self.now.came.items end) }
+        ensures { MatchOption result (unsent_of self.now.unsent ≡ [] → HasNoLine self.now.arrived.items)
+            (λ end. (unsent_of self.now.unsent ≡ []) × FirstLineEnds self.now.arrived.items end) }
     {
         if self.unsent.len() > 0 {
             return None;
         }
-        line_end(self.came.as_slice())
+        line_end(self.arrived.as_slice())
     }
 
     /// Answers the first line, if one is whole and the reply before it was sent.
-    pub fn tell<H: Handler>(&mut self, handler: &mut H) -> Result<(), EventLoopFault>
-        ensures ok { OnOk result (Telling H.tells handler.old handler.new self.old self.new) }
+    pub fn answer_line<H: Handler>(&mut self, handler: &mut H) -> Result<(), EventLoopFault>
+        ensures ok { OnOk result (AnswersFirstLine H.answers_line handler.old handler.new self.old self.new) }
         ensures kept { SameLinkAndEnd self.old self.new }
         ensures err { OnErr result ((self.new ≡ self.old) × (handler.new ≡ handler.old)) }
     {
         match self.due_line() {
             None => Ok(()),
             Some(end) => {
-                let text = handler.tell(&self.came[..end], &mut self.noted)?;
+                let text = handler.answer_line(&self.arrived[..end], &mut self.last_reason)?;
                 self.reply(text, end);
                 Ok(())
             }
@@ -146,21 +146,21 @@ impl<S: Link> ControlConnection<S> {
     }
 
     fn reply(&mut self, text: Vec<u8>, end: usize)
-        requires { end ≤ length self.old.came.items }
+        requires { end ≤ length self.old.arrived.items }
         ensures reply { unsent_of self.new.unsent ≡ text.items }
-        ensures rest { self.new.came.items ≡ drop end self.old.came.items }
+        ensures rest { self.new.arrived.items ≡ drop end self.old.arrived.items }
         ensures kept { SameLinkAndEnd self.old self.new }
     {
         self.unsent = Unsent::new(text);
-        drop_front(&mut self.came, end);
+        drop_prefix(&mut self.arrived, end);
         self.looks = 0;
     }
 
-    /// Looks at the first line, once the reply before it was sent: what is to be signed before it is answered. `None` where none is whole,
-    /// where it is answered at once, and where it was looked at often enough.
+    /// Gives what must be signed before the first line is answered, once the previous reply is sent. `None` if no line is whole, if the handler
+    /// signs nothing for it, and after `MOST_LOOKS` calls.
     pub fn defer<H: Handler>(&mut self, handler: &mut H) -> Option<Deferred<H::Line>>
-        ensures looked { Deferring H.defers handler.old handler.new self.old }
-        ensures came { self.new.came ≡ self.old.came }
+        ensures looked { DefersFirstLine H.defers handler.old handler.new self.old }
+        ensures arrived { self.new.arrived ≡ self.old.arrived }
         ensures unsent { self.new.unsent ≡ self.old.unsent }
         ensures kept { SameLinkAndEnd self.old self.new }
     {
@@ -171,33 +171,33 @@ impl<S: Link> ControlConnection<S> {
             None => None,
             Some(end) => {
                 self.looks += 1;
-                handler.defer(&self.came[..end])
+                handler.defer(&self.arrived[..end])
             }
         }
     }
 
-    /// Answers the first line, which was looked at, with what came on a connection for what is to be signed, or without it; or has it looked
-    /// at once more.
+    /// Answers the first line, which was deferred, with the signature that came on `link`, or without one. The handler may leave
+    /// it unanswered, to be deferred again.
     pub fn answer_deferred<H: Handler>(
         &mut self,
         handler: &mut H,
         deferred: Deferred<H::Line>,
         link: Option<SignatureRequest>,
     ) -> Result<(), EventLoopFault>
-        ensures ok { OnOk result (TellingLater H.tells H.defers handler.old handler.new self.old self.new) }
+        ensures ok { OnOk result (AnswersDeferred H.answers_line H.defers handler.old handler.new self.old self.new) }
         ensures kept { SameLinkAndEnd self.old self.new }
         ensures err { OnErr result ((self.new ≡ self.old) × (handler.new ≡ handler.old)) }
     {
         match self.due_line() {
             None => Ok(()),
             Some(end) => {
-                let told = handler.answer_deferred(
-                    &self.came[..end],
-                    &mut self.noted,
+                let reply_text = handler.answer_deferred(
+                    &self.arrived[..end],
+                    &mut self.last_reason,
                     deferred,
                     link,
                 )?;
-                match told {
+                match reply_text {
                     Some(text) => {
                         self.reply(text, end);
                         Ok(())
@@ -209,14 +209,14 @@ impl<S: Link> ControlConnection<S> {
     }
 }
 
-fn gather<R: Read>(reader: &mut R, held: &mut Vec<u8>, room: &mut [u8]) -> Received
+fn gather<R: Read>(reader: &mut R, buffer: &mut Vec<u8>, room: &mut [u8]) -> Received
     ensures receives { Receives (R.remaining reader.old) (R.remaining reader.new)
-        held.old.items held.new.items result }
-    ensures waits { result ≡ Received.Blocked → held.new.items ≡ held.old.items }
+        buffer.old.items buffer.new.items result }
+    ensures waits { result ≡ Received.Blocked → buffer.new.items ≡ buffer.old.items }
 {
     match reader.read(room) {
         Ok(0) => Received::Ended,
-        Ok(count) => hold(held, &room[..count]),
+        Ok(count) => keep_bytes(buffer, &room[..count]),
         Err(error) => match error.kind() {
             ErrorKind::WouldBlock => Received::Blocked,
             ErrorKind::Interrupted => Received::More,
@@ -225,11 +225,11 @@ fn gather<R: Read>(reader: &mut R, held: &mut Vec<u8>, room: &mut [u8]) -> Recei
     }
 }
 
-fn hold(held: &mut Vec<u8>, came: &[u8]) -> Received
-    ensures adds { AddsTo held.old.items came.now held.new.items result }
+fn keep_bytes(buffer: &mut Vec<u8>, arrived: &[u8]) -> Received
+    ensures adds { AddsTo buffer.old.items arrived.now buffer.new.items result }
     ensures goes { ¬ (result ≡ Received.Blocked) }
 {
-    match held.extend_from_slice(came) {
+    match buffer.extend_from_slice(arrived) {
         Ok(()) => Received::More,
         Err(_) => Received::OutOfMemory,
     }
@@ -248,7 +248,7 @@ fn is_end(received: Received) -> bool
     }
 }
 
-fn drop_front(bytes: &mut Vec<u8>, count: usize)
+fn drop_prefix(bytes: &mut Vec<u8>, count: usize)
     requires { count ≤ length bytes.old.items }
     ensures { bytes.new.items ≡ drop count bytes.old.items }
 {

@@ -148,7 +148,7 @@ impl<H: Handler> ControlConnections<H> {
             Next::Close => {
                 if connection.unsent.len() > 0 {
                     let why = ConnectionFault::Broken;
-                    shared.lost.note(LostConnection { peer: None, why });
+                    shared.lost.add_lost(LostConnection { client: None, why });
                 }
                 self.close(slot, connection);
             }
@@ -198,9 +198,9 @@ impl<H: Handler> ControlConnections<H> {
     {
         if waiting.is_due(now) {
             let (slot, mut connection, deferred, link) = waiting.into_parts();
-            let told = connection.answer_deferred(handler, deferred, link);
+            let line_answered = connection.answer_deferred(handler, deferred, link);
             self.drive(slot, connection, shared);
-            return told;
+            return line_answered;
         }
         waiting.begin(handler, &shared.poller);
         self.waiting = Some(waiting);
@@ -233,9 +233,9 @@ impl<H: Handler> ControlConnections<H> {
                 Ok(())
             }
             None => {
-                let told = connection.tell(handler);
+                let line_answered = connection.answer_line(handler);
                 self.drive(slot, connection, shared);
-                told
+                line_answered
             }
         }
     }

@@ -1,4 +1,4 @@
-//! The event loop: the listeners, the slots of the connections, and their turns.
+//! The event loop: it polls the listeners and connections, and has the handler answer requests and lines.
 
 ghost use Rattle.std.specs.Prelude.{◌≡◌, ◌≤◌, ◌+◌, OnOk};
 ghost use Rattle.reg_desk_server.specs.Handling.{Handled};
@@ -46,8 +46,8 @@ fn now_of<C: Clock>(clock: &C) -> Result<u64, EventLoopFault> {
 }
 
 impl<H: Handler> EventLoop<H> {
-    /// An event loop over a listener for HTTP connections, and one for control connections, neither of which waits, with slots for so
-    /// many HTTP connections. An error is what the system says where the listeners can't be polled, or `OutOfMemory`.
+    /// An event loop over a listener for HTTP connections and one for control connections, both non-blocking, with room for `slots` HTTP
+    /// connections. Errors: the system's, if the listeners can't be polled; `OutOfMemory`.
     pub fn new(
         rt: &(impl Net + AllocGlobal),
         listener: TcpListener,
@@ -68,13 +68,13 @@ impl<H: Handler> EventLoop<H> {
         })
     }
 
-    /// Answers so many requests, and lines of control connections meanwhile. Each HTTP connection that is accepted is one of them, and is
-    /// answered once: when its request is whole, when nothing more of it comes, when its time is over, or when it is evicted. What is
-    /// left to be signed for an answer is requested, and no other client waits for it: the answer is finished by [`EventLoop::finish`] at the
-    /// latest.
+    /// Answers HTTP requests until `made` is `most`, and control lines meanwhile. Each accepted HTTP connection counts as one request, and
+    /// is answered once: when its request is whole, when nothing more of it comes, when its time is over, or when it is evicted. If an
+    /// answer needs a signature, the loop requests it, and only that client waits. [`EventLoop::finish`] finishes the answers that still
+    /// wait at the end.
     ///
-    /// In an iteration each connection gets on a little, each answer whose signature came is finished, each control connection has at most
-    /// one line answered, and each request that is whole is answered.
+    /// An iteration reads and writes what each ready connection allows, finishes each answer whose signature came, answers at most one line
+    /// of each control connection, and answers each whole request.
     #[tactic(auto, using(crate::proofs::Exchanges::exchanged_none))]
     pub fn serve_all<C: Clock>(
         &mut self,
@@ -93,7 +93,7 @@ impl<H: Handler> EventLoop<H> {
             }
             let now = self.poll(clock, most)?;
             self.shared.lost.report(handler);
-            handler.hold(self.connections());
+            handler.keep_counts(self.connections());
             self.finish_all(handler, now);
             self.control
                 .answer_all_lines(&mut self.shared, handler, now)?;
@@ -104,8 +104,8 @@ impl<H: Handler> EventLoop<H> {
         Err(EventLoopFault)
     }
 
-    /// Sends on what was answered, finishes what is left to be signed, and closes all connections, until none is left or the time of each
-    /// is over. Those that end by a fault are reported to the handler.
+    /// Closes the HTTP connections: sends the answers that are made, and finishes those that wait for a signature, until no connection is
+    /// left. Reports the connections that end by a fault to the handler.
     pub fn finish<C: Clock>(&mut self, clock: &C, handler: &H) -> Result<(), EventLoopFault> {
         let most = self.acceptor.accepted;
         self.http.close_all(&mut self.shared);
@@ -125,13 +125,13 @@ impl<H: Handler> EventLoop<H> {
 
     fn connections(&self) -> ConnectionCounts {
         ConnectionCounts {
-            peers: self.http.slots.reserved(),
-            counters: self.control.slots.reserved(),
+            open_http: self.http.slots.reserved(),
+            open_control: self.control.slots.reserved(),
             accepted: self.acceptor.accepted,
         }
     }
 
-    /// Waits until something is to be done, receives and sends on, accepts, and looks for connections whose time is over.
+    /// Waits for events, then reads, writes and accepts, and finds the connections whose time is over.
     fn poll<C: Clock>(&mut self, clock: &C, most: u64) -> Result<u64, EventLoopFault> {
         let longest = self.longest_wait(most);
         self.shared.poller.poll(longest)?;
@@ -185,7 +185,7 @@ impl<H: Handler> EventLoop<H> {
         }
     }
 
-    /// Goes on with the line that waits for a signature: its connection to the signer is ready, or at its end.
+    /// Advances the control line that waits for a signature: the connection to the signer is ready, or has ended.
     fn advance_line(&mut self, token: usize) {
         if let Some(waiting) = &mut self.control.waiting {
             if token == LINE_ENDED {
@@ -217,8 +217,8 @@ impl<H: Handler> EventLoop<H> {
         Ok(())
     }
 
-    /// Answers one of the connections that are due, if it still receives, and sends on its answer. What is left to be signed of it waits
-    /// for its turn.
+    /// Answers one of the connections that are due, if it is still receiving, and sends its answer. An answer that needs a signature is
+    /// queued for it.
     #[tactic(auto, using(crate::proofs::Exchanges::exchanged_none))]
     fn answer_due(
         &mut self,
@@ -238,8 +238,8 @@ impl<H: Handler> EventLoop<H> {
         };
         let before = connection.unsent();
         if let Some(why) = connection.record_fault(now) {
-            let peer = Some(connection.peer);
-            self.shared.lost.note(LostConnection { peer, why });
+            let client = Some(connection.client);
+            self.shared.lost.add_lost(LostConnection { client, why });
         }
         match connection.answer(handler, made, now) {
             Ok(true) => {
@@ -257,7 +257,7 @@ impl<H: Handler> EventLoop<H> {
         }
     }
 
-    /// Sends on the answer of a connection that was taken out of a slot, of whose answer so many bytes were not sent before.
+    /// Sends the answer of a connection that was taken out of a slot. Before it was answered, `before` bytes of it were unsent.
     fn send_on(
         &mut self,
         slot: usize,
@@ -270,7 +270,7 @@ impl<H: Handler> EventLoop<H> {
         self.http.limit_unsent(slot, &mut self.shared);
     }
 
-    /// Has a connection that was taken out of a slot wait for the signature of its answer, which is requested once it is its turn.
+    /// Puts a connection back into its slot, and queues its answer for a signature.
     fn wait_for_signature(
         &mut self,
         slot: usize,
@@ -281,7 +281,7 @@ impl<H: Handler> EventLoop<H> {
         let number = connection.number;
         let requester = Requester { slot, number };
         self.http.slots.put(slot, connection);
-        // Where there is no memory for it, nobody signs.
+        // Out of memory for the queue: the answer is finished without a signature.
         if !self.signatures.add(requester, now) {
             self.complete(requester, false, handler, now);
         }
@@ -296,7 +296,7 @@ impl<H: Handler> EventLoop<H> {
         }
     }
 
-    /// Requests a signature at a free index, unless a requester that had to wait for its turn has gone.
+    /// Requests a queued signature at a free index, unless its client disconnected while it was queued.
     fn request(&mut self, pending: Pending, index: usize, handler: &H, now: u64) {
         let requester = pending.requester;
         let has_waited = pending.until < now.saturating_add(PATIENCE);
@@ -306,7 +306,7 @@ impl<H: Handler> EventLoop<H> {
         let token = index.saturating_add(FIRST_SIGNATURE);
         match self
             .http
-            .ask(requester, handler, &self.shared.poller, token)
+            .request_signature(requester, handler, &self.shared.poller, token)
         {
             Ok(()) => {
                 if !self.signatures.put(index, pending) {
@@ -320,7 +320,7 @@ impl<H: Handler> EventLoop<H> {
         }
     }
 
-    /// Finishes the answers whose signatures came, and those whose time is over; drops the signatures whose requesters wait no more.
+    /// Finishes the answers whose signatures came or whose time is over; drops signature requests whose connections no longer wait.
     fn finish_all(&mut self, handler: &H, now: u64) {
         for index in 0..MOST_SIGNATURES {
             self.finish_at(index, handler, now);
@@ -344,7 +344,7 @@ impl<H: Handler> EventLoop<H> {
         }
     }
 
-    /// Finishes the answer for which a requester waits, with its signature where that has come, and sends it on.
+    /// Finishes the answer of a waiting connection, with its signature if that has come, and sends it.
     fn complete(&mut self, requester: Requester, has_come: bool, handler: &H, now: u64) {
         if let Some(mut connection) = self.http.take_waiting(requester) {
             connection.complete(handler, has_come, now);

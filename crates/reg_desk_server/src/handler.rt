@@ -26,8 +26,8 @@ pub enum ConnectionFault {
 /// How many connections there are, and how many HTTP connections were accepted up to now.
 #[derive(Clone, Copy, Debug, PartialEq, Eq)]
 pub struct ConnectionCounts {
-    pub peers: usize,
-    pub counters: usize,
+    pub open_http: usize,
+    pub open_control: usize,
     pub accepted: u64,
 }
 
@@ -56,9 +56,9 @@ pub trait Handler {
     ghost answers: { Self → List ℕ → Outcome Self.Ticket → Self → Type 0 };
 
     // This line was answered by this text: the handler before and after it.
-    ghost tells: { Self → List ℕ → List ℕ → Self → Type 0 };
+    ghost answers_line: { Self → List ℕ → List ℕ → Self → Type 0 };
 
-    // This line was looked at, and nothing was told: the handler before and after it.
+    // This line was looked at, and not answered: the handler before and after it.
     ghost defers: { Self → List ℕ → Self → Type 0 };
 
     // This text finishes what was left of an answer, as the handler finishes it.
@@ -67,7 +67,7 @@ pub trait Handler {
     /// Answers what came from the client at an address, or leaves what is to be signed. The text for no whole request may be empty.
     fn answer(
         &mut self,
-        peer: SocketAddr,
+        client: SocketAddr,
         request: &Collected,
     ) -> Result<Begun<Vec<u8>, Self::Ticket>, EventLoopFault>
         ensures ok { IfOk result (λ begun.
@@ -76,17 +76,21 @@ pub trait Handler {
 
     /// Requests the signature of what was left, and waits for nothing: the connection on which it will come, up to its end. An error
     /// is `WouldBlock` where the signer has no room for one more.
-    fn ask(&self, ticket: &Self::Ticket) -> io::Result<SignatureRequest>;
+    fn request_signature(&self, ticket: &Self::Ticket) -> io::Result<SignatureRequest>;
 
     /// The text that finishes what was left: with what came on the connection on which its signature was requested, which is at its
     /// end; or without a signature.
     fn finish(&self, ticket: Self::Ticket, link: Option<SignatureRequest>) -> Vec<u8>
         ensures { finishes self.now ticket result.items };
 
-    /// Answers one line of a control connection. What is noted of that connection is written here alone, and is empty where it begins.
-    fn tell(&mut self, line: &[u8], noted: &mut Vec<u8>) -> Result<Vec<u8>, EventLoopFault>
-        ensures ok { IfOk result (λ text. tells self.old line.now text.items self.new) }
-        ensures err { OnErr result ((self.new ≡ self.old) × (noted.new ≡ noted.old)) };
+    /// Answers one line of a control connection. The last reason of that connection is written here alone, and is empty where it begins.
+    fn answer_line(
+        &mut self,
+        line: &[u8],
+        last_reason: &mut Vec<u8>,
+    ) -> Result<Vec<u8>, EventLoopFault>
+        ensures ok { IfOk result (λ text. answers_line self.old line.now text.items self.new) }
+        ensures err { OnErr result ((self.new ≡ self.old) × (last_reason.new ≡ last_reason.old)) };
 
     /// Looks at a line before it is answered: what is to be signed for it, or `None` where no signer would be waited for.
     fn defer(&mut self, line: &[u8]) -> Option<Deferred<Self::Line>>
@@ -100,17 +104,17 @@ pub trait Handler {
     fn answer_deferred(
         &mut self,
         line: &[u8],
-        noted: &mut Vec<u8>,
+        last_reason: &mut Vec<u8>,
         deferred: Deferred<Self::Line>,
         link: Option<SignatureRequest>,
     ) -> Result<Option<Vec<u8>>, EventLoopFault>
-        ensures ok { IfOk result (λ told. MatchOption told (defers self.old line.now self.new)
-            (λ text. tells self.old line.now text.items self.new)) }
-        ensures err { OnErr result ((self.new ≡ self.old) × (noted.new ≡ noted.old)) };
+        ensures ok { IfOk result (λ answered. MatchOption answered (defers self.old line.now self.new)
+            (λ text. answers_line self.old line.now text.items self.new)) }
+        ensures err { OnErr result ((self.new ≡ self.old) × (last_reason.new ≡ last_reason.old)) };
 
-    /// Is told that the connection from an address ended by a fault; a control connection has no address.
-    fn lose(&self, peer: Option<SocketAddr>, why: ConnectionFault);
+    /// Takes notice that the connection from an address ended by a fault; a control connection has no address.
+    fn report_lost(&self, client: Option<SocketAddr>, why: ConnectionFault);
 
-    /// Is told how many connections there are, before it answers any in an iteration.
-    fn hold(&self, connection_counts: ConnectionCounts);
+    /// Takes the number of connections, before it answers any in an iteration.
+    fn keep_counts(&self, connection_counts: ConnectionCounts);
 }

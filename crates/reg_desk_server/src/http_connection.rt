@@ -2,7 +2,7 @@
 
 ghost use Rattle.std.specs.Prelude.{◌≡◌, ◌≤◌, ◌+◌, [], OnOk, OnErr, is_some, IsSome, IfNone, false};
 ghost use Rattle.reg_desk_server.specs.Handling.{Handled};
-ghost use Rattle.reg_desk_server.specs.Stages.{Answering, Drops, Finishing, HasReceived, HoldsAnswer, IsDropped, KeepsSigning, ReceivesMore, SameLinkAndFault, Sends};
+ghost use Rattle.reg_desk_server.specs.Stages.{Answering, Drops, Finishing, HasReceived, HasUnsentText, IsDropped, KeepsSigning, ReceivesMore, SameLinkAndFault, Sends};
 
 use crate::handler::{ConnectionFault, EventLoopFault, Handler};
 use crate::link::Link;
@@ -75,7 +75,7 @@ fn drop_once<R: Read>(reader: &mut R, room: &mut [u8]) -> Received
 #[derive(Drop)]
 pub struct HttpConnection<S: Link, H: Handler> {
     pub(crate) link: S,
-    pub(crate) peer: SocketAddr,
+    pub(crate) client: SocketAddr,
     pub(crate) stage: Stage<H::Ticket>,
     /// The fault by which no more of the request is waited for, if there is one.
     pub(crate) fault: Option<ConnectionFault>,
@@ -91,7 +91,7 @@ impl<S: Link, H: Handler> HttpConnection<S, H> {
     pub fn new(
         alloc: Global,
         link: S,
-        peer: SocketAddr,
+        client: SocketAddr,
         number: u64,
         now: u64,
     ) -> HttpConnection<S, H>
@@ -101,7 +101,7 @@ impl<S: Link, H: Handler> HttpConnection<S, H> {
     {
         HttpConnection {
             link,
-            peer,
+            client,
             stage: Stage::Receiving(Collected::new(alloc)),
             fault: None,
             has_ended: false,
@@ -131,7 +131,7 @@ impl<S: Link, H: Handler> HttpConnection<S, H> {
     pub fn record_fault(&mut self, now: u64) -> Option<ConnectionFault>
         ensures same_link { self.new.link ≡ self.old.link }
         ensures same_stage { self.new.stage ≡ self.old.stage }
-        ensures noted { IsSome self.old.fault → IsSome self.new.fault }
+        ensures last_reason { IsSome self.old.fault → IsSome self.new.fault }
     {
         if !self.is_receiving() {
             return None;
@@ -203,7 +203,7 @@ impl<S: Link, H: Handler> HttpConnection<S, H> {
         Next::Park
     }
 
-    /// Sends on the answer; once the client has all of it, it is told that no more is written.
+    /// Sends on the answer; once the client has all of it, the sending side is shut down.
     fn send_on(&mut self, now: u64) -> Next
         ensures { Sends S.Write.contents self.old self.new }
     {
@@ -215,7 +215,7 @@ impl<S: Link, H: Handler> HttpConnection<S, H> {
 
     fn send(&mut self) -> Option<Next>
         ensures sends { Sends S.Write.contents self.old self.new }
-        ensures all { IfNone result (HoldsAnswer self.new.stage []) }
+        ensures all { IfNone result (HasUnsentText self.new.stage []) }
     {
         match &mut self.stage {
             Stage::Sending(unsent, is_last) => match unsent.send_on(&mut self.link) {
@@ -230,7 +230,7 @@ impl<S: Link, H: Handler> HttpConnection<S, H> {
         }
     }
 
-    /// Tells the client that no more is written. A connection that is closed over unread bytes may cost the client the answer that it
+    /// Shuts down the sending side of the connection. A connection that is closed over unread bytes may cost the client the answer that it
     /// has not read yet: so what it still sends is received for a short time.
     fn finish(&mut self, now: u64) -> Next
         ensures link { self.new.link ≡ self.old.link }
@@ -274,7 +274,7 @@ impl<S: Link, H: Handler> HttpConnection<S, H> {
                 let Some(count) = made.checked_add(1) else {
                     return Err(EventLoopFault);
                 };
-                let begun = handler.answer(self.peer, collected)?;
+                let begun = handler.answer(self.client, collected)?;
                 *made = count;
                 (begun, collected.is_exact())
             }
@@ -284,7 +284,7 @@ impl<S: Link, H: Handler> HttpConnection<S, H> {
         };
         match begun {
             Begun::Ready(text) => {
-                self.hold_answer(text, is_exact, now);
+                self.start_sending(text, is_exact, now);
                 Ok(false)
             }
             Begun::Unsigned(ticket) => {
@@ -296,8 +296,8 @@ impl<S: Link, H: Handler> HttpConnection<S, H> {
     }
 
     /// Holds the answer, which goes out from now on, to a request that was exact or was not.
-    fn hold_answer(&mut self, text: Vec<u8>, is_exact: bool, now: u64)
-        ensures holds { HoldsAnswer self.new.stage text.items }
+    fn start_sending(&mut self, text: Vec<u8>, is_exact: bool, now: u64)
+        ensures holds { HasUnsentText self.new.stage text.items }
         ensures kept { SameLinkAndFault self.old self.new }
     {
         // Where nothing is sent, there is no answer that unread bytes could cost.
@@ -307,16 +307,21 @@ impl<S: Link, H: Handler> HttpConnection<S, H> {
     }
 
     /// Requests the signature of what is left of the answer, and waits for nothing: the connection on which it will come is polled under a
-    /// token. An error is one of [`Handler::ask`] or of the system; `NotConnected` where no answer is waited for.
-    pub(crate) fn ask(&mut self, handler: &H, poller: &Poller, token: usize) -> io::Result<()>
+    /// token. An error is one of [`Handler::request_signature`] or of the system; `NotConnected` where no answer is waited for.
+    pub(crate) fn request_signature(
+        &mut self,
+        handler: &H,
+        poller: &Poller,
+        token: usize,
+    ) -> io::Result<()>
         ensures waits { KeepsSigning self.old.stage self.new.stage }
         ensures kept { SameLinkAndFault self.old self.new }
     {
         match &mut self.stage {
-            Stage::Signing(ticket, held, _) => {
-                let mut link = handler.ask(ticket)?;
+            Stage::Signing(ticket, signature_link, _) => {
+                let mut link = handler.request_signature(ticket)?;
                 poller.register(&mut link, token, Interest::READABLE, false)?;
-                *held = Some(link);
+                *signature_link = Some(link);
                 Ok(())
             }
             Stage::Receiving(_) => Err(io::Error::from(ErrorKind::NotConnected)),
@@ -334,7 +339,7 @@ impl<S: Link, H: Handler> HttpConnection<S, H> {
         match mem::replace(&mut self.stage, Stage::Draining) {
             Stage::Signing(ticket, link, is_exact) => {
                 let finished = handler.finish(ticket, if has_come { link } else { None });
-                self.hold_answer(finished, is_exact, now);
+                self.start_sending(finished, is_exact, now);
             }
             Stage::Receiving(collected) => self.stage = Stage::Receiving(collected),
             Stage::Sending(unsent, is_last) => self.stage = Stage::Sending(unsent, is_last),

@@ -1,7 +1,7 @@
 //! The HTTP connections, each in its slot.
 
 ghost use Rattle.std.specs.Prelude.{◌≡◌, ◌+◌, ◌-◌, ◌^◌, min, [], IfOk};
-ghost use Rattle.reg_desk_server.specs.Held.{Notes};
+ghost use Rattle.reg_desk_server.specs.Buffers.{AppendsIfMemory};
 
 use crate::handler::{ConnectionFault, Handler};
 use crate::http_connection::{HttpConnection, Next};
@@ -111,7 +111,7 @@ impl<H: Handler> HttpConnections<H> {
     }
 
     fn put_due(&mut self, slot: usize, connection: HttpConnection<TcpStream, H>)
-        ensures { Notes slot self.old.due.items self.new.due.items }
+        ensures { AppendsIfMemory slot self.old.due.items self.new.due.items }
     {
         self.slots.put(slot, connection);
         // Where there is no memory for it, the end of its time comes again.
@@ -131,8 +131,8 @@ impl<H: Handler> HttpConnections<H> {
     {
         let is_unanswered = connection.unsent() > 0 || connection.is_signing();
         if is_unanswered && connection.fault.is_none() {
-            let peer = Some(connection.peer);
-            shared.lost.note(LostConnection { peer, why });
+            let client = Some(connection.client);
+            shared.lost.add_lost(LostConnection { client, why });
         }
         self.count_unsent(connection.unsent(), 0);
         drop(connection);
@@ -157,7 +157,7 @@ impl<H: Handler> HttpConnections<H> {
     fn oldest(&self, selection: Selection) -> Option<usize> {
         let mut found = None;
         let mut least = u64::MAX;
-        for slot in 0..self.slots.held.len() {
+        for slot in 0..self.slots.entries.len() {
             let number = self.number_at(slot, selection);
             if number < least {
                 least = number;
@@ -181,7 +181,7 @@ impl<H: Handler> HttpConnections<H> {
             return;
         }
         self.swept = now;
-        for slot in 0..self.slots.held.len() {
+        for slot in 0..self.slots.entries.len() {
             match self.slots.take(slot) {
                 Some(connection) if connection.is_late(now) => {
                     self.expire(slot, connection, shared, ConnectionFault::Late);
@@ -223,7 +223,7 @@ impl<H: Handler> HttpConnections<H> {
     }
 
     pub(crate) fn close_all(&mut self, shared: &mut Shared) {
-        for slot in 0..self.slots.held.len() {
+        for slot in 0..self.slots.entries.len() {
             self.close_unanswered(slot, shared);
         }
     }
@@ -268,7 +268,7 @@ impl<H: Handler> HttpConnections<H> {
         }
     }
 
-    pub(crate) fn ask(
+    pub(crate) fn request_signature(
         &mut self,
         requester: Requester,
         handler: &H,
@@ -277,7 +277,7 @@ impl<H: Handler> HttpConnections<H> {
     ) -> io::Result<()> {
         match self.take_waiting(requester) {
             Some(mut connection) => {
-                let asked = connection.ask(handler, poller, token);
+                let asked = connection.request_signature(handler, poller, token);
                 self.slots.put(requester.slot, connection);
                 asked
             }

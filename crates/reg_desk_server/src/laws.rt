@@ -1,8 +1,8 @@
 //! Laws of whole connections. The functions do nothing: their contracts are the laws.
 
 ghost use Rattle.std.specs.Prelude.{◌≡◌, []};
-ghost use Rattle.reg_desk_server.specs.Connections.{HasServed, HasAnsweredLines, KeepsServed, ServesOn, TellsNoneAnew, TellsOneAnew};
-ghost use Rattle.reg_desk_server.specs.ControlLines.{Deferring, IsFresh, Telling, TellingLater};
+ghost use Rattle.reg_desk_server.specs.Connections.{HasServed, HasAnsweredLines, KeepsServed, ServesOn, AnswersNoMoreLines, AnswersOneMoreLine};
+ghost use Rattle.reg_desk_server.specs.ControlLines.{DefersFirstLine, IsFresh, AnswersFirstLine, AnswersDeferred};
 ghost use Rattle.reg_desk_server.specs.Stages.{Answering, Finishing, HasReceived, KeepsSigning};
 ghost use Rattle.reg_desk_server.specs.declared.control_connection.ControlConnection.{ControlConnection};
 ghost use Rattle.reg_desk_server.specs.declared.http_connection.HttpConnection.{HttpConnection};
@@ -13,16 +13,16 @@ use crate::link::Link;
 /// On a control connection each line is answered once, in order, and so is each reply.
 ///
 /// Over any steps from when it was accepted, what came on it are the lines that were answered, and then what is held; what went out on it, and
-/// behind it what is unsent, are the replies to these lines (`HasAnsweredLines`). It begins so. `ControlConnection::advance` answers no line; `tell` and
+/// behind it what is unsent, are the replies to these lines (`HasAnsweredLines`). It begins so. `ControlConnection::advance` answers no line; `answer_line` and
 /// `answer_deferred` answer one, or none. The bytes are those of a link that tells them: of a socket no clause does.
 pub fn each_line_is_answered_once_in_order<S: Link, H: Handler>()
-    ensures begins { (peer : ControlConnection S) → IsFresh peer
-        → HasAnsweredLines S.Write.contents S.Read.remaining H.tells peer.link peer [] [] }
-    ensures advances { TellsNoneAnew S.Write.contents S.Read.remaining H.tells }
-    ensures tells { TellsOneAnew S.Write.contents S.Read.remaining H.tells
-        (Telling H.tells) (λ s t _. t ≡ s) }
-    ensures later { TellsOneAnew S.Write.contents S.Read.remaining H.tells
-        (TellingLater H.tells H.defers) (Deferring H.defers) }
+    ensures begins { (client : ControlConnection S) → IsFresh client
+        → HasAnsweredLines S.Write.contents S.Read.remaining H.answers_line client.link client [] [] }
+    ensures advances { AnswersNoMoreLines S.Write.contents S.Read.remaining H.answers_line }
+    ensures answers_line { AnswersOneMoreLine S.Write.contents S.Read.remaining H.answers_line
+        (AnswersFirstLine H.answers_line) (λ s t _. t ≡ s) }
+    ensures later { AnswersOneMoreLine S.Write.contents S.Read.remaining H.answers_line
+        (AnswersDeferred H.answers_line H.defers) (DefersFirstLine H.defers) }
 {}
 
 /// A request is answered once.
@@ -32,8 +32,8 @@ pub fn each_line_is_answered_once_in_order<S: Link, H: Handler>()
 /// that is dropped (`HasServed`). It begins so, and `HttpConnection::advance`, `answer` and `complete` keep it, also where a signature is requested,
 /// or no more of its request is waited for.
 pub fn each_request_is_answered_once<S: Link, H: Handler>()
-    ensures begins { (peer : HttpConnection S H H.Ticket H.Line) → HasReceived peer.stage []
-        → HasServed S.Write.contents S.Read.remaining H.Handler peer.link peer }
+    ensures begins { (client : HttpConnection S H H.Ticket H.Line) → HasReceived client.stage []
+        → HasServed S.Write.contents S.Read.remaining H.Handler client.link client }
     ensures advances { ServesOn S.Write.contents S.Read.remaining H.Handler }
     ensures answers { (s t : H)
         → KeepsServed S.Write.contents S.Read.remaining H.Handler (Answering H.answers s t) }

@@ -8,7 +8,7 @@ use std::net::Shutdown;
 
 /// A connection whose reads and writes never wait.
 pub trait Link: Read + Write + Source {
-    /// Tells the client that no more is written.
+    /// Shuts down the sending side of the connection.
     fn finish(&self) -> io::Result<()>;
 }
 

@@ -1,4 +1,4 @@
-//! The poller, which tells which connections are ready.
+//! The poller, which lists the connections that are ready.
 
 ghost use Rattle.std.specs.Prelude.{◌≡◌, [], IfOk, true};
 

@@ -3,7 +3,7 @@
 ghost use Rattle.std.specs.Prelude.{◌≡◌, ◌⊎◌};
 ghost use Rattle.reg_http_head.specs.Bytes.{collected_bytes};
 ghost use Rattle.reg_http_head.specs.Collected.{IsWholeRequest};
-ghost use Rattle.reg_desk_server.specs.Held.{AddsTo, Collects};
+ghost use Rattle.reg_desk_server.specs.Buffers.{AddsTo, Collects};
 
 use reg_http_head::Collected;
 use std::io::{ErrorKind, Read};
@@ -55,17 +55,17 @@ fn receive_once<R: Read>(reader: &mut R, collected: &mut Collected, room: &mut [
     }
 }
 
-fn add(collected: &mut Collected, came: &[u8]) -> Received
-    ensures kept { AddsTo (collected_bytes collected.old) came.now (collected_bytes collected.new) result }
+fn add(collected: &mut Collected, arrived: &[u8]) -> Received
+    ensures kept { AddsTo (collected_bytes collected.old) arrived.now (collected_bytes collected.new) result }
     ensures whole { result ≡ Received.Whole → ∥ IsWholeRequest (collected_bytes collected.new) ∥₁ }
 {
-    match collected.add(came) {
-        Ok(()) => told(collected),
+    match collected.add(arrived) {
+        Ok(()) => whole_or_more(collected),
         Err(_) => Received::OutOfMemory,
     }
 }
 
-fn told(collected: &mut Collected) -> Received
+fn whole_or_more(collected: &mut Collected) -> Received
     ensures same { collected_bytes collected.new ≡ collected_bytes collected.old }
     ensures rests { (result ≡ Received.Whole) ⊎ (result ≡ Received.More) }
     ensures whole { result ≡ Received.Whole → ∥ IsWholeRequest (collected_bytes collected.new) ∥₁ }

@@ -1,7 +1,7 @@
 //! What all connections of an event loop have in common.
 
 ghost use Rattle.std.specs.Prelude.{◌≡◌, [], IfOk};
-ghost use Rattle.reg_desk_server.specs.Held.{Notes};
+ghost use Rattle.reg_desk_server.specs.Buffers.{AppendsIfMemory};
 
 use crate::handler::{ConnectionFault, Handler};
 use crate::poller::Poller;
@@ -38,7 +38,7 @@ impl Shared {
 /// A connection that ended by a fault; a control connection has no address.
 #[derive(Clone, Copy)]
 pub(crate) struct LostConnection {
-    pub(crate) peer: Option<SocketAddr>,
+    pub(crate) client: Option<SocketAddr>,
     pub(crate) why: ConnectionFault,
 }
 
@@ -56,8 +56,8 @@ impl LostConnections {
         Ok(LostConnections { unreported })
     }
 
-    pub(crate) fn note(&mut self, lost: LostConnection)
-        ensures { Notes lost self.old.unreported.items self.new.unreported.items }
+    pub(crate) fn add_lost(&mut self, lost: LostConnection)
+        ensures { AppendsIfMemory lost self.old.unreported.items self.new.unreported.items }
     {
         // Where there is no memory for it, it is not reported.
         let _ = self.unreported.push(lost);
@@ -67,7 +67,7 @@ impl LostConnections {
         ensures { self.new.unreported.items ≡ [] }
     {
         for lost in &self.unreported {
-            handler.lose(lost.peer, lost.why);
+            handler.report_lost(lost.client, lost.why);
         }
         self.unreported.clear();
     }

@@ -122,8 +122,8 @@ impl SignatureRequests {
             pending,
             has_come: false,
         };
-        if let Some(held) = self.requested.get_mut(index) {
-            *held = Some(requested);
+        if let Some(entry) = self.requested.get_mut(index) {
+            *entry = Some(requested);
             return true;
         }
         self.requested.push(Some(requested)).is_ok()
@@ -136,8 +136,8 @@ impl SignatureRequests {
     }
 
     pub(crate) fn drop_at(&mut self, index: usize) {
-        if let Some(held) = self.requested.get_mut(index) {
-            *held = None;
+        if let Some(entry) = self.requested.get_mut(index) {
+            *entry = None;
         }
     }
 }

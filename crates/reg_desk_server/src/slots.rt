@@ -5,23 +5,23 @@ use std::alloc::{AllocError, Global};
 /// A fixed number of slots. A slot is free, or reserved for a connection, which is taken out while it is worked on.
 #[derive(Drop)]
 pub(crate) struct Slots<T> {
-    pub(crate) held: Vec<Option<T>>,
+    pub(crate) entries: Vec<Option<T>>,
     pub(crate) free: Vec<usize>,
 }
 
 impl<T: Drop> Slots<T> {
     pub(crate) fn new(alloc: Global, count: usize) -> Result<Slots<T>, AllocError> {
-        let mut held = Vec::with_capacity(alloc, count)?;
+        let mut entries = Vec::with_capacity(alloc, count)?;
         let mut free = Vec::with_capacity(alloc, count)?;
         for slot in 0..count {
-            held.push(None)?;
+            entries.push(None)?;
             free.push(slot)?;
         }
-        Ok(Slots { held, free })
+        Ok(Slots { entries, free })
     }
 
     pub(crate) fn reserved(&self) -> usize {
-        self.held.len().saturating_sub(self.free.len())
+        self.entries.len().saturating_sub(self.free.len())
     }
 
     pub(crate) fn has_free(&self) -> bool {
@@ -35,23 +35,23 @@ impl<T: Drop> Slots<T> {
     }
 
     pub(crate) fn get(&self, slot: usize) -> Option<&T> {
-        match self.held.get(slot) {
-            Some(held) => held.as_ref(),
+        match self.entries.get(slot) {
+            Some(entries) => entries.as_ref(),
             None => None,
         }
     }
 
     /// Takes the connection out of a slot, which stays reserved.
     pub(crate) fn take(&mut self, slot: usize) -> Option<T> {
-        match self.held.get_mut(slot) {
-            Some(held) => held.take(),
+        match self.entries.get_mut(slot) {
+            Some(entries) => entries.take(),
             None => None,
         }
     }
 
     pub(crate) fn put(&mut self, slot: usize, connection: T) {
-        if let Some(held) = self.held.get_mut(slot) {
-            *held = Some(connection);
+        if let Some(entries) = self.entries.get_mut(slot) {
+            *entries = Some(connection);
         }
     }
 }

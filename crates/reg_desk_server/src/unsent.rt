@@ -28,7 +28,7 @@ pub(crate) struct Unsent {
 
 impl Unsent {
     ghost use Rattle.std.specs.Prelude.{◌≡◌};
-    ghost use Rattle.reg_desk_server.specs.Held.{SendsUnsent, unsent_of};
+    ghost use Rattle.reg_desk_server.specs.Buffers.{SendsUnsent, unsent_of};
 
     pub(crate) fn new(text: Vec<u8>) -> Unsent
         ensures { unsent_of result ≡ text.items }

@@ -95,9 +95,9 @@ impl<H: Handler> WaitingLine<H> {
             return;
         };
         let sent = self.message.send_on(link);
-        let is_told = matches!(sent, Sent::All) && link.finish().is_ok();
+        let is_finished = matches!(sent, Sent::All) && link.finish().is_ok();
         let (progress, interest) = match sent {
-            Sent::All if is_told => (Progress::Waiting, Interest::READABLE),
+            Sent::All if is_finished => (Progress::Waiting, Interest::READABLE),
             Sent::Blocked | Sent::More => (Progress::Sending, Interest::WRITABLE),
             Sent::All | Sent::Broken => {
                 self.progress = Progress::Failed;

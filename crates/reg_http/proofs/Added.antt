@@ -56,12 +56,12 @@ request_adds signed now serial word before after (Err Read) fault = absurd fault
 request_adds signed now serial word before after (Err Write) fault = absurd fault
 
 -- an OCSP response changes nothing
-pub replies_stay : (signs : Signs) (who : Signatory) (before : Records) (now : ℕ) (request : List ℕ) (given : Result (ResponseKind × List ℕ) NoMemory)
-    (after : Records) → Replies signs who before now request given after → after ≡ before
-replies_stay signs who before now request (Ok response) after came = came.1
-replies_stay signs who before now request (Err memory) after came = came
+pub replies_stay : (signs : Signs) (signatory : Signatory) (before : Records) (now : ℕ) (request : List ℕ) (given : Result (ResponseKind × List ℕ) NoMemory)
+    (after : Records) → Replies signs signatory before now request given after → after ≡ before
+replies_stay signs signatory before now request (Ok response) after came = came.1
+replies_stay signs signatory before now request (Err memory) after came = came
 
-pub ocsps_stay : (signs : Signs) (who : Signatory) (before : Records) (now : ℕ) (request : List ℕ) (given : Result (ResponseKind × List ℕ) NoMemory)
-    (after : Records) → of_any_kind (Ocsps signs who) before now request given after → after ≡ before
-ocsps_stay signs who before now request (Ok response) after came = came.1
-ocsps_stay signs who before now request (Err memory) after came = came
+pub ocsps_stay : (signs : Signs) (signatory : Signatory) (before : Records) (now : ℕ) (request : List ℕ) (given : Result (ResponseKind × List ℕ) NoMemory)
+    (after : Records) → of_any_kind (Ocsps signs signatory) before now request given after → after ≡ before
+ocsps_stay signs signatory before now request (Ok response) after came = came.1
+ocsps_stay signs signatory before now request (Err memory) after came = came

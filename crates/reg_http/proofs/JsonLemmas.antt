@@ -4,7 +4,7 @@ use Rattle.std.specs.Str.{is_utf8}
 use Rattle.std.proofs.lemmas.Bool.{false_from_ne_true}
 use Rattle.std.proofs.lemmas.Str.{is_utf8-from_IsUtf8, IsUtf8-from_is_utf8}
 use Rattle.serde_json.specs.Read.{read}
-use Rattle.reg_http.specs.Asked.{json_of}
+use Rattle.reg_http.specs.RoutedRequests.{json_of}
 
 -- a body that is no UTF-8 has none
 pub json_none : (body : List ℕ) → ¬ (IsUtf8 body) → json_of body ≡ None

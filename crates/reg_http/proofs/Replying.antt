@@ -13,10 +13,10 @@ use Rattle.reg_http_head.specs.Response.{IsText, Response}
 use Rattle.reg_office_api.specs.declared.response.ResponseKind.{ResponseKind}
 use Rattle.reg_office_api.specs.declared.response.ResponseKind.TheVariants.{Signed}
 use Rattle.reg_http.specs.Answers.{Answers, RespondsTo}
-use Rattle.reg_http.specs.Asked.{ocsp_of, asked as asks_for}
+use Rattle.reg_http.specs.RoutedRequests.{ocsp_of, asked as asks_for}
 use Rattle.reg_http.specs.Bodies.{ocsp_reply}
-use Rattle.reg_http.specs.Parts.{call_asks}
-use Rattle.reg_http.specs.Told.{Told, ocsp_told}
+use Rattle.reg_http.specs.Parts.{request_of_call}
+use Rattle.reg_http.specs.AnswerEffects.{AnswerEffects, ocsp_effects}
 use Rattle.reg_http.specs.declared.parts.Call.{Call}
 use Rattle.reg_http.specs.declared.parts.Call.TheVariants as call
 use Rattle.reg_http.specs.Served.{ReplyEnds}
@@ -40,14 +40,14 @@ module _ {S : Type 0} (runs : S → ℕ → Command → Result Reply Fault → S
   -- an OCSP response, as bytes
   pub ocsp_responds : (now : ℕ) (s t : S) (request : List ℕ) (given : Result (List ℕ) NoMemory) (response : Response)
       → ocsps s now request given t → response ≡ ocsp_reply given → RespondsTo runs asks ocsps crls now s (ocsp_of request) response t
-  ocsp_responds now s t request (Ok bytes) response came is = (ocsp_told (Ok (Signed, bytes)), (Ok (Signed, bytes), came, refl), is)
-  ocsp_responds now s t request (Err memory) response came is = (ocsp_told (Err memory), (Err memory, came, refl), is)
+  ocsp_responds now s t request (Ok bytes) response came is = (ocsp_effects (Ok (Signed, bytes)), (Ok (Signed, bytes), came, refl), is)
+  ocsp_responds now s t request (Err memory) response came is = (ocsp_effects (Err memory), (Err memory, came, refl), is)
 
 -- what asks for no OCSP response is told the same, whatever those are
 pub call_answers : {S : Type 0} (runs : S → ℕ → Command → Result Reply Fault → S → Type 0) (asks : S → ℕ → Query → Result Reply Fault → S → Type 0)
     (replies others : S → ℕ → List ℕ → Result (ResponseKind × List ℕ) NoMemory → S → Type 0) (crls : S → Option ℕ → Result (List ℕ) Fault → S → Type 0)
-    (now : ℕ) (s t : S) (call : Call) (it : Told)
-    → Answers runs asks replies crls now s (call_asks call) it t → Answers runs asks others crls now s (call_asks call) it t
+    (now : ℕ) (s t : S) (call : Call) (it : AnswerEffects)
+    → Answers runs asks replies crls now s (request_of_call call) it t → Answers runs asks others crls now s (request_of_call call) it t
 call_answers runs asks replies others crls now s t (call.Refused status) it answered = answered
 call_answers runs asks replies others crls now s t call.OnlyGet it answered = answered
 call_answers runs asks replies others crls now s t call.OnlyPost it answered = answered

@@ -1,4 +1,4 @@
--- What each request is told, by the calls of the office.
+-- The answer to each request, by the calls of the office.
 use Rattle.std.specs.Prelude.{◌≡◌, ℕ, List, Option, Result, Ok, Err, codes}
 use Rattle.reg_office_api.specs.Calls.{RunsIn, AsksIn, RepliesIn, CrlsIn}
 use Rattle.reg_office_api.specs.declared.office.Office.{Ghosts as Office}
@@ -14,10 +14,10 @@ use Rattle.reg_core.specs.declared.refusal.Fault.{Fault}
 use Rattle.reg_core.specs.declared.refusal.Fault.TheVariants.{Refused}
 use Rattle.reg_core.specs.declared.refusal.Refusal.TheVariants.{Syntax}
 use Rattle.reg_http_head.specs.Response.{Response}
-use Rattle.reg_http.specs.Asked.{Asked, refused, only, unread, malformed, ocsp_of, crl_of, status_of, counts_of, request_of}
+use Rattle.reg_http.specs.RoutedRequests.{RoutedRequest, refused, only, unread, malformed, ocsp_of, crl_of, status_of, counts_of, request_of}
 use Rattle.reg_http.specs.Bodies.{http_refusal, fault_response, der, malformed_text}
 use Rattle.reg_http.specs.Bodies.{only as only_response}
-use Rattle.reg_http.specs.Told.{Told, plain, outcome_told, request_told, crl_told, ocsp_told, told}
+use Rattle.reg_http.specs.AnswerEffects.{AnswerEffects, plain, outcome_effects, request_effects, crl_effects, ocsp_effects, answer_effects}
 use Rattle.reg_http.specs.declared.answered.Answered.{Answered}
 use Rattle.reg_ocsp.specs.Drafts.{Drafted}
 use Rattle.reg_io.specs.declared.begun.Begun.{Begun}
@@ -28,40 +28,40 @@ module _ {S : Type 0} (runs : S → ℕ → Command → Result Reply Fault → S
     (asks : S → ℕ → Query → Result Reply Fault → S → Type 0)
     (replies : S → ℕ → List ℕ → Result (ResponseKind × List ℕ) Memory → S → Type 0)
     (crls : S → Option ℕ → Result (List ℕ) Fault → S → Type 0) where
-  -- what is told to what is asked; only a request for revocation runs a command
-  abbrev pub Answers : ℕ → S → Asked → Told → S → Type 0
+  -- the answer to a request; only a request for revocation runs a command
+  abbrev pub Answers : ℕ → S → RoutedRequest → AnswerEffects → S → Type 0
   Answers now s (refused status) it t = (t ≡ s) × (it ≡ plain (http_refusal status))
   Answers now s (only method) it t = (t ≡ s) × (it ≡ plain (only_response method))
   Answers now s unread it t = (t ≡ s) × (it ≡ plain (fault_response (Refused Syntax)))
   Answers now s malformed it t = (t ≡ s) × (it ≡ plain (der (codes "application/ocsp-response") malformed_text))
   Answers now s (ocsp_of request) it t =
-      (given : Result (ResponseKind × List ℕ) Memory) × replies s now request given t × (it ≡ ocsp_told given)
-  Answers now s (crl_of number) it t = (given : Result (List ℕ) Fault) × crls s number given t × (it ≡ crl_told given)
-  Answers now s (status_of serial) it t = (given : Result Reply Fault) × asks s now (Status serial) given t × (it ≡ outcome_told given)
-  Answers now s counts_of it t = (given : Result Reply Fault) × asks s now Counts given t × (it ≡ outcome_told given)
+      (given : Result (ResponseKind × List ℕ) Memory) × replies s now request given t × (it ≡ ocsp_effects given)
+  Answers now s (crl_of number) it t = (given : Result (List ℕ) Fault) × crls s number given t × (it ≡ crl_effects given)
+  Answers now s (status_of serial) it t = (given : Result Reply Fault) × asks s now (Status serial) given t × (it ≡ outcome_effects given)
+  Answers now s counts_of it t = (given : Result Reply Fault) × asks s now Counts given t × (it ≡ outcome_effects given)
   Answers now s (request_of serial word) it t =
-      (given : Result Reply Fault) × runs s now (Request serial word) given t × (it ≡ request_told serial word given)
+      (given : Result Reply Fault) × runs s now (Request serial word) given t × (it ≡ request_effects serial word given)
 
   -- the answer to what is asked; or what is left to be signed for it, where that is an OCSP request
-  abbrev pub BeginsTo : (S → ℕ → List ℕ → Drafted → S → Type 0) → ℕ → S → Asked → Begun Answered Drafted → S → Type 0
-  BeginsTo drafts now s what (Ready answered) t = Answers now s what (told answered) t
+  abbrev pub BeginsTo : (S → ℕ → List ℕ → Drafted → S → Type 0) → ℕ → S → RoutedRequest → Begun Answered Drafted → S → Type 0
+  BeginsTo drafts now s what (Ready answered) t = Answers now s what (answer_effects answered) t
   BeginsTo drafts now s what (Unsigned draft) t = (request : List ℕ) × (what ≡ ocsp_of request) × drafts s now request draft t
 
--- an OCSP response is told, or left to be signed, as the office begins it
-abbrev pub TellsOcsp : Result (Begun OcspResponse Drafted) Memory → Begun Answered Drafted → Type 0
-TellsOcsp (Ok (Ready response)) (Ready answered) = told answered ≡ ocsp_told (Ok (response.kind, response.bytes.items))
-TellsOcsp (Ok (Ready response)) (Unsigned draft) = ⊥
-TellsOcsp (Ok (Unsigned draft)) (Ready answered) = ⊥
-TellsOcsp (Ok (Unsigned draft)) (Unsigned left) = left ≡ draft
-TellsOcsp (Err memory) (Ready answered) = told answered ≡ ocsp_told (Err memory)
-TellsOcsp (Err memory) (Unsigned draft) = ⊥
+-- an OCSP response is the answer, or is left to be signed, as the office begins it
+abbrev pub BeginsOcsp : Result (Begun OcspResponse Drafted) Memory → Begun Answered Drafted → Type 0
+BeginsOcsp (Ok (Ready response)) (Ready answered) = answer_effects answered ≡ ocsp_effects (Ok (response.kind, response.bytes.items))
+BeginsOcsp (Ok (Ready response)) (Unsigned draft) = ⊥
+BeginsOcsp (Ok (Unsigned draft)) (Ready answered) = ⊥
+BeginsOcsp (Ok (Unsigned draft)) (Unsigned left) = left ≡ draft
+BeginsOcsp (Err memory) (Ready answered) = answer_effects answered ≡ ocsp_effects (Err memory)
+BeginsOcsp (Err memory) (Unsigned draft) = ⊥
 
 -- an OCSP response without its kind
 abbrev pub bytes_in : Result (ResponseKind × List ℕ) Memory → Result (List ℕ) Memory
 bytes_in (Ok given) = Ok given.1
 bytes_in (Err memory) = Err memory
 
--- where the office tells no kind: one of any kind
+-- where the office reports no kind: one of any kind
 abbrev pub of_any_kind : {S : Type 0} → (S → ℕ → List ℕ → Result (List ℕ) Memory → S → Type 0)
     → S → ℕ → List ℕ → Result (ResponseKind × List ℕ) Memory → S → Type 0
 of_any_kind ocsps s now request given t = ocsps s now request (bytes_in given) t
@@ -69,9 +69,9 @@ of_any_kind ocsps s now request given t = ocsps s now request (bytes_in given) t
 -- the response to what is asked, where OCSP responses come as bytes
 abbrev pub RespondsTo : {S : Type 0} → (S → ℕ → Command → Result Reply Fault → S → Type 0) → (S → ℕ → Query → Result Reply Fault → S → Type 0)
     → (S → ℕ → List ℕ → Result (List ℕ) Memory → S → Type 0) → (S → Option ℕ → Result (List ℕ) Fault → S → Type 0)
-    → ℕ → S → Asked → Response → S → Type 0
-RespondsTo runs asks ocsps crls now s what response t = (it : Told) × Answers runs asks (of_any_kind ocsps) crls now s what it t × (response ≡ it.response)
+    → ℕ → S → RoutedRequest → Response → S → Type 0
+RespondsTo runs asks ocsps crls now s what response t = (it : AnswerEffects) × Answers runs asks (of_any_kind ocsps) crls now s what it t × (response ≡ it.response)
 
--- what an office tells, by its calls
-abbrev pub AnswersIn : {O : Type 0} → Office O → ℕ → O → Asked → Told → O → Type 0
+-- the answers of an office, by its calls
+abbrev pub AnswersIn : {O : Type 0} → Office O → ℕ → O → RoutedRequest → AnswerEffects → O → Type 0
 AnswersIn office = Answers (RunsIn office) (AsksIn office) (RepliesIn office) (CrlsIn office)

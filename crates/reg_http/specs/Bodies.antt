@@ -1,4 +1,4 @@
--- The bodies that are JSON (RFC 8259), and the response that each outcome is told by.
+-- The bodies that are JSON (RFC 8259), and the response to each outcome.
 use Rattle.std.specs.Prelude.{ℕ, List, [], ◌∷◌, ◌++◌, codes, decimal, Some, None, Result, Ok, Err}
 use Rattle.reg_core.specs.Calendar.{moment_text}
 use Rattle.reg_core.specs.Lines.{fault_line}
@@ -62,7 +62,7 @@ abbrev pub fault_status : Fault → ℕ
 fault_status (Refused refused) = refusal_status refused
 fault_status other = 500
 
--- a refusal or a fault is told by its line
+-- the answer to a refusal or a fault is its line
 unfoldable pub fault_response : Fault → Response
 fault_response fault = json (fault_status fault) (error_text (fault_line fault))
 

@@ -5,14 +5,14 @@ use Rattle.reg_office_api.specs.declared.effects.SignatureFate.TheVariants.{NotA
 use Rattle.reg_office_api.specs.declared.effects.StoreEffect.TheVariants.{Unwritten}
 use Rattle.reg_core.specs.declared.memory.Memory.{Memory as NoMemory}
 use Rattle.reg_http_head.specs.Response.{IsText, Response, memory_text}
-use Rattle.reg_http.specs.Told.{Told, told}
+use Rattle.reg_http.specs.AnswerEffects.{AnswerEffects, answer_effects}
 use Rattle.reg_http.specs.declared.answered.Answered.{Answered}
 use Rattle.reg_http.specs.declared.route.Route.{Route}
 use Rattle.reg_ocsp.specs.Drafts.{Drafted}
 use Rattle.reg_io.specs.declared.begun.Begun.{Begun}
 use Rattle.reg_io.specs.declared.begun.Begun.TheVariants.{Ready, Unsigned}
 use Rattle.reg_http.specs.declared.exchange.Exchange.{Exchange}
-use Rattle.reg_http.specs.declared.exchange.Left.{Left}
+use Rattle.reg_http.specs.declared.exchange.UnsignedResponse.{UnsignedResponse}
 
 -- the text of a response at a moment, whole, with its status; or the constant text of status 500, where there was no memory for its body
 abbrev pub PutsText : ℕ → Response → ℕ → List ℕ → Type 0
@@ -22,32 +22,32 @@ PutsText now response status text = ((status ≡ response.status) × IsText resp
 abbrev pub IsEmpty : Exchange → Type 0
 IsEmpty exchange = (exchange.status ≡ None) × (exchange.text.items ≡ [])
 
--- out of memory is told by the constant text, or by nothing where there was no memory for that either
-abbrev pub IsUntold : Exchange → Type 0
-IsUntold exchange = ((exchange.status ≡ Some 500) × (exchange.text.items ≡ memory_text)) ⊎ IsEmpty exchange
+-- the answer where memory ran out is the constant text, or by nothing where there was no memory for that either
+abbrev pub IsMemoryAnswer : Exchange → Type 0
+IsMemoryAnswer exchange = ((exchange.status ≡ Some 500) × (exchange.text.items ≡ memory_text)) ⊎ IsEmpty exchange
 
 -- the response at a moment: its whole text, so no answer is cut; or out of memory
 abbrev pub AnswersText : ℕ → Response → Exchange → Type 0
-AnswersText now response exchange = ((exchange.status ≡ Some response.status) × IsText response now exchange.text.items) ⊎ IsUntold exchange
+AnswersText now response exchange = ((exchange.status ≡ Some response.status) × IsText response now exchange.text.items) ⊎ IsMemoryAnswer exchange
 
 -- the same, with what became of the signature, what is said of the store, and the request for revocation that is named
-abbrev pub TellsAnswered : ℕ → Told → Exchange → Type 0
-TellsAnswered now it exchange =
+abbrev pub HasEffects : ℕ → AnswerEffects → Exchange → Type 0
+HasEffects now it exchange =
     (exchange.signature ≡ it.signature) × (exchange.store ≡ it.store) × (exchange.named ≡ it.named) × AnswersText now it.response exchange
 
 -- this is said of a signature; nothing of the store, and no request is named
-abbrev pub SaysOnly : SignatureFate → Exchange → Type 0
-SaysOnly signature exchange = (exchange.signature ≡ signature) × (exchange.store ≡ Unwritten) × (exchange.named ≡ None)
+abbrev pub HasOnlySignature : SignatureFate → Exchange → Type 0
+HasOnlySignature signature exchange = (exchange.signature ≡ signature) × (exchange.store ≡ Unwritten) × (exchange.named ≡ None)
 
 -- nothing is said of a signature either
-abbrev pub SaysNothing : Exchange → Type 0
-SaysNothing exchange = SaysOnly NotAsked exchange
+abbrev pub HasNoEffects : Exchange → Type 0
+HasNoEffects exchange = HasOnlySignature NotAsked exchange
 
--- what a request comes to, as an exchange of this route: it is told; or this is left to be signed for it; or there was no memory
-abbrev pub TellsBegun : ℕ → Route → Result (Begun Answered Drafted) NoMemory → Begun Exchange Left → Type 0
-TellsBegun now route (Ok (Ready answered)) (Ready exchange) = (exchange.route ≡ route) × TellsAnswered now (told answered) exchange
-TellsBegun now route (Ok (Ready answered)) (Unsigned left) = ⊥
-TellsBegun now route (Ok (Unsigned draft)) (Ready exchange) = ⊥
-TellsBegun now route (Ok (Unsigned draft)) (Unsigned left) = (left.route ≡ route) × (left.draft ≡ draft)
-TellsBegun now route (Err memory) (Ready exchange) = (exchange.route ≡ route) × IsUntold exchange × SaysNothing exchange
-TellsBegun now route (Err memory) (Unsigned left) = ⊥
+-- the outcome of a request, as an exchange of this route: the answer; or what is left to be signed for it; or there was no memory
+abbrev pub BeginsExchange : ℕ → Route → Result (Begun Answered Drafted) NoMemory → Begun Exchange UnsignedResponse → Type 0
+BeginsExchange now route (Ok (Ready answered)) (Ready exchange) = (exchange.route ≡ route) × HasEffects now (answer_effects answered) exchange
+BeginsExchange now route (Ok (Ready answered)) (Unsigned left) = ⊥
+BeginsExchange now route (Ok (Unsigned draft)) (Ready exchange) = ⊥
+BeginsExchange now route (Ok (Unsigned draft)) (Unsigned left) = (left.route ≡ route) × (left.draft ≡ draft)
+BeginsExchange now route (Err memory) (Ready exchange) = (exchange.route ≡ route) × IsMemoryAnswer exchange × HasNoEffects exchange
+BeginsExchange now route (Err memory) (Unsigned left) = ⊥

@@ -1,6 +1,6 @@
 pub mod Added
 pub mod Answers
-pub mod Asked
+pub mod RoutedRequests
 pub mod Bodies
 pub mod Exchanges
 pub mod Lists
@@ -8,4 +8,4 @@ pub mod Parts
 pub mod RouteNames
 pub mod Routes
 pub mod Served
-pub mod Told
+pub mod AnswerEffects

@@ -6,47 +6,47 @@ use Rattle.reg_core.specs.Records.{Records}
 use Rattle.reg_core.specs.declared.refusal.Fault.{Fault}
 use Rattle.reg_core.specs.declared.refusal.Fault.TheVariants as fault
 use Rattle.reg_core.specs.declared.refusal.Refusal.TheVariants.{Syntax}
-use Rattle.reg_core_lists.specs.Asked.{page_asked}
+use Rattle.reg_core_lists.specs.ListParameters.{page_query}
 use Rattle.reg_core_lists.specs.Filters.{wanted_rows}
 use Rattle.reg_core_lists.specs.Pages.{IsPaged}
 use Rattle.reg_core_lists.specs.Texts.{page_body}
-use Rattle.reg_core_lists.specs.declared.asked.PageAsked.{PageAsked}
+use Rattle.reg_core_lists.specs.declared.list_parameters.PageQuery.{PageQuery}
 use Rattle.reg_core_lists.specs.declared.rows.Page.{Page as PageOf}
 use Rattle.reg_http.specs.Bodies.{json, only}
-use Rattle.reg_http.specs.Told.{Told, plain, fault_told}
-use Rattle.reg_http.specs.declared.lists.ListAsked.{ListAsked}
-use Rattle.reg_http.specs.declared.lists.ListAsked.TheVariants.{OnlyGet, Unread, Page}
+use Rattle.reg_http.specs.AnswerEffects.{AnswerEffects, plain, fault_effects}
+use Rattle.reg_http.specs.declared.lists.ListRequest.{ListRequest}
+use Rattle.reg_http.specs.declared.lists.ListRequest.TheVariants.{OnlyGet, Unread, Page}
 
 -- the page that was asked for, or that it can't be read
-abbrev pub or_unread : Option PageAsked → ListAsked
+abbrev pub or_unread : Option PageQuery → ListRequest
 or_unread (Some wanted) = Page wanted
 or_unread None = Unread
 
--- the page that a path `/list/WORD` and what is told behind it ask for
-abbrev pub page_told : List ℕ → List ℕ → ListAsked
-page_told path told =
-    if starts_with (λ a b. a == b) path (codes "/list/") then or_unread (page_asked (drop 6 path) told) else Unread
+-- the page that a path `/list/WORD` and its query ask for
+abbrev pub page_of_path : List ℕ → List ℕ → ListRequest
+page_of_path path answer_effects =
+    if starts_with (λ a b. a == b) path (codes "/list/") then or_unread (page_query (drop 6 path) answer_effects) else Unread
 
--- the same of a target (RFC 3986 3.3, 3.4): a path, and behind `?` what is told, percent-decoded
-unfoldable pub page_in : List ℕ → ListAsked
-page_in target = page_told (before_first (λ b. b == 63) target) (percent_decode (after_first (λ b. b == 63) target))
+-- the same of a target (RFC 3986 3.3, 3.4): a path, and after `?` the query, percent-decoded
+unfoldable pub page_in : List ℕ → ListRequest
+page_in target = page_of_path (before_first (λ b. b == 63) target) (percent_decode (after_first (λ b. b == 63) target))
 
 -- what a request for a list asks
-abbrev pub list_asked : List ℕ → List ℕ → ListAsked
-list_asked method target = if bytes_eq method (codes "GET") then page_in target else OnlyGet
+abbrev pub list_request : List ℕ → List ℕ → ListRequest
+list_request method target = if bytes_eq method (codes "GET") then page_in target else OnlyGet
 
--- the rows of a page that are wanted, as they are told
-abbrev pub wanted_body : PageAsked → PageOf → List ℕ
+-- the rows of a page that are wanted, as they are written
+abbrev pub wanted_body : PageQuery → PageOf → List ℕ
 wanted_body wanted given = page_body wanted.from given.next (wanted_rows wanted.filter given.rows.items)
 
 -- the same, or why there is none
-abbrev pub given_told : PageAsked → Result PageOf Fault → Told
-given_told wanted (Ok given) = plain (json 200 (wanted_body wanted given))
-given_told wanted (Err why) = fault_told why
+abbrev pub given_page : PageQuery → Result PageOf Fault → AnswerEffects
+given_page wanted (Ok given) = plain (json 200 (wanted_body wanted given))
+given_page wanted (Err why) = fault_effects why
 
--- what a request for a list is told, of records at a moment
-abbrev pub RespondsList : Records → ℕ → ListAsked → Told → Type 0
+-- the answer to a request for a list, of records at a moment
+abbrev pub RespondsList : Records → ℕ → ListRequest → AnswerEffects → Type 0
 RespondsList records now (Page wanted) it =
-    (given : Result PageOf Fault) × IsPaged records now wanted.most wanted.from given × (it ≡ given_told wanted given)
+    (given : Result PageOf Fault) × IsPaged records now wanted.most wanted.from given × (it ≡ given_page wanted given)
 RespondsList records now OnlyGet it = it ≡ plain (only (codes "GET"))
-RespondsList records now Unread it = it ≡ fault_told (fault.Refused Syntax)
+RespondsList records now Unread it = it ≡ fault_effects (fault.Refused Syntax)

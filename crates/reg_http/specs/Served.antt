@@ -12,7 +12,7 @@ use Rattle.reg_http_head.specs.Frame.{Part, refused, asked, Framed, IsUnfinished
 use Rattle.reg_http_head.specs.Head.{longest_head, longest_body}
 use Rattle.reg_http_head.specs.Response.{Response, IsText, memory_text}
 use Rattle.reg_http.specs.Answers.{RespondsTo}
-use Rattle.reg_http.specs.Asked.{asked as asks_for}
+use Rattle.reg_http.specs.RoutedRequests.{asked as asks_for}
 use Rattle.reg_http.specs.Bodies.{http_refusal}
 
 -- these bytes were taken from the reader, no more than a head and a body can have

@@ -3,9 +3,9 @@
 ghost use Rattle.std.specs.Prelude.{◌≡◌, ◌≤◌, [], Ok, vec_capacity};
 ghost use Rattle.reg_office_api.specs.Items.{items_of};
 ghost use Rattle.reg_http_head.specs.Response.{shown};
-ghost use Rattle.reg_http.specs.Answers.{TellsOcsp};
+ghost use Rattle.reg_http.specs.Answers.{BeginsOcsp};
 ghost use Rattle.reg_http.specs.Bodies.{ocsp_reply};
-ghost use Rattle.reg_http.specs.Told.{crl_told, entered_request, fault_told, ocsp_told, outcome_told, plain as plainly, reply_told, request_told, told, unsigned_answer as unsigned_told};
+ghost use Rattle.reg_http.specs.AnswerEffects.{crl_effects, entered_request, fault_effects, ocsp_effects, outcome_effects, plain as plainly, reply_effects, request_effects, answer_effects, unsigned_answer as unsigned_effects};
 
 use crate::bodies::{
     OCSP_RESPONSE, PKIX_CRL, der, fault_answer, json, put_counts, put_due, put_status,
@@ -38,13 +38,13 @@ pub struct Answered {
 impl Answered {
     /// An answer that says nothing of a signature, nor of the store.
     pub fn plain(answer: Answer) -> Answered
-        ensures { told result ≡ plainly (shown answer) }
+        ensures { answer_effects result ≡ plainly (shown answer) }
     {
         Answered::unsigned(answer, StoreEffect::Unwritten)
     }
 
     fn unsigned(answer: Answer, store: StoreEffect) -> Answered
-        ensures { told result ≡ unsigned_told (shown answer) store }
+        ensures { answer_effects result ≡ unsigned_effects (shown answer) store }
     {
         Answered {
             answer,
@@ -55,22 +55,22 @@ impl Answered {
     }
 }
 
-/// The answer that tells a refusal or a fault by its line.
+/// The answer whose body is the line of a refusal or a fault.
 pub(crate) fn answer_of_fault(room: Vec<u8>, fault: Fault) -> Answered
     requires empty { room.items ≡ [] }
     requires room { 256 ≤ vec_capacity room }
-    ensures { told result ≡ fault_told fault }
+    ensures { answer_effects result ≡ fault_effects fault }
 {
     let store = StoreEffect::of_fault(&fault);
     Answered::unsigned(fault_answer(room, fault), store)
 }
 
-/// The answer that tells a reply to a query or to a request for revocation. One to anything else, which no office gives, is told as a fault
+/// The answer whose body is the reply to a query or to a request for revocation. One to anything else, which no office gives, is answered as a fault
 /// of the store.
 fn reply_answer(mut room: Vec<u8>, reply: Reply) -> Answered
     requires empty { room.items ≡ [] }
     requires room { 256 ≤ vec_capacity room }
-    ensures { told result ≡ reply_told reply }
+    ensures { answer_effects result ≡ reply_effects reply }
 {
     match reply {
         Reply::Status(status) => {
@@ -92,7 +92,7 @@ fn reply_answer(mut room: Vec<u8>, reply: Reply) -> Answered
 pub(crate) fn outcome_answer(room: Vec<u8>, outcome: Outcome) -> Answered
     requires empty { room.items ≡ [] }
     requires room { 256 ≤ vec_capacity room }
-    ensures { told result ≡ outcome_told outcome }
+    ensures { answer_effects result ≡ outcome_effects outcome }
 {
     match outcome {
         Ok(reply) => reply_answer(room, reply),
@@ -109,7 +109,7 @@ pub(crate) fn request_answer(
 ) -> Answered
     requires empty { room.items ≡ [] }
     requires room { 256 ≤ vec_capacity room }
-    ensures { told result ≡ request_told serial word outcome }
+    ensures { answer_effects result ≡ request_effects serial word outcome }
 {
     let named = entered_request(serial, word, &outcome);
     let mut answered = outcome_answer(room, outcome);
@@ -133,7 +133,7 @@ fn entered_request(serial: Serial, word: Label, outcome: &Outcome) -> Option<Nam
 pub(crate) fn crl_answer(room: Vec<u8>, given: Result<Vec<u8>, Fault>) -> Answered
     requires empty { room.items ≡ [] }
     requires room { 256 ≤ vec_capacity room }
-    ensures { told result ≡ crl_told (items_of given) }
+    ensures { answer_effects result ≡ crl_effects (items_of given) }
 {
     match given {
         Ok(bytes) => Answered::plain(der(PKIX_CRL, bytes)),
@@ -142,7 +142,7 @@ pub(crate) fn crl_answer(room: Vec<u8>, given: Result<Vec<u8>, Fault>) -> Answer
 }
 
 fn ocsp_answer_of(response: OcspResponse) -> Answered
-    ensures { told result ≡ ocsp_told (Ok (response.kind, response.bytes.items)) }
+    ensures { answer_effects result ≡ ocsp_effects (Ok (response.kind, response.bytes.items)) }
 {
     let OcspResponse { bytes, kind } = response;
     Answered {
@@ -160,7 +160,7 @@ pub(crate) fn begun_answer(
 ) -> Begun<Answered, Draft>
     requires empty { room.items ≡ [] }
     requires room { 256 ≤ vec_capacity room }
-    ensures { TellsOcsp given result }
+    ensures { BeginsOcsp given result }
 {
     match given {
         Ok(Begun::Ready(response)) => Begun::Ready(ocsp_answer_of(response)),

@@ -4,8 +4,8 @@ ghost use Rattle.std.specs.Prelude.{◌≡◌, ◌≤◌, [], IfOk, vec_capacity
 ghost use Rattle.reg_office_api.specs.Items.{items_of};
 ghost use Rattle.reg_http_head.specs.Response.{shown};
 ghost use Rattle.reg_http.specs.Bodies.{ocsp_reply};
-ghost use Rattle.reg_http.specs.Exchanges.{IsEmpty, IsUntold, PutsText, SaysNothing, SaysOnly, TellsAnswered, TellsBegun, AnswersText};
-ghost use Rattle.reg_http.specs.Told.{told};
+ghost use Rattle.reg_http.specs.Exchanges.{IsEmpty, IsMemoryAnswer, PutsText, HasNoEffects, HasOnlySignature, HasEffects, BeginsExchange, AnswersText};
+ghost use Rattle.reg_http.specs.AnswerEffects.{answer_effects};
 
 use crate::answered::{Answered, NamedRequest, ocsp_answer};
 use crate::bodies::json_room;
@@ -17,7 +17,7 @@ use reg_ocsp::Draft;
 use reg_office_api::{SignatureFate, StoreEffect};
 use std::alloc::Global;
 
-/// The bytes of room that are made for the text of a response before anything is asked. Each response that tells of something entered
+/// The bytes of room that are made for the text of a response before anything is asked. Each response about something entered
 /// fits, and so do most of an OCSP answer: memory can't be wanting for them once the office was asked.
 const TEXT_ROOM: usize = 4_096;
 
@@ -47,7 +47,7 @@ impl Exchange {
     /// One that is answered by nothing, for which this became of its signature.
     pub fn empty(alloc: Global, route: Route, signature: SignatureFate) -> Exchange
         ensures empty { IsEmpty result }
-        ensures effects { SaysOnly signature result }
+        ensures effects { HasOnlySignature signature result }
         ensures route { result.route ≡ route }
     {
         Exchange {
@@ -64,8 +64,8 @@ impl Exchange {
     pub fn out_of_memory(route: Route, mut room: Vec<u8>) -> Exchange
         requires empty { room.items ≡ [] }
         requires room { 512 ≤ vec_capacity room }
-        ensures untold { IsUntold result }
-        ensures effects { SaysNothing result }
+        ensures memory_answer { IsMemoryAnswer result }
+        ensures effects { HasNoEffects result }
         ensures route { result.route ≡ route }
     {
         put(&mut room, memory_fault());
@@ -83,7 +83,7 @@ impl Exchange {
     pub fn of(route: Route, mut room: Vec<u8>, answered: Answered, now: Moment) -> Exchange
         requires empty { room.items ≡ [] }
         requires room { 512 ≤ vec_capacity room }
-        ensures tells { TellsAnswered now (told answered) result }
+        ensures tells { HasEffects now (answer_effects answered) result }
         ensures route { result.route ≡ route }
     {
         let Answered {
@@ -103,7 +103,7 @@ impl Exchange {
         }
     }
 
-    /// One with the OCSP response that was begun at a moment and is finished now, or none for want of memory.
+    /// One with the OCSP response that was begun at a moment and is finished now, or none where memory runs out.
     pub fn finished(
         alloc: Global,
         route: Route,
@@ -112,7 +112,7 @@ impl Exchange {
         signature: SignatureFate,
     ) -> Exchange
         ensures tells { AnswersText now (ocsp_reply (items_of response)) result }
-        ensures effects { SaysOnly signature result }
+        ensures effects { HasOnlySignature signature result }
         ensures route { result.route ≡ route }
     {
         let (Ok(text), Ok(body)) = (text_room(alloc), json_room(alloc)) else {
@@ -130,7 +130,7 @@ impl Exchange {
 
 /// An OCSP response that is left to be signed, with the route that was asked.
 #[derive(Drop)]
-pub struct Left {
+pub struct UnsignedResponse {
     pub route: Route,
     pub draft: Draft,
 }
@@ -141,14 +141,14 @@ pub fn begun_exchange(
     room: Vec<u8>,
     begun: Result<Begun<Answered, Draft>, Memory>,
     now: Moment,
-) -> Begun<Exchange, Left>
+) -> Begun<Exchange, UnsignedResponse>
     requires empty { room.items ≡ [] }
     requires room { 512 ≤ vec_capacity room }
-    ensures { TellsBegun now route begun result }
+    ensures { BeginsExchange now route begun result }
 {
     match begun {
         Ok(Begun::Ready(answered)) => Begun::Ready(Exchange::of(route, room, answered, now)),
-        Ok(Begun::Unsigned(draft)) => Begun::Unsigned(Left { route, draft }),
+        Ok(Begun::Unsigned(draft)) => Begun::Unsigned(UnsignedResponse { route, draft }),
         Err(_) => Begun::Ready(Exchange::out_of_memory(route, room)),
     }
 }

@@ -1,4 +1,4 @@
-//! The HTTP face of the desk: one request in, one response out.
+//! The HTTP front end of the desk: one request in, one response out.
 #![tactic(auto)]
 
 mod answered;
@@ -14,7 +14,7 @@ mod serve;
 
 pub use answered::{Answered, NamedRequest};
 pub use bodies::json;
-pub use exchange::{Exchange, Left, begun_exchange, text_room};
+pub use exchange::{Exchange, UnsignedResponse, begun_exchange, text_room};
 pub use lists::answer_list;
 pub use reg_http_head::Answer;
 pub use route::Route;

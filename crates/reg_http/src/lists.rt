@@ -3,8 +3,8 @@
 
 ghost use Rattle.std.specs.Prelude.{◌≡◌, IfOk, OnErr};
 ghost use Rattle.reg_office_api.specs.Leads.{Looks};
-ghost use Rattle.reg_http.specs.Lists.{RespondsList, given_told, list_asked, page_in, page_told, wanted_body};
-ghost use Rattle.reg_http.specs.Told.{fault_told, told};
+ghost use Rattle.reg_http.specs.Lists.{RespondsList, given_page, list_request, page_in, page_of_path, wanted_body};
+ghost use Rattle.reg_http.specs.AnswerEffects.{fault_effects, answer_effects};
 
 use crate::answered::{Answered, answer_of_fault};
 use crate::bodies::{json, json_room};
@@ -12,19 +12,19 @@ use crate::routes::only_get;
 use http::Method;
 use percent_encoding::percent_decode;
 use reg_core::{Fault, Memory, Moment, Refusal};
-use reg_core_lists::{Page, PageAsked, page_text, read_page};
+use reg_core_lists::{Page, PageQuery, page_text, read_page};
 use reg_http_head::status;
 use reg_office_api::Office;
 use std::alloc::{AllocError, Global};
 
 /// What a request for a list asks.
 #[derive(Clone, Copy)]
-pub(crate) enum ListAsked {
+pub(crate) enum ListRequest {
     /// Nothing: the route has GET alone.
     OnlyGet,
     /// The word of the list, or what is told beside it, can't be read.
     Unread,
-    Page(PageAsked),
+    Page(PageQuery),
 }
 
 /// Answers a request for a list, at a moment. The records stay.
@@ -38,66 +38,66 @@ pub fn answer_list<O: Office>(
 ) -> Result<Answered, Memory>
     ensures { Looks O.is_clean O.stands
         (λ records. IfOk result
-        (λ answered. RespondsList records now (list_asked method.now target.now) (told answered)))
+        (λ answered. RespondsList records now (list_request method.now target.now) (answer_effects answered)))
         office.old office.new }
 {
     match read_list(alloc, method, target) {
-        Ok(ListAsked::Page(wanted)) => {
+        Ok(ListRequest::Page(wanted)) => {
             let given = office.page(alloc, now, wanted.from, wanted.most);
             answer_page(alloc, &wanted, &given)
         }
-        Ok(ListAsked::OnlyGet) => only_get(alloc),
-        Ok(ListAsked::Unread) => report_fault(alloc, Fault::Refused(Refusal::Syntax)),
+        Ok(ListRequest::OnlyGet) => only_get(alloc),
+        Ok(ListRequest::Unread) => report_fault(alloc, Fault::Refused(Refusal::Syntax)),
         Err(memory) => Err(memory),
     }
 }
 
-fn read_list(alloc: Global, method: &Method, target: &str) -> Result<ListAsked, Memory>
-    ensures { IfOk result (λ asked. asked ≡ list_asked method.now target.now) }
+fn read_list(alloc: Global, method: &Method, target: &str) -> Result<ListRequest, Memory>
+    ensures { IfOk result (λ asked. asked ≡ list_request method.now target.now) }
 {
     if method.as_str() != "GET" {
-        return Ok(ListAsked::OnlyGet);
+        return Ok(ListRequest::OnlyGet);
     }
     page_at(alloc, target)
 }
 
 #[tactic(auto, unfolding(crate::specs::Lists::page_in))]
-fn page_at(alloc: Global, target: &str) -> Result<ListAsked, Memory>
+fn page_at(alloc: Global, target: &str) -> Result<ListRequest, Memory>
     ensures { IfOk result (λ asked. asked ≡ page_in target.now) }
 {
     let (path, query) = match target.split_once('?') {
         Some((path, query)) => (path, query),
         None => (target, ""),
     };
-    let mut told = Vec::new(alloc);
+    let mut plain_query = Vec::new(alloc);
     if percent_decode(query.as_bytes())
-        .append_to(&mut told)
+        .append_to(&mut plain_query)
         .is_err()
     {
         return Err(Memory);
     }
-    Ok(page_behind(path.as_bytes(), &told))
+    Ok(page_behind(path.as_bytes(), &plain_query))
 }
 
-fn page_behind(path: &[u8], told: &[u8]) -> ListAsked
-    ensures { result ≡ page_told path.now told.now }
+fn page_behind(path: &[u8], plain_query: &[u8]) -> ListRequest
+    ensures { result ≡ page_of_path path.now plain_query.now }
 {
     if !path.starts_with(b"/list/") {
-        return ListAsked::Unread;
+        return ListRequest::Unread;
     }
-    match read_page(&path[b"/list/".len()..], told) {
-        Some(wanted) => ListAsked::Page(wanted),
-        None => ListAsked::Unread,
+    match read_page(&path[b"/list/".len()..], plain_query) {
+        Some(wanted) => ListRequest::Page(wanted),
+        None => ListRequest::Unread,
     }
 }
 
 /// The answer with the rows of a page that are wanted, or why there is none.
 fn answer_page(
     alloc: Global,
-    wanted: &PageAsked,
+    wanted: &PageQuery,
     given: &Result<Page, Fault>,
 ) -> Result<Answered, Memory>
-    ensures { IfOk result (λ answered. told answered ≡ given_told wanted.now given.now) }
+    ensures { IfOk result (λ answered. answer_effects answered ≡ given_page wanted.now given.now) }
 {
     match given {
         Ok(page) => match wanted_text(alloc, wanted, page) {
@@ -108,7 +108,7 @@ fn answer_page(
     }
 }
 
-fn wanted_text(alloc: Global, wanted: &PageAsked, page: &Page) -> Result<Vec<u8>, AllocError>
+fn wanted_text(alloc: Global, wanted: &PageQuery, page: &Page) -> Result<Vec<u8>, AllocError>
     ensures { IfOk result (λ text. text.items ≡ wanted_body wanted.now page.now) }
 {
     let rows = wanted.filter.kept(alloc, &page.rows)?;
@@ -116,7 +116,7 @@ fn wanted_text(alloc: Global, wanted: &PageAsked, page: &Page) -> Result<Vec<u8>
 }
 
 fn report_fault(alloc: Global, fault: Fault) -> Result<Answered, Memory>
-    ensures { IfOk result (λ answered. told answered ≡ fault_told fault) }
+    ensures { IfOk result (λ answered. answer_effects answered ≡ fault_effects fault) }
 {
     Ok(answer_of_fault(json_room(alloc)?, fault))
 }

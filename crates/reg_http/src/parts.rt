@@ -3,11 +3,11 @@
 ghost use Rattle.std.specs.Prelude.{◌≡◌, ℕ, List, IfOk, Some, codes, option_map, option_and_then};
 ghost use Rattle.reg_core.specs.Number.{number_of};
 ghost use Rattle.reg_core.specs.Serial.{serial_of};
-ghost use Rattle.reg_core_lists.specs.Asked.{label_of as label_in};
+ghost use Rattle.reg_core_lists.specs.ListParameters.{label_of as label_in};
 ghost use Rattle.serde_json.specs.Errors.{IsMemory};
 ghost use Rattle.serde_json.specs.View.{view};
-ghost use Rattle.reg_http.specs.Asked.{crl_of, status_of, asked as asked_by, asked_at, asks_revocation, decoded as decoded_in, is_rooted as is_rooted_text, json_of, or_malformed, or_unread, string_at as text_at, wanted as wanted_by, wanted_in as wanted_of};
-ghost use Rattle.reg_http.specs.Parts.{call_asks, part_asks};
+ghost use Rattle.reg_http.specs.RoutedRequests.{crl_of, status_of, asked as asked_by, asked_at, revocation_request, decoded as decoded_in, is_rooted as is_rooted_text, json_of, or_malformed, or_unread, string_at as text_at, wanted as wanted_by, wanted_in as wanted_of};
+ghost use Rattle.reg_http.specs.Parts.{request_of_call, request_of_part};
 
 use crate::paths::{Found, find_route};
 use crate::route::{Route, path_of};
@@ -57,9 +57,9 @@ fn is_rooted(target: &str) -> bool
 }
 
 /// The OCSP request that a path carries: percent-decoded, then base64 (RFC 6960 A.1).
-#[tactic(auto, unfolding(crate::specs::Asked::decoded))]
+#[tactic(auto, unfolding(crate::specs::RoutedRequests::decoded))]
 fn decoded(alloc: Global, text: &[u8]) -> Result<Part, Memory>
-    ensures { IfOk result (λ part. (body : List ℕ) → part_asks body part ≡ or_malformed (decoded_in text.now)) }
+    ensures { IfOk result (λ part. (body : List ℕ) → request_of_part body part ≡ or_malformed (decoded_in text.now)) }
 {
     let mut plain = Vec::new(alloc);
     if percent_decode(text).append_to(&mut plain).is_err() {
@@ -73,7 +73,7 @@ fn decoded(alloc: Global, text: &[u8]) -> Result<Part, Memory>
 }
 
 fn crl_call(text: &[u8]) -> Call
-    ensures { call_asks result ≡ or_unread (λ n. crl_of (Some n)) (number_of text.now) }
+    ensures { request_of_call result ≡ or_unread (λ n. crl_of (Some n)) (number_of text.now) }
 {
     match read_number(text) {
         Some(number) => Call::Crl(Some(number)),
@@ -82,7 +82,7 @@ fn crl_call(text: &[u8]) -> Call
 }
 
 fn status_call(text: &[u8]) -> Call
-    ensures { call_asks result ≡ or_unread status_of (serial_of text.now) }
+    ensures { request_of_call result ≡ or_unread status_of (serial_of text.now) }
 {
     match Serial::read(text) {
         Some(serial) => Call::Status(serial),
@@ -114,9 +114,9 @@ fn word_in(value: &Value) -> Option<Label>
     label_of(string_at(value, "ground")?.as_bytes())
 }
 
-#[tactic(auto, unfolding(crate::specs::Asked::wanted_in))]
+#[tactic(auto, unfolding(crate::specs::RoutedRequests::wanted_in))]
 fn request_in(value: &Value) -> Call
-    ensures { call_asks result ≡ asks_revocation (wanted_of (view value.now)) }
+    ensures { request_of_call result ≡ revocation_request (wanted_of (view value.now)) }
 {
     match serial_in(value) {
         Some(serial) => match word_in(value) {
@@ -127,7 +127,7 @@ fn request_in(value: &Value) -> Call
     }
 }
 
-/// A text that is no JSON can't be read; want of memory is told as such.
+/// A text that is no JSON can't be read; a lack of memory is reported as such.
 fn unread(error: &Error) -> Result<Part, Memory>
     ensures { IfOk result (λ part. ¬ (IsMemory error.now) × (part ≡ Part.Other Call.Unread)) }
 {
@@ -137,9 +137,9 @@ fn unread(error: &Error) -> Result<Part, Memory>
     }
 }
 
-#[tactic(auto, unfolding(crate::specs::Asked::json_of))]
+#[tactic(auto, unfolding(crate::specs::RoutedRequests::json_of))]
 fn request_part(alloc: Global, body: &[u8]) -> Result<Part, Memory>
-    ensures { IfOk result (λ part. (posted : List ℕ) → part_asks posted part ≡ asks_revocation (wanted_by body.now)) }
+    ensures { IfOk result (λ part. (posted : List ℕ) → request_of_part posted part ≡ revocation_request (wanted_by body.now)) }
 {
     let Ok(text) = str::from_utf8(body) else {
         return Ok(Part::Other(Call::Unread));
@@ -151,7 +151,7 @@ fn request_part(alloc: Global, body: &[u8]) -> Result<Part, Memory>
 }
 
 fn part_at(alloc: Global, method: &Method, found: Found<'_>, body: &[u8]) -> Result<Part, Memory>
-    ensures { IfOk result (λ part. part_asks body.now part ≡ asked_at method.now found.entry.route found.entry.rest.now body.now) }
+    ensures { IfOk result (λ part. request_of_part body.now part ≡ asked_at method.now found.entry.route found.entry.rest.now body.now) }
 {
     let is_get = method.as_str() == "GET";
     let is_post = method.as_str() == "POST";
@@ -179,7 +179,7 @@ pub(crate) fn read_part(
     target: &str,
     body: &[u8],
 ) -> Result<Part, Memory>
-    ensures { IfOk result (λ part. part_asks body.now part ≡ asked_by method.now target.now body.now) }
+    ensures { IfOk result (λ part. request_of_part body.now part ≡ asked_by method.now target.now body.now) }
 {
     if !is_rooted(target) {
         return Ok(Part::Other(Call::Refused(status::BAD_REQUEST)));

@@ -4,8 +4,8 @@ ghost use Rattle.std.specs.Prelude.{◌≡◌, ◌≤◌, [], codes, vec_capacit
 ghost use Rattle.reg_http_head.specs.Response.{shown};
 ghost use Rattle.reg_http.specs.Answers.{AnswersIn};
 ghost use Rattle.reg_http.specs.Bodies.{der, malformed_text};
-ghost use Rattle.reg_http.specs.Parts.{call_asks};
-ghost use Rattle.reg_http.specs.Told.{told};
+ghost use Rattle.reg_http.specs.Parts.{request_of_call};
+ghost use Rattle.reg_http.specs.AnswerEffects.{answer_effects};
 
 use crate::answered::{Answered, answer_of_fault, crl_answer, outcome_answer, request_answer};
 use crate::bodies::{OCSP_RESPONSE, der, only, refusal};
@@ -27,7 +27,7 @@ fn malformed(mut room: Vec<u8>) -> Answer
     der(OCSP_RESPONSE, room)
 }
 
-/// Asks the office and tells its answer, in room that was made before, so that no memory is wanted after the call.
+/// Queries the office and answers in room that was made before, so that no memory is needed after the call.
 pub(crate) fn respond<O: Office>(
     alloc: Global,
     room: Vec<u8>,
@@ -37,7 +37,7 @@ pub(crate) fn respond<O: Office>(
 ) -> Answered
     requires empty { room.items ≡ [] }
     requires room { 256 ≤ vec_capacity room }
-    ensures { AnswersIn O.Office now office.old (call_asks call) (told result) office.new }
+    ensures { AnswersIn O.Office now office.old (request_of_call call) (answer_effects result) office.new }
 {
     match call {
         Call::Refused(status) => Answered::plain(refusal(room, status)),

@@ -2,7 +2,7 @@
 
 ghost use Rattle.std.specs.Prelude.{◌≡◌, ◌<◌, IfSome, length};
 ghost use Rattle.std.specs.List.{position};
-ghost use Rattle.reg_http.specs.Asked.{path_of as path_in};
+ghost use Rattle.reg_http.specs.RoutedRequests.{path_of as path_in};
 ghost use Rattle.reg_http.specs.RouteNames.{ends_path as ends_a_path, prefix_to, is_space, named_path, named_route, route_at as route_of_path};
 
 /// A route, whatever stands at the part of the path that it leaves open.
@@ -59,7 +59,7 @@ fn path_in(request: &[u8]) -> &[u8]
     ensures { result.now ≡ named_path request.now }
 {
     match space_in(request) {
-        Some(at) => front_of(&request[at + 1..]),
+        Some(at) => prefix_of_path(&request[at + 1..]),
         None => &request[..0],
     }
 }
@@ -71,7 +71,7 @@ fn space_in(text: &[u8]) -> Option<usize>
     text.iter().position(|byte| *byte == b' ')
 }
 
-fn front_of(text: &[u8]) -> &[u8]
+fn prefix_of_path(text: &[u8]) -> &[u8]
     ensures { result.now ≡ prefix_to text.now }
 {
     match path_end(text) {

@@ -8,10 +8,10 @@ ghost use Rattle.reg_office_api.specs.Responses.{Replies};
 ghost use Rattle.reg_http_head.specs.Response.{shown};
 ghost use Rattle.reg_http.specs.Added.{AddsARequestAtMost};
 ghost use Rattle.reg_http.specs.Answers.{BeginsTo, RespondsTo};
-ghost use Rattle.reg_http.specs.Asked.{asked, serial_asked};
+ghost use Rattle.reg_http.specs.RoutedRequests.{asked, requested_serial};
 ghost use Rattle.reg_http.specs.Bodies.{http_refusal, only as only_response};
-ghost use Rattle.reg_http.specs.Parts.{call_asks};
-ghost use Rattle.reg_http.specs.Told.{fault_told, plain, told};
+ghost use Rattle.reg_http.specs.Parts.{request_of_call};
+ghost use Rattle.reg_http.specs.AnswerEffects.{fault_effects, plain, answer_effects};
 
 use crate::answered::{Answered, answer_of_fault, begun_answer, ocsp_answer};
 use crate::bodies::{json_room, only, refusal};
@@ -25,13 +25,13 @@ use reg_ocsp::Draft;
 use reg_office_api::Office;
 use std::alloc::Global;
 
-/// Answers one request: what its method, its target and its body ask is asked of the office, at most one call. The records gain a request
-/// for revocation at most, and no count changes.
+/// Answers one request, by its method, target and body, with at most one call of the office. It adds at most one request for
+/// revocation to the records, and the replies to `counts` stay the same.
 ///
 /// # Errors
 ///
-/// [`Memory`] where memory is refused before any call of the office, which stays as it is: all that is needed to read the
-/// request and to tell the answer is made first.
+/// [`Memory`] if out of memory before any call of the office, which stays as it is: the memory to read the request and to
+/// write the answer is allocated first.
 pub fn answer<O: Office>(
     alloc: Global,
     method: &Method,
@@ -41,7 +41,7 @@ pub fn answer<O: Office>(
     office: &mut O,
 ) -> Result<Answer, Memory>
     ensures ok { IfOk result (λ answer. Leads O.is_clean O.stands
-        (λ who before after. RespondsTo (Runs O.signs who) Asks (Ocsps O.signs who) Crls now before
+        (λ signatory before after. RespondsTo (Runs O.signs signatory) Asks (Ocsps O.signs signatory) Crls now before
         (asked method.now target.now body.now) (shown answer) after
         × AddsARequestAtMost now before after)
         office.old office.new) }
@@ -55,8 +55,8 @@ pub fn answer<O: Office>(
     }
 }
 
-/// Answers one request as [`answer`] does, with what the answer says of its signature and of the store; or leaves the signature of an OCSP
-/// response to be asked for. Errors are those of [`answer`].
+/// Answers one request as [`answer`] does, and reports whether signing or the store failed; or gives an OCSP response that still needs
+/// its signature. Errors are those of [`answer`].
 pub fn begin<O: Office>(
     alloc: Global,
     method: &Method,
@@ -66,7 +66,7 @@ pub fn begin<O: Office>(
     office: &mut O,
 ) -> Result<Begun<Answered, Draft>, Memory>
     ensures ok { IfOk result (λ begun. Leads O.is_clean O.stands
-        (λ who before after. BeginsTo (Runs O.signs who) Asks (Replies O.signs who) Crls (Drafts who) now before
+        (λ signatory before after. BeginsTo (Runs O.signs signatory) Asks (Replies O.signs signatory) Crls (Drafts signatory) now before
         (asked method.now target.now body.now) begun after
         × AddsARequestAtMost now before after)
         office.old office.new) }
@@ -88,7 +88,7 @@ pub fn serial_of(
     target: &str,
     body: &[u8],
 ) -> Result<Option<Serial>, Memory>
-    ensures { IfOk result (λ serial. serial ≡ serial_asked (asked method.now target.now body.now)) }
+    ensures { IfOk result (λ serial. serial ≡ requested_serial (asked method.now target.now body.now)) }
 {
     let part = read_part(alloc, method, target, body)?;
     match &part {
@@ -98,7 +98,7 @@ pub fn serial_of(
 }
 
 fn serial_in(call: Call) -> Option<Serial>
-    ensures { result ≡ serial_asked (call_asks call) }
+    ensures { result ≡ requested_serial (request_of_call call) }
 {
     let Call::Request { serial, word } = call else {
         return None;
@@ -112,7 +112,7 @@ fn serial_in(call: Call) -> Option<Serial>
 /// The response to a request that met this fault, with its line.
 /// [`Memory`] where memory is refused.
 pub fn report_fault(alloc: Global, fault: Fault) -> Result<Answered, Memory>
-    ensures { IfOk result (λ answered. told answered ≡ fault_told fault) }
+    ensures { IfOk result (λ answered. answer_effects answered ≡ fault_effects fault) }
 {
     Ok(answer_of_fault(json_room(alloc)?, fault))
 }
@@ -120,7 +120,7 @@ pub fn report_fault(alloc: Global, fault: Fault) -> Result<Answered, Memory>
 /// The answer to a request that is refused by this status before the office is asked.
 /// [`Memory`] where memory is refused.
 pub fn refuse(alloc: Global, status: u16) -> Result<Answered, Memory>
-    ensures { IfOk result (λ answered. told answered ≡ plain (http_refusal status)) }
+    ensures { IfOk result (λ answered. answer_effects answered ≡ plain (http_refusal status)) }
 {
     Ok(Answered::plain(refusal(json_room(alloc)?, status)))
 }
@@ -128,7 +128,7 @@ pub fn refuse(alloc: Global, status: u16) -> Result<Answered, Memory>
 /// The answer to another method than GET at a route that has GET alone (RFC 9110 15.5.6).
 /// [`Memory`] where memory is refused.
 pub fn only_get(alloc: Global) -> Result<Answered, Memory>
-    ensures { IfOk result (λ answered. told answered ≡ plain (only_response (codes "GET"))) }
+    ensures { IfOk result (λ answered. answer_effects answered ≡ plain (only_response (codes "GET"))) }
 {
     Ok(Answered::plain(only(json_room(alloc)?, "GET")))
 }

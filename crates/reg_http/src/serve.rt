@@ -31,7 +31,7 @@ fn send<W: Write>(writer: &mut W, room: Vec<u8>, answer: &Answer, now: Moment) -
     write_answer(writer, room, answer, now).map_err(|_| Fault::Write)
 }
 
-/// Writes the constant text that tells want of memory.
+/// Writes the constant text that reports that memory ran out.
 fn send_memory_fault<W: Write>(writer: &mut W) -> Result<(), Fault>
     ensures ok { OnOk result (Appends (W.contents writer.old) (W.contents writer.new) memory_text) }
     ensures err { IfErr result (λ fault. (fault ≡ Fault.Write)
@@ -75,7 +75,7 @@ fn reply<W: Write, O: Office>(
     requires empty { room.items ≡ [] }
     requires room { 512 ≤ vec_capacity room }
     ensures ends { Leads O.is_clean O.stands
-        (λ who before after. ReplyEnds (Runs O.signs who) Asks (Ocsps O.signs who) Crls now before after
+        (λ signatory before after. ReplyEnds (Runs O.signs signatory) Asks (Ocsps O.signs signatory) Crls now before after
         (part_of request) (W.contents writer.old) (W.contents writer.new) result
         × AddsARequestAtMost now before after)
         office.old office.new }
@@ -118,7 +118,7 @@ pub fn serve_one<R: Read, W: Write, O: Office>(
     office: &mut O,
 ) -> Result<(), Fault>
     ensures ends { Leads O.is_clean O.stands
-        (λ who before after. ServingEnds (Runs O.signs who) Asks (Ocsps O.signs who) Crls now before after
+        (λ signatory before after. ServingEnds (Runs O.signs signatory) Asks (Ocsps O.signs signatory) Crls now before after
         (R.remaining reader.old) (R.remaining reader.new) (W.contents writer.old) (W.contents writer.new) result
         × AddsARequestAtMost now before after)
         office.old office.new }

@@ -100,11 +100,11 @@ holds_slices bytes method target it method_is target_is there needs =
 
 -- where a fact that holds bounds a number, it is so bounded
 pub at_most : {P : Type 0} (n m : ℕ) → ∥ P ∥₁ → (P → n ≤ m) → n ≤ m
-at_most n m held bounds =
+at_most n m buffered bounds =
     elim (cases_order n m) [
       | inl same ↦ omega (arith, same)
       | inr (inl less) ↦ omega (arith, less)
-      | inr (inr late) ↦ absurd (not_there held (λ fact. let most = bounds fact in absurd (omega (arith, late, most))))
+      | inr (inr late) ↦ absurd (not_there buffered (λ fact. let most = bounds fact in absurd (omega (arith, late, most))))
     ]
 
 pub exact_of_needs : (bytes : List ℕ) (it : HeadIn) → NeedsBytes bytes it → it.needed ≡ length bytes → IsExact bytes

@@ -10,57 +10,57 @@ use Rattle.reg_http_head.specs.Head.{blank_line, longest_head, IsHead, RefusesHe
 use Rattle.reg_http_head.specs.Frame.{refused, AsksFor, HasHead, IsTooLong, IsUnfinished, Framed}
 
 -- the head stands in what was read, and in what more is read
-pub head_of_more : (held took : List ℕ) (end : ℕ) → HasHead held end → HasHead (held ++ took) end
-head_of_more held took end head = record { within = head.within; ends = first_mark_goes_on blank_line held took end head.ends }
+pub head_of_more : (buffered took : List ℕ) (end : ℕ) → HasHead buffered end → HasHead (buffered ++ took) end
+head_of_more buffered took end head = record { within = head.within; ends = first_mark_goes_on blank_line buffered took end head.ends }
 
-pub take_of_more : (held took : List ℕ) (end : ℕ) → HasHead held end → take end (held ++ took) ≡ take end held
-take_of_more held took end head = take-append-le end held took head.ends.within
+pub take_of_more : (buffered took : List ℕ) (end : ℕ) → HasHead buffered end → take end (buffered ++ took) ≡ take end buffered
+take_of_more buffered took end head = take-append-le end buffered took head.ends.within
 
 -- the bytes from a place on
-pub rest_is : (held : List ℕ) (end : ℕ) → take (length held - end) (drop end held) ≡ drop end held
-rest_is held end =
-    ap (λ (n : ℕ). take n (drop end held)) (sym (length-drop end held)) ∙ take_all (length (drop end held)) (drop end held) (omega arith)
+pub rest_is : (buffered : List ℕ) (end : ℕ) → take (length buffered - end) (drop end buffered) ≡ drop end buffered
+rest_is buffered end =
+    ap (λ (n : ℕ). take n (drop end buffered)) (sym (length-drop end buffered)) ∙ take_all (length (drop end buffered)) (drop end buffered) (omega arith)
 
 -- a head, and the whole of its body
-pub asks_from : (held took body : List ℕ) (end size : ℕ) (h : RequestHead) (method target : List ℕ) → HasHead held end → IsHead (take end held) h
-    → method ≡ h.method → target ≡ h.target → body_size h ≡ Ok size → length body ≡ size → body ≡ take size (take (length held - end) (drop end held) ++ took)
-    → AsksFor (held ++ took) method target body
-asks_from held took body end size h method target head reads method_is target_is size_is long body_is = record {
+pub asks_from : (buffered took body : List ℕ) (end size : ℕ) (h : RequestHead) (method target : List ℕ) → HasHead buffered end → IsHead (take end buffered) h
+    → method ≡ h.method → target ≡ h.target → body_size h ≡ Ok size → length body ≡ size → body ≡ take size (take (length buffered - end) (drop end buffered) ++ took)
+    → AsksFor (buffered ++ took) method target body
+asks_from buffered took body end size h method target head reads method_is target_is size_is long body_is = record {
   end = end;
   head = h;
   within = head.within;
-  ends = first_mark_goes_on blank_line held took end head.ends;
-  reads = (let P : List ℕ → Type 0 = λ bytes. IsHead bytes h in subst P (sym (take_of_more held took end head)) reads);
+  ends = first_mark_goes_on blank_line buffered took end head.ends;
+  reads = (let P : List ℕ → Type 0 = λ bytes. IsHead bytes h in subst P (sym (take_of_more buffered took end head)) reads);
   method_is = method_is;
   target_is = target_is;
   size = (let made : ℕ → Result ℕ ℕ = λ n. Ok n in size_is ∙ ap made (sym long));
   body_is =
       body_is
-      ∙ ap (λ (rest : List ℕ). take size (rest ++ took)) (rest_is held end)
-      ∙ ap (λ (n : ℕ). take n (drop end held ++ took)) (sym long)
-      ∙ ap (take (length body)) (sym (drop-append-le end held took head.ends.within));
+      ∙ ap (λ (rest : List ℕ). take size (rest ++ took)) (rest_is buffered end)
+      ∙ ap (λ (n : ℕ). take n (drop end buffered ++ took)) (sym long)
+      ∙ ap (take (length body)) (sym (drop-append-le end buffered took head.ends.within));
 }
 
 -- a head, and less than the whole of its body
-pub unfinished_from : (held took : List ℕ) (end size : ℕ) (h : RequestHead) → HasHead held end → IsHead (take end held) h
-    → body_size h ≡ Ok size → length (take (length held - end) (drop end held)) + length took < size → IsUnfinished (held ++ took)
-unfinished_from held took end size h head reads size_is short =
+pub unfinished_from : (buffered took : List ℕ) (end size : ℕ) (h : RequestHead) → HasHead buffered end → IsHead (take end buffered) h
+    → body_size h ≡ Ok size → length (take (length buffered - end) (drop end buffered)) + length took < size → IsUnfinished (buffered ++ took)
+unfinished_from buffered took end size h head reads size_is short =
     let P : List ℕ → Type 0 = λ bytes. IsHead bytes h in
     inr (
       end,
       h,
       size,
-      head_of_more held took end head,
-      subst P (sym (take_of_more held took end head)) reads,
+      head_of_more buffered took end head,
+      subst P (sym (take_of_more buffered took end head)) reads,
       size_is,
-      omega (arith, length-append held took, length-drop end held, ap length (rest_is held end), short, head.ends.within),
+      omega (arith, length-append buffered took, length-drop end buffered, ap length (rest_is buffered end), short, head.ends.within),
     )
 
 -- a head that is refused
-pub refused_from : (held : List ℕ) (end status : ℕ) → HasHead held end → RefusesHead (take end held) status → Framed (held ++ []) (refused status)
-refused_from held end status head refuses =
+pub refused_from : (buffered : List ℕ) (end status : ℕ) → HasHead buffered end → RefusesHead (take end buffered) status → Framed (buffered ++ []) (refused status)
+refused_from buffered end status head refuses =
     let P : List ℕ → Type 0 = λ bytes. Framed bytes (refused status) in
-    subst P (sym (append-nil held)) (inr (end, head, refuses))
+    subst P (sym (append-nil buffered)) (inr (end, head, refuses))
 
 module _ (input left : Option (List ℕ)) (before after : List ℕ) where
   -- the bytes that are held at a mark are those that were taken

@@ -97,11 +97,11 @@ fn asked_at(alloc: Global, bytes: &[u8], head: HeadIn) -> Result<RequestRef<'_>,
     ensures ok { IfOk result (λ request. ∥ HoldsRequest bytes.now (part_of_ref request) ∥₁) }
     ensures err { IfErr result (λ fault. fault ≡ Fault.Memory) }
 {
-    let front = &bytes[..head.end];
-    match head.spans.method_in(alloc, front) {
+    let head_bytes = &bytes[..head.end];
+    match head.spans.method_in(alloc, head_bytes) {
         Ok(method) => Ok(RequestRef::Asked {
             method,
-            target: head.spans.target_in(front),
+            target: head.spans.target_in(head_bytes),
             body: &bytes[head.end..head.needed],
         }),
         Err(_) => Err(Fault::Memory),

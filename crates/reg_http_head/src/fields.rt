@@ -1,4 +1,4 @@
-//! The fields of a head that tell the length of its body.
+//! The fields of a head for the length of its body.
 
 ghost use Rattle.std.specs.Prelude.{◌≡◌, ◌++◌, ◌∷◌, [], ℕ, List, codes, length, map, All};
 ghost use Rattle.httparse.specs.Spans.{header_bytes, IsHeaderWithin};

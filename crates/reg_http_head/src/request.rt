@@ -65,7 +65,7 @@ fn read_within<R: Read>(alloc: Global, reader: &mut R, room: &mut [u8]) -> Resul
         (longest_head + longest_body) (IsCutBy fault)) }
 {
     match fill_to_mark(reader, room, 0, BLANK_LINE) {
-        Ok(Reached::Mark { end, held }) => read_rest(alloc, reader, &room[..held], end),
+        Ok(Reached::Mark { end, buffered }) => read_rest(alloc, reader, &room[..buffered], end),
         Ok(Reached::Full) => Ok(Request::Refused(status::HEADERS_TOO_LARGE)),
         Ok(Reached::End { .. }) => Err(Fault::Read),
         Err(_) => Err(Fault::Read),
@@ -75,19 +75,19 @@ fn read_within<R: Read>(alloc: Global, reader: &mut R, room: &mut [u8]) -> Resul
 fn read_rest<R: Read>(
     alloc: Global,
     reader: &mut R,
-    held: &[u8],
+    buffered: &[u8],
     end: usize,
 ) -> Result<Request, Fault>
-    requires head { HasHead held.now end }
-    requires held { length held.now ≤ longest_head }
+    requires head { HasHead buffered.now end }
+    requires buffered { length buffered.now ≤ longest_head }
     ensures ok { IfOk result (λ request. TakesAtMost (R.remaining reader.old) (R.remaining reader.new)
-        longest_body (λ took. Framed (held.now ++ took) (part_of request))) }
+        longest_body (λ took. Framed (buffered.now ++ took) (part_of request))) }
     ensures err { IfErr result (λ fault. TakesAtMost (R.remaining reader.old) (R.remaining reader.new)
-        longest_body (λ took. IsCutBy fault (held.now ++ took))) }
+        longest_body (λ took. IsCutBy fault (buffered.now ++ took))) }
 {
-    match read_head(&held[..end]) {
-        Ok(head) => match read_body(alloc, reader, &held[end..], head.size) {
-            Ok(body) => owned(alloc, &held[..end], head, body),
+    match read_head(&buffered[..end]) {
+        Ok(head) => match read_body(alloc, reader, &buffered[end..], head.size) {
+            Ok(body) => owned(alloc, &buffered[..end], head, body),
             Err(fault) => Err(fault),
         },
         Err(refused) => Ok(Request::Refused(refused)),
@@ -97,33 +97,33 @@ fn read_rest<R: Read>(
 fn read_body<R: Read>(
     alloc: Global,
     reader: &mut R,
-    held: &[u8],
+    buffered: &[u8],
     size: u64,
 ) -> Result<Vec<u8>, Fault>
     requires { size ≤ longest_body }
     ensures ok { IfOk result (λ body. (took : List ℕ)
         × Consumes (R.remaining reader.old) (R.remaining reader.new) took
-        × (length took ≤ size) × (length body.items ≡ size) × (body.items ≡ take size (held.now ++ took))) }
+        × (length took ≤ size) × (length body.items ≡ size) × (body.items ≡ take size (buffered.now ++ took))) }
     ensures err { IfErr result (λ fault. (took : List ℕ)
         × Consumes (R.remaining reader.old) (R.remaining reader.new) took
         × (length took ≤ size)
-        × (((fault ≡ Fault.Read) × (length held.now + length took < size)) ⊎ (fault ≡ Fault.Memory))) }
+        × (((fault ≡ Fault.Read) × (length buffered.now + length took < size)) ⊎ (fault ≡ Fault.Memory))) }
 {
     let mut body = vec![in alloc; 0u8; size as usize].map_err(|_| Fault::Memory)?;
-    fill_body(reader, &mut body, held).map_err(|_| Fault::Read)?;
+    fill_body(reader, &mut body, buffered).map_err(|_| Fault::Read)?;
     Ok(body)
 }
 
-fn fill_body<R: Read>(reader: &mut R, body: &mut [u8], held: &[u8]) -> Result<(), ReadFault>
+fn fill_body<R: Read>(reader: &mut R, body: &mut [u8], buffered: &[u8]) -> Result<(), ReadFault>
     ensures ok { OnOk result ((took : List ℕ)
         × Consumes (R.remaining reader.old) (R.remaining reader.new) took
-        × (length took ≤ length body.old) × (body.new ≡ take (length body.old) (held.now ++ took))) }
+        × (length took ≤ length body.old) × (body.new ≡ take (length body.old) (buffered.now ++ took))) }
     ensures err { OnErr result ((took : List ℕ)
         × Consumes (R.remaining reader.old) (R.remaining reader.new) took
-        × (length held.now + length took < length body.old)) }
+        × (length buffered.now + length took < length body.old)) }
 {
-    let kept = held.len().min(body.len());
-    body[..kept].copy_from_slice(&held[..kept]);
+    let kept = buffered.len().min(body.len());
+    body[..kept].copy_from_slice(&buffered[..kept]);
     fill_whole(reader, body, kept)
 }
 

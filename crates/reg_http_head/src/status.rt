@@ -10,7 +10,7 @@ pub const NOT_FOUND: u16 = 404;
 pub const METHOD_NOT_ALLOWED: u16 = 405;
 /// 409: the register refuses.
 pub const CONFLICT: u16 = 409;
-/// 411: a body's length is not told by Content-Length.
+/// 411: a body's length is not given by Content-Length.
 pub const LENGTH_REQUIRED: u16 = 411;
 /// 413: the body is longer than 65,536 bytes.
 pub const PAYLOAD_TOO_LARGE: u16 = 413;

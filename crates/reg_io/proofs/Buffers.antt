@@ -18,20 +18,20 @@ filled a k n xs ys fits short =
     ∙ ap (λ l. take a xs ++ l) (take-append-le n ys (post_of a k xs) short)
 
 -- before anything is read
-pub fills_start : (input : Option (List ℕ)) (buffer : List ℕ) (held : ℕ) → held ≤ length buffer → Fills input input buffer buffer held []
-fills_start input buffer held fits = record {
+pub fills_start : (input : Option (List ℕ)) (buffer : List ℕ) (buffered : ℕ) → buffered ≤ length buffer → Fills input input buffer buffer buffered []
+fills_start input buffer buffered fits = record {
   consumed = Consumes-nil input;
   within = omega arith;
-  stands = ap (λ n. take n buffer) (add-zero held) ∙ sym (append-nil (take held buffer));
+  stands = ap (λ n. take n buffer) (add-zero buffered) ∙ sym (append-nil (take buffered buffer));
 }
 
 -- one more reading, behind all that is held by then
-pub fills_more : (input middle left : Option (List ℕ)) (before between after : List ℕ) (held now : ℕ) (took more : List ℕ)
-    → Fills input middle before between held took → now ≡ held + length took → Fills middle left between after now more
-    → Fills input left before after held (took ++ more)
-fills_more input middle left before between after held now took more first count next =
+pub fills_more : (input middle left : Option (List ℕ)) (before between after : List ℕ) (buffered now : ℕ) (took more : List ℕ)
+    → Fills input middle before between buffered took → now ≡ buffered + length took → Fills middle left between after now more
+    → Fills input left before after buffered (took ++ more)
+fills_more input middle left before between after buffered now took more first count next =
     let joined : length (took ++ more) ≡ length took + length more = length-append took more in
-    let all : held + length (took ++ more) ≡ now + length more = omega arith in
+    let all : buffered + length (took ++ more) ≡ now + length more = omega arith in
     record {
       consumed = Consumes-trans input middle left took more first.consumed next.consumed;
       within = omega (arith, next.within);
@@ -39,7 +39,7 @@ fills_more input middle left before between after held now took more first count
           ap (λ n. take n after) all ∙ next.stands
           ∙ ap (λ n. take n between ++ more) count
           ∙ ap (λ l. l ++ more) first.stands
-          ∙ append_assoc (take held before) took more;
+          ∙ append_assoc (take buffered before) took more;
     }
 
 -- one read of n bytes into `buf[now..]`, which left ys there
@@ -55,42 +55,42 @@ fills_read input left before ys now k n fits short same room consumed =
     }
 
 -- the fronts of what was held before are what they were
-pub held_stays : (input left : Option (List ℕ)) (before after : List ℕ) (held n : ℕ) (took : List ℕ) → Fills input left before after held took
-    → n ≤ held → held ≤ length before → take n after ≡ take n before
-held_stays input left before after held n took fills below fits =
-    let front : length (take held before) ≡ held = length-take-le held before fits in
-    sym (take-take n (held + length took) after (omega arith))
+pub held_stays : (input left : Option (List ℕ)) (before after : List ℕ) (buffered n : ℕ) (took : List ℕ) → Fills input left before after buffered took
+    → n ≤ buffered → buffered ≤ length before → take n after ≡ take n before
+held_stays input left before after buffered n took fills below fits =
+    let front : length (take buffered before) ≡ buffered = length-take-le buffered before fits in
+    sym (take-take n (buffered + length took) after (omega arith))
     ∙ ap (take n) fills.stands
-    ∙ take-append-le n (take held before) took (omega arith)
-    ∙ take-take n held before below
+    ∙ take-append-le n (take buffered before) took (omega arith)
+    ∙ take-take n buffered before below
 
 -- what a reading has done so far: the first `filled` bytes of the buffer are those that were held and what was taken
-pub record SoFar (input left : Option (List ℕ)) (before after : List ℕ) (held filled : ℕ) : Type 0 where
+pub record SoFar (input left : Option (List ℕ)) (before after : List ℕ) (buffered filled : ℕ) : Type 0 where
   pub took : List ℕ
-  pub fills : Fills input left before after held took
-  pub count : filled ≡ held + length took
+  pub fills : Fills input left before after buffered took
+  pub count : filled ≡ buffered + length took
 
-pub so_far_start : (input : Option (List ℕ)) (buffer : List ℕ) (held : ℕ) → held ≤ length buffer → SoFar input input buffer buffer held held
-so_far_start input buffer held fits = record { took = []; fills = fills_start input buffer held fits; count = sym (add-zero held) }
+pub so_far_start : (input : Option (List ℕ)) (buffer : List ℕ) (buffered : ℕ) → buffered ≤ length buffer → SoFar input input buffer buffer buffered buffered
+so_far_start input buffer buffered fits = record { took = []; fills = fills_start input buffer buffered fits; count = sym (add-zero buffered) }
 
 -- a read of n bytes into `buf[now..]`, which left ys there
-pub so_far_more : (input middle left : Option (List ℕ)) (before between ys : List ℕ) (held now k n : ℕ)
-    → SoFar input middle before between held now → n ≤ length ys → now + length ys ≡ length between → length (put_mid now k between ys) ≡ length between
-    → Consumes middle left (take n ys) → SoFar input left before (put_mid now k between ys) held (now + n)
-so_far_more input middle left before between ys held now k n so_far short room same consumed =
+pub so_far_more : (input middle left : Option (List ℕ)) (before between ys : List ℕ) (buffered now k n : ℕ)
+    → SoFar input middle before between buffered now → n ≤ length ys → now + length ys ≡ length between → length (put_mid now k between ys) ≡ length between
+    → Consumes middle left (take n ys) → SoFar input left before (put_mid now k between ys) buffered (now + n)
+so_far_more input middle left before between ys buffered now k n so_far short room same consumed =
     let read = fills_read middle left between ys now k n (omega arith) short same (omega arith) consumed in
     let count : length (take n ys) ≡ n = length-take-le n ys short in
     record {
       took = so_far.took ++ take n ys;
-      fills = fills_more input middle left before between (put_mid now k between ys) held now so_far.took (take n ys) so_far.fills so_far.count read;
+      fills = fills_more input middle left before between (put_mid now k between ys) buffered now so_far.took (take n ys) so_far.fills so_far.count read;
       count = omega (arith, so_far.count, length-append so_far.took (take n ys));
     }
 
 -- a read that failed, which left ys in `buf[now..]`
-pub so_far_kept : (input middle left : Option (List ℕ)) (before between ys : List ℕ) (held now k : ℕ)
-    → SoFar input middle before between held now → now ≤ length between → length (put_mid now k between ys) ≡ length between
-    → Keeps middle left → SoFar input left before (put_mid now k between ys) held now
-so_far_kept input middle left before between ys held now k so_far fits same keeps = record {
+pub so_far_kept : (input middle left : Option (List ℕ)) (before between ys : List ℕ) (buffered now k : ℕ)
+    → SoFar input middle before between buffered now → now ≤ length between → length (put_mid now k between ys) ≡ length between
+    → Keeps middle left → SoFar input left before (put_mid now k between ys) buffered now
+so_far_kept input middle left before between ys buffered now k so_far fits same keeps = record {
   took = so_far.took;
   fills = record {
     consumed = Consumes-kept input middle left so_far.took so_far.fills.consumed keeps;

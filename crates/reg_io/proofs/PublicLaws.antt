@@ -1,5 +1,5 @@
 -- The laws, for proofs above: they cite these alone. Each is stated in specs/, and is what a function of `laws` ensures.
-use Rattle.reg_io.specs.Fill.{HoldsWhatCame, PartsAtMark}
+use Rattle.reg_io.specs.Fill.{KeepsWhatWasTaken, PartsAtMark}
 use Rattle.reg_io.specs.Mark.{OneFirstMark, FirstMarkGoesOn, FirstMarkInPrefix, NoMarkInPrefix, FirstMarkOfByte, NoMarkOfByte}
 use Rattle.reg_io.specs.Put.{PrefixOfFirst, PrefixOfSecond}
 use Rattle.reg_io.specs.RunsOfAnswers.{RunsGoOn, RunsStepOn}
@@ -26,7 +26,7 @@ byte_first = marks.byte_first
 pub no_byte : NoMarkOfByte
 no_byte = marks.no_byte
 
-pub held_now : HoldsWhatCame
+pub held_now : KeepsWhatWasTaken
 held_now = searches.held_now
 
 pub cut_at_mark : PartsAtMark

@@ -7,7 +7,7 @@ use Rattle.std.proofs.lemmas.Slice.{take-put_mid_below}
 use borrow.Rule.Slice.PartMut.{put_mid}
 use Rattle.reg_io.specs.declared.fill.Reached.{Reached}
 use Rattle.reg_io.specs.declared.fill.Reached.TheVariants.{Mark, Full, End}
-use Rattle.reg_io.specs.Fill.{FillsShort, FillsTo, held_of}
+use Rattle.reg_io.specs.Fill.{FillsShort, FillsTo, kept_of_reading}
 use Rattle.reg_io.specs.Mark.{EndsWith, HasNoMark}
 use Rattle.reg_io.proofs.Buffers.{SoFar, held_stays, so_far_kept, so_far_more}
 use Rattle.reg_io.proofs.Marks.{no_mark_of_fronts, nothing_ends}
@@ -28,15 +28,15 @@ unmarked_read mark between ys now k fits none n below ends =
     none n below (ends.0, sym (take-put_mid_below now k between ys n below fits) ∙ ends.1)
 
 -- what was held at the start had no mark either
-pub unmarked_before : (mark : List ℕ) (input left : Option (List ℕ)) (before after : List ℕ) (held filled : ℕ)
-    → SoFar input left before after held filled → held ≤ length before → Unmarked mark after filled → Unmarked mark before held
-unmarked_before mark input left before after held filled so_far fits none n below ends =
-    none n (omega (arith, so_far.count)) (ends.0, held_stays input left before after held n so_far.took so_far.fills below fits ∙ ends.1)
+pub unmarked_before : (mark : List ℕ) (input left : Option (List ℕ)) (before after : List ℕ) (buffered filled : ℕ)
+    → SoFar input left before after buffered filled → buffered ≤ length before → Unmarked mark after filled → Unmarked mark before buffered
+unmarked_before mark input left before after buffered filled so_far fits none n below ends =
+    none n (omega (arith, so_far.count)) (ends.0, held_stays input left before after buffered n so_far.took so_far.fills below fits ∙ ends.1)
 
 -- the buffer is full and has no mark
-pub rests_full : (mark : List ℕ) (input left : Option (List ℕ)) (before after : List ℕ) (held filled : ℕ)
-    → SoFar input left before after held filled → filled ≡ length after → Unmarked mark after filled → FillsTo mark input left before after held Full
-rests_full mark input left before after held filled so_far full none = record {
+pub rests_full : (mark : List ℕ) (input left : Option (List ℕ)) (before after : List ℕ) (buffered filled : ℕ)
+    → SoFar input left before after buffered filled → filled ≡ length after → Unmarked mark after filled → FillsTo mark input left before after buffered Full
+rests_full mark input left before after buffered filled so_far full none = record {
   took = so_far.took;
   fills = so_far.fills;
   count = omega (arith, so_far.count);
@@ -44,14 +44,14 @@ rests_full mark input left before after held filled so_far full none = record {
 }
 
 -- the reader gave no more: it was asked for some bytes, and gave none
-pub rests_end : (mark : List ℕ) (input middle left : Option (List ℕ)) (before between ys : List ℕ) (held filled k n : ℕ)
-    → SoFar input middle before between held filled → filled < length between → filled + length ys ≡ length between
+pub rests_end : (mark : List ℕ) (input middle left : Option (List ℕ)) (before between ys : List ℕ) (buffered filled k n : ℕ)
+    → SoFar input middle before between buffered filled → filled < length between → filled + length ys ≡ length between
     → length (put_mid filled k between ys) ≡ length between → Unmarked mark between filled
     → n ≡ 0 → Consumes middle left (take n ys) × (n ≡ 0 → 0 < length ys → IsAtEnd left)
-    → FillsTo mark input left before (put_mid filled k between ys) held (End filled)
-rests_end mark input middle left before between ys held filled k n so_far room whole same none nothing gave =
+    → FillsTo mark input left before (put_mid filled k between ys) buffered (End filled)
+rests_end mark input middle left before between ys buffered filled k n so_far room whole same none nothing gave =
     let consumed = subst (λ m. Consumes middle left (take m ys)) nothing gave.0 in
-    let more = so_far_more input middle left before between ys held filled k 0 so_far (omega arith) whole same consumed in
+    let more = so_far_more input middle left before between ys buffered filled k 0 so_far (omega arith) whole same consumed in
     record {
       took = more.took;
       fills = more.fills;
@@ -60,12 +60,12 @@ rests_end mark input middle left before between ys held filled k n so_far room w
     }
 
 -- the reader failed
-pub breaks_off : (mark : List ℕ) (input middle left : Option (List ℕ)) (before between ys : List ℕ) (held filled k : ℕ)
-    → SoFar input middle before between held filled → filled < length between
+pub breaks_off : (mark : List ℕ) (input middle left : Option (List ℕ)) (before between ys : List ℕ) (buffered filled k : ℕ)
+    → SoFar input middle before between buffered filled → filled < length between
     → length (put_mid filled k between ys) ≡ length between → Unmarked mark between filled
-    → Keeps middle left → FillsShort mark input left before (put_mid filled k between ys) held
-breaks_off mark input middle left before between ys held filled k so_far room same none keeps =
-    let kept = so_far_kept input middle left before between ys held filled k so_far (omega arith) same keeps in
+    → Keeps middle left → FillsShort mark input left before (put_mid filled k between ys) buffered
+breaks_off mark input middle left before between ys buffered filled k so_far room same none keeps =
+    let kept = so_far_kept input middle left before between ys buffered filled k so_far (omega arith) same keeps in
     record {
       took = kept.took;
       fills = kept.fills;
@@ -77,14 +77,14 @@ breaks_off mark input middle left before between ys held filled k so_far room sa
 -- ---- for those who read up to a mark
 
 -- what is held where the reading came to rest
-pub held_now : (mark : List ℕ) (input left : Option (List ℕ)) (before after : List ℕ) (held : ℕ) (reached : Reached)
-    → (to : FillsTo mark input left before after held reached) → take (held_of (length after) reached) after ≡ take held before ++ to.took
-held_now mark input left before after held reached to = ap (λ n. take n after) to.count ∙ to.fills.stands
+pub held_now : (mark : List ℕ) (input left : Option (List ℕ)) (before after : List ℕ) (buffered : ℕ) (reached : Reached)
+    → (to : FillsTo mark input left before after buffered reached) → take (kept_of_reading (length after) reached) after ≡ take buffered before ++ to.took
+held_now mark input left before after buffered reached to = ap (λ n. take n after) to.count ∙ to.fills.stands
 
 -- at a mark: the bytes up to its end, and those that are held behind it
-pub cut_at_mark : (mark : List ℕ) (input left : Option (List ℕ)) (before after : List ℕ) (held end now : ℕ)
-    → (to : FillsTo mark input left before after held (Mark end now)) → take held before ++ to.took ≡ take end after ++ drop end (take now after)
-cut_at_mark mark input left before after held end now to =
-    sym (held_now mark input left before after held (Mark end now) to)
+pub cut_at_mark : (mark : List ℕ) (input left : Option (List ℕ)) (before after : List ℕ) (buffered end now : ℕ)
+    → (to : FillsTo mark input left before after buffered (Mark end now)) → take buffered before ++ to.took ≡ take end after ++ drop end (take now after)
+cut_at_mark mark input left before after buffered end now to =
+    sym (held_now mark input left before after buffered (Mark end now) to)
     ∙ sym (take-append-drop end (take now after))
     ∙ ap (λ l. l ++ drop end (take now after)) (take-take end now after to.rests.0)

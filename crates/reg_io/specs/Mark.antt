@@ -4,7 +4,7 @@ use Rattle.std.specs.List.{All}
 
 -- the bytes end with the mark
 abbrev pub EndsWith : List ℕ → List ℕ → Type 0
-EndsWith bytes mark = (front : List ℕ) × (bytes ≡ front ++ mark)
+EndsWith bytes mark = (prefix : List ℕ) × (bytes ≡ prefix ++ mark)
 
 -- no mark is in the bytes: none of their fronts ends with it
 abbrev pub HasNoMark : List ℕ → List ℕ → Type 0
@@ -39,7 +39,7 @@ NoMarkInPrefix =
 abbrev pub FirstMarkOfByte : Type 0
 FirstMarkOfByte =
     (byte : ℕ) (bytes : List ℕ) (end : ℕ) → FirstMark (byte ∷ []) bytes end
-    → (front : List ℕ) × (take end bytes ≡ front ++ byte ∷ []) × All (λ b. b ≢ byte) front
+    → (prefix : List ℕ) × (take end bytes ≡ prefix ++ byte ∷ []) × All (λ b. b ≢ byte) prefix
 
 -- where a mark of one byte is not in the bytes, none of them is that byte
 abbrev pub NoMarkOfByte : Type 0

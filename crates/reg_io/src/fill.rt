@@ -14,58 +14,61 @@ pub struct ReadFault;
 /// Where a reading up to a mark came to rest, with so many held bytes at the front of the buffer.
 #[derive(Clone, Copy, PartialEq, Eq)]
 pub enum Reached {
-    Mark { end: usize, held: usize },
+    Mark { end: usize, buffered: usize },
     Full,
-    End { held: usize },
+    End { buffered: usize },
 }
 
-/// Reads on behind the first `held` bytes of `buf` until the held bytes contain the mark or fill the buffer, or the reader is at its end.
+/// Reads on behind the first `buffered` bytes of `buf` until the held bytes contain the mark or fill the buffer, or the reader is at its end.
 /// [`ReadFault`] at the first read that fails, of whatever kind.
 pub fn fill_to_mark<R: Read>(
     reader: &mut R,
     buf: &mut [u8],
-    held: usize,
+    buffered: usize,
     mark: &[u8],
 ) -> Result<Reached, ReadFault>
-    requires held_fits { held ≤ length buf.old }
+    requires buffered_fits { buffered ≤ length buf.old }
     requires mark_is_there { 0 < length mark.now }
     ensures ok { IfOk result (FillsTo mark.now
-        (R.remaining reader.old) (R.remaining reader.new) buf.old buf.new held) }
+        (R.remaining reader.old) (R.remaining reader.new) buf.old buf.new buffered) }
     ensures err { OnErr result (FillsShort mark.now
-        (R.remaining reader.old) (R.remaining reader.new) buf.old buf.new held) }
+        (R.remaining reader.old) (R.remaining reader.new) buf.old buf.new buffered) }
 
     // Where a mark is held already, or there is no room, nothing is read.
-    ensures marked { (end : ℕ) → end ≤ held → EndsWith (take end buf.old) mark.now
+    ensures marked { (end : ℕ) → end ≤ buffered → EndsWith (take end buf.old) mark.now
         → (reader.new ≡ reader.old) × (buf.new ≡ buf.old) }
-    ensures no_room { held ≡ length buf.old → (reader.new ≡ reader.old) × (buf.new ≡ buf.old) }
+    ensures no_room { buffered ≡ length buf.old → (reader.new ≡ reader.old) × (buf.new ≡ buf.old) }
 {
-    let mut filled = held;
+    let mut filled = buffered;
     let mut searched: usize = 0;
     'reading: loop {
         if let Some(end) = first_mark(buf, filled, mark, searched) {
-            return Ok(Reached::Mark { end, held: filled });
+            return Ok(Reached::Mark {
+                end,
+                buffered: filled,
+            });
         }
         if filled == buf.len() {
             return Ok(Reached::Full);
         }
         searched = filled;
         match reader.read(&mut buf[filled..]) {
-            Ok(0) => return Ok(Reached::End { held: filled }),
+            Ok(0) => return Ok(Reached::End { buffered: filled }),
             Ok(count) => filled += count,
             Err(_) => return Err(ReadFault),
         }
     }
 }
 
-/// Where the first mark ends among the first `held` bytes, none of whose first `searched` ends one.
-pub fn first_mark(buf: &[u8], held: usize, mark: &[u8], searched: usize) -> Option<usize>
-    requires held_fits { held ≤ length buf.now }
+/// Where the first mark ends among the first `buffered` bytes, none of whose first `searched` ends one.
+pub fn first_mark(buf: &[u8], buffered: usize, mark: &[u8], searched: usize) -> Option<usize>
+    requires buffered_fits { buffered ≤ length buf.now }
     requires none_before { (n : ℕ) → n ≤ searched → ¬ EndsWith (take n buf.now) mark.now }
     ensures { MatchOption result
-        ((n : ℕ) → n ≤ held → ¬ EndsWith (take n buf.now) mark.now)
-        (λ end. (end ≤ held) × FirstMark mark.now buf.now end) }
+        ((n : ℕ) → n ≤ buffered → ¬ EndsWith (take n buf.now) mark.now)
+        (λ end. (end ≤ buffered) × FirstMark mark.now buf.now end) }
 {
-    for end in searched..held {
+    for end in searched..buffered {
         if buf[..end + 1].ends_with(mark) {
             return Some(end + 1);
         }
@@ -73,19 +76,19 @@ pub fn first_mark(buf: &[u8], held: usize, mark: &[u8], searched: usize) -> Opti
     None
 }
 
-/// Reads on behind the first `held` bytes of `buf` until the buffer is full. [`ReadFault`] at the first read that fails, of whatever kind,
+/// Reads on behind the first `buffered` bytes of `buf` until the buffer is full. [`ReadFault`] at the first read that fails, of whatever kind,
 /// and where the reader ends before.
-pub fn fill_whole<R: Read>(reader: &mut R, buf: &mut [u8], held: usize) -> Result<(), ReadFault>
-    requires { held ≤ length buf.old }
+pub fn fill_whole<R: Read>(reader: &mut R, buf: &mut [u8], buffered: usize) -> Result<(), ReadFault>
+    requires { buffered ≤ length buf.old }
     ensures ok { OnOk result ((took : List ℕ)
         × Consumes (R.remaining reader.old) (R.remaining reader.new) took
-        × (buf.new ≡ take held buf.old ++ took)) }
+        × (buf.new ≡ take buffered buf.old ++ took)) }
     ensures err { OnErr result ((took : List ℕ)
-        × Fills (R.remaining reader.old) (R.remaining reader.new) buf.old buf.new held took
-        × (held + length took < length buf.new)) }
-    ensures no_room { held ≡ length buf.old → (reader.new ≡ reader.old) × (buf.new ≡ buf.old) }
+        × Fills (R.remaining reader.old) (R.remaining reader.new) buf.old buf.new buffered took
+        × (buffered + length took < length buf.new)) }
+    ensures no_room { buffered ≡ length buf.old → (reader.new ≡ reader.old) × (buf.new ≡ buf.old) }
 {
-    let mut filled = held;
+    let mut filled = buffered;
     while filled < buf.len() {
         match reader.read(&mut buf[filled..]) {
             Ok(0) | Err(_) => return Err(ReadFault),

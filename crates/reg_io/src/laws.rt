@@ -1,6 +1,6 @@
 //! The functions do nothing: their contracts are laws, which proofs above cite by `proofs/PublicLaws.antt`.
 
-ghost use Rattle.reg_io.specs.Fill.{HoldsWhatCame, PartsAtMark};
+ghost use Rattle.reg_io.specs.Fill.{KeepsWhatWasTaken, PartsAtMark};
 ghost use Rattle.reg_io.specs.Mark.{OneFirstMark, FirstMarkGoesOn, FirstMarkInPrefix, NoMarkInPrefix, FirstMarkOfByte, NoMarkOfByte};
 ghost use Rattle.reg_io.specs.Put.{PrefixOfFirst, PrefixOfSecond};
 ghost use Rattle.reg_io.specs.RunsOfAnswers.{RunsGoOn, RunsStepOn};
@@ -20,8 +20,8 @@ pub fn marks_of_one_byte()
 {}
 
 /// Where a reading came to rest, the bytes are held that were held before and that it took, and no others.
-pub fn held_is_what_came()
-    ensures all { HoldsWhatCame }
+pub fn kept_is_what_was_taken()
+    ensures all { KeepsWhatWasTaken }
     ensures parts { PartsAtMark }
 {}
 

@@ -12,19 +12,19 @@ use Rattle.reg_core.specs.declared.refusal.Fault.{Fault}
 use Rattle.reg_core.specs.declared.refusal.Fault.TheVariants.{Refused}
 use Rattle.reg_core.specs.declared.refusal.Refusal.{Refusal}
 use Rattle.reg_core.specs.declared.refusal.Refusal.TheVariants as refused
-use Rattle.reg_lines.specs.Accepted.{IsAccepted, TellsWhy}
-use Rattle.reg_lines.specs.Answer.{ComesTo, IsAsked, IsReplyOf, LineComesTo, TellsGiven, accepts, refused_of, reply_of}
+use Rattle.reg_lines.specs.Accepted.{IsAccepted, GivesReason}
+use Rattle.reg_lines.specs.Answer.{ComesTo, OfficeAnswers, IsReplyOf, LineComesTo, OcspLineComesTo, accepts, refused_of, reply_of}
 use Rattle.reg_lines.specs.ByCalls.{Call}
-use Rattle.reg_lines.specs.Meaning.{Meaning, tells, asks, asks_ocsp}
+use Rattle.reg_lines.specs.Meaning.{Meaning, means_command, means_query, is_ocsp_line}
 use Rattle.reg_lines.specs.Replies.{line_of_status, listing_by, listing_line, next_crl_line, outcome_line, overdue_line, reply_line, with_lf, counts_line}
 use Rattle.reg_lines.specs.declared.answered.OcspReply.{OcspReply}
 use Rattle.reg_lines.specs.declared.answered.Answered.{Answered}
 use Rattle.reg_lines.specs.declared.answered.Answered.TheVariants.{CameTo, Response}
-use Rattle.reg_lines.specs.declared.answered.Asked.{Asked}
-use Rattle.reg_lines.specs.declared.answered.Asked.TheVariants.{Nothing, Command, Query}
+use Rattle.reg_lines.specs.declared.answered.LineKind.{LineKind}
+use Rattle.reg_lines.specs.declared.answered.LineKind.TheVariants.{Nothing, Command, Query}
 
 -- where a command was refused, the reply tells why
-pub told_why : (answered : Answered) → TellsWhy (refused_of answered) (reply_of answered)
+pub told_why : (answered : Answered) → GivesReason (refused_of answered) (reply_of answered)
 unfolding outcome_line fault_line
 told_why (CameTo (Command command) (Err (Refused why))) = refl
 told_why (CameTo (Command command) (Err other)) = tt
@@ -85,7 +85,7 @@ reply_begins other = lit< tt
 abbrev Agrees : Answered → Type 0
 Agrees answered = IsTrue (accepts answered) ↔ IsAccepted (reply_of answered)
 
-pub outcome_agrees : (what : Asked) (outcome : Result Reply Fault) → Agrees (CameTo what outcome)
+pub outcome_agrees : (what : LineKind) (outcome : Result Reply Fault) → Agrees (CameTo what outcome)
 outcome_agrees what (Ok reply) = ((λ accepted. later_accepted _ (reply_begins reply)), (λ accepted. refl))
 outcome_agrees what (Err fault) = ((λ accepted. absurd (false≢true accepted)), (λ accepted. absurd (first_refused _ (fault_begins fault) accepted)))
 
@@ -94,16 +94,16 @@ unfolding with_lf
 response_agrees response reply is =
     ((λ accepted. subst IsAccepted (sym is.line) (later_accepted (with_lf (codes "ocsp " ++ encode_lower response)) (lit< tt))), (λ accepted. refl))
 
-given_agrees : (given : Result (List ℕ) NoMemory) (answered : Answered) → TellsGiven given answered → Agrees answered
+given_agrees : (given : Result (List ℕ) NoMemory) (answered : Answered) → OcspLineComesTo given answered → Agrees answered
 given_agrees given (CameTo what outcome) told = outcome_agrees what outcome
 given_agrees (Ok response) (Response reply) told = response_agrees response reply told
 given_agrees (Err memory) (Response reply) told = absurd told
 
 module _ {S : Type 0} (answers : S → ℕ → Call → S → Type 0) where
-  asked_agrees : (now : ℕ) (s : S) (meaning : Meaning) (answered : Answered) (t : S) → IsAsked answers now s meaning answered t → Agrees answered
-  asked_agrees now s (tells command) answered t (outcome, did, is) = subst Agrees (sym is) (outcome_agrees (Command command) outcome)
-  asked_agrees now s (asks query) answered t (outcome, did, is) = subst Agrees (sym is) (outcome_agrees (Query query) outcome)
-  asked_agrees now s (asks_ocsp request) answered t (given, did, told) = given_agrees given answered told
+  asked_agrees : (now : ℕ) (s : S) (meaning : Meaning) (answered : Answered) (t : S) → OfficeAnswers answers now s meaning answered t → Agrees answered
+  asked_agrees now s (means_command command) answered t (outcome, did, is) = subst Agrees (sym is) (outcome_agrees (Command command) outcome)
+  asked_agrees now s (means_query query) answered t (outcome, did, is) = subst Agrees (sym is) (outcome_agrees (Query query) outcome)
+  asked_agrees now s (is_ocsp_line request) answered t (given, did, told) = given_agrees given answered told
 
   comes_agrees : (now : ℕ) (s : S) (line : List ℕ) (answered : Answered) (t : S) → ComesTo answers now s line answered t → Agrees answered
   comes_agrees now s line answered t (inl (meaning, means, did)) = asked_agrees now s meaning answered t did

@@ -3,7 +3,7 @@ use Rattle.std.proofs.Common.{◌≡◌, ◌≢◌, ◌==◌, ℕ, suc, ◌+◌,
 use Rattle.std.specs.List.{position_or_len}
 use Rattle.std.proofs.lemmas.List.{take_rest}
 use Rattle.std.proofs.lemmas.Bool.{ltb-true, ltb-false}
-use Rattle.reg_lines.specs.Fields.{fields_of, in_prefix, fields_left}
+use Rattle.reg_lines.specs.Fields.{fields_of, in_prefix, fields_after}
 
 abbrev is_space : ℕ → Bool
 is_space byte = byte == 32
@@ -80,7 +80,7 @@ fields_uncut text found = uncut_by text _ refl found
 
 -- what is left, as a test of it
 pub left_tested : (rest : Option (Bor (List ℕ))) (left : List (List ℕ)) (r : Bool)
-    → fields_left (option_map (λ x. x.now) rest) ≡ left → is_some rest ≡ not r → (IsTrue r → left ≡ []) × (left ≡ [] → IsTrue r)
+    → fields_after (option_map (λ x. x.now) rest) ≡ left → is_some rest ≡ not r → (IsTrue r → left ≡ []) × (left ≡ [] → IsTrue r)
 left_tested None left true shown tested = (λ _. sym shown, λ _. refl)
 left_tested None left false shown tested = cc
 left_tested (Some text) left true shown tested = cc
@@ -88,14 +88,14 @@ left_tested (Some text) left false shown tested = (λ e. cc e, λ e. absurd (fie
 
 -- the field up to the first space, and those behind it
 pub left_cut : (rest : Option (Bor (List ℕ))) (left : List (List ℕ)) (text : Bor (List ℕ)) (n : ℕ)
-    → fields_left (option_map (λ x. x.now) rest) ≡ left → rest ≡ Some text → Some n ≡ position is_space text.now
+    → fields_after (option_map (λ x. x.now) rest) ≡ left → rest ≡ Some text → Some n ≡ position is_space text.now
     → left ≡ take n text.now ∷ fields_of (take (length text.now - (n + 1)) (drop (n + 1) text.now))
 left_cut rest left text n shown is found =
-    sym shown ∙ ap (λ o. fields_left (option_map (λ x. x.now) o)) is ∙ fields_cut_at text.now n found
+    sym shown ∙ ap (λ o. fields_after (option_map (λ x. x.now) o)) is ∙ fields_cut_at text.now n found
     ∙ ap (λ l. take n text.now ∷ fields_of l) (sym (take_rest text.now (n + 1)))
 
 -- the last field
 pub left_uncut : (rest : Option (Bor (List ℕ))) (left : List (List ℕ)) (text : Bor (List ℕ))
-    → fields_left (option_map (λ x. x.now) rest) ≡ left → rest ≡ Some text → None ≡ position is_space text.now → left ≡ text.now ∷ []
+    → fields_after (option_map (λ x. x.now) rest) ≡ left → rest ≡ Some text → None ≡ position is_space text.now → left ≡ text.now ∷ []
 left_uncut rest left text shown is found =
-    sym shown ∙ ap (λ o. fields_left (option_map (λ x. x.now) o)) is ∙ fields_uncut text.now found
+    sym shown ∙ ap (λ o. fields_after (option_map (λ x. x.now) o)) is ∙ fields_uncut text.now found

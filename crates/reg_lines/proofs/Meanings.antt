@@ -11,7 +11,7 @@ use Rattle.reg_core.specs.declared.command.Command.TheVariants.{Subscriber, Orde
 use Rattle.reg_core.specs.declared.command.Query.{Query}
 use Rattle.reg_core.specs.declared.command.Query.TheVariants.{Status, Counts, Listing, Overdue, NextCrl}
 use Rattle.reg_lines.specs.Fields.{fields_of}
-use Rattle.reg_lines.specs.Meaning.{Meaning, tells, asks, asks_ocsp, IsUnreadable, LineMeans, OneMeaning, SpellsCommand, SpellsOcsp, SpellsQuery, SpellsRegister, meaning_of}
+use Rattle.reg_lines.specs.Meaning.{Meaning, means_command, means_query, is_ocsp_line, IsUnreadable, LineMeans, OneMeaning, SpellsCommand, SpellsOcsp, SpellsQuery, SpellsRegister, meaning_of}
 use Rattle.reg_lines.specs.LineReading.{alone, asked_by, four, hex_of, label_field, number_alone, ocsp_of, one, order_of, register_by, register_of, request_of, revoking_by, said_by, said_of, serial_alone, subscriber_of, two}
 use Rattle.reg_lines.specs.declared.line.CommandLine.{CommandLine}
 use Rattle.reg_lines.proofs.Readings.{hex_of-is, hex_of-some, label_of-is, label_of-some}
@@ -157,9 +157,9 @@ ocsp_spelled fields bytes e =
 
 -- what fields say
 abbrev Says : List (List ℕ) → Meaning → Type 0
-Says fields (tells command) = SpellsCommand command fields
-Says fields (asks query) = SpellsQuery query fields
-Says fields (asks_ocsp bytes) = SpellsOcsp bytes fields
+Says fields (means_command command) = SpellsCommand command fields
+Says fields (means_query query) = SpellsQuery query fields
+Says fields (is_ocsp_line bytes) = SpellsOcsp bytes fields
 
 -- one word more: what is read where it is this one, and where it is another
 word_or : {A : Type 0} (make : A → Meaning) (word text : List ℕ) (fields : List (List ℕ)) (o : Option A) (y : Option Meaning) (v : Meaning)
@@ -184,27 +184,27 @@ lone Spells text value fields spelled v e =
 asked_spelled : (word : List ℕ) (fields : List (List ℕ)) (v : Meaning) → asked_by word fields ≡ Some v → Says (word ∷ fields) v
 unfolding asked_by
 asked_spelled word fields v =
-    word_or asks word (codes "status") fields (option_map Status (serial_alone fields)) _ v (λ q e. status_spelled fields q e)
-    (word_or asks word (codes "counts") fields (alone Counts fields) _ v (λ q e. lone SpellsQuery (codes "counts") Counts fields refl q e)
-    (word_or asks word (codes "listing") fields (option_map Listing (serial_alone fields)) _ v (λ q e. listing_spelled fields q e)
-    (word_or asks word (codes "overdue") fields (alone Overdue fields) _ v (λ q e. lone SpellsQuery (codes "overdue") Overdue fields refl q e)
-    (word_or asks word (codes "next-crl") fields (alone NextCrl fields) _ v (λ q e. lone SpellsQuery (codes "next-crl") NextCrl fields refl q e)
-    (word_or asks_ocsp word (codes "ocsp") fields (ocsp_of fields) None v (λ bytes e. ocsp_spelled fields bytes e) (λ none. absurd (cc none)))))))
+    word_or means_query word (codes "status") fields (option_map Status (serial_alone fields)) _ v (λ q e. status_spelled fields q e)
+    (word_or means_query word (codes "counts") fields (alone Counts fields) _ v (λ q e. lone SpellsQuery (codes "counts") Counts fields refl q e)
+    (word_or means_query word (codes "listing") fields (option_map Listing (serial_alone fields)) _ v (λ q e. listing_spelled fields q e)
+    (word_or means_query word (codes "overdue") fields (alone Overdue fields) _ v (λ q e. lone SpellsQuery (codes "overdue") Overdue fields refl q e)
+    (word_or means_query word (codes "next-crl") fields (alone NextCrl fields) _ v (λ q e. lone SpellsQuery (codes "next-crl") NextCrl fields refl q e)
+    (word_or is_ocsp_line word (codes "ocsp") fields (ocsp_of fields) None v (λ bytes e. ocsp_spelled fields bytes e) (λ none. absurd (cc none)))))))
 
 revoking_spelled : (word : List ℕ) (fields : List (List ℕ)) (v : Meaning) → revoking_by word fields ≡ Some v → Says (word ∷ fields) v
 unfolding revoking_by
 revoking_spelled word fields v =
-    word_or tells word (codes "request") fields (request_of fields) _ v (λ c e. request_spelled fields c e)
-    (word_or tells word (codes "decline") fields (option_map Decline (number_alone fields)) _ v (λ c e. decline_spelled fields c e)
-    (word_or tells word (codes "revoke") fields (option_map Revoke (number_alone fields)) _ v (λ c e. revoke_spelled fields c e)
-    (word_or tells word (codes "crl") fields (alone Crl fields) (asked_by word fields) v (λ c e. lone SpellsCommand (codes "crl") Crl fields refl c e) (asked_spelled word fields v))))
+    word_or means_command word (codes "request") fields (request_of fields) _ v (λ c e. request_spelled fields c e)
+    (word_or means_command word (codes "decline") fields (option_map Decline (number_alone fields)) _ v (λ c e. decline_spelled fields c e)
+    (word_or means_command word (codes "revoke") fields (option_map Revoke (number_alone fields)) _ v (λ c e. revoke_spelled fields c e)
+    (word_or means_command word (codes "crl") fields (alone Crl fields) (asked_by word fields) v (λ c e. lone SpellsCommand (codes "crl") Crl fields refl c e) (asked_spelled word fields v))))
 
 said_spelled : (word : List ℕ) (fields : List (List ℕ)) (v : Meaning) → said_by word fields ≡ Some v → Says (word ∷ fields) v
 unfolding said_by
 said_spelled word fields v =
-    word_or tells word (codes "subscriber") fields (subscriber_of fields) _ v (λ c e. subscriber_spelled fields c e)
-    (word_or tells word (codes "order") fields (order_of fields) _ v (λ c e. order_spelled fields c e)
-    (word_or tells word (codes "register") fields (register_of fields) (revoking_by word fields) v (λ c e. register_spelled fields c e) (revoking_spelled word fields v)))
+    word_or means_command word (codes "subscriber") fields (subscriber_of fields) _ v (λ c e. subscriber_spelled fields c e)
+    (word_or means_command word (codes "order") fields (order_of fields) _ v (λ c e. order_spelled fields c e)
+    (word_or means_command word (codes "register") fields (register_of fields) (revoking_by word fields) v (λ c e. register_spelled fields c e) (revoking_spelled word fields v)))
 
 -- ---- what is spelled is read
 
@@ -220,7 +220,7 @@ register_read order serial not_before not_after fields (a, b, is, first, second,
       moment_of-text not_after fourth,
     ) refl
 
-command_read : (c : Command) (fields : List (List ℕ)) → SpellsCommand c fields → said_of fields ≡ Some (tells c)
+command_read : (c : Command) (fields : List (List ℕ)) → SpellsCommand c fields → said_of fields ≡ Some (means_command c)
 unfolding said_of said_by revoking_by subscriber_of order_of request_of number_alone
 command_read (Subscriber name) fields (is, label) = rw (is, label_of-is name label) refl
 command_read (Order subscriber days) fields (a, b, is, first, second) =
@@ -232,7 +232,7 @@ command_read (Decline request) fields (a, is, first) = rw (is, number_of-some a 
 command_read (Revoke request) fields (a, is, first) = rw (is, number_of-some a request first) refl
 command_read Crl fields is = rw is refl
 
-query_read : (q : Query) (fields : List (List ℕ)) → SpellsQuery q fields → said_of fields ≡ Some (asks q)
+query_read : (q : Query) (fields : List (List ℕ)) → SpellsQuery q fields → said_of fields ≡ Some (means_query q)
 unfolding said_of said_by revoking_by asked_by serial_alone
 query_read (Status serial) fields (a, is, first) = rw (is, serial_of-some a serial first) refl
 query_read Counts fields is = rw is refl
@@ -240,16 +240,16 @@ query_read (Listing serial) fields (a, is, first) = rw (is, serial_of-some a ser
 query_read Overdue fields is = rw is refl
 query_read NextCrl fields is = rw is refl
 
-ocsp_read : (bytes : List ℕ) (fields : List (List ℕ)) → SpellsOcsp bytes fields → said_of fields ≡ Some (asks_ocsp bytes)
+ocsp_read : (bytes : List ℕ) (fields : List (List ℕ)) → SpellsOcsp bytes fields → said_of fields ≡ Some (is_ocsp_line bytes)
 unfolding said_of said_by revoking_by asked_by ocsp_of
 ocsp_read bytes fields (digits, is, hex) = rw (is, hex_of-is digits bytes hex) refl
 
 -- ---- the whole line
 
 means_said : (line : List ℕ) (m : Meaning) → LineMeans line m → said_of (fields_of line) ≡ Some m
-means_said line (tells c) spelled = command_read c (fields_of line) spelled
-means_said line (asks q) spelled = query_read q (fields_of line) spelled
-means_said line (asks_ocsp bytes) spelled = ocsp_read bytes (fields_of line) spelled
+means_said line (means_command c) spelled = command_read c (fields_of line) spelled
+means_said line (means_query q) spelled = query_read q (fields_of line) spelled
+means_said line (is_ocsp_line bytes) spelled = ocsp_read bytes (fields_of line) spelled
 
 fields_said : (fields : List (List ℕ)) (m : Meaning) → said_of fields ≡ Some m → Says fields m
 unfolding said_of
@@ -257,9 +257,9 @@ fields_said [] m e = cc e
 fields_said (word ∷ fields) m e = said_spelled word fields m e
 
 said_means : (line : List ℕ) (m : Meaning) → Says (fields_of line) m → LineMeans line m
-said_means line (tells c) said = said
-said_means line (asks q) said = said
-said_means line (asks_ocsp bytes) said = said
+said_means line (means_command c) said = said
+said_means line (means_query q) said = said
+said_means line (is_ocsp_line bytes) said = said
 
 -- what is read is what the line means
 pub means_found : (line : List ℕ) (r : Option CommandLine) → option_map meaning_of r ≡ said_of (fields_of line) → IfSome r (λ read. LineMeans line (meaning_of read))

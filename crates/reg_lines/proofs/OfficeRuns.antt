@@ -17,7 +17,7 @@ use Rattle.reg_lines.proofs.ScriptsAndImports.{comes_moves, import_moves, input_
 
 -- a command line leads from records to records
 pub line_leads : {O : Type 0} (office : Office O) (s t : O) (now : ℕ) (line : List ℕ) (came : LineOutcome) → ComesTo (LineCalls office) now s line came t
-    → Leads office.is_clean office.stands (λ who before after. ComesTo (Lines office.signs who) now before line came after) s t
+    → Leads office.is_clean office.stands (λ signatory before after. ComesTo (Lines office.signs signatory) now before line came after) s t
 line_leads office s t now line came comes =
     comes_moves office.is_clean office.stands (LineCalls office) (Lines office.signs) (λ v moment call w called. called.0) now s line came t comes
 
@@ -27,8 +27,8 @@ module _ {O E W : Type 0} (office : Office O) (remaining : E → Option (List �
   pub lines_lead : (told : ℕ → Type 0) (is_clocked is_strict : Bool) (result : Result Ended Fault)
       → LinesEnd (LineCalls office) remaining contents s t reader reader' writer writer' told is_clocked is_strict result
       → Leads office.is_clean office.stands
-      (λ who before after.
-      LinesEnd (Lines office.signs who) remaining contents before after reader reader' writer writer' told is_clocked is_strict result) s t
+      (λ signatory before after.
+      LinesEnd (Lines office.signs signatory) remaining contents before after reader reader' writer writer' told is_clocked is_strict result) s t
   lines_lead told is_clocked is_strict result ends =
       input_moves office.is_clean office.stands (LineCalls office) (Lines office.signs) (λ v now call w called. called.0)
       told is_clocked is_strict remaining contents s t reader reader' writer writer' result ends
@@ -36,10 +36,10 @@ module _ {O E W : Type 0} (office : Office O) (remaining : E → Option (List �
   -- a script leads so too, and each fault of the signer that it tells was counted
   module _ (told : ℕ → Type 0) (ran : Result Ended Fault) (result : Result (Unit {0}) Fault) (is : result ≡ done_of ran) where
     pub script_leads : Leads office.is_clean office.stands
-        (λ who before after. LinesEnd (Lines office.signs who) remaining contents before after reader reader' writer writer' told false false ran) s t
+        (λ signatory before after. LinesEnd (Lines office.signs signatory) remaining contents before after reader reader' writer writer' told false false ran) s t
         → Leads office.is_clean office.stands
-        (λ who before after. ScriptEnds (Lines office.signs who) remaining contents before after reader reader' writer writer' result) s t
-    script_leads = follows office.is_clean office.stands _ _ (λ who before after ends. (ran, ends, is)) s t
+        (λ signatory before after. ScriptEnds (Lines office.signs signatory) remaining contents before after reader reader' writer writer' result) s t
+    script_leads = follows office.is_clean office.stands _ _ (λ signatory before after ends. (ran, ends, is)) s t
 
     pub script_counts : LinesEnd (LineCalls office) remaining contents s t reader reader' writer writer' told false false ran
         → ScriptEnds (λ v now call w. CountsFailure (office.failures v) call (office.failures w)) remaining contents s t reader reader' writer writer' result
@@ -53,7 +53,7 @@ module _ {O E W : Type 0} (office : Office O) (remaining : E → Option (List �
   pub import_leads : (now : ℕ) (result : Result (Unit {0}) Fault)
       → ImportEnds (LineCalls office) remaining contents now s t reader reader' writer writer' result
       → Leads office.is_clean office.stands
-      (λ who before after. ImportEnds (Lines office.signs who) remaining contents now before after reader reader' writer writer' result) s t
+      (λ signatory before after. ImportEnds (Lines office.signs signatory) remaining contents now before after reader reader' writer writer' result) s t
   import_leads now result ended =
       import_moves office.is_clean office.stands (LineCalls office) (Lines office.signs) (λ v moment call w called. called.0)
       remaining contents now s t reader reader' writer writer' result ended
@@ -62,7 +62,7 @@ module _ {O E W : Type 0} (office : Office O) (remaining : E → Option (List �
   pub strict_leads : (now : ℕ) (result : Result Ended Fault)
       → StrictEnds (LineCalls office) remaining contents now s t reader reader' writer writer' result
       → Leads office.is_clean office.stands
-      (λ who before after. StrictEnds (Lines office.signs who) remaining contents now before after reader reader' writer writer' result) s t
+      (λ signatory before after. StrictEnds (Lines office.signs signatory) remaining contents now before after reader reader' writer writer' result) s t
   strict_leads now result ended =
       strict_import_moves office.is_clean office.stands (LineCalls office) (Lines office.signs) (λ v moment call w called. called.0)
       remaining contents now s t reader reader' writer writer' result ended

@@ -10,34 +10,34 @@ use Rattle.reg_core.specs.declared.refusal.Fault.{Fault}
 use Rattle.reg_core.specs.declared.refusal.Fault.TheVariants.{Memory, Read}
 use Rattle.reg_lines.specs.Import.{Row, TextRead, TookAll, data_rows, is_header}
 use Rattle.reg_lines.specs.LineReading.{four}
-use Rattle.reg_lines.specs.Told.{TellsRows, ToldEnds, row_line, rows_told, told_at}
+use Rattle.reg_lines.specs.RowLines.{ListsRows, ListingEnds, row_line, all_row_lines, told_at}
 use Rattle.reg_lines.proofs.RowLemmas.{Place, data_push, header_first, place_first, place_next, rows_all}
 
 -- the rows that were told so far, and where the reader is
 pub record Telling (text lines : List ℕ) (source : Option (List ℕ)) (state : State) (index : ℕ) : Type 0 where
   pub rows : List Row
   pub place : Place text rows source state index
-  pub told : lines ≡ rows_told (data_rows rows)
+  pub told : lines ≡ all_row_lines (data_rows rows)
 
 pub telling_start : (text lines : List ℕ) (source : Option (List ℕ)) (state : State)
     → source ≡ Some (strip_bom text) → state ≡ st.StartRecord → lines ≡ [] → Telling text lines source state 0
 telling_start text lines source state known is none = record { rows = []; place = place_first text source state known is; told = none }
 
-rows_push : (rows : List Row) (row : Row) → rows_told (rows ++ row ∷ []) ≡ rows_told rows ++ row_line (four row)
+rows_push : (rows : List Row) (row : Row) → all_row_lines (rows ++ row ∷ []) ≡ all_row_lines rows ++ row_line (four row)
 rows_push [] row = append-nil (row_line (four row))
 rows_push (first ∷ rest) row =
-    ap (λ l. row_line (four first) ++ l) (rows_push rest row) ∙ sym (append_assoc (row_line (four first)) (rows_told rest) (row_line (four row)))
+    ap (λ l. row_line (four first) ++ l) (rows_push rest row) ∙ sym (append_assoc (row_line (four first)) (all_row_lines rest) (row_line (four row)))
 
 told_push : (rows : List Row) (row : Row) (index : ℕ) → length rows ≡ index
-    → rows_told (data_rows rows) ++ told_at (index == 0) row ≡ rows_told (data_rows (rows ++ row ∷ []))
+    → all_row_lines (data_rows rows) ++ told_at (index == 0) row ≡ all_row_lines (data_rows (rows ++ row ∷ []))
 told_push rows row index counted = by ((index == 0) && is_header row) refl
   where
     by : (b : Bool) → ((index == 0) && is_header row) ≡ b
-        → rows_told (data_rows rows) ++ cond ((index == 0) && is_header row) [] (row_line (four row)) ≡ rows_told (data_rows (rows ++ row ∷ []))
+        → all_row_lines (data_rows rows) ++ cond ((index == 0) && is_header row) [] (row_line (four row)) ≡ all_row_lines (data_rows (rows ++ row ∷ []))
     by true header =
         let both = and_parts (index == 0) (is_header row) header in
         let none : length rows ≡ 0 = counted ∙ eqb-true index 0 both.0 in
-        rw (header, header_first rows row none both.1) (append-nil (rows_told (data_rows rows)))
+        rw (header, header_first rows row none both.1) (append-nil (all_row_lines (data_rows rows)))
     by false data' =
         rw (data', data_push rows row (ap (λ (n : ℕ). (n == 0) && is_header row) counted ∙ data')) (sym (rows_push (data_rows rows) row))
 
@@ -52,17 +52,17 @@ module _ {R : Type 0} (text : List ℕ) (rem : R → Option (List ℕ)) (a b : R
   }
 
   -- no row is left
-  pub telling_all : Telling text lines (source_of rem a) a.state index → a.config ≡ default_config → ReadRecord rem a b false row → TellsRows text lines
+  pub telling_all : Telling text lines (source_of rem a) a.state index → a.config ≡ default_config → ReadRecord rem a b false row → ListsRows text lines
   telling_all t config read = (t.rows, rows_all text rem a b row t.rows index t.place config read, t.told)
 
 -- how the telling of an input ends whose text was read, or was not
 pub told_text : (input input' : Option (List ℕ)) (text : List ℕ) (result : Result (Vec ℕ Global) Fault) → TookAll input input' text
-    → MatchResult result (λ lines. TellsRows text lines.items) (λ fault. fault ≡ Memory)
-    → ToldEnds input input' (result_map_both (λ lines. lines.items) (λ fault. fault) result)
+    → MatchResult result (λ lines. ListsRows text lines.items) (λ fault. fault ≡ Memory)
+    → ListingEnds input input' (result_map_both (λ lines. lines.items) (λ fault. fault) result)
 told_text input input' text (Ok lines) took told = (text, took, told)
-told_text input input' text (Err fault) took none = subst (λ f. ToldEnds input input' (Err f)) (sym none) (inr (text, took))
+told_text input input' text (Err fault) took none = subst (λ f. ListingEnds input input' (Err f)) (sym none) (inr (text, took))
 
-pub told_read : (input input' : Option (List ℕ)) (fault : Fault) → TextRead input input' (Err fault) → ToldEnds input input' (Err fault)
+pub told_read : (input input' : Option (List ℕ)) (fault : Fault) → TextRead input input' (Err fault) → ListingEnds input input' (Err fault)
 told_read input input' Read ends = ends
 told_read input input' Memory ends = inl ends
 told_read input input' other ends = absurd ends

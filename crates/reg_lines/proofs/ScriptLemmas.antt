@@ -12,7 +12,7 @@ use Rattle.std.proofs.lemmas.List.Elements.{All-head, All-nil, All-tail}
 use Rattle.reg_io.specs.RunsOfAnswers.{Answered}
 use Rattle.reg_io.proofs.PublicLaws.{answered_push}
 use Rattle.reg_lines.proofs.Pieces.{all_push, concat_push}
-use Rattle.reg_lines.specs.Accepted.{IsAccepted, TellsWhy}
+use Rattle.reg_lines.specs.Accepted.{IsAccepted, GivesReason}
 use Rattle.reg_lines.specs.Script.{CutLine, EndOrMore, FirstLines, HasNoLf, InputFails, IsCut, IsShort, IsWholeLine, NextEnds, RanLast, RanNone, RanWhole, RunEnds, WritesPart, line_of, longest_of, pieces}
 use Rattle.reg_lines.specs.declared.answered.Ended.{Ended}
 use Rattle.reg_lines.specs.declared.answered.Ended.TheVariants as ended
@@ -54,8 +54,8 @@ lines_push : (done : List (List ℕ)) (piece : List ℕ) → map line_of (done +
 lines_push done piece = map-append line_of done (piece ∷ [])
 
 -- what is taken besides stands behind what is held
-taken_more : (took held more : List ℕ) (done : List (List ℕ)) → took ≡ concat done ++ held → took ++ more ≡ concat done ++ (held ++ more)
-taken_more took held more done parts = ap (λ l. l ++ more) parts ∙ append_assoc (concat done) held more
+taken_more : (took buffered more : List ℕ) (done : List (List ℕ)) → took ≡ concat done ++ buffered → took ++ more ≡ concat done ++ (buffered ++ more)
+taken_more took buffered more done parts = ap (λ l. l ++ more) parts ∙ append_assoc (concat done) buffered more
 
 fails_free : (longest : ℕ) (done : List (List ℕ)) (left : List ℕ) → HasNoLf left → InputFails longest done left
 fails_free longest done left free =
@@ -65,11 +65,11 @@ fails_free longest done left free =
     ]
 
 -- these lines are the first ones, however the input goes on
-first_lines : (took held more : List ℕ) (done : List (List ℕ)) → took ≡ concat done ++ held → AllByRecursion IsWholeLine done
-    → (after : List ℕ) → pieces ((took ++ more) ++ after) ≡ done ++ pieces ((held ++ more) ++ after)
-first_lines took held more done parts whole after =
-    ap pieces (ap (λ l. l ++ after) (taken_more took held more done parts) ∙ append_assoc (concat done) (held ++ more) after)
-    ∙ pieces_done done ((held ++ more) ++ after) whole
+first_lines : (took buffered more : List ℕ) (done : List (List ℕ)) → took ≡ concat done ++ buffered → AllByRecursion IsWholeLine done
+    → (after : List ℕ) → pieces ((took ++ more) ++ after) ≡ done ++ pieces ((buffered ++ more) ++ after)
+first_lines took buffered more done parts whole after =
+    ap pieces (ap (λ l. l ++ after) (taken_more took buffered more done parts) ∙ append_assoc (concat done) (buffered ++ more) after)
+    ∙ pieces_done done ((buffered ++ more) ++ after) whole
 
 -- a line has a byte at least, where it has as many as it may
 pub longest_some : (is_clocked : Bool) → 1 ≤ longest_of is_clocked
@@ -98,11 +98,11 @@ ends_of piece rest input' (inr (is_cut, none, at_end)) = inr (none, at_end)
 
 module _ {S : Type 0} (runs : S → List ℕ → List ℕ → S → Type 0) (longest : ℕ) (is_clocked is_strict : Bool) where
   -- the lines that ran so far, and the bytes that are held behind them
-  pub record Going (s t : S) (input input' out out' : Option (List ℕ)) (held : List ℕ) (count : ℕ) : Type 0 where
+  pub record Going (s t : S) (input input' out out' : Option (List ℕ)) (buffered : List ℕ) (count : ℕ) : Type 0 where
     pub took : List ℕ
     pub done : List (List ℕ)
     pub replies : List (List ℕ)
-    pub parts : took ≡ concat done ++ held
+    pub parts : took ≡ concat done ++ buffered
     pub whole : AllByRecursion IsWholeLine done
     pub short : AllByRecursion (IsShort longest) done
     pub counted : length done ≡ count
@@ -127,18 +127,18 @@ module _ {S : Type 0} (runs : S → List ℕ → List ℕ → S → Type 0) (lon
   }
 
   -- What was so far, with less than the most lines, and a step more: at `m`, `between` and `middle` it begins.
-  module _ (s m t : S) (input between left out middle out' : Option (List ℕ)) (held : List ℕ) (count : ℕ)
-      (g : Going s m input between out middle held count) (most : count < 1000000) where
+  module _ (s m t : S) (input between left out middle out' : Option (List ℕ)) (buffered : List ℕ) (count : ℕ)
+      (g : Going s m input between out middle buffered count) (most : count < 1000000) where
     -- what was taken in the step stands behind what is held
-    taken : (more : List ℕ) → g.took ++ more ≡ concat g.done ++ (held ++ more)
-    taken more = taken_more g.took held more g.done g.parts
+    taken : (more : List ℕ) → g.took ++ more ≡ concat g.done ++ (buffered ++ more)
+    taken more = taken_more g.took buffered more g.done g.parts
 
     -- the lines that ran are the first ones, however the input goes on
-    first_so_far : (more after : List ℕ) → pieces ((g.took ++ more) ++ after) ≡ g.done ++ pieces ((held ++ more) ++ after)
-    first_so_far more after = first_lines g.took held more g.done g.parts g.whole after
+    first_so_far : (more after : List ℕ) → pieces ((g.took ++ more) ++ after) ≡ g.done ++ pieces ((buffered ++ more) ++ after)
+    first_so_far more after = first_lines g.took buffered more g.done g.parts g.whole after
 
     -- one line more that ran
-    module _ (rest : List ℕ) (ran : RanWhole runs m t middle out' longest between left held rest) where
+    module _ (rest : List ℕ) (ran : RanWhole runs m t middle out' longest between left buffered rest) where
       parts_more : g.took ++ ran.took ≡ concat (g.done ++ ran.piece ∷ []) ++ rest
       parts_more =
           taken ran.took ∙ ap (λ l. concat g.done ++ l) ran.cut
@@ -169,7 +169,7 @@ module _ {S : Type 0} (runs : S → List ℕ → List ℕ → S → Type 0) (lon
       }
 
       -- its reply ends the run
-      refused_run : (refused : _) → IsTrue is_strict → ¬ IsAccepted ran.reply → TellsWhy refused ran.reply
+      refused_run : (refused : _) → IsTrue is_strict → ¬ IsAccepted ran.reply → GivesReason refused ran.reply
           → RunEnds longest input left out out' runs s t is_clocked is_strict (Ok (ended.Refused refused))
       refused_run refused strict other why =
           let counted = g.counted in
@@ -196,13 +196,13 @@ module _ {S : Type 0} (runs : S → List ℕ → List ℕ → S → Type 0) (lon
           )
 
     -- no line more ran
-    abbrev stopped : RanNone runs m t middle out' longest between left held → FirstLines longest input left out out'
+    abbrev stopped : RanNone runs m t middle out' longest between left buffered → FirstLines longest input left out out'
     stopped stop =
         let counted = g.counted in record {
           took = g.took ++ stop.took;
           done = g.done;
           replies = g.replies;
-          left = held ++ stop.took;
+          left = buffered ++ stop.took;
           consumed = Consumes-trans input between left g.took stop.took g.consumed stop.consumed;
           parts = taken stop.took;
           first = first_so_far stop.took;
@@ -216,13 +216,13 @@ module _ {S : Type 0} (runs : S → List ℕ → List ℕ → S → Type 0) (lon
     still u same = subst (Answered runs s (map line_of g.done) g.replies) (sym same) g.answered
 
     -- the output failed
-    abbrev stopped_write : WritesPart runs m t middle out' longest between left held → CutLine longest input left out out'
+    abbrev stopped_write : WritesPart runs m t middle out' longest between left buffered → CutLine longest input left out out'
     stopped_write stop =
         let counted = g.counted in record {
           took = g.took ++ stop.took;
           done = g.done;
           replies = g.replies;
-          left = held ++ stop.took;
+          left = buffered ++ stop.took;
           piece = stop.piece;
           rest = stop.rest;
           reply = stop.reply;
@@ -232,7 +232,7 @@ module _ {S : Type 0} (runs : S → List ℕ → List ℕ → S → Type 0) (lon
           first = first_so_far stop.took;
           few = omega arith;
           short = g.short;
-          next = next_of (held ++ stop.took) stop.piece stop.rest left stop.cut stop.ends;
+          next = next_of (buffered ++ stop.took) stop.piece stop.rest left stop.cut stop.ends;
           ends = ends_of stop.piece stop.rest left stop.ends;
           little = stop.short;
           partly = stop.wrote.short;
@@ -240,30 +240,30 @@ module _ {S : Type 0} (runs : S → List ℕ → List ℕ → S → Type 0) (lon
         }
 
     -- the bytes that were taken are the lines that ran and those of the rest
-    pieces_taken : (more : List ℕ) → pieces (g.took ++ more) ≡ g.done ++ pieces (held ++ more)
-    pieces_taken more = ap pieces (taken more) ∙ pieces_done g.done (held ++ more) g.whole
+    pieces_taken : (more : List ℕ) → pieces (g.took ++ more) ≡ g.done ++ pieces (buffered ++ more)
+    pieces_taken more = ap pieces (taken more) ∙ pieces_done g.done (buffered ++ more) g.whole
 
     -- the rest was a line that ran
-    finished_one : (more reply : List ℕ) → Consumes between left more → IsAtEnd left → HasNoLf (held ++ more) → length (held ++ more) ≤ longest
-        → 0 < length (held ++ more) → runs m (held ++ more) reply t → Appends middle out' reply → IsFalse is_strict
+    finished_one : (more reply : List ℕ) → Consumes between left more → IsAtEnd left → HasNoLf (buffered ++ more) → length (buffered ++ more) ≤ longest
+        → 0 < length (buffered ++ more) → runs m (buffered ++ more) reply t → Appends middle out' reply → IsFalse is_strict
         → RunEnds longest input left out out' runs s t is_clocked is_strict (Ok ended.Whole)
     finished_one more reply consumed at_end free small some replied wrote lax =
-        let lines : pieces (g.took ++ more) ≡ g.done ++ (held ++ more) ∷ [] =
-        pieces_taken more ∙ ap (λ l. g.done ++ l) (pieces_free (held ++ more) free some) in
+        let lines : pieces (g.took ++ more) ≡ g.done ++ (buffered ++ more) ∷ [] =
+        pieces_taken more ∙ ap (λ l. g.done ++ l) (pieces_free (buffered ++ more) free some) in
         let counted = g.counted in
-        let size : length (g.done ++ (held ++ more) ∷ []) ≡ length g.done + 1 = length-append g.done ((held ++ more) ∷ []) in
-        let short : IsShort longest (held ++ more) = rw (strip_free (held ++ more) free) small in (
+        let size : length (g.done ++ (buffered ++ more) ∷ []) ≡ length g.done + 1 = length-append g.done ((buffered ++ more) ∷ []) in
+        let short : IsShort longest (buffered ++ more) = rw (strip_free (buffered ++ more) free) small in (
           record {
             took = g.took ++ more;
             replies = g.replies ++ reply ∷ [];
             consumed = Consumes-trans input between left g.took more g.consumed consumed;
             at_end = at_end;
             few = rw lines (omega arith);
-            short = rw lines (all_push (IsShort longest) g.done (held ++ more) g.short short);
+            short = rw lines (all_push (IsShort longest) g.done (buffered ++ more) g.short short);
             wrote = subst (Appends out out') (sym (concat_push g.replies reply)) (Appends-trans out middle out' (concat g.replies) reply g.wrote wrote);
           },
-          rw (lines, lines_push g.done (held ++ more), line_free (held ++ more) free)
-              (answered_push runs s m t (map line_of g.done) g.replies (held ++ more) reply g.answered replied),
+          rw (lines, lines_push g.done (buffered ++ more), line_free (buffered ++ more) free)
+              (answered_push runs s m t (map line_of g.done) g.replies (buffered ++ more) reply g.answered replied),
           (λ strict. absurd (false≢true (sym lax ∙ strict))),
         )
 
@@ -272,12 +272,12 @@ module _ {S : Type 0} (runs : S → List ℕ → List ℕ → S → Type 0) (lon
   kept_back out middle out' bytes wrote kept = subst (Appends out out') (append-nil bytes) (Appends-trans out middle out' bytes [] wrote kept)
 
   -- nothing is left behind the lines that ran
-  finished_none : (s t : S) (input between left out middle out' : Option (List ℕ)) (held more : List ℕ) (count : ℕ)
-      → Going s t input between out middle held count → Appends middle out' [] → count ≤ 1000000 → Consumes between left more → IsAtEnd left
-      → held ++ more ≡ [] → RunEnds longest input left out out' runs s t is_clocked is_strict (Ok ended.Whole)
-  finished_none s t input between left out middle out' held more count g kept most consumed at_end none =
+  finished_none : (s t : S) (input between left out middle out' : Option (List ℕ)) (buffered more : List ℕ) (count : ℕ)
+      → Going s t input between out middle buffered count → Appends middle out' [] → count ≤ 1000000 → Consumes between left more → IsAtEnd left
+      → buffered ++ more ≡ [] → RunEnds longest input left out out' runs s t is_clocked is_strict (Ok ended.Whole)
+  finished_none s t input between left out middle out' buffered more count g kept most consumed at_end none =
       let lines : pieces (g.took ++ more) ≡ g.done =
-      ap pieces (taken_more g.took held more g.done g.parts) ∙ pieces_done g.done (held ++ more) g.whole
+      ap pieces (taken_more g.took buffered more g.done g.parts) ∙ pieces_done g.done (buffered ++ more) g.whole
       ∙ ap (λ l. g.done ++ pieces l) none ∙ ap (λ l. g.done ++ l) pieces_none ∙ append-nil g.done in
       let counted = g.counted in (
         record {
@@ -295,32 +295,32 @@ module _ {S : Type 0} (runs : S → List ℕ → List ℕ → S → Type 0) (lon
 
   -- ---- how it ends
 
-  finished_last : (s m t : S) (input between left out middle out' : Option (List ℕ)) (held : List ℕ) (count : ℕ)
-      → Going s m input between out middle held count → count < 1000000
-      → (ran : RanLast runs m t middle out' longest between left held) → (0 < length (held ++ ran.took) → IsFalse is_strict)
+  finished_last : (s m t : S) (input between left out middle out' : Option (List ℕ)) (buffered : List ℕ) (count : ℕ)
+      → Going s m input between out middle buffered count → count < 1000000
+      → (ran : RanLast runs m t middle out' longest between left buffered) → (0 < length (buffered ++ ran.took) → IsFalse is_strict)
       → RunEnds longest input left out out' runs s t is_clocked is_strict (Ok ended.Whole)
-  finished_last s m t input between left out middle out' held count g most ran lax =
+  finished_last s m t input between left out middle out' buffered count g most ran lax =
       elim ran.ran [
         | inl (none, same, kept) ↦
             subst (λ v. RunEnds longest input left out out' runs s v is_clocked is_strict (Ok ended.Whole)) (sym same)
-            (finished_none s m input between left out middle out' held ran.took count g kept (omega arith) ran.consumed ran.at_end none)
+            (finished_none s m input between left out middle out' buffered ran.took count g kept (omega arith) ran.consumed ran.at_end none)
         | inr (some, reply, replied, wrote) ↦
-            finished_one s m t input between left out middle out' held count g most ran.took reply ran.consumed ran.at_end ran.free ran.short some
+            finished_one s m t input between left out middle out' buffered count g most ran.took reply ran.consumed ran.at_end ran.free ran.short some
             replied wrote (lax some)
       ]
 
   -- a step ends the run
-  pub run_ended : (s m t : S) (input between left out middle out' : Option (List ℕ)) (held buffer : List ℕ) (count : ℕ) (how : Ended)
-      → Going s m input between out middle held count → count < 1000000
-      → NextEnds runs m t middle out' longest between left held is_clocked is_strict buffer (Ok (End how))
+  pub run_ended : (s m t : S) (input between left out middle out' : Option (List ℕ)) (buffered buffer : List ℕ) (count : ℕ) (how : Ended)
+      → Going s m input between out middle buffered count → count < 1000000
+      → NextEnds runs m t middle out' longest between left buffered is_clocked is_strict buffer (Ok (End how))
       → RunEnds longest input left out out' runs s t is_clocked is_strict (Ok how)
-  run_ended s m t input between left out middle out' held buffer count ended.Whole g most (ran, lax) =
-      finished_last s m t input between left out middle out' held count g most ran lax
-  run_ended s m t input between left out middle out' held buffer count (ended.Refused refused) g most (rest, ran, strict, other, why) =
-      refused_run s m t input between left out middle out' held count g most rest ran refused strict other why
-  run_ended s m t input between left out middle out' held buffer count ended.NoLineEnd g most (ran, strict, cut, at_end) = (
-    stopped s m t input between left out middle out' held count g most ran,
-    still s m t input between left out middle out' held count g most t ran.office,
+  run_ended s m t input between left out middle out' buffered buffer count ended.Whole g most (ran, lax) =
+      finished_last s m t input between left out middle out' buffered count g most ran lax
+  run_ended s m t input between left out middle out' buffered buffer count (ended.Refused refused) g most (rest, ran, strict, other, why) =
+      refused_run s m t input between left out middle out' buffered count g most rest ran refused strict other why
+  run_ended s m t input between left out middle out' buffered buffer count ended.NoLineEnd g most (ran, strict, cut, at_end) = (
+    stopped s m t input between left out middle out' buffered count g most ran,
+    still s m t input between left out middle out' buffered count g most t ran.office,
     strict,
     g.passed strict,
     cut,
@@ -328,37 +328,37 @@ module _ {S : Type 0} (runs : S → List ℕ → List ℕ → S → Type 0) (lon
   )
 
   -- a step failed
-  pub run_failed : (s m t : S) (input between left out middle out' : Option (List ℕ)) (held buffer : List ℕ) (count : ℕ) (fault : Fault)
-      → Going s m input between out middle held count → count < 1000000
-      → NextEnds runs m t middle out' longest between left held is_clocked is_strict buffer (Err fault)
+  pub run_failed : (s m t : S) (input between left out middle out' : Option (List ℕ)) (buffered buffer : List ℕ) (count : ℕ) (fault : Fault)
+      → Going s m input between out middle buffered count → count < 1000000
+      → NextEnds runs m t middle out' longest between left buffered is_clocked is_strict buffer (Err fault)
       → RunEnds longest input left out out' runs s t is_clocked is_strict (Err fault)
-  run_failed s m t input between left out middle out' held buffer count Read g most (ran, why) = (
-    stopped s m t input between left out middle out' held count g most ran,
-    still s m t input between left out middle out' held count g most t ran.office,
+  run_failed s m t input between left out middle out' buffered buffer count Read g most (ran, why) = (
+    stopped s m t input between left out middle out' buffered count g most ran,
+    still s m t input between left out middle out' buffered count g most t ran.office,
     g.passed,
-    elim why [ inl free ↦ inl (fails_free longest g.done (held ++ ran.took) free) | inr clocked ↦ inr clocked ],
+    elim why [ inl free ↦ inl (fails_free longest g.done (buffered ++ ran.took) free) | inr clocked ↦ inr clocked ],
   )
-  run_failed s m t input between left out middle out' held buffer count Write g most ends =
-      (stopped_write s m t input between left out middle out' held count g most ends, m, g.answered, ends.replied, g.passed)
-  run_failed s m t input between left out middle out' held buffer count other g most ends = absurd ends
+  run_failed s m t input between left out middle out' buffered buffer count Write g most ends =
+      (stopped_write s m t input between left out middle out' buffered count g most ends, m, g.answered, ends.replied, g.passed)
+  run_failed s m t input between left out middle out' buffered buffer count other g most ends = absurd ends
 
   -- ---- after the most lines
 
   -- some bytes are left behind them
-  stopped_many : (s t : S) (input between left out middle : Option (List ℕ)) (held more : List ℕ) (count : ℕ)
-      → Going s t input between out middle held count → count ≡ 1000000 → Consumes between left more → length (held ++ more) ≤ longest
-      → HasNoLf (held ++ more) ⊎ (0 < length (held ++ more))
+  stopped_many : (s t : S) (input between left out middle : Option (List ℕ)) (buffered more : List ℕ) (count : ℕ)
+      → Going s t input between out middle buffered count → count ≡ 1000000 → Consumes between left more → length (buffered ++ more) ≤ longest
+      → HasNoLf (buffered ++ more) ⊎ (0 < length (buffered ++ more))
       → RunEnds longest input left out middle runs s t is_clocked is_strict (Err Read)
-  stopped_many s t input between left out middle held more count g all consumed little either =
+  stopped_many s t input between left out middle buffered more count g all consumed little either =
       let counted = g.counted in (
         record {
           took = g.took ++ more;
           done = g.done;
           replies = g.replies;
-          left = held ++ more;
+          left = buffered ++ more;
           consumed = Consumes-trans input between left g.took more g.consumed consumed;
-          parts = taken_more g.took held more g.done g.parts;
-          first = first_lines g.took held more g.done g.parts g.whole;
+          parts = taken_more g.took buffered more g.done g.parts;
+          first = first_lines g.took buffered more g.done g.parts g.whole;
           few = omega arith;
           short = g.short;
           little = omega arith;
@@ -366,28 +366,28 @@ module _ {S : Type 0} (runs : S → List ℕ → List ℕ → S → Type 0) (lon
         },
         g.answered,
         g.passed,
-        inl (elim either [ inl free ↦ fails_free longest g.done (held ++ more) free | inr some ↦ inl (omega arith, some, little) ]),
+        inl (elim either [ inl free ↦ fails_free longest g.done (buffered ++ more) free | inr some ↦ inl (omega arith, some, little) ]),
       )
 
   -- bytes are held behind the most lines
-  pub run_over : (s t : S) (input left out middle : Option (List ℕ)) (buffer : List ℕ) (held count : ℕ)
-      → Going s t input left out middle (take held buffer) count → count ≡ 1000000 → 0 < held → held ≤ longest → length buffer ≡ longest + 1
+  pub run_over : (s t : S) (input left out middle : Option (List ℕ)) (buffer : List ℕ) (buffered count : ℕ)
+      → Going s t input left out middle (take buffered buffer) count → count ≡ 1000000 → 0 < buffered → buffered ≤ longest → length buffer ≡ longest + 1
       → RunEnds longest input left out middle runs s t is_clocked is_strict (Err Read)
-  run_over s t input left out middle buffer held count g all some room size =
-      let long : length (take held buffer ++ []) ≡ held = omega (arith, length-append (take held buffer) [], length-take held buffer) in
-      stopped_many s t input left left out middle (take held buffer) [] count g all (Consumes-nil left) (omega arith) (inr (omega arith))
+  run_over s t input left out middle buffer buffered count g all some room size =
+      let long : length (take buffered buffer ++ []) ≡ buffered = omega (arith, length-append (take buffered buffer) [], length-take buffered buffer) in
+      stopped_many s t input left left out middle (take buffered buffer) [] count g all (Consumes-nil left) (omega arith) (inr (omega arith))
 
   -- nothing is held behind them, and a byte more was asked for
-  pub run_checked : (s t : S) (input between left out middle : Option (List ℕ)) (buffer : List ℕ) (held count : ℕ) (result : Result Ended Fault)
-      → Going s t input between out middle (take held buffer) count → count ≡ 1000000 → held ≡ 0 → 1 ≤ longest → EndOrMore between left result
+  pub run_checked : (s t : S) (input between left out middle : Option (List ℕ)) (buffer : List ℕ) (buffered count : ℕ) (result : Result Ended Fault)
+      → Going s t input between out middle (take buffered buffer) count → count ≡ 1000000 → buffered ≡ 0 → 1 ≤ longest → EndOrMore between left result
       → RunEnds longest input left out middle runs s t is_clocked is_strict result
-  run_checked s t input between left out middle buffer held count (Ok how) g all none some (is, consumed, at_end) =
+  run_checked s t input between left out middle buffer buffered count (Ok how) g all none some (is, consumed, at_end) =
       subst (λ h. RunEnds longest input left out middle runs s t is_clocked is_strict (Ok h)) (sym is)
-      (finished_none s t input between left out middle middle (take held buffer) [] count g (Appends-nil middle) (omega arith) consumed at_end
+      (finished_none s t input between left out middle middle (take buffered buffer) [] count g (Appends-nil middle) (omega arith) consumed at_end
       (ap (λ n. take n buffer ++ []) none))
-  run_checked s t input between left out middle buffer held count (Err fault) g all none some (is, took, consumed, little) =
-      let nothing : take held buffer ≡ [] = ap (λ n. take n buffer) none in
-      let same : take held buffer ++ took ≡ took = ap (λ l. l ++ took) nothing in
+  run_checked s t input between left out middle buffer buffered count (Err fault) g all none some (is, took, consumed, little) =
+      let nothing : take buffered buffer ≡ [] = ap (λ n. take n buffer) none in
+      let same : take buffered buffer ++ took ≡ took = ap (λ l. l ++ took) nothing in
       let either = one_or_none took little in
       subst (λ f. RunEnds longest input left out middle runs s t is_clocked is_strict (Err f)) (sym is)
-      (stopped_many s t input between left out middle (take held buffer) took count g all consumed (rw same (omega arith)) (rw same either))
+      (stopped_many s t input between left out middle (take buffered buffer) took count g all consumed (rw same (omega arith)) (rw same either))

@@ -5,10 +5,10 @@ use Rattle.std.specs.declared.option.Option.{Option}
 use Rattle.reg_core.specs.declared.refusal.Fault.{Fault}
 use Rattle.reg_core.specs.declared.refusal.Fault.TheVariants.{Memory, Read, Write}
 use Rattle.reg_io.specs.RunsOfAnswers.{Answered}
-use Rattle.reg_lines.specs.Answer.{ComesTo, IsAsked, LineComesTo, LineReplies}
+use Rattle.reg_lines.specs.Answer.{ComesTo, OfficeAnswers, LineComesTo, LineReplies}
 use Rattle.reg_lines.specs.ByCalls.{Call, ran, asked, responded}
 use Rattle.reg_lines.specs.Import.{EndsBy, ImportEnds, ImportRan, Row, RowReplies, RowsEnd, data_rows}
-use Rattle.reg_lines.specs.Meaning.{Meaning, tells, asks, asks_ocsp}
+use Rattle.reg_lines.specs.Meaning.{Meaning, means_command, means_query, is_ocsp_line}
 use Rattle.reg_lines.specs.Script.{LinesEnd, RunEnds, line_of, longest_of, pieces}
 use Rattle.reg_lines.specs.Strict.{StrictEnds, StrictRan, ended_part}
 use Rattle.reg_lines.specs.declared.answered.Answered.{Answered as LineOutcome}
@@ -64,13 +64,13 @@ module _ {S I R : Type 0} (is_clean : S → Type 0) (stands : I → S → R → 
     (answers : S → ℕ → Call → S → Type 0) (kept : I → R → ℕ → Call → R → Type 0)
     (lifts : (s : S) (now : ℕ) (call : Call) (t : S) → answers s now call t
     → Leads is_clean stands (λ i before after. kept i before now call after) s t) where
-  asked_moves : (now : ℕ) (s : S) (meaning : Meaning) (came : LineOutcome) (t : S) → IsAsked answers now s meaning came t
-      → Leads is_clean stands (λ i before after. IsAsked (kept i) now before meaning came after) s t
-  asked_moves now s (tells command) came t (outcome, did, is) =
+  asked_moves : (now : ℕ) (s : S) (meaning : Meaning) (came : LineOutcome) (t : S) → OfficeAnswers answers now s meaning came t
+      → Leads is_clean stands (λ i before after. OfficeAnswers (kept i) now before meaning came after) s t
+  asked_moves now s (means_command command) came t (outcome, did, is) =
       follows is_clean stands _ _ (λ i before after made. (outcome, made, is)) s t (lifts s now (ran command outcome) t did)
-  asked_moves now s (asks query) came t (outcome, did, is) =
+  asked_moves now s (means_query query) came t (outcome, did, is) =
       follows is_clean stands _ _ (λ i before after made. (outcome, made, is)) s t (lifts s now (asked query outcome) t did)
-  asked_moves now s (asks_ocsp request) came t (given, did, told) =
+  asked_moves now s (is_ocsp_line request) came t (given, did, told) =
       follows is_clean stands _ _ (λ i before after made. (given, made, told)) s t (lifts s now (responded request given) t did)
 
   -- a command line at a moment

@@ -58,10 +58,10 @@ whole_some piece (front, is, free) =
 
 -- Lines that run, in a buffer, which is `before` and then `after` the next bytes were taken.
 module _ {S : Type 0} (runs : S → List ℕ → List ℕ → S → Type 0) (longest : ℕ) (is_clocked is_strict : Bool) (s t : S) (out out' input left : Option (List ℕ))
-    (before after : List ℕ) (held : ℕ) (size : length after ≡ longest + 1) where
+    (before after : List ℕ) (buffered : ℕ) (size : length after ≡ longest + 1) where
   -- ---- at a mark
 
-  module _ (end now : ℕ) (to : FillsTo (10 ∷ []) input left before after held (Mark end now)) where
+  module _ (end now : ℕ) (to : FillsTo (10 ∷ []) input left before after buffered (Mark end now)) where
     whole_at : IsWholeLine (take end after)
     whole_at = byte_first 10 after end to.rests.1
 
@@ -74,14 +74,14 @@ module _ {S : Type 0} (runs : S → List ℕ → List ℕ → S → Type 0) (lon
     -- the line ran, and its reply was written; what is left is behind it
     ran_at : (line reply rest : List ℕ) → line ≡ line_of (take end after) → rest ≡ drop end (take now after)
         → runs s line reply t → Appends out out' reply
-        → (ran : RanWhole runs s t out out' longest input left (take held before) rest) × (ran.reply ≡ reply)
+        → (ran : RanWhole runs s t out out' longest input left (take buffered before) rest) × (ran.reply ≡ reply)
     ran_at line reply rest lines is replied wrote = (
       record {
         took = to.took;
         piece = take end after;
         reply = reply;
         consumed = to.fills.consumed;
-        cut = cut_at_mark (10 ∷ []) input left before after held end now to ∙ ap (λ l. take end after ++ l) (sym is);
+        cut = cut_at_mark (10 ∷ []) input left before after buffered end now to ∙ ap (λ l. take end after ++ l) (sym is);
         whole = whole_at;
         short = whole_short longest (take end after) whole_at (omega (arith, size, length-take end after));
         little = omega (arith, size, within, ap length is, length-drop end (take now after), length-take now after);
@@ -94,7 +94,7 @@ module _ {S : Type 0} (runs : S → List ℕ → List ℕ → S → Type 0) (lon
     -- the buffer is turned, so that what is left stands at its front
     pub ran_on : (line rotated : List ℕ) → line ≡ line_of (take end after) → rotated ≡ drop end after ++ take end after
         → LineEnds runs s t out out' is_clocked is_strict line (Ok passed.On)
-        → NextEnds runs s t out out' longest input left (take held before) is_clocked is_strict rotated (Ok (Held (now - end)))
+        → NextEnds runs s t out out' longest input left (take buffered before) is_clocked is_strict rotated (Ok (Held (now - end)))
     ran_on line rotated lines is (reply, replied, wrote, goes) =
         let ran = ran_at line reply (take (now - end) rotated) lines (ap (take (now - end)) is ∙ turned after end now ordered within) replied wrote in
         let some : 0 < length (take end after) = whole_some (take end after) whole_at in
@@ -107,7 +107,7 @@ module _ {S : Type 0} (runs : S → List ℕ → List ℕ → S → Type 0) (lon
     -- a strict run ends
     pub ran_refused : (line buffer : List ℕ) (refused : _) → line ≡ line_of (take end after)
         → LineEnds runs s t out out' is_clocked is_strict line (Ok (passed.Refused refused))
-        → NextEnds runs s t out out' longest input left (take held before) is_clocked is_strict buffer (Ok (Ends (ended.Refused refused)))
+        → NextEnds runs s t out out' longest input left (take buffered before) is_clocked is_strict buffer (Ok (Ends (ended.Refused refused)))
     ran_refused line buffer refused lines (reply, replied, wrote, goes) =
         let ran = ran_at line reply (drop end (take now after)) lines refl replied wrote in
         (drop end (take now after), ran.0, goes.0, rw ran.1 goes.1, rw ran.1 goes.2)
@@ -115,14 +115,14 @@ module _ {S : Type 0} (runs : S → List ℕ → List ℕ → S → Type 0) (lon
     -- a fault
     pub failed_at : (line buffer : List ℕ) (fault : Fault) → line ≡ line_of (take end after)
         → LineEnds runs s t out out' is_clocked is_strict line (Err fault)
-        → NextEnds runs s t out out' longest input left (take held before) is_clocked is_strict buffer (Err fault)
+        → NextEnds runs s t out out' longest input left (take buffered before) is_clocked is_strict buffer (Err fault)
     failed_at line buffer Write lines (reply, replied, wrote) = record {
       took = to.took;
       piece = take end after;
       rest = drop end (take now after);
       reply = reply;
       consumed = to.fills.consumed;
-      cut = cut_at_mark (10 ∷ []) input left before after held end now to;
+      cut = cut_at_mark (10 ∷ []) input left before after buffered end now to;
       ends = inl whole_at;
       short = whole_short longest (take end after) whole_at (omega (arith, size, length-take end after));
       replied = subst (λ l. runs s l reply t) lines replied;
@@ -132,7 +132,7 @@ module _ {S : Type 0} (runs : S → List ℕ → List ℕ → S → Type 0) (lon
       record {
         took = to.took;
         consumed = to.fills.consumed;
-        little = omega (arith, size, within, ap length (held_now (10 ∷ []) input left before after held (Mark end now) to), length-take now after);
+        little = omega (arith, size, within, ap length (held_now (10 ∷ []) input left before after buffered (Mark end now) to), length-take now after);
         office = same;
         wrote = kept;
       },
@@ -142,9 +142,9 @@ module _ {S : Type 0} (runs : S → List ℕ → List ℕ → S → Type 0) (lon
 
   -- ---- at the end of the input
 
-  module _ (now : ℕ) (to : FillsTo (10 ∷ []) input left before after held (End now)) where
-    same : take now after ≡ take held before ++ to.took
-    same = held_now (10 ∷ []) input left before after held (End now) to
+  module _ (now : ℕ) (to : FillsTo (10 ∷ []) input left before after buffered (End now)) where
+    same : take now after ≡ take buffered before ++ to.took
+    same = held_now (10 ∷ []) input left before after buffered (End now) to
 
     free : HasNoLf (take now after)
     free = no_byte 10 (take now after) to.rests.1
@@ -157,7 +157,7 @@ module _ {S : Type 0} (runs : S → List ℕ → List ℕ → S → Type 0) (lon
 
     ran_last : ((take now after ≡ []) × (t ≡ s) × Appends out out' [])
         ⊎ ((0 < length (take now after)) × (reply : List ℕ) × runs s (take now after) reply t × Appends out out' reply)
-        → (ran : RanLast runs s t out out' longest input left (take held before)) × (take held before ++ ran.took ≡ take now after)
+        → (ran : RanLast runs s t out out' longest input left (take buffered before)) × (take buffered before ++ ran.took ≡ take now after)
     ran_last ran = (
       record {
         took = to.took;
@@ -172,7 +172,7 @@ module _ {S : Type 0} (runs : S → List ℕ → List ℕ → S → Type 0) (lon
 
     -- nothing is left
     pub ended_none : (buffer : List ℕ) → now ≡ 0 → t ≡ s → Appends out out' []
-        → NextEnds runs s t out out' longest input left (take held before) is_clocked is_strict buffer (Ok (Ends ended.Whole))
+        → NextEnds runs s t out out' longest input left (take buffered before) is_clocked is_strict buffer (Ok (Ends ended.Whole))
     ended_none buffer none stays kept =
         let empty : take now after ≡ [] = ap (λ n. take n after) none in
         let ran = ran_last (inl (empty, stays, kept)) in
@@ -181,12 +181,12 @@ module _ {S : Type 0} (runs : S → List ℕ → List ℕ → S → Type 0) (lon
     -- a last line without its LF ran
     pub ended_last : (buffer : List ℕ) (passed : _) → now ≢ 0 → IsFalse is_strict
         → LineEnds runs s t out out' is_clocked is_strict (take now after) (Ok passed)
-        → NextEnds runs s t out out' longest input left (take held before) is_clocked is_strict buffer (Ok (Ends ended.Whole))
+        → NextEnds runs s t out out' longest input left (take buffered before) is_clocked is_strict buffer (Ok (Ends ended.Whole))
     ended_last buffer passed more lax (reply, replied, wrote, goes) = ((ran_last (inr (some more, reply, replied, wrote))).0, λ _. lax)
 
     -- a strict run does not run it
     pub ended_cut : (buffer : List ℕ) → now ≢ 0 → IsTrue is_strict → t ≡ s → Appends out out' []
-        → NextEnds runs s t out out' longest input left (take held before) is_clocked is_strict buffer (Ok (Ends ended.NoLineEnd))
+        → NextEnds runs s t out out' longest input left (take buffered before) is_clocked is_strict buffer (Ok (Ends ended.NoLineEnd))
     ended_cut buffer more strict stays kept = (
       record {
         took = to.took;
@@ -203,7 +203,7 @@ module _ {S : Type 0} (runs : S → List ℕ → List ℕ → S → Type 0) (lon
     -- its run came to a fault
     pub failed_last : (buffer : List ℕ) (fault : Fault) → now ≢ 0
         → LineEnds runs s t out out' is_clocked is_strict (take now after) (Err fault)
-        → NextEnds runs s t out out' longest input left (take held before) is_clocked is_strict buffer (Err fault)
+        → NextEnds runs s t out out' longest input left (take buffered before) is_clocked is_strict buffer (Err fault)
     failed_last buffer Write more (reply, replied, wrote) = record {
       took = to.took;
       piece = take now after;
@@ -230,11 +230,11 @@ module _ {S : Type 0} (runs : S → List ℕ → List ℕ → S → Type 0) (lon
 
   -- ---- where the input fails
 
-  pub reads_full : (buffer : List ℕ) → FillsTo (10 ∷ []) input left before after held Full → t ≡ s → Appends out out' []
-      → NextEnds runs s t out out' longest input left (take held before) is_clocked is_strict buffer (Err Read)
+  pub reads_full : (buffer : List ℕ) → FillsTo (10 ∷ []) input left before after buffered Full → t ≡ s → Appends out out' []
+      → NextEnds runs s t out out' longest input left (take buffered before) is_clocked is_strict buffer (Err Read)
   reads_full buffer to stays kept =
-      let all : after ≡ take held before ++ to.took =
-      sym (take_all (length after) after (omega arith)) ∙ held_now (10 ∷ []) input left before after held Full to in (
+      let all : after ≡ take buffered before ++ to.took =
+      sym (take_all (length after) after (omega arith)) ∙ held_now (10 ∷ []) input left before after buffered Full to in (
         record {
           took = to.took;
           consumed = to.fills.consumed;
@@ -245,14 +245,14 @@ module _ {S : Type 0} (runs : S → List ℕ → List ℕ → S → Type 0) (lon
         inl (subst HasNoLf all (no_byte 10 after to.rests)),
       )
 
-  pub reads_short : (buffer : List ℕ) → FillsShort (10 ∷ []) input left before after held → t ≡ s → Appends out out' []
-      → NextEnds runs s t out out' longest input left (take held before) is_clocked is_strict buffer (Err Read)
+  pub reads_short : (buffer : List ℕ) → FillsShort (10 ∷ []) input left before after buffered → t ≡ s → Appends out out' []
+      → NextEnds runs s t out out' longest input left (take buffered before) is_clocked is_strict buffer (Err Read)
   reads_short buffer to stays kept =
       let room = to.room in (
         record {
           took = to.took;
           consumed = to.fills.consumed;
-          little = omega (arith, size, ap length to.fills.stands, length-take (held + length to.took) after);
+          little = omega (arith, size, ap length to.fills.stands, length-take (buffered + length to.took) after);
           office = stays;
           wrote = kept;
         },

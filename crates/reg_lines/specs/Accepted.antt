@@ -26,14 +26,14 @@ pub record EndsRefused (replies : List (List ℕ)) : Type 0 where
   pub each : AllByRecursion IsAccepted accepted
   pub last : ¬ IsAccepted refused
 
--- where a command was refused, the reply tells why
-abbrev pub TellsWhy : Option RefusedCommand → List ℕ → Type 0
-TellsWhy refused reply = IfSome refused (λ command. reply ≡ with_lf (refusal_line command.why))
+-- where a command was refused, the reply gives the reason
+abbrev pub GivesReason : Option RefusedCommand → List ℕ → Type 0
+GivesReason refused reply = IfSome refused (λ command. reply ≡ with_lf (refusal_line command.why))
 
 -- whether a run goes on behind a reply: a strict one, only behind one that is accepted
 abbrev pub GoesOn : Bool → List ℕ → Passed → Type 0
 GoesOn is_strict reply On = IsTrue is_strict → IsAccepted reply
-GoesOn is_strict reply (Refused refused) = IsTrue is_strict × (¬ IsAccepted reply) × TellsWhy refused reply
+GoesOn is_strict reply (Refused refused) = IsTrue is_strict × (¬ IsAccepted reply) × GivesReason refused reply
 
 -- the bytes were written, or at a fault a front of them
 abbrev pub Wrote : Option (List ℕ) → Option (List ℕ) → List ℕ → Result (Unit {0}) WriteFault → Type 0
@@ -41,9 +41,9 @@ Wrote out out' bytes (Ok done) = Appends out out' bytes
 Wrote out out' bytes (Err fault) = AppendsPrefix out out' bytes
 
 -- a reply was written, and whether the run goes on behind it; or a front of it was
-abbrev pub Said : Bool → Option (List ℕ) → Option (List ℕ) → List ℕ → Result Passed WriteFault → Type 0
-Said is_strict out out' reply (Ok passed) = Appends out out' reply × GoesOn is_strict reply passed
-Said is_strict out out' reply (Err fault) = AppendsPrefix out out' reply
+abbrev pub WritesReply : Bool → Option (List ℕ) → Option (List ℕ) → List ℕ → Result Passed WriteFault → Type 0
+WritesReply is_strict out out' reply (Ok passed) = Appends out out' reply × GoesOn is_strict reply passed
+WritesReply is_strict out out' reply (Err fault) = AppendsPrefix out out' reply
 
 -- how a run ends, wherever it ended that met no fault
 abbrev pub done_of : {A : Type 0} → Result A Fault → Result (Unit {0}) Fault

@@ -1,4 +1,4 @@
--- What a line comes to, and the reply that tells it.
+-- The outcome of a line, and its reply.
 use Rattle.std.specs.Prelude.{◌≡◌, ◌⊎◌, ℕ, Bool, true, false, ◌==◌, List, ◌++◌, codes, is_ok, length, Option, Some, None, Result, Ok, Err}
 use Rattle.hex.specs.Hex.{encode_lower}
 use Rattle.reg_office_api.specs.declared.office.Office.{Ghosts as Office}
@@ -8,11 +8,11 @@ use Rattle.reg_core.specs.declared.refusal.Fault.{Fault}
 use Rattle.reg_core.specs.declared.refusal.Fault.TheVariants.{Refused, Memory}
 use Rattle.reg_core.specs.declared.refusal.Refusal.TheVariants.{Syntax}
 use Rattle.reg_lines.specs.ByCalls.{Call, LineCalls, ran, asked, responded}
-use Rattle.reg_lines.specs.Meaning.{Meaning, tells, asks, asks_ocsp, HasMoment, HasNoMoment, IsUnreadable, LineMeans}
+use Rattle.reg_lines.specs.Meaning.{Meaning, means_command, means_query, is_ocsp_line, HasMoment, HasNoMoment, IsUnreadable, LineMeans}
 use Rattle.reg_lines.specs.Replies.{outcome_line, with_lf}
 use Rattle.reg_lines.specs.declared.answered.Answered.{Answered}
 use Rattle.reg_lines.specs.declared.answered.Answered.TheVariants.{CameTo, Response}
-use Rattle.reg_lines.specs.declared.answered.Asked.TheVariants.{Nothing, Command, Query, Ocsp}
+use Rattle.reg_lines.specs.declared.answered.LineKind.TheVariants.{Nothing, Command, Query, Ocsp}
 use Rattle.reg_lines.specs.declared.answered.OcspReply.{OcspReply}
 use Rattle.reg_lines.specs.declared.answered.RefusedCommand.{RefusedCommand}
 use Rattle.reg_lines.specs.declared.host.Host.{Ghosts as Host}
@@ -42,23 +42,23 @@ pub record IsReplyOf (response : List ℕ) (reply : OcspReply) : Type 0 where
   pub refuses : reply.is_refusal ≡ (length response == 5)
 
 -- what a line with an OCSP request comes to by what it was given; or there was no memory for the request, the response or its digits
-abbrev pub TellsGiven : Result (List ℕ) NoMemory → Answered → Type 0
-TellsGiven given (CameTo what outcome) = (what ≡ Ocsp) × (outcome ≡ Err Memory)
-TellsGiven (Ok response) (Response reply) = IsReplyOf response reply
-TellsGiven (Err memory) (Response reply) = ⊥
+abbrev pub OcspLineComesTo : Result (List ℕ) NoMemory → Answered → Type 0
+OcspLineComesTo given (CameTo what outcome) = (what ≡ Ocsp) × (outcome ≡ Err Memory)
+OcspLineComesTo (Ok response) (Response reply) = IsReplyOf response reply
+OcspLineComesTo (Err memory) (Response reply) = ⊥
 
 -- Lines, run by an office: `s` is the office before, `t` after. `answers` is the relation of its calls, as `Lines`.
 module _ {S : Type 0} (answers : S → ℕ → Call → S → Type 0) where
   -- the office is asked this at a moment, and it comes to that
-  abbrev pub IsAsked : ℕ → S → Meaning → Answered → S → Type 0
-  IsAsked now s (tells command) answered t = (outcome : Result Reply Fault) × answers s now (ran command outcome) t × (answered ≡ CameTo (Command command) outcome)
-  IsAsked now s (asks query) answered t = (outcome : Result Reply Fault) × answers s now (asked query outcome) t × (answered ≡ CameTo (Query query) outcome)
-  IsAsked now s (asks_ocsp request) answered t = (given : Result (List ℕ) NoMemory) × answers s now (responded request given) t × TellsGiven given answered
+  abbrev pub OfficeAnswers : ℕ → S → Meaning → Answered → S → Type 0
+  OfficeAnswers now s (means_command command) answered t = (outcome : Result Reply Fault) × answers s now (ran command outcome) t × (answered ≡ CameTo (Command command) outcome)
+  OfficeAnswers now s (means_query query) answered t = (outcome : Result Reply Fault) × answers s now (asked query outcome) t × (answered ≡ CameTo (Query query) outcome)
+  OfficeAnswers now s (is_ocsp_line request) answered t = (given : Result (List ℕ) NoMemory) × answers s now (responded request given) t × OcspLineComesTo given answered
 
   -- a command line, at a moment: the office is asked what it means; or it is unreadable, and nothing is asked
   abbrev pub ComesTo : ℕ → S → List ℕ → Answered → S → Type 0
   ComesTo now s line answered t =
-      ((meaning : Meaning) × LineMeans line meaning × IsAsked now s meaning answered t)
+      ((meaning : Meaning) × LineMeans line meaning × OfficeAnswers now s meaning answered t)
       ⊎ (IsUnreadable line × (answered ≡ unreadable) × (t ≡ s))
 
   -- a line of a script: a moment and a command line; or it begins with no moment, and is unreadable
@@ -67,7 +67,7 @@ module _ {S : Type 0} (answers : S → ℕ → Call → S → Type 0) where
       ((now : ℕ) × (command : List ℕ) × HasMoment line now command × ComesTo now s command answered t)
       ⊎ (HasNoMoment line × (answered ≡ unreadable) × (t ≡ s))
 
-  -- a line of an input: a command line at a moment that a clock told, or a line of a script
+  -- a line of an input: a command line at a moment of a clock, or a line of a script
   abbrev pub LineComesTo : (ℕ → Type 0) → Bool → S → List ℕ → Answered → S → Type 0
   LineComesTo told true = λ s line answered t. (now : ℕ) × told now × ComesTo now s line answered t
   LineComesTo told false = TimedComesTo
@@ -82,4 +82,4 @@ LineReplies answers told is_clocked = Replied (LineComesTo answers told is_clock
 
 -- the same as an office runs it for a host
 abbrev pub HostLines : {O H : Type 0} → Office O → Host H → H → O → List ℕ → List ℕ → O → Type 0
-HostLines office hosts host = LineReplies (LineCalls office) hosts.told (hosts.clocked host)
+HostLines office hosts host = LineReplies (LineCalls office) hosts.clock_reached (hosts.clocked host)

@@ -20,9 +20,9 @@ pub data Call : Type 0 where
 
 -- what a line asks and is answered over the records at a moment, by what each call comes to
 abbrev pub Lines : Signs → Signatory → Records → ℕ → Call → Records → Type 0
-Lines signs who before now (ran command outcome) after = Runs signs who before now command outcome after
-Lines signs who before now (asked query outcome) after = Asks before now query outcome after
-Lines signs who before now (responded request given) after = Ocsps signs who before now request given after
+Lines signs signatory before now (ran command outcome) after = Runs signs signatory before now command outcome after
+Lines signs signatory before now (asked query outcome) after = Asks before now query outcome after
+Lines signs signatory before now (responded request given) after = Ocsps signs signatory before now request given after
 
 -- a call came to a fault of the signer of CRLs
 abbrev pub FailsToSign : Call → Type 0
@@ -37,5 +37,5 @@ CountsFailure before call after = FailsToSign call → before < after
 -- what a line asks, asked of an office: a step of the records that stand in it, at which its signer counts what it fails
 abbrev pub LineCalls : {O : Type 0} → Office O → O → ℕ → Call → O → Type 0
 LineCalls office s now call t =
-    Leads office.is_clean office.stands (λ who before after. Lines office.signs who before now call after) s t
+    Leads office.is_clean office.stands (λ signatory before after. Lines office.signs signatory before now call after) s t
     × CountsFailure (office.failures s) call (office.failures t)

@@ -12,6 +12,6 @@ fields_of [] = [] ∷ []
 fields_of (byte ∷ line) = if byte == 32 then [] ∷ fields_of line else in_prefix byte (fields_of line)
 
 -- the fields that are left, of what is left of a line where a field is left
-abbrev pub fields_left : Option (List ℕ) → List (List ℕ)
-fields_left None = []
-fields_left (Some rest) = fields_of rest
+abbrev pub fields_after : Option (List ℕ) → List (List ℕ)
+fields_after None = []
+fields_after (Some rest) = fields_of rest

@@ -16,7 +16,7 @@ use Rattle.reg_core.specs.declared.refusal.Fault.TheVariants.{Refused, Memory, R
 use Rattle.reg_core.specs.declared.refusal.Refusal.TheVariants.{Syntax}
 use Rattle.reg_io.specs.RunsOfAnswers.{Answered}
 use Rattle.reg_io.specs.declared.put.WriteFault.{WriteFault}
-use Rattle.reg_lines.specs.Accepted.{EndsRefused, IsAccepted, Said, TellsWhy, done_of}
+use Rattle.reg_lines.specs.Accepted.{EndsRefused, IsAccepted, WritesReply, GivesReason, done_of}
 use Rattle.reg_lines.specs.ByCalls.{Call, ran}
 use Rattle.reg_lines.specs.Meaning.{SpellsCommand}
 use Rattle.reg_lines.specs.LineReading.{four}
@@ -125,7 +125,7 @@ module _ {S : Type 0} (answers : S → ℕ → Call → S → Type 0) (is_strict
       (run : AllRan answers now s t out out' text) × (IsTrue is_strict → AllByRecursion IsAccepted run.0.replies)
   RowsEnd out out' text (Ok (passed.Refused refused)) =
       (run : FirstRan answers now s t out out' text) × IsTrue is_strict
-      × (ends : EndsRefused run.0.replies) × TellsWhy refused ends.refused
+      × (ends : EndsRefused run.0.replies) × GivesReason refused ends.refused
   RowsEnd out out' text (Err Write) =
       (run : OneCut answers now s t out out' text) × (IsTrue is_strict → AllByRecursion IsAccepted run.0.replies)
   RowsEnd out out' text (Err Memory) =
@@ -177,7 +177,7 @@ module _ {S : Type 0} (answers : S → ℕ → Call → S → Type 0) (is_strict
   pub record RanRow (row : Row) (out out' : Option (List ℕ)) (result : Result Passed WriteFault) : Type 0 where
     pub reply : List ℕ
     pub replied : RowReplies answers now s row reply t
-    pub said : Said is_strict out out' reply result
+    pub said : WritesReply is_strict out out' reply result
 
   -- a row ran, or was passed over as the header, if it is the first one
   abbrev pub TookRow : Bool → Row → Option (List ℕ) → Option (List ℕ) → Result Passed WriteFault → Type 0

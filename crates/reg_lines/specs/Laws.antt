@@ -28,16 +28,16 @@ RowsMeanWhatIsRead = (row : Row) (command : Command) → register_of row ≡ Som
 
 -- ---- imports that come twice, in the words of what an import writes
 
--- the reply tells a fault of memory, store, signer, input or output
+-- the reply is a fault of memory, store, signer, input or output
 abbrev pub IsFaultLine : List ℕ → Type 0
 IsFaultLine reply = (outcome : Result Reply Fault) × (reply ≡ with_lf (outcome_line outcome)) × IsFault outcome
 
--- a row that was answered `registered` or `same` is answered `same` the second time, or a fault is told
+-- a row that was answered `registered` or `same` is answered `same` the second time, or a fault is replied
 abbrev pub RepliedAgain : List ℕ → List ℕ → Type 0
 RepliedAgain first second =
     (first ≡ with_lf (codes "registered")) ⊎ (first ≡ with_lf (codes "same")) → (second ≡ with_lf (codes "same")) ⊎ IsFaultLine second
 
--- Of a text that is imported twice at one moment, with nothing between, where each row ran both times and no fault was told the
+-- Of a text that is imported twice at one moment, with nothing between, where each row ran both times and no fault was replied the
 -- first time, over records that hold together, whatever signed their CRLs: the second time adds no certificate, and each of its replies
 -- is as above.
 abbrev pub ImportsTextTwice : Signs → Type 0

@@ -9,4 +9,4 @@ pub mod Meaning
 pub mod Replies
 pub mod Script
 pub mod Strict
-pub mod Told
+pub mod RowLines

@@ -10,7 +10,7 @@ use Rattle.reg_core.specs.Serial.{serial_of}
 use Rattle.reg_core.specs.declared.command.Command.{Command}
 use Rattle.reg_core.specs.declared.command.Command.TheVariants.{Subscriber, Order, Register, Request, Decline, Revoke, Crl}
 use Rattle.reg_core.specs.declared.command.Query.TheVariants.{Status, Counts, Listing, Overdue, NextCrl}
-use Rattle.reg_lines.specs.Meaning.{Meaning, tells, asks, asks_ocsp}
+use Rattle.reg_lines.specs.Meaning.{Meaning, means_command, means_query, is_ocsp_line}
 
 -- a text of 1 to 64 bytes
 unfoldable pub label_field : List ℕ → Option (List ℕ)
@@ -106,29 +106,29 @@ ocsp_of fields = option_and_then hex_of (one fields)
 -- what a word asks, with the fields after it; any other word says nothing
 unfoldable pub asked_by : List ℕ → List (List ℕ) → Option Meaning
 asked_by word fields =
-    if bytes_eq word (codes "status") then option_map asks (option_map Status (serial_alone fields))
-    else if bytes_eq word (codes "counts") then option_map asks (alone Counts fields)
-    else if bytes_eq word (codes "listing") then option_map asks (option_map Listing (serial_alone fields))
-    else if bytes_eq word (codes "overdue") then option_map asks (alone Overdue fields)
-    else if bytes_eq word (codes "next-crl") then option_map asks (alone NextCrl fields)
-    else if bytes_eq word (codes "ocsp") then option_map asks_ocsp (ocsp_of fields)
+    if bytes_eq word (codes "status") then option_map means_query (option_map Status (serial_alone fields))
+    else if bytes_eq word (codes "counts") then option_map means_query (alone Counts fields)
+    else if bytes_eq word (codes "listing") then option_map means_query (option_map Listing (serial_alone fields))
+    else if bytes_eq word (codes "overdue") then option_map means_query (alone Overdue fields)
+    else if bytes_eq word (codes "next-crl") then option_map means_query (alone NextCrl fields)
+    else if bytes_eq word (codes "ocsp") then option_map is_ocsp_line (ocsp_of fields)
     else None
 
 -- what a word says of a revocation or a CRL; any other asks
 unfoldable pub revoking_by : List ℕ → List (List ℕ) → Option Meaning
 revoking_by word fields =
-    if bytes_eq word (codes "request") then option_map tells (request_of fields)
-    else if bytes_eq word (codes "decline") then option_map tells (option_map Decline (number_alone fields))
-    else if bytes_eq word (codes "revoke") then option_map tells (option_map Revoke (number_alone fields))
-    else if bytes_eq word (codes "crl") then option_map tells (alone Crl fields)
+    if bytes_eq word (codes "request") then option_map means_command (request_of fields)
+    else if bytes_eq word (codes "decline") then option_map means_command (option_map Decline (number_alone fields))
+    else if bytes_eq word (codes "revoke") then option_map means_command (option_map Revoke (number_alone fields))
+    else if bytes_eq word (codes "crl") then option_map means_command (alone Crl fields)
     else asked_by word fields
 
 -- what a word and the fields after it say: a registration's word, or one of those above
 unfoldable pub said_by : List ℕ → List (List ℕ) → Option Meaning
 said_by word fields =
-    if bytes_eq word (codes "subscriber") then option_map tells (subscriber_of fields)
-    else if bytes_eq word (codes "order") then option_map tells (order_of fields)
-    else if bytes_eq word (codes "register") then option_map tells (register_of fields)
+    if bytes_eq word (codes "subscriber") then option_map means_command (subscriber_of fields)
+    else if bytes_eq word (codes "order") then option_map means_command (order_of fields)
+    else if bytes_eq word (codes "register") then option_map means_command (register_of fields)
     else revoking_by word fields
 
 -- what fields say: a word, and the fields of what is told or asked

@@ -16,9 +16,9 @@ use Rattle.reg_lines.specs.declared.line.CommandLine.TheVariants as line
 
 -- what a command line means: a command, a query, or an OCSP request by its bytes (RFC 6960 4.1)
 pub data Meaning : Type 0 where
-  tells : Command → Meaning
-  asks : Query → Meaning
-  asks_ocsp : List ℕ → Meaning
+  means_command : Command → Meaning
+  means_query : Query → Meaning
+  is_ocsp_line : List ℕ → Meaning
 
 -- four fields spell a registration: the order, the serial number, notBefore and notAfter
 abbrev pub SpellsRegister : ℕ → ℕ → ℕ → ℕ → List (List ℕ) → Type 0
@@ -57,9 +57,9 @@ SpellsOcsp bytes fields = (digits : List ℕ) × (fields ≡ codes "ocsp" ∷ di
 
 -- the command line is a spelling of the meaning: its fields are parted by one space each
 abbrev pub LineMeans : List ℕ → Meaning → Type 0
-LineMeans line (tells command) = SpellsCommand command (fields_of line)
-LineMeans line (asks query) = SpellsQuery query (fields_of line)
-LineMeans line (asks_ocsp bytes) = SpellsOcsp bytes (fields_of line)
+LineMeans line (means_command command) = SpellsCommand command (fields_of line)
+LineMeans line (means_query query) = SpellsQuery query (fields_of line)
+LineMeans line (is_ocsp_line bytes) = SpellsOcsp bytes (fields_of line)
 
 -- it is a spelling of no meaning
 abbrev pub IsUnreadable : List ℕ → Type 0
@@ -75,9 +75,9 @@ decoded_bytes digits = unwrap_or (result_ok (decode_of digits)) []
 
 -- the meaning that a reading stands for
 abbrev pub meaning_of : CommandLine → Meaning
-meaning_of (line.Command command) = tells command
-meaning_of (line.Query query) = asks query
-meaning_of (line.Ocsp digits) = asks_ocsp (decoded_bytes digits.now)
+meaning_of (line.Command command) = means_command command
+meaning_of (line.Query query) = means_query query
+meaning_of (line.Ocsp digits) = is_ocsp_line (decoded_bytes digits.now)
 
 -- the line of a script begins at this moment: the moment's text, a space (the byte 32), and the command line
 abbrev pub HasMoment : List ℕ → ℕ → List ℕ → Type 0

@@ -1,4 +1,4 @@
--- The line that tells what a command, a query or an OCSP request came to.
+-- The reply line of a command, a query or an OCSP request.
 use Rattle.std.specs.Prelude.{ℕ, List, [], ◌∷◌, ◌++◌, codes, decimal, if◌then◌else◌, Option, Some, None, Result, Ok, Err}
 use Rattle.reg_core.specs.Calendar.{moment_text}
 use Rattle.reg_core.specs.Lines.{fault_line}

@@ -8,7 +8,7 @@ use Rattle.reg_core.specs.declared.refusal.Fault.{Fault}
 use Rattle.reg_core.specs.declared.refusal.Fault.TheVariants.{Memory, Read, Write}
 use Rattle.reg_io.specs.Put.{AppendsPrefix}
 use Rattle.reg_io.specs.RunsOfAnswers.{Answered}
-use Rattle.reg_lines.specs.Accepted.{EndsRefused, GoesOn, IsAccepted, TellsWhy, done_of}
+use Rattle.reg_lines.specs.Accepted.{EndsRefused, GoesOn, IsAccepted, GivesReason, done_of}
 use Rattle.reg_lines.specs.Answer.{LineReplies}
 use Rattle.reg_lines.specs.ByCalls.{Call}
 use Rattle.reg_lines.specs.Fields.{in_prefix}
@@ -54,7 +54,7 @@ HasNoLf bytes = All (λ byte. byte ≢ 10) bytes
 
 -- some bytes and then LF
 abbrev pub IsWholeLine : List ℕ → Type 0
-IsWholeLine piece = (front : List ℕ) × (piece ≡ front ++ 10 ∷ []) × HasNoLf front
+IsWholeLine piece = (prefix : List ℕ) × (piece ≡ prefix ++ 10 ∷ []) × HasNoLf prefix
 
 -- a last line without its LF
 abbrev pub IsCut : List ℕ → Type 0
@@ -130,7 +130,7 @@ module _ (longest : ℕ) (input input' out out' : Option (List ℕ)) where
         × (IsTrue is_strict → AllByRecursion IsAccepted lines.replies × AllByRecursion IsWholeLine (pieces lines.took))
     RunEnds (Ok (Refused refused)) =
         (lines : FirstLines) × RanAll lines.done lines.replies
-        × IsTrue is_strict × (ends : EndsRefused lines.replies) × TellsWhy refused ends.refused
+        × IsTrue is_strict × (ends : EndsRefused lines.replies) × GivesReason refused ends.refused
     RunEnds (Ok NoLineEnd) =
         (lines : FirstLines) × RanAll lines.done lines.replies
         × IsTrue is_strict × AllByRecursion IsAccepted lines.replies × IsCut lines.left × IsAtEnd input'
@@ -152,7 +152,7 @@ module _ {S R W : Type 0} (answers : S → ℕ → Call → S → Type 0) (remai
   InputEnds runs is_clocked is_strict result =
       RunEnds (longest_of is_clocked) (remaining reader) (remaining reader') (contents writer) (contents writer') runs s t is_clocked is_strict result
 
-  -- lines that run at the moments that a clock told, or at their own, to the first refusal or to the end
+  -- lines that run at the moments of a clock, or at their own, to the first refusal or to the end
   abbrev pub LinesEnd : (ℕ → Type 0) → Bool → Bool → Result Ended Fault → Type 0
   LinesEnd told is_clocked = InputEnds (LineReplies answers told is_clocked) is_clocked
 
@@ -173,14 +173,14 @@ module _ {S : Type 0} (runs : S → List ℕ → List ℕ → S → Type 0) (s t
   LineEnds is_clocked is_strict line (Err other) = ⊥
 
   -- The longest line; what is left of the input, before and after, and what was held of it.
-  module _ (longest : ℕ) (input input' : Option (List ℕ)) (held : List ℕ) where
+  module _ (longest : ℕ) (input input' : Option (List ℕ)) (buffered : List ℕ) where
     -- a whole line ran, of the bytes that were held and those that were taken, and the others are left
     pub record RanWhole (left : List ℕ) : Type 0 where
       pub took : List ℕ
       pub piece : List ℕ
       pub reply : List ℕ
       pub consumed : Consumes input input' took
-      pub cut : held ++ took ≡ piece ++ left
+      pub cut : buffered ++ took ≡ piece ++ left
       pub whole : IsWholeLine piece
       pub short : IsShort longest piece
       pub little : length left ≤ longest + 1
@@ -192,16 +192,16 @@ module _ {S : Type 0} (runs : S → List ℕ → List ℕ → S → Type 0) (s t
       pub took : List ℕ
       pub consumed : Consumes input input' took
       pub at_end : IsAtEnd input'
-      pub free : HasNoLf (held ++ took)
-      pub short : length (held ++ took) ≤ longest
-      pub ran : ((held ++ took ≡ []) × (t ≡ s) × Appends out out' [])
-          ⊎ ((0 < length (held ++ took)) × (reply : List ℕ) × runs s (held ++ took) reply t × Appends out out' reply)
+      pub free : HasNoLf (buffered ++ took)
+      pub short : length (buffered ++ took) ≤ longest
+      pub ran : ((buffered ++ took ≡ []) × (t ≡ s) × Appends out out' [])
+          ⊎ ((0 < length (buffered ++ took)) × (reply : List ℕ) × runs s (buffered ++ took) reply t × Appends out out' reply)
 
     -- no line ran, and some bytes were taken, one more than a line has at most
     pub record RanNone : Type 0 where
       pub took : List ℕ
       pub consumed : Consumes input input' took
-      pub little : length (held ++ took) ≤ longest + 1
+      pub little : length (buffered ++ took) ≤ longest + 1
       pub office : t ≡ s
       pub wrote : Appends out out' []
 
@@ -212,7 +212,7 @@ module _ {S : Type 0} (runs : S → List ℕ → List ℕ → S → Type 0) (s t
       pub rest : List ℕ
       pub reply : List ℕ
       pub consumed : Consumes input input' took
-      pub cut : held ++ took ≡ piece ++ rest
+      pub cut : buffered ++ took ≡ piece ++ rest
       pub ends : IsWholeLine piece ⊎ (IsCut piece × (rest ≡ []) × IsAtEnd input')
       pub short : IsShort longest piece
       pub replied : runs s (line_of piece) reply t
@@ -223,12 +223,12 @@ module _ {S : Type 0} (runs : S → List ℕ → List ℕ → S → Type 0) (s t
     NextEnds is_clocked is_strict buffer (Ok (Held left)) =
         (left < length buffer) × (ran : RanWhole (take left buffer)) × (IsTrue is_strict → IsAccepted ran.reply)
     NextEnds is_clocked is_strict buffer (Ok (End Whole)) =
-        (ran : RanLast) × ((0 < length (held ++ ran.took)) → IsFalse is_strict)
+        (ran : RanLast) × ((0 < length (buffered ++ ran.took)) → IsFalse is_strict)
     NextEnds is_clocked is_strict buffer (Ok (End (Refused refused))) =
-        (left : List ℕ) × (ran : RanWhole left) × IsTrue is_strict × (¬ IsAccepted ran.reply) × TellsWhy refused ran.reply
+        (left : List ℕ) × (ran : RanWhole left) × IsTrue is_strict × (¬ IsAccepted ran.reply) × GivesReason refused ran.reply
     NextEnds is_clocked is_strict buffer (Ok (End NoLineEnd)) =
-        (ran : RanNone) × IsTrue is_strict × IsCut (held ++ ran.took) × IsAtEnd input'
-    NextEnds is_clocked is_strict buffer (Err Read) = (ran : RanNone) × (HasNoLf (held ++ ran.took) ⊎ IsTrue is_clocked)
+        (ran : RanNone) × IsTrue is_strict × IsCut (buffered ++ ran.took) × IsAtEnd input'
+    NextEnds is_clocked is_strict buffer (Err Read) = (ran : RanNone) × (HasNoLf (buffered ++ ran.took) ⊎ IsTrue is_clocked)
     NextEnds is_clocked is_strict buffer (Err Write) = WritesPart
     NextEnds is_clocked is_strict buffer (Err other) = ⊥
 

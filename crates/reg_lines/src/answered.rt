@@ -1,7 +1,7 @@
-//! What a line came to, the reply that tells it, and whether a run goes on behind it.
+//! The outcome of a line, its reply, and whether a run goes on after it.
 
 ghost use Rattle.std.specs.Prelude.{◌≡◌, ◌↔◌, ◌≤◌, [], IsTrue, vec_capacity};
-ghost use Rattle.reg_lines.specs.Accepted.{IsAccepted, Said, Wrote, done_of};
+ghost use Rattle.reg_lines.specs.Accepted.{IsAccepted, WritesReply, Wrote, done_of};
 ghost use Rattle.reg_lines.specs.Answer.{accepts, refused_of, reply_of};
 
 use crate::reply::ReplyText;
@@ -11,7 +11,7 @@ use std::io::Write;
 
 /// What a line asked of the office.
 #[derive(Clone, Copy)]
-pub enum Asked {
+pub enum LineKind {
     /// Nothing: it can't be read.
     Nothing,
     Command(Command),
@@ -23,16 +23,16 @@ pub enum Asked {
 #[derive(Drop)]
 pub struct OcspReply {
     pub line: Vec<u8>,
-    /// Whether the response has a status and nothing else: then nobody signed it (RFC 6960 4.2.1).
+    /// Whether the response has only a status: then it is unsigned (RFC 6960 4.2.1).
     pub is_refusal: bool,
 }
 
-/// What a line came to.
+/// The result of a line.
 #[derive(Drop)]
 pub enum Answered {
-    /// What it asked, and what that came to. An unreadable line comes to [`Refusal::Syntax`]. An OCSP request comes to
-    /// [`Fault::Memory`] where there is no memory for its response.
-    CameTo(Asked, Outcome),
+    /// What the line was, and its outcome: [`Refusal::Syntax`] if it can't be read, and [`Fault::Memory`] for an OCSP request
+    /// if there is no memory for the response.
+    CameTo(LineKind, Outcome),
     Response(OcspReply),
 }
 
@@ -43,18 +43,18 @@ pub struct RefusedCommand {
     pub why: Refusal,
 }
 
-/// How a run of lines or rows ended that met no fault of its own.
+/// How a run of lines or rows ended, if no fault of input, output or memory cut it short.
 #[derive(Clone, Copy)]
 pub enum Ended {
     /// Each of them ran. Of a strict run each was accepted.
     Whole,
-    /// The run is strict, and the last reply is a refusal or a fault. Nothing behind it ran. If a command was refused, which.
+    /// The run is strict, and the last reply is a refusal or a fault. Nothing ran after it. Has the command, if one was refused.
     Refused(Option<RefusedCommand>),
     /// The run is strict, and each line or row up to the last line end ran and was accepted. The rest did not run.
     NoLineEnd,
 }
 
-/// Whether a run goes on behind a reply.
+/// Whether a run goes on after a reply.
 #[derive(Clone, Copy)]
 pub(crate) enum Passed {
     On,
@@ -77,7 +77,7 @@ impl Answered {
         ensures { result ≡ refused_of self.now }
     {
         match self {
-            Answered::CameTo(Asked::Command(command), Err(Fault::Refused(why))) => {
+            Answered::CameTo(LineKind::Command(command), Err(Fault::Refused(why))) => {
                 Some(RefusedCommand {
                     command: *command,
                     why: *why,
@@ -87,7 +87,7 @@ impl Answered {
         }
     }
 
-    /// The reply, in a room that is empty. It takes no memory.
+    /// The reply. A line's outcome is written into `room`, which is empty, without an allocation.
     pub fn into_reply(self, mut room: Vec<u8>) -> Vec<u8>
         requires empty { room.items ≡ [] }
         requires room { 84 ≤ vec_capacity room }
@@ -112,14 +112,14 @@ impl Answered {
         }
     }
 
-    /// Writes the reply. Whether the run goes on behind it.
-    pub(crate) fn say<W: Write>(
+    /// Writes the reply, and returns whether the run goes on.
+    pub(crate) fn write_reply<W: Write>(
         &self,
         writer: &mut W,
         is_strict: bool,
     ) -> Result<Passed, WriteFault>
         requires { IsTrue (accepts self.now) ↔ IsAccepted (reply_of self.now) }
-        ensures { Said is_strict (W.contents writer.old) (W.contents writer.new) (reply_of self.now) result }
+        ensures { WritesReply is_strict (W.contents writer.old) (W.contents writer.new) (reply_of self.now) result }
     {
         self.write(writer)?;
         if is_strict && !self.is_accepted() {
@@ -129,7 +129,7 @@ impl Answered {
     }
 }
 
-/// How a run ends that goes on behind a refusal.
+/// The result of a run that is not strict: only its fault, if any.
 pub(crate) fn done<T: Copy>(ran: Result<T, Fault>) -> Result<(), Fault>
     ensures { result ≡ done_of ran }
 {

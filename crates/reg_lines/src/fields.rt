@@ -14,11 +14,11 @@ pub struct Fields<'a> {
 
 impl<'a> Model for Fields<'a> {
     ghost use Rattle.std.specs.Prelude.{ℕ, List, option_map};
-    ghost use Rattle.reg_lines.specs.Fields.{fields_left};
+    ghost use Rattle.reg_lines.specs.Fields.{fields_after};
 
     ghost Value = { List (List ℕ) };
 
-    ghost view = { λ fields. fields_left (option_map (λ r. r.now) fields.rest) };
+    ghost view = { λ fields. fields_after (option_map (λ r. r.now) fields.rest) };
 }
 
 impl<'a> Fields<'a> {

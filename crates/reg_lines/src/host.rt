@@ -1,10 +1,10 @@
-//! What a run of lines has beside its input, its output and the office.
+//! What a run of lines has besides its input, its output and the office.
 
 use crate::answered::Answered;
 use reg_core::{Fault, Moment};
 
-/// The host of a run of lines. It has a clock, where the lines have no moments of their own, and it observes what each line
-/// comes to.
+/// The host of a run of lines. It has a clock if the lines have no moments of their own, and it observes the result of each
+/// line.
 pub trait Host {
     ghost use Rattle.std.specs.Prelude.{◌≡◌, ℕ, Bool, IfErr, IfOk};
     ghost use Rattle.reg_core.specs.declared.refusal.Fault.TheVariants.{Read};
@@ -12,8 +12,8 @@ pub trait Host {
     /// Lines run at the moment of the clock.
     ghost clocked: { Self → Bool };
 
-    /// The clock told this moment.
-    ghost told: { ℕ → Type 0 };
+    /// The clock has reached this moment.
+    ghost clock_reached: { ℕ → Type 0 };
 
     /// Whether lines run at the moment of the clock. Otherwise each begins with a moment of its own.
     fn is_clocked(&self) -> bool
@@ -21,9 +21,9 @@ pub trait Host {
 
     /// The moment of the clock; [`Fault::Read`] where it can't be read.
     fn moment(&self) -> Result<Moment, Fault>
-        ensures told { IfOk result told }
+        ensures told { IfOk result clock_reached }
         ensures err { IfErr result (λ fault. fault ≡ Read) };
 
-    /// Sees what a line came to, before its reply is written.
+    /// Observes the result of a line, before its reply is written.
     fn observe(&self, answered: &Answered);
 }

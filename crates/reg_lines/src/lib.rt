@@ -1,4 +1,4 @@
-//! Script lines and imported rows, from bytes in to reply lines out, over any reader and writer.
+//! Runs script lines and imported rows from any reader, and writes a reply line for each to any writer.
 #![tactic(auto)]
 
 mod accepted;
@@ -10,22 +10,22 @@ mod line;
 mod lines;
 mod moments;
 mod reply;
+mod row_lines;
 mod rows;
 mod run;
 mod script;
 mod strict;
-mod told;
 
 pub use accepted::is_accepted;
-pub use answered::{Answered, Asked, Ended, OcspReply, RefusedCommand};
+pub use answered::{Answered, Ended, LineKind, OcspReply, RefusedCommand};
 pub use fields::Fields;
 pub use host::Host;
 pub use line::{CommandLine, read_line};
 pub use lines::{LONGEST_COMMAND, LONGEST_LINE, MOST_LINES, run_lines};
 pub use moments::{command_in, take_moment, without_end};
 pub use reply::{LONGEST_REPLY, ReplyText};
+pub use row_lines::lines_of_rows;
 pub use rows::{MOST_BYTES, import};
 pub use run::run_line;
 pub use script::{run_script, run_script_for};
 pub use strict::import_strictly;
-pub use told::lines_of_rows;

@@ -1,17 +1,17 @@
-//! One command line: what it says.
+//! Reads one line: as a command, a query or an OCSP request.
 
 ghost use Rattle.std.specs.Prelude.{◌≡◌, ◌<◌, IfNone, IfSome, IsTrue, ◌↔◌, Some, None, option_map, length, cond};
 ghost use Rattle.std.specs.List.{AllPass};
 ghost use Rattle.hex.specs.Hex.{is_hex_digit};
 ghost use Rattle.reg_core.specs.Calendar.{moment_of};
 ghost use Rattle.reg_lines.specs.Fields.{fields_of};
-ghost use Rattle.reg_lines.specs.Meaning.{Meaning, IsUnreadable, LineMeans, OneMeaning, meaning_of, decoded_bytes, tells, asks, asks_ocsp};
+ghost use Rattle.reg_lines.specs.Meaning.{Meaning, IsUnreadable, LineMeans, OneMeaning, meaning_of, decoded_bytes, means_command, means_query, is_ocsp_line};
 ghost use Rattle.reg_lines.specs.LineReading.{label_field, subscriber_of, order_of, register_by, register_of, request_of, number_alone, serial_alone, hex_of, ocsp_of, alone, asked_by, revoking_by, said_of};
 
 use crate::fields::{Fields, four, one, two};
 use reg_core::{Command, Label, Moment, Query, Serial, read_number};
 
-/// What a command line says.
+/// What a line means.
 #[derive(Clone, Copy)]
 pub enum CommandLine<'a> {
     Command(Command),
@@ -20,7 +20,7 @@ pub enum CommandLine<'a> {
     Ocsp(&'a [u8]),
 }
 
-/// Reads a command line, which has no moment and no end: `None` where it is unreadable. No line has two meanings.
+/// Reads a line without its moment and its line end: `None` if it can't be read. No line has two meanings.
 pub fn read_line(line: &[u8]) -> Option<CommandLine<'_>>
     ensures found { IfSome result (λ said. LineMeans line.now (meaning_of said)) }
     ensures only { (meaning : Meaning) → LineMeans line.now meaning
@@ -31,7 +31,7 @@ pub fn read_line(line: &[u8]) -> Option<CommandLine<'_>>
     read_fields(Fields::of(line))
 }
 
-/// Reads the fields of a command line: a registration's word, or one of those below.
+/// Reads the fields of a line: `subscriber`, `order`, `register`, or else what `read_revoking` reads.
 #[tactic(auto, unfolding(crate::specs::LineReading::said_of, crate::specs::LineReading::said_by))]
 fn read_fields(mut fields: Fields<'_>) -> Option<CommandLine<'_>>
     ensures { option_map meaning_of result ≡ said_of fields.entry }
@@ -48,7 +48,7 @@ fn read_fields(mut fields: Fields<'_>) -> Option<CommandLine<'_>>
     }
 }
 
-/// Reads what a word says of a revocation or a CRL; any other asks.
+/// Reads `request`, `decline`, `revoke`, `crl`, or else what `read_query` reads.
 #[tactic(auto, unfolding(crate::specs::LineReading::revoking_by))]
 fn read_revoking<'a>(word: &[u8], fields: Fields<'a>) -> Option<CommandLine<'a>>
     ensures { option_map meaning_of result ≡ revoking_by word.now fields.entry }
@@ -64,13 +64,13 @@ fn read_revoking<'a>(word: &[u8], fields: Fields<'a>) -> Option<CommandLine<'a>>
     } else if word == b"crl".as_slice() {
         command(alone(Command::Crl, fields))
     } else {
-        read_asked(word, fields)
+        read_query(word, fields)
     }
 }
 
-/// Reads what a word asks; any other says nothing.
+/// Reads a query or `ocsp`; `None` for any other word.
 #[tactic(auto, unfolding(crate::specs::LineReading::asked_by))]
-fn read_asked<'a>(word: &[u8], fields: Fields<'a>) -> Option<CommandLine<'a>>
+fn read_query<'a>(word: &[u8], fields: Fields<'a>) -> Option<CommandLine<'a>>
     ensures { option_map meaning_of result ≡ asked_by word.now fields.entry }
 {
     if word == b"status".as_slice() {
@@ -93,24 +93,24 @@ fn read_asked<'a>(word: &[u8], fields: Fields<'a>) -> Option<CommandLine<'a>>
 }
 
 fn command<'a>(command: Option<Command>) -> Option<CommandLine<'a>>
-    ensures { option_map meaning_of result ≡ option_map tells command }
+    ensures { option_map meaning_of result ≡ option_map means_command command }
 {
     Some(CommandLine::Command(command?))
 }
 
 fn query<'a>(query: Option<Query>) -> Option<CommandLine<'a>>
-    ensures { option_map meaning_of result ≡ option_map asks query }
+    ensures { option_map meaning_of result ≡ option_map means_query query }
 {
     Some(CommandLine::Query(query?))
 }
 
 fn ocsp(digits: Option<&[u8]>) -> Option<CommandLine<'_>>
-    ensures { option_map meaning_of result ≡ option_map (λ d. asks_ocsp (decoded_bytes d.now)) digits.entry }
+    ensures { option_map meaning_of result ≡ option_map (λ d. is_ocsp_line (decoded_bytes d.now)) digits.entry }
 {
     Some(CommandLine::Ocsp(digits?))
 }
 
-/// What is said by a word alone: the value, if no field is left.
+/// The value for a word without arguments: `None` if a field is left.
 fn alone<T: Copy>(value: T, fields: Fields<'_>) -> Option<T>
     ensures { result ≡ alone value fields.entry }
 {

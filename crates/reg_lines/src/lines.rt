@@ -19,7 +19,7 @@ use std::io::{Read, Write};
 /// The most bytes of a line before its LF; a CR counts.
 pub const LONGEST_LINE: usize = 8192;
 
-/// The most bytes of a command line: those of a line that begins with a moment and a space. A CR counts.
+/// The most bytes of a line without its moment and the space after that. A CR counts.
 pub const LONGEST_COMMAND: usize = LONGEST_LINE - MOMENT - 1;
 
 /// The most lines of a run.
@@ -27,19 +27,19 @@ pub const MOST_LINES: u64 = 1_000_000;
 
 #[derive(Clone, Copy)]
 enum Next {
-    /// Other lines, of which so many bytes are held at the front of the buffer.
+    /// More lines follow: so many of their bytes are at the front of the buffer.
     Held(usize),
     End(Ended),
 }
 
-/// Runs each line of an input, in turn, and writes each reply before it runs the next line. As the host says, the lines begin with
-/// moments of their own, as in a script, or run at the moments of its clock. A strict run ends behind the first reply that is a
-/// refusal or a fault, and does not run a last line without its LF.
+/// Runs each line of an input, in turn, and writes each reply before it runs the next line. The lines begin with moments of their
+/// own, as in a script, or, if the host has a clock, run at the moments of that. A strict run ends after the first reply that is
+/// a refusal or a fault, and does not run a last line without its LF.
 ///
 /// # Errors
 ///
-/// As of [`crate::run_script`]. A line that runs at the moment of the clock has at most 8,171 bytes. Where the clock can't be read,
-/// [`Fault::Read`], and the line did not run.
+/// Those of [`crate::run_script`]. A line that runs at the moment of the clock has at most 8,171 bytes. [`Fault::Read`] if the clock
+/// can't be read: then the line did not run.
 pub fn run_lines<R: Read, W: Write, O: Office, H: Host>(
     alloc: Global,
     reader: &mut R,
@@ -49,11 +49,11 @@ pub fn run_lines<R: Read, W: Write, O: Office, H: Host>(
     is_strict: bool,
 ) -> Result<Ended, Fault>
     ensures ends { Leads O.is_clean O.stands
-        (λ who before after. LinesEnd (Lines O.signs who) R.remaining W.contents before after
-        reader.old reader.new writer.old writer.new H.told (H.clocked host.now) is_strict result)
+        (λ signatory before after. LinesEnd (Lines O.signs signatory) R.remaining W.contents before after
+        reader.old reader.new writer.old writer.new H.clock_reached (H.clocked host.now) is_strict result)
         office.old office.new }
     ensures device { LinesEnd (LineCalls O.Office) R.remaining W.contents office.old office.new
-        reader.old reader.new writer.old writer.new H.told (H.clocked host.now) is_strict result }
+        reader.old reader.new writer.old writer.new H.clock_reached (H.clocked host.now) is_strict result }
 {
     let room = room_for(host.is_clocked());
     match vec![in alloc; 0; room] {
@@ -87,21 +87,23 @@ fn run_all<R: Read, W: Write, O: Office, H: Host>(
         (W.contents writer.old) (W.contents writer.new) (HostLines O.Office H.Host host.now) office.old office.new
         (H.clocked host.now) is_strict result }
 {
-    let mut held = 0;
+    let mut buffered = 0;
     for _ in 0..MOST_LINES {
-        match run_next(alloc, reader, writer, office, host, is_strict, buffer, held) {
-            Ok(Next::Held(left)) => held = left,
+        match run_next(
+            alloc, reader, writer, office, host, is_strict, buffer, buffered,
+        ) {
+            Ok(Next::Held(left)) => buffered = left,
             Ok(Next::End(ended)) => return Ok(ended),
             Err(fault) => return Err(fault),
         }
     }
-    if held > 0 {
+    if buffered > 0 {
         return Err(Fault::Read);
     }
     end_of_input(reader, &mut buffer[..1])
 }
 
-/// Runs the next line, and tells what comes behind it.
+/// Runs the next line, and says how to go on.
 fn run_next<R: Read, W: Write, O: Office, H: Host>(
     alloc: Global,
     reader: &mut R,
@@ -110,33 +112,33 @@ fn run_next<R: Read, W: Write, O: Office, H: Host>(
     host: &H,
     is_strict: bool,
     buffer: &mut [u8],
-    held: usize,
+    buffered: usize,
 ) -> Result<Next, Fault>
     requires room { length buffer.old ≡ longest_of (H.clocked host.now) + 1 }
-    requires held_fits { held ≤ length buffer.old }
+    requires buffered_fits { buffered ≤ length buffer.old }
     ensures { NextEnds (HostLines O.Office H.Host host.now) office.old office.new
         (W.contents writer.old) (W.contents writer.new) (longest_of (H.clocked host.now))
-        (R.remaining reader.old) (R.remaining reader.new) (take held buffer.old)
+        (R.remaining reader.old) (R.remaining reader.new) (take buffered buffer.old)
         (H.clocked host.now) is_strict buffer.new result }
 {
-    match fill_to_mark(reader, buffer, held, b"\n") {
-        Ok(Reached::Mark { end, held }) => {
+    match fill_to_mark(reader, buffer, buffered, b"\n") {
+        Ok(Reached::Mark { end, buffered }) => {
             let line = without_end(&buffer[..end]);
             match answer_line(alloc, writer, office, host, is_strict, line) {
                 Ok(Passed::On) => {
                     buffer.rotate_left(end);
-                    Ok(Next::Held(held - end))
+                    Ok(Next::Held(buffered - end))
                 }
                 Ok(Passed::Refused(refused)) => Ok(Next::End(Ended::Refused(refused))),
                 Err(fault) => Err(fault),
             }
         }
-        Ok(Reached::End { held: 0 }) => Ok(Next::End(Ended::Whole)),
-        Ok(Reached::End { held }) => {
+        Ok(Reached::End { buffered: 0 }) => Ok(Next::End(Ended::Whole)),
+        Ok(Reached::End { buffered }) => {
             if is_strict {
                 return Ok(Next::End(Ended::NoLineEnd));
             }
-            match answer_line(alloc, writer, office, host, is_strict, &buffer[..held]) {
+            match answer_line(alloc, writer, office, host, is_strict, &buffer[..buffered]) {
                 Ok(_) => Ok(Next::End(Ended::Whole)),
                 Err(fault) => Err(fault),
             }
@@ -146,7 +148,7 @@ fn run_next<R: Read, W: Write, O: Office, H: Host>(
     }
 }
 
-/// Runs a line, and writes its reply. Whether the run goes on behind it.
+/// Runs a line, writes its reply, and returns whether the run goes on.
 fn answer_line<W: Write, O: Office, H: Host>(
     alloc: Global,
     writer: &mut W,
@@ -163,7 +165,7 @@ fn answer_line<W: Write, O: Office, H: Host>(
         Err(fault) => return Err(fault),
     };
     host.observe(&answered);
-    match answered.say(writer, is_strict) {
+    match answered.write_reply(writer, is_strict) {
         Ok(passed) => Ok(passed),
         Err(_) => Err(Fault::Write),
     }
@@ -175,7 +177,7 @@ fn run_by<O: Office, H: Host>(
     host: &H,
     line: &[u8],
 ) -> Result<Answered, Fault>
-    ensures comes { IfOk result (λ answered. LineComesTo (LineCalls O.Office) H.told (H.clocked host.now)
+    ensures comes { IfOk result (λ answered. LineComesTo (LineCalls O.Office) H.clock_reached (H.clocked host.now)
         office.old line.now answered office.new) }
     ensures clock { IfErr result (λ fault. (fault ≡ Fault.Read) × IsTrue (H.clocked host.now)) }
     ensures err { OnErr result (office.new ≡ office.old) }

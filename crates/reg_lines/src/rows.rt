@@ -8,7 +8,7 @@ ghost use Rattle.reg_lines.specs.ByCalls.{LineCalls, Lines};
 ghost use Rattle.reg_lines.specs.Import.{ImportEnds, IsAtStart, RanRow, ReadsText, RowsEnd, TextRead, TookRow, is_header};
 ghost use Rattle.reg_lines.specs.LineReading.{four, four_at, register_of};
 
-use crate::answered::{Answered, Asked, Passed, done};
+use crate::answered::{Answered, LineKind, Passed, done};
 use crate::line::read_registration;
 use crate::run::unreadable;
 use csv::{ByteRecord, Reader, ReaderBuilder};
@@ -39,7 +39,7 @@ pub fn import<R: Read, W: Write, O: Office>(
     office: &mut O,
 ) -> Result<(), Fault>
     ensures { Leads O.is_clean O.stands
-        (λ who before after. ImportEnds (Lines O.signs who) R.remaining W.contents now before after
+        (λ signatory before after. ImportEnds (Lines O.signs signatory) R.remaining W.contents now before after
         reader.old reader.new writer.old writer.new result)
         office.old office.new }
 {
@@ -161,9 +161,9 @@ fn run_row<W: Write, O: Office>(
     match read_row(row) {
         Some(command) => {
             let outcome = office.run_one(alloc, now, &command);
-            Answered::CameTo(Asked::Command(command), outcome).say(writer, is_strict)
+            Answered::CameTo(LineKind::Command(command), outcome).write_reply(writer, is_strict)
         }
-        None => unreadable().say(writer, is_strict),
+        None => unreadable().write_reply(writer, is_strict),
     }
 }
 

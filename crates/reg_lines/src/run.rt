@@ -3,34 +3,34 @@
 ghost use Rattle.std.specs.Prelude.{◌≡◌, ◌++◌, Err, IfOk, Ok, codes};
 ghost use Rattle.hex.specs.Hex.{encode_lower};
 ghost use Rattle.reg_office_api.specs.Leads.{Leads};
-ghost use Rattle.reg_lines.specs.Answer.{ComesTo, IsAsked, TellsGiven, unreadable as syntax_refused};
+ghost use Rattle.reg_lines.specs.Answer.{ComesTo, OfficeAnswers, OcspLineComesTo, unreadable as syntax_refused};
 ghost use Rattle.reg_lines.specs.ByCalls.{LineCalls, Lines};
-ghost use Rattle.reg_lines.specs.Meaning.{asks_ocsp, decoded_bytes};
+ghost use Rattle.reg_lines.specs.Meaning.{is_ocsp_line, decoded_bytes};
 ghost use Rattle.reg_lines.specs.Replies.{with_lf};
 
-use crate::answered::{Answered, Asked, OcspReply};
+use crate::answered::{Answered, LineKind, OcspReply};
 use crate::line::{CommandLine, read_line};
 use reg_core::{Fault, Moment, Refusal};
 use reg_office_api::Office;
 use std::alloc::{AllocError, Global};
 
-/// The bytes of an OCSP response that has a status and nothing else (RFC 6960 4.2.1).
+/// The bytes of an OCSP response that has only a status (RFC 6960 4.2.1).
 const REFUSAL: usize = 5;
 
-/// Runs a command line, which has no end, at a moment.
+/// Runs a line, given without its line end, at a moment.
 pub fn run_line<O: Office>(alloc: Global, office: &mut O, now: Moment, line: &[u8]) -> Answered
     ensures leads { Leads O.is_clean O.stands
-        (λ who before after. ComesTo (Lines O.signs who) now before line.now result after) office.old office.new }
+        (λ signatory before after. ComesTo (Lines O.signs signatory) now before line.now result after) office.old office.new }
     ensures device { ComesTo (LineCalls O.Office) now office.old line.now result office.new }
 {
     match read_line(line) {
         Some(CommandLine::Command(command)) => {
             let outcome = office.run_one(alloc, now, &command);
-            Answered::CameTo(Asked::Command(command), outcome)
+            Answered::CameTo(LineKind::Command(command), outcome)
         }
         Some(CommandLine::Query(query)) => {
             let outcome = office.ask(alloc, now, &query);
-            Answered::CameTo(Asked::Query(query), outcome)
+            Answered::CameTo(LineKind::Query(query), outcome)
         }
         Some(CommandLine::Ocsp(digits)) => run_ocsp(alloc, office, now, digits),
         None => unreadable(),
@@ -40,11 +40,11 @@ pub fn run_line<O: Office>(alloc: Global, office: &mut O, now: Moment, line: &[u
 pub(crate) fn unreadable() -> Answered
     ensures { result ≡ syntax_refused }
 {
-    Answered::CameTo(Asked::Nothing, Err(Fault::Refused(Refusal::Syntax)))
+    Answered::CameTo(LineKind::Nothing, Err(Fault::Refused(Refusal::Syntax)))
 }
 
 fn run_ocsp<O: Office>(alloc: Global, office: &mut O, now: Moment, digits: &[u8]) -> Answered
-    ensures { IsAsked (LineCalls O.Office) now office.old (asks_ocsp (decoded_bytes digits.now))
+    ensures { OfficeAnswers (LineCalls O.Office) now office.old (is_ocsp_line (decoded_bytes digits.now))
         result office.new }
 {
     let Ok(request) = hex::decode(alloc, digits) else {
@@ -57,7 +57,7 @@ fn run_ocsp<O: Office>(alloc: Global, office: &mut O, now: Moment, digits: &[u8]
 }
 
 fn respond(alloc: Global, response: &[u8]) -> Answered
-    ensures { TellsGiven (Ok response.now) result }
+    ensures { OcspLineComesTo (Ok response.now) result }
 {
     match response_line(alloc, response) {
         Ok(line) => Answered::Response(OcspReply {
@@ -69,9 +69,9 @@ fn respond(alloc: Global, response: &[u8]) -> Answered
 }
 
 fn no_memory() -> Answered
-    ensures { result ≡ Answered.CameTo Asked.Ocsp (Err Fault.Memory) }
+    ensures { result ≡ Answered.CameTo LineKind.Ocsp (Err Fault.Memory) }
 {
-    Answered::CameTo(Asked::Ocsp, Err(Fault::Memory))
+    Answered::CameTo(LineKind::Ocsp, Err(Fault::Memory))
 }
 
 fn response_line(alloc: Global, response: &[u8]) -> Result<Vec<u8>, AllocError>

@@ -21,7 +21,7 @@ impl Host for NoHost {
 
     ghost clocked = { λ host. false };
 
-    ghost told = { λ now. Unit {0} };
+    ghost clock_reached = { λ now. Unit {0} };
 
     fn is_clocked(&self) -> bool {
         false
@@ -50,7 +50,7 @@ pub fn run_script<R: Read, W: Write, O: Office>(
     office: &mut O,
 ) -> Result<(), Fault>
     ensures ends { Leads O.is_clean O.stands
-        (λ who before after. ScriptEnds (Lines O.signs who) R.remaining W.contents before after
+        (λ signatory before after. ScriptEnds (Lines O.signs signatory) R.remaining W.contents before after
         reader.old reader.new writer.old writer.new result)
         office.old office.new }
     ensures device { ScriptEnds (λ s now call t. CountsFailure (O.failures s) call (O.failures t))
@@ -70,7 +70,7 @@ pub fn run_script_for<R: Read, W: Write, O: Office, H: Host>(
 ) -> Result<(), Fault>
     requires { IsFalse (H.clocked host.now) }
     ensures ends { Leads O.is_clean O.stands
-        (λ who before after. ScriptEnds (Lines O.signs who) R.remaining W.contents before after
+        (λ signatory before after. ScriptEnds (Lines O.signs signatory) R.remaining W.contents before after
         reader.old reader.new writer.old writer.new result)
         office.old office.new }
     ensures device { ScriptEnds (λ s now call t. CountsFailure (O.failures s) call (O.failures t))

@@ -23,7 +23,7 @@ pub fn import_strictly<R: Read, W: Write, O: Office>(
     office: &mut O,
 ) -> Result<Ended, Fault>
     ensures { Leads O.is_clean O.stands
-        (λ who before after. StrictEnds (Lines O.signs who) R.remaining W.contents now before after
+        (λ signatory before after. StrictEnds (Lines O.signs signatory) R.remaining W.contents now before after
         reader.old reader.new writer.old writer.new result)
         office.old office.new }
 {
@@ -55,10 +55,10 @@ fn run_ended<W: Write, O: Office>(
 fn ended_part(mut text: &[u8]) -> &[u8]
     ensures { result.now ≡ ended_part text.entry.now }
 {
-    while let [front @ .., last] = text
+    while let [trimmed @ .., last] = text
         && is_within(*last)
     {
-        text = front;
+        text = trimmed;
     }
     text
 }

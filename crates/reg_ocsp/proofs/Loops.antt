@@ -4,7 +4,7 @@ use Rattle.std.specs.Prelude.{option_copied, is_some}
 use Rattle.std.specs.Str.{bytes_eq}
 use Rattle.reg_core.specs.Integer.{IsBytes}
 use Rattle.reg_core.specs.Sequence.{◌>>=◌}
-use Rattle.reg_ocsp.specs.Request.{Extension, IsExtension, Id, id_asked, single, IsSingle, request_extension, first_nonce, nonce_identifier}
+use Rattle.reg_ocsp.specs.Request.{Extension, IsExtension, Id, cert_id_in, single, IsSingle, request_extension, first_nonce, nonce_identifier}
 use Rattle.reg_der.specs.TaggedValues.{whole_at, all_at}
 use Rattle.reg_ocsp.specs.RequestReading.{extension_at, single_at}
 use Rattle.reg_ocsp.proofs.PartLaws.{whole_takes}
@@ -75,7 +75,7 @@ push_front front id None = refl
 
 pub ids_go_on : (front : List Id) (rest after list : List ℕ) (id : Id) → 1 ≤ length rest → single_at rest ≡ Some (id, after) → Lists front rest list → Lists (front ++ id ∷ []) after list
 ids_go_on front rest after list id some read so_far =
-    let step = all_step single_at single id_asked IsSingle single_reads rest id after so_far.each some read in
+    let step = all_step single_at single cert_id_in IsSingle single_reads rest id after so_far.each some read in
     record {
       told = sym (ap (with_front front) step ∙ push_front front id (all_at single_at after)) ∙ so_far.told;
       each = (single_takes rest (id, after) so_far.each read).taken.each;

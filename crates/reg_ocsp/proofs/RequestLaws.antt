@@ -10,10 +10,10 @@ use Rattle.reg_core.specs.Integer.{IsBytes}
 use Rattle.reg_der.specs.Der.{tlv, length_octets}
 use Rattle.reg_der.specs.ValueReading.{Takes}
 use Rattle.reg_der.proofs.PublicLaws.{value_size, bind_then, kept, some_is}
-use Rattle.reg_ocsp.specs.Request.{Single, IsSingle, Extension, AreExtensions, Id, id_asked, Form, IsForm, single, request_version, optional, extensions, to_be_signed, spelling, repeated, nonce_of, first_nonce, IsOcspRequest, OneReading, cert_id, algorithm, raw_length, IsNonce, CanBeAnswered}
+use Rattle.reg_ocsp.specs.Request.{Single, IsSingle, Extension, AreExtensions, Id, cert_id_in, Form, IsForm, single, request_version, optional, extensions, to_be_signed, spelling, repeated, nonce_of, first_nonce, IsOcspRequest, OneReading, cert_id, algorithm, raw_length, IsNonce, CanBeAnswered}
 use Rattle.reg_ocsp.specs.declared.asked.Asked.{Asked}
-use Rattle.reg_ocsp.specs.declared.fault.AskFault.{AskFault}
-use Rattle.reg_ocsp.specs.declared.fault.AskFault.TheVariants.{Malformed, Memory}
+use Rattle.reg_ocsp.specs.declared.fault.RequestFault.{RequestFault}
+use Rattle.reg_ocsp.specs.declared.fault.RequestFault.TheVariants.{Malformed, Memory}
 use Rattle.reg_ocsp.specs.Views.{id_seen, ids_seen, GivesUnlessMemory}
 use Rattle.reg_der.specs.TaggedValues.{expect_at, whole_at, optional_at, last_at, all_at}
 use Rattle.reg_ocsp.specs.RequestReading.{ids_at, single_at, is_version, version_at, last_nonce_at, list_at, signed_at, tbs_at, parts_at, request_at}
@@ -29,7 +29,7 @@ some_trees [] bytes e some = absurd (omega (arith, ap length e))
 some_trees (s ∷ ss) bytes e some = omega arith
 
 record TakesIds (bytes : List ℕ) (ids : List Id) : Type 0 where
-  all : TakesAll single id_asked IsSingle bytes ids
+  all : TakesAll single cert_id_in IsSingle bytes ids
   some : 1 ≤ length all.trees
 
 ids_takes : (bytes : List ℕ) (ids : List Id) → IsBytes bytes → ids_at bytes ≡ Some ids → TakesIds bytes ids
@@ -37,19 +37,19 @@ unfolding ids_at
 ids_takes bytes ids each e =
     let g = kept (eqb (length bytes) 0) (all_at single_at bytes) ids e in
     let ne = eqb-false (length bytes) 0 g.0 in
-    let t = items_take single_at single id_asked IsSingle single_reads (length bytes) bytes ids each g.1 in
+    let t = items_take single_at single cert_id_in IsSingle single_reads (length bytes) bytes ids each g.1 in
     record { all = t; some = some_trees t.trees bytes t.spelled (omega (arith, ne)) }
 
 some_bytes : (ss : List Single) → 1 ≤ length ss → 1 ≤ length (flat_map single ss)
 some_bytes [] some = absurd (omega arith)
 some_bytes (s ∷ ss) some = let first = single_reads.some s in omega (arith, length-append (single s) (flat_map single ss))
 
-ids_again : (ss : List Single) → AllByRecursion IsSingle ss → 1 ≤ length ss → length (flat_map single ss) ≤ 65536 → ids_at (flat_map single ss) ≡ Some (map id_asked ss)
+ids_again : (ss : List Single) → AllByRecursion IsSingle ss → 1 ≤ length ss → length (flat_map single ss) ≤ 65536 → ids_at (flat_map single ss) ≡ Some (map cert_id_in ss)
 unfolding ids_at
 ids_again ss fits some small =
     let bytes = some_bytes ss some in
     let e0 : eqb (length (flat_map single ss)) 0 ≡ false = ne_eqb (length (flat_map single ss)) 0 (λ same. absurd (omega arith)) in
-    rw e0 (items_again single_at single id_asked IsSingle single_reads ss (length (flat_map single ss)) fits (omega arith) small)
+    rw e0 (items_again single_at single cert_id_in IsSingle single_reads ss (length (flat_map single ss)) fits (omega arith) small)
 
 -- ---- the version
 
@@ -271,7 +271,7 @@ list_small f small =
       (value_size 0x30 list).least,
     )
 
-spelling_reads : (f : Form) → IsForm f → length (spelling f) ≤ 65536 → request_at (spelling f) ≡ Some (map id_asked f.singles, nonce_of f.extensions)
+spelling_reads : (f : Form) → IsForm f → length (spelling f) ≤ 65536 → request_at (spelling f) ≡ Some (map cert_id_in f.singles, nonce_of f.extensions)
 unfolding request_at
 spelling_reads f allowed small =
     let list = flat_map single f.singles in
@@ -287,7 +287,7 @@ pub request_reads : (bytes : List ℕ) (ids : List Id) (nonce : Option (List ℕ
 request_reads bytes ids nonce is =
     let b = is.built in
     let small : length (spelling is.form) ≤ 65536 = let short = is.short in let same = ap length b.spelled in omega arith in
-    reading_is bytes (spelling is.form) ids (map id_asked is.form.singles) nonce (nonce_of is.form.extensions) b.spelled b.asks b.repeats (spelling_reads is.form b.allowed small)
+    reading_is bytes (spelling is.form) ids (map cert_id_in is.form.singles) nonce (nonce_of is.form.extensions) b.spelled b.asks b.repeats (spelling_reads is.form b.allowed small)
 
 abbrev some_reading : List Id × Option (List ℕ) → Option (List Id × Option (List ℕ))
 some_reading x = Some x
@@ -307,20 +307,20 @@ no_request bytes read ids nonce is =
 -- ---- sizes
 
 -- the whole values of the CertIDs stand in the list, which is longer
-raws_small : (ss : List Single) → sum_by raw_length (map id_asked ss) ≤ length (flat_map single ss)
+raws_small : (ss : List Single) → sum_by raw_length (map cert_id_in ss) ≤ length (flat_map single ss)
 raws_small [] = omega arith
 raws_small (s ∷ ss) =
     let others = raws_small ss in
     let id = cert_id s.target in
     let written = extensions 0xA0 s.extensions in
-    omega (arith, sum_by-cons raw_length (id_asked s) (map id_asked ss), length-append (single s) (flat_map single ss), (value_size 0x30 (id ++ written)).least, length-append id written)
+    omega (arith, sum_by-cons raw_length (cert_id_in s) (map cert_id_in ss), length-append (single s) (flat_map single ss), (value_size 0x30 (id ++ written)).least, length-append id written)
 
-ids_few : (ss : List Single) → length (map id_asked ss) ≤ sum_by raw_length (map id_asked ss)
+ids_few : (ss : List Single) → length (map cert_id_in ss) ≤ sum_by raw_length (map cert_id_in ss)
 ids_few [] = omega arith
 ids_few (s ∷ ss) =
     let others = ids_few ss in
     let t = s.target in
-    omega (arith, sum_by-cons raw_length (id_asked s) (map id_asked ss), (value_size 0x30 (algorithm t.identifier t.parameters ++ (tlv 0x04 t.name_hash ++ (tlv 0x04 t.key_hash ++ tlv 0x02 t.serial)))).least)
+    omega (arith, sum_by-cons raw_length (cert_id_in s) (map cert_id_in ss), (value_size 0x30 (algorithm t.identifier t.parameters ++ (tlv 0x04 t.name_hash ++ (tlv 0x04 t.key_hash ++ tlv 0x02 t.serial)))).least)
 
 repeated_short : (first : Option (List ℕ)) → IfSome (repeated first) IsNonce
 repeated_short None = tt
@@ -347,14 +347,14 @@ pub asks_some : (bytes : List ℕ) (ids : List Id) (nonce : Option (List ℕ)) �
 asks_some bytes ids told is =
     let one = is.built.allowed.some in
     let same = ap length is.built.asks in
-    omega (arith, length-map is.form.singles id_asked)
+    omega (arith, length-map is.form.singles cert_id_in)
 
 pub can_be_answered : (bytes : List ℕ) (ids : List Id) (nonce : Option (List ℕ)) → IsOcspRequest bytes ids nonce → CanBeAnswered ids nonce
 can_be_answered bytes ids nonce is =
     let f = is.form in
     let small : length (spelling f) ≤ 65536 = let short = is.short in let same = ap length is.built.spelled in omega arith in
     let list = list_small f small in
-    let asked = map id_asked f.singles in
+    let asked = map cert_id_in f.singles in
     let raws = raws_small f.singles in
     let few = ids_few f.singles in
     let made : CanBeAnswered asked (nonce_of f.extensions) = record {
@@ -372,28 +372,28 @@ can_be_answered bytes ids nonce is =
 abbrev asked_seen : Asked → List Id × Option (List ℕ)
 asked_seen a = (ids_seen a.ids.items, option_copied a.nonce)
 
-pub is_found : (bytes : List ℕ) (outcome : Result Asked AskFault) → IsBytes bytes → GivesUnlessMemory asked_seen outcome (request_at bytes)
+pub is_found : (bytes : List ℕ) (outcome : Result Asked RequestFault) → IsBytes bytes → GivesUnlessMemory asked_seen outcome (request_at bytes)
     → IfOk outcome (λ a. IsOcspRequest bytes (ids_seen a.ids.items) (option_copied a.nonce))
 is_found bytes (Ok a) each given = request_takes bytes (asked_seen a) each given
 is_found bytes (Err e) each given = tt
 
-pub is_malformed : (bytes : List ℕ) (outcome : Result Asked AskFault) → GivesUnlessMemory asked_seen outcome (request_at bytes)
+pub is_malformed : (bytes : List ℕ) (outcome : Result Asked RequestFault) → GivesUnlessMemory asked_seen outcome (request_at bytes)
     → IsErrOf outcome Malformed → (ids : List Id) (nonce : Option (List ℕ)) → IsOcspRequest bytes ids nonce → ⊥
 is_malformed bytes (Ok a) given is = absurd (cc)
 is_malformed bytes (Err Malformed) given is = no_request bytes given
 is_malformed bytes (Err Memory) given is = absurd (cc)
 
-pub is_answerable : (bytes : List ℕ) (outcome : Result Asked AskFault) → IfOk outcome (λ a. IsOcspRequest bytes (ids_seen a.ids.items) (option_copied a.nonce))
+pub is_answerable : (bytes : List ℕ) (outcome : Result Asked RequestFault) → IfOk outcome (λ a. IsOcspRequest bytes (ids_seen a.ids.items) (option_copied a.nonce))
     → IfOk outcome (λ a. CanBeAnswered (ids_seen a.ids.items) (option_copied a.nonce))
 is_answerable bytes (Ok a) is = can_be_answered bytes (ids_seen a.ids.items) (option_copied a.nonce) is
 is_answerable bytes (Err e) is = tt
 
-pub is_some : (bytes : List ℕ) (outcome : Result Asked AskFault) → IfOk outcome (λ a. IsOcspRequest bytes (ids_seen a.ids.items) (option_copied a.nonce))
+pub is_some : (bytes : List ℕ) (outcome : Result Asked RequestFault) → IfOk outcome (λ a. IsOcspRequest bytes (ids_seen a.ids.items) (option_copied a.nonce))
     → IfOk outcome (λ a. 1 ≤ length a.ids.items)
 is_some bytes (Ok a) is = omega (arith, asks_some bytes (ids_seen a.ids.items) (option_copied a.nonce) is, length-map a.ids.items id_seen)
 is_some bytes (Err e) is = tt
 
-pub is_repeated : (bytes : List ℕ) (outcome : Result Asked AskFault) → IfOk outcome (λ a. IsOcspRequest bytes (ids_seen a.ids.items) (option_copied a.nonce))
+pub is_repeated : (bytes : List ℕ) (outcome : Result Asked RequestFault) → IfOk outcome (λ a. IsOcspRequest bytes (ids_seen a.ids.items) (option_copied a.nonce))
     → IfOk outcome (λ a. IfSome (option_copied a.nonce) IsNonce)
 is_repeated bytes (Ok a) is = repeats_nonce bytes (ids_seen a.ids.items) (option_copied a.nonce) is
 is_repeated bytes (Err e) is = tt

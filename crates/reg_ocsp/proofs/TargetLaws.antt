@@ -8,7 +8,7 @@ use Rattle.reg_core.specs.Integer.{IsBytes, IsShortest}
 use Rattle.reg_der.specs.Der.{tlv}
 use Rattle.reg_der.specs.ValueReading.{Parts, value_at, Takes}
 use Rattle.reg_der.proofs.PublicLaws.{value_takes, value_again, value_size, bind_then, kept, some_is, or_false}
-use Rattle.reg_ocsp.specs.Request.{Target, IsTarget, Single, IsSingle, Id, id_of, id_asked, parameters, algorithm, cert_id, single, extensions}
+use Rattle.reg_ocsp.specs.Request.{Target, IsTarget, Single, IsSingle, Id, id_of, cert_id_in, parameters, algorithm, cert_id, single, extensions}
 use Rattle.reg_der.specs.TaggedValues.{expect_at, whole_at}
 use Rattle.reg_ocsp.specs.RequestReading.{last_nonce_at, read_all, algorithm_at, is_shortest, serial_at, names_at, target_at, single_at}
 use Rattle.reg_ocsp.proofs.PartLaws.{chosen, expect_takes, expect_again, expect_next, whole_takes, whole_again}
@@ -188,7 +188,7 @@ target_again t rest fits small =
 
 -- ---- one request
 
-pub single_takes : (bytes : List ℕ) (x : Id × List ℕ) → IsBytes bytes → single_at bytes ≡ Some x → TakesItem single id_asked IsSingle bytes x.0 x.1
+pub single_takes : (bytes : List ℕ) (x : Id × List ℕ) → IsBytes bytes → single_at bytes ≡ Some x → TakesItem single cert_id_in IsSingle bytes x.0 x.1
 unfolding single_at
 single_takes bytes x each e =
     bind_then (expect_at 0x30 bytes) _ x e (λ outer read_outer e1.
@@ -198,7 +198,7 @@ single_takes bytes x each e =
     let t1 = target_takes outer.0 target t0.inner read_target in
     let t2 = last_nonce_takes 0xA0 target.1 nonce t1.taken.each read_nonce in
     let inner : outer.0 ≡ cert_id t1.tree ++ extensions 0xA0 t2.tree = t1.taken.parts ∙ ap (λ (r : List ℕ). cert_id t1.tree ++ r) t2.spelled in
-    subst (λ (y : Id × List ℕ). TakesItem single id_asked IsSingle bytes y.0 y.1) (some_is (target.0, outer.1) x e3)
+    subst (λ (y : Id × List ℕ). TakesItem single cert_id_in IsSingle bytes y.0 y.1) (some_is (target.0, outer.1) x e3)
     (record {
       tree = record { target = t1.tree; extensions = t2.tree };
       fits = record { target = t1.fits; extensions = t2.fits };
@@ -206,7 +206,7 @@ single_takes bytes x each e =
       same = t1.same;
     }))))
 
-single_again : (s : Single) (rest : List ℕ) → IsSingle s → length (single s) ≤ 65536 → single_at (single s ++ rest) ≡ Some (id_asked s, rest)
+single_again : (s : Single) (rest : List ℕ) → IsSingle s → length (single s) ≤ 65536 → single_at (single s ++ rest) ≡ Some (cert_id_in s, rest)
 unfolding single_at
 single_again s rest fits small =
     let front = cert_id s.target in
@@ -219,7 +219,7 @@ single_again s rest fits small =
     let e2 = last_nonce_again 0xA0 s.extensions (omega arith) fits.extensions (omega arith) in
     rw (e0, e1, e2) refl
 
-pub single_reads : Reads single_at single id_asked IsSingle
+pub single_reads : Reads single_at single cert_id_in IsSingle
 single_reads = record {
   takes = single_takes;
   again = single_again;

@@ -3,7 +3,7 @@ use Rattle.std.specs.Prelude.{ℕ, List, Option, Some, None}
 use Rattle.reg_ocsp.specs.Response.{ocsp_response, refusal_response}
 use Rattle.reg_ocsp.specs.declared.response.RefusalStatus.TheVariants.{Internal}
 
--- the ResponseData that is to be signed, the algorithm and the key of who is to sign it, and the certificate that stands with the answer,
+-- the ResponseData that is to be signed, the algorithm and the key of its signer, and the certificate that stands with the answer,
 -- where one does
 pub record Drafted : Type 0 where
   pub message : List ℕ

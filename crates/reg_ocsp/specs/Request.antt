@@ -138,8 +138,8 @@ pub record Id : Type 0 where
 abbrev pub id_of : Target → Id
 id_of t = record { raw = cert_id t; algorithm = algorithm t.identifier t.parameters; name_hash = t.name_hash; key_hash = t.key_hash; serial = t.serial }
 
-abbrev pub id_asked : Single → Id
-id_asked s = id_of s.target
+abbrev pub cert_id_in : Single → Id
+cert_id_in s = id_of s.target
 
 -- the value of the first extension with the nonce's identifier
 abbrev pub first_nonce : List Extension → Option (List ℕ)
@@ -162,7 +162,7 @@ nonce_of (Some es) = repeated (first_nonce es)
 pub record IsRequestOf (bytes : List ℕ) (ids : List Id) (nonce : Option (List ℕ)) (f : Form) : Type 0 where
   pub allowed : IsForm f
   pub spelled : bytes ≡ spelling f
-  pub asks : ids ≡ map id_asked f.singles
+  pub asks : ids ≡ map cert_id_in f.singles
   pub repeats : nonce ≡ nonce_of f.extensions
 
 -- the bytes, 65,536 at most, are an OCSP request for these CertIDs and with this nonce

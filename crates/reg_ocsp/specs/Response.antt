@@ -62,7 +62,7 @@ data_fields key now next answers nonce =
     responder key ++ general_value now ++ tlv 0x30 (flat_map (single_response now next) answers) ++ nonce_part nonce
 
 -- ResponseData ::= SEQUENCE { responderID, producedAt GeneralizedTime, responses SEQUENCE OF SingleResponse,
--- responseExtensions }, by the key of who answers; each answer holds from now to next
+-- responseExtensions }, by the key of the responder; each answer holds from now to next
 unfoldable pub response_data : List ℕ → ℕ → ℕ → List SingleAnswer → Option (List ℕ) → List ℕ
 response_data key now next answers nonce = tlv 0x30 (data_fields key now next answers nonce)
 

@@ -1,7 +1,7 @@
 -- What contracts see of the values that a request is read into.
 use Rattle.std.specs.Prelude.{◌≡◌, ℕ, List, length, map, Option, Some, None, Result, Ok, Err}
-use Rattle.reg_ocsp.specs.declared.fault.AskFault.{AskFault}
-use Rattle.reg_ocsp.specs.declared.fault.AskFault.TheVariants.{Malformed, Memory}
+use Rattle.reg_ocsp.specs.declared.fault.RequestFault.{RequestFault}
+use Rattle.reg_ocsp.specs.declared.fault.RequestFault.TheVariants.{Malformed, Memory}
 use Rattle.reg_ocsp.specs.declared.asked.CertId.{CertId}
 use Rattle.reg_ocsp.specs.declared.certificate.CertifiedKey.{CertifiedKey}
 use Rattle.reg_ocsp.specs.declared.extensions.Extension as code
@@ -17,7 +17,7 @@ abbrev pub ids_seen : List CertId → List Id
 ids_seen ids = map id_seen ids
 
 -- what a function returned, seen by view, is what reading gives, unless memory was wanting
-abbrev pub GivesUnlessMemory : {X Y : Type 0} → (X → Y) → Result X AskFault → Option Y → Type 0
+abbrev pub GivesUnlessMemory : {X Y : Type 0} → (X → Y) → Result X RequestFault → Option Y → Type 0
 GivesUnlessMemory view (Ok x) read = read ≡ Some (view x)
 GivesUnlessMemory view (Err Malformed) read = read ≡ None
 GivesUnlessMemory view (Err Memory) read = Unit {0}

@@ -1,28 +1,28 @@
 ghost use Rattle.std.specs.Prelude.{◌≡◌};
-ghost use Rattle.reg_ocsp.specs.declared.fault.AskFault.TheVariants.{Memory};
+ghost use Rattle.reg_ocsp.specs.declared.fault.RequestFault.TheVariants.{Memory};
 
 use std::alloc::{AllocError, AllocFailed};
 
 /// Why a request could not be read.
 #[derive(Clone, Copy, PartialEq, Eq)]
-pub enum AskFault {
+pub enum RequestFault {
     /// The bytes are no OCSP request (RFC 6960 4.1.1).
     Malformed,
     Memory,
 }
 
-impl From<AllocError> for AskFault {
+impl From<AllocError> for RequestFault {
     ghost from_gives = { λ _ e. e ≡ Memory };
 
-    fn from(_e: AllocError) -> AskFault {
-        AskFault::Memory
+    fn from(_e: AllocError) -> RequestFault {
+        RequestFault::Memory
     }
 }
 
-impl<T: Drop> From<AllocFailed<T>> for AskFault {
+impl<T: Drop> From<AllocFailed<T>> for RequestFault {
     ghost from_gives = { λ _ e. e ≡ Memory };
 
-    fn from(_e: AllocFailed<T>) -> AskFault {
-        AskFault::Memory
+    fn from(_e: AllocFailed<T>) -> RequestFault {
+        RequestFault::Memory
     }
 }

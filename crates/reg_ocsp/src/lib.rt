@@ -15,6 +15,6 @@ pub use asked::{Asked, CertId};
 pub use cert_id_match::matches;
 pub use certificate::{Certificate, CertificateFault, CertifiedKey, certified_key};
 pub use draft::{Draft, slice_of};
-pub use fault::AskFault;
+pub use fault::RequestFault;
 pub use ocsp_request::read_request;
 pub use response::{RefusalStatus, basic, basic_with, refusal, response_data, response_data_by};

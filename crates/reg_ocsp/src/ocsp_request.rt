@@ -10,7 +10,7 @@ ghost use Rattle.reg_ocsp.specs.Views.{ids_seen, id_seen, GivesUnlessMemory};
 
 use crate::asked::{Asked, CertId};
 use crate::extensions::last_nonce;
-use crate::fault::AskFault;
+use crate::fault::RequestFault;
 use reg_der::tags::{
     INTEGER, OBJECT_IDENTIFIER, OCTET_STRING, SEQUENCE, TAGGED_0, TAGGED_1, TAGGED_2,
 };
@@ -29,9 +29,9 @@ const LONGEST_NONCE: usize = 131;
 /// OCSPRequest in DER, with one CertID at least and no critical extension but the nonce. A version 0 and a `critical`
 /// FALSE may be written; the contents of the requestor's name and of the signature aren't looked at. No bytes have two
 /// readings (`laws::one_reading`).
-pub fn read_request(alloc: Global, bytes: &[u8]) -> Result<Asked<'_>, AskFault>
+pub fn read_request(alloc: Global, bytes: &[u8]) -> Result<Asked<'_>, RequestFault>
     ensures found { IfOk result (λ a. IsOcspRequest bytes.now (ids_seen a.ids.items) (option_copied a.nonce)) }
-    ensures malformed { IsErrOf result AskFault.Malformed → (ids : List Id) (nonce : Option (List ℕ)) → IsOcspRequest bytes.now ids nonce → ⊥ }
+    ensures malformed { IsErrOf result RequestFault.Malformed → (ids : List Id) (nonce : Option (List ℕ)) → IsOcspRequest bytes.now ids nonce → ⊥ }
     ensures answerable { IfOk result (λ a. CanBeAnswered (ids_seen a.ids.items) (option_copied a.nonce)) }
     ensures some { IfOk result (λ a. 1 ≤ length a.ids.items) }
     ensures nonce { IfOk result (λ a. IfSome (option_copied a.nonce) IsNonce) }
@@ -40,11 +40,11 @@ pub fn read_request(alloc: Global, bytes: &[u8]) -> Result<Asked<'_>, AskFault>
 }
 
 #[tactic(auto, unfolding(crate::specs::RequestReading::request_at))]
-fn request(alloc: Global, bytes: &[u8]) -> Result<Asked<'_>, AskFault>
+fn request(alloc: Global, bytes: &[u8]) -> Result<Asked<'_>, RequestFault>
     ensures { GivesUnlessMemory (λ a. (ids_seen a.ids.items, option_copied a.nonce)) result (request_at bytes.now) }
 {
     let Some((list, nonce)) = parts(bytes) else {
-        return Err(AskFault::Malformed);
+        return Err(RequestFault::Malformed);
     };
     let ids = ids(alloc, list)?;
     Ok(Asked { ids, nonce })
@@ -110,17 +110,17 @@ fn repeated(nonce: Option<&[u8]>) -> Option<&[u8]>
 
 /// The CertIDs of a list of requests, one at least.
 #[tactic(auto, unfolding(crate::specs::RequestReading::ids_at))]
-fn ids(alloc: Global, bytes: &[u8]) -> Result<Vec<CertId<'_>>, AskFault>
+fn ids(alloc: Global, bytes: &[u8]) -> Result<Vec<CertId<'_>>, RequestFault>
     ensures { GivesUnlessMemory (λ ids. ids_seen ids.items) result (ids_at bytes.now) }
 {
     if bytes.is_empty() {
-        return Err(AskFault::Malformed);
+        return Err(RequestFault::Malformed);
     }
     let mut ids = Vec::new(alloc);
     let mut rest = bytes;
     while !rest.is_empty() {
         let Some((id, after)) = single(rest) else {
-            return Err(AskFault::Malformed);
+            return Err(RequestFault::Malformed);
         };
         ids.push(id)?;
         rest = after;

@@ -46,23 +46,23 @@ pub same_signatory : {S : Type 0} (identity : S → Identity) (crls crls' : Iden
 same_signatory identity crls crls' responder responder' same still = λ i. signatory_of identity (same i) (still i)
 
 -- The calls of an office: its store and who signs, before and after.
-module _ {C : Type 0} (g : Ghosts C) (signs : Signs) (old new : Held C) (who who' : Signatory) (same : who' ≡ who) where
+module _ {C : Type 0} (g : Ghosts C) (signs : Signs) (old new : Held C) (signatory signatory' : Signatory) (same : signatory' ≡ signatory) where
   -- what stood for who signs stood for those
-  stood_for : (those : Signatory) (before : Records) → StandsFor g signs (old, who) those before → Stands g signs old who.crls before
+  stood_for : (those : Signatory) (before : Records) → StandsFor g signs (old, signatory) those before → Stands g signs old signatory.crls before
   stood_for those before (is, stands, leaves) =
       let P : Signatory → Type 0 = λ v. Stands g signs old v.crls before in
       subst P (sym is) stands
 
   -- a command
   command_leads : (now : ℕ) (command : Command) (outcome : Result Reply Fault) → Settles g
-      → Changed g old new (Does g signs old who.crls now command) outcome
-      → ((records : Records) → Stands g signs old who.crls records → HasCleanDisk (state g new) → CameTo g signs new who'.crls records now command outcome)
-      → LeadsOver g signs (λ those before after. Runs signs those before now command outcome after) (old, who) (new, who')
+      → Changed g old new (Does g signs old signatory.crls now command) outcome
+      → ((records : Records) → Stands g signs old signatory.crls records → HasCleanDisk (state g new) → CameTo g signs new signatory'.crls records now command outcome)
+      → LeadsOver g signs (λ those before after. Runs signs those before now command outcome after) (old, signatory) (new, signatory')
   command_leads now command outcome settles changed step = (
     was_clean (state g old) (state g new) changed.survives.clean,
     (λ those before stood is_clean.
         let came = step before (stood_for those before stood) is_clean in
-        let is : who' ≡ those = same ∙ stood.0 in
+        let is : signatory' ≡ those = same ∙ stood.0 in
         let P : Signatory → Type 0 = λ v. Happens (signed_by signs v.crls) before now command outcome came.after in
         let Q : Signatory → Type 0 = λ v. Stands g signs new v.crls came.after in
         let R : Signatory → Type 0 = λ v. Changed g old new (Does g signs old v.crls now command) outcome in
@@ -73,25 +73,25 @@ module _ {C : Type 0} (g : Ghosts C) (signs : Signs) (old new : Held C) (who who
   )
 
 -- A call that commits nothing: its store and who signs, before and after.
-module _ {C : Type 0} (g : Ghosts C) (signs : Signs) (old new : Held C) (who who' : Signatory)
-    (survives : LeavesNothing (state g old) (state g new)) (same : who' ≡ who) where
+module _ {C : Type 0} (g : Ghosts C) (signs : Signs) (old new : Held C) (signatory signatory' : Signatory)
+    (survives : LeavesNothing (state g old) (state g new)) (same : signatory' ≡ signatory) where
   -- what a stop leaves stays
-  left_by : (those : Signatory) (before : Records) → StandsFor g signs (old, who) those before → LeavesReported g signs new those.crls before
+  left_by : (those : Signatory) (before : Records) → StandsFor g signs (old, signatory) those before → LeavesReported g signs new those.crls before
   left_by those before stood = leaves_looked g signs those.crls old new before survives stood.2
 
-  stood_by : (those : Signatory) (before : Records) → StandsFor g signs (old, who) those before → Stands g signs old who.crls before
-  stood_by = stood_for g signs old new who who' same
+  stood_by : (those : Signatory) (before : Records) → StandsFor g signs (old, signatory) those before → Stands g signs old signatory.crls before
+  stood_by = stood_for g signs old new signatory signatory' same
 
   -- a call that leaves the records: what holds of those who signed holds of those who sign
   leads_on : (Did : Signatory → Records → Records → Type 0)
-      → ((records : Records) → Stands g signs old who.crls records → HasCleanDisk (state g new) → Did who records records)
-      → ((records : Records) → Stands g signs old who.crls records → HasCleanDisk (state g new) → Stands g signs new who'.crls records)
-      → LeadsOver g signs Did (old, who) (new, who')
+      → ((records : Records) → Stands g signs old signatory.crls records → HasCleanDisk (state g new) → Did signatory records records)
+      → ((records : Records) → Stands g signs old signatory.crls records → HasCleanDisk (state g new) → Stands g signs new signatory'.crls records)
+      → LeadsOver g signs Did (old, signatory) (new, signatory')
   leads_on Did did stays = (
     was_clean (state g old) (state g new) survives.clean,
     (λ those before stood is_clean.
         let stands = stood_by those before stood in
-        let is : who' ≡ those = same ∙ stood.0 in
+        let is : signatory' ≡ those = same ∙ stood.0 in
         let Q : Signatory → Type 0 = λ v. Stands g signs new v.crls before in
         (before, subst (λ (v : Signatory). Did v before before) stood.0 (did before stands is_clean), (is, subst Q is (stays before stands is_clean), left_by those before stood))),
   )
@@ -126,22 +126,22 @@ module _ {C S : Type 0} (g : Ghosts C) (signer : Signer S) (old new : Office C S
   -- an OCSP request that is answered
   pub response_leads : {Z : Type 0} (now : ℕ) (request : List ℕ) (result : Result (Vec ℕ Z) Memory)
       → OfficeLooks g signer (λ records. IfOk result (λ answer. IsOcspReply signer.signs (seen signer old).1.answers records now request answer.items)) old new
-      → OfficeLeads g signer (λ who before after. Ocsps signer.signs who before now request (items_of result) after) old new
+      → OfficeLeads g signer (λ signatory before after. Ocsps signer.signs signatory before now request (items_of result) after) old new
   response_leads now request (Ok bytes) looks =
-      office_leads _ (λ who before after. Ocsps signer.signs who before now request (Ok bytes.items) after) looks (λ records replied. (replied, refl))
+      office_leads _ (λ signatory before after. Ocsps signer.signs signatory before now request (Ok bytes.items) after) looks (λ records replied. (replied, refl))
   response_leads now request (Err memory) looks =
-      office_leads _ (λ who before after. Ocsps signer.signs who before now request (Err memory) after) looks (λ records replied. refl)
+      office_leads _ (λ signatory before after. Ocsps signer.signs signatory before now request (Err memory) after) looks (λ records replied. refl)
 
   -- an OCSP request that is begun
   pub beginning_leads : (now : ℕ) (request : List ℕ) (result : Result (Begun OcspResponse Drafted) Memory)
       → OfficeLooks g signer (λ records. IfOk result (IsBegun signer.signs (seen signer old).1.answers records now request)) old new
-      → OfficeLeads g signer (λ who before after. Begins (Replies signer.signs who) (Drafts who) before now request result after) old new
+      → OfficeLeads g signer (λ signatory before after. Begins (Replies signer.signs signatory) (Drafts signatory) before now request result after) old new
   beginning_leads now request (Ok (Ready response)) looks =
-      office_leads _ (λ who before after. Replies signer.signs who before now request (Ok (response.kind, response.bytes.items)) after) looks (λ records replied. (replied, refl))
+      office_leads _ (λ signatory before after. Replies signer.signs signatory before now request (Ok (response.kind, response.bytes.items)) after) looks (λ records replied. (replied, refl))
   beginning_leads now request (Ok (Unsigned draft)) looks =
-      office_leads _ (λ who before after. Drafts who before now request draft after) looks (λ records left. (left, refl))
+      office_leads _ (λ signatory before after. Drafts signatory before now request draft after) looks (λ records left. (left, refl))
   beginning_leads now request (Err memory) looks =
-      office_leads _ (λ who before after. Replies signer.signs who before now request (Err memory) after) looks (λ records replied. refl)
+      office_leads _ (λ signatory before after. Replies signer.signs signatory before now request (Err memory) after) looks (λ records replied. refl)
 
   -- a look-up, after which those who sign are asked for a signature: what is made of what was told
   pub then_signed : {middle : Office C S} (Tells Holds : Records → Type 0) → OfficeLooks g signer Tells old middle → new.store ≡ middle.store
@@ -161,12 +161,12 @@ module _ {C S : Type 0} (g : Ghosts C) (signer : Signer S) (old new : Office C S
       → (seen signer new).1 ≡ (seen signer middle).1 → IfOk result (λ bytes. IsSignedBy signer.signs (seen signer middle).1.answers draft bytes.items)
       → OfficeLooks g signer (λ records. IfOk result (λ answer. IsOcspReply signer.signs (seen signer old).1.answers records now request answer.items)) old new
   signed_looks {middle = middle} now request draft result looks stays same signed =
-      let who = (seen signer old).1 in
-      then_signed (λ records. IsDraft who.answers records now request draft)
-      (λ records. IfOk result (λ answer. IsOcspReply signer.signs who.answers records now request answer.items)) looks stays same
+      let signatory = (seen signer old).1 in
+      then_signed (λ records. IsDraft signatory.answers records now request draft)
+      (λ records. IfOk result (λ answer. IsOcspReply signer.signs signatory.answers records now request answer.items)) looks stays same
       (λ records left. ok_then result signed (λ bytes by.
       let P : Signatory → Type 0 = λ it. IsSignedBy signer.signs it.answers draft bytes.items in
-      draft_replied signer.signs who.answers records now request draft bytes.items left (subst P looks.same by)))
+      draft_replied signer.signs signatory.answers records now request draft bytes.items left (subst P looks.same by)))
 
 -- an error gives nothing
 pub gives_nothing : {T E : Type 0} (Told : E → Type 0) (Holds : T → Type 0) (result : Result T E) → IsErrAnd result Told → IfOk result Holds

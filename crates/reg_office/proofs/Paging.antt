@@ -16,7 +16,7 @@ use Rattle.reg_core.specs.declared.rows.SubscriberRow.{SubscriberRow}
 use Rattle.reg_core.specs.declared.refusal.Fault.{Fault}
 use Rattle.reg_core.specs.declared.refusal.Fault.TheVariants.{Refused, Memory, Store, Signer, Read, Write}
 use Rattle.reg_core.specs.declared.rows.CertRow.{CertRow}
-use Rattle.reg_core_lists.specs.Lists.{certificate_row, crl_row, ending_row, history_row, key_of, next_behind, open_row, order_row, overdue_row, page, page_over, past, subscriber_row}
+use Rattle.reg_core_lists.specs.Lists.{certificate_row, crl_row, expiring_row, history_row, key_of, next_behind, open_row, order_row, overdue_row, page, page_over, past, subscriber_row}
 use Rattle.reg_core_lists.specs.Pages.{IsPage, IsPaged}
 use Rattle.reg_core_lists.specs.declared.cursor.Cursor.{Cursor}
 use Rattle.reg_core_lists.specs.declared.cursor.Cursor.TheVariants.{Crls}
@@ -96,7 +96,7 @@ pub certificates_page : (records : Records) (now most : ℕ) (before after : Opt
 certificates_page records now most None after =
     keyed_page (λ (row : CertRow). row.serial) (certificate_row records now) (λ serial. cursor.Certificates (Some serial)) (key_of after) most records.certificates
 certificates_page records now most (Some before) after =
-    keyed_page (λ (row : CertRow). row.serial) (ending_row records now before) (λ serial. cursor.Ending before (Some serial)) (key_of after) most records.certificates
+    keyed_page (λ (row : CertRow). row.serial) (expiring_row records now before) (λ serial. cursor.Ending before (Some serial)) (key_of after) most records.certificates
 
 -- ---- the CRLs, which are looked up without their bytes
 

@@ -16,7 +16,7 @@ use Rattle.reg_core.specs.declared.rows.OrderRow.{OrderRow}
 use Rattle.reg_core.specs.declared.rows.RequestRow.{RequestRow}
 use Rattle.reg_core.specs.declared.rows.RevocationRow.{RevocationRow}
 use Rattle.reg_core.specs.declared.rows.SubscriberRow.{SubscriberRow}
-use Rattle.reg_core_lists.specs.Lists.{certificate_line, certificate_row, ending_row, history_row, lateness_of, open_row, order_row, overdue_row, request_line, revoked_row, status_at, subscriber_of_order}
+use Rattle.reg_core_lists.specs.Lists.{certificate_line, certificate_row, expiring_row, history_row, lateness_of, open_row, order_row, overdue_row, request_line, revoked_row, status_at, subscriber_of_order}
 use Rattle.reg_core_lists.specs.declared.rows.CertificateLine.{CertificateLine}
 use Rattle.reg_core_lists.specs.declared.rows.OrderLine.{OrderLine}
 use Rattle.reg_core_lists.specs.declared.rows.RequestHistory.{RequestHistory}
@@ -109,14 +109,14 @@ module _ {E : Type 0} (records : Records) (now before : ℕ) (certificate : Cert
   -- a certificate that ends before a moment is a row of the list where it is good
   pub ending_is : (r : Result (Option Row) E) → nat_lt certificate.not_after before ≡ true
       → IfOk r (λ row. row ≡ cond (is_good (status_at records now certificate)) (certificate_row records now certificate) None)
-      → IfOk r (λ row. row ≡ ending_row records now before certificate)
+      → IfOk r (λ row. row ≡ expiring_row records now before certificate)
   ending_is (Ok row) ends told =
       told ∙ both_so (is_good (status_at records now certificate)) (nat_lt certificate.not_after before) (certificate_row records now certificate) ends
   ending_is (Err why) ends told = tt
 
 -- and no other is
 pub ending_none : (records : Records) (now before : ℕ) (certificate : CertRow) → nat_lt certificate.not_after before ≡ false
-    → None ≡ ending_row records now before certificate
+    → None ≡ expiring_row records now before certificate
 ending_none records now before certificate late =
     not_so (is_good (status_at records now certificate)) (nat_lt certificate.not_after before) (certificate_row records now certificate) late
 

@@ -19,20 +19,20 @@ use Rattle.reg_core.specs.declared.refusal.Fault.{Fault}
 
 -- Who signs before a call and after it, and the tables before it and after it; what the call sets in the records, and how that is a step
 -- of them, set or not.
-module _ {C : Type 0} (g : Ghosts C) (signs : Signs) (who who' : Signatory) (old new : Held C) (change : Records → Records)
+module _ {C : Type 0} (g : Ghosts C) (signs : Signs) (signatory signatory' : Signatory) (old new : Held C) (change : Records → Records)
     (Sets : Result (Unit {0}) Fault → Records → Records → Type 0)
     (set : (done : Unit {0}) (records : Records) → Sets (Ok done) records (change records))
     (unset : (why : Fault) (records : Records) → Sets (Err why) records records) where
-  pub set_moves : (Made : Trees → Type 0) (result : Result (Unit {0}) Fault) → Settles g → Changed g old new Made result → who' ≡ who
-      → ((records : Records) → Stands g signs old who.crls records → (trees : Trees) → Made trees → IsOneMore signs who.crls records trees)
-      → ((records : Records) → Stands g signs old who.crls records → HasCleanDisk (state g new) → OnOk result (Stands g signs new who'.crls (change records)))
+  pub set_moves : (Made : Trees → Type 0) (result : Result (Unit {0}) Fault) → Settles g → Changed g old new Made result → signatory' ≡ signatory
+      → ((records : Records) → Stands g signs old signatory.crls records → (trees : Trees) → Made trees → IsOneMore signs signatory.crls records trees)
+      → ((records : Records) → Stands g signs old signatory.crls records → HasCleanDisk (state g new) → OnOk result (Stands g signs new signatory'.crls (change records)))
       → (IsRegister (state g old) → OnErr result (Stays (state g old) (state g new)))
-      → LeadsOver g signs (λ those. Sets result) (old, who) (new, who')
+      → LeadsOver g signs (λ those. Sets result) (old, signatory) (new, signatory')
   set_moves Made (Ok done) settles changed same more ok err = (
     was_clean (state g old) (state g new) changed.survives.clean,
     (λ those before stood clean.
         let (is, stands, leaves) = stood in
-        let is' : who' ≡ those = same ∙ is in
+        let is' : signatory' ≡ those = same ∙ is in
         let P : Signatory → Type 0 = λ v. Stands g signs old v.crls before in
         let Q : Signatory → Type 0 = λ v. Stands g signs new v.crls (change before) in
         let now = subst Q is' (ok before (subst P (sym is) stands) clean) in

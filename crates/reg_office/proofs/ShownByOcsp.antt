@@ -14,7 +14,7 @@ use Rattle.reg_ocsp.specs.Response.{SingleAnswer}
 use Rattle.reg_office.specs.Agreement.{Agrees, OcspAgrees}
 use Rattle.reg_office_api.specs.Ocsp.{IsOcspReply, IsReadReply, IsResponse, IsTimely}
 use Rattle.reg_office_api.specs.Signatories.{Responder, responder_key}
-use Rattle.reg_office.specs.Shown.{IsReached, OcspTells, ResponseTells}
+use Rattle.reg_office.specs.Shown.{IsReached, AnswersStatuses, ResponseHasStatuses}
 
 -- the clock refuses no moment that is reached
 pub on_clock
@@ -47,11 +47,11 @@ pub ocsp_tells
     → IsReached records moment
     → (asked reply : List ℕ)
     → IsOcspReply signs responder records moment asked reply
-    → OcspTells signs responder records moment serial IsSo asked reply
+    → AnswersStatuses signs responder records moment serial IsSo asked reply
 ocsp_tells signs responder records moment serial IsSo agree sound so reached asked reply (inl malformed) = inl malformed
 ocsp_tells signs responder records moment serial IsSo agree sound so reached asked reply (inr its) = go its.3
   where
-    whole : IsResponse signs responder records moment its.0 its.1 reply → ResponseTells signs responder records moment serial IsSo asked reply
+    whole : IsResponse signs responder records moment its.0 its.1 reply → ResponseHasStatuses signs responder records moment serial IsSo asked reply
     whole response = record {
       ids = its.0;
       nonce = its.1;
@@ -67,7 +67,7 @@ ocsp_tells signs responder records moment serial IsSo agree sound so reached ask
           (agree (responder_key responder records) records moment its.0 its.1 response.tbs sound response.of_records);
     }
 
-    go : IsReadReply signs responder records moment its.0 its.1 reply → OcspTells signs responder records moment serial IsSo asked reply
+    go : IsReadReply signs responder records moment its.0 its.1 reply → AnswersStatuses signs responder records moment serial IsSo asked reply
     go (inl internal) = inr (inl internal)
     go (inr timely) =
         inr

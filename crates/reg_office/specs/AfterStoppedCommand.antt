@@ -18,7 +18,7 @@ use Rattle.reg_core_laws.specs.Run.{Happens, Run}
 use Rattle.reg_office.specs.Stands.{SoundFor, Stands, CameTo}
 
 -- the rows show the records after the command, which was accepted over these, and what is kept beside them stands for them; they are sound for
--- who signs for the office
+-- the signers of the office
 pub record IsDone (signs : Signs) (identity : Identity) (records : Records) (now : ℕ) (command : Command) (trees : Trees) : Type 0 where
   pub answer : Reply
   pub after : Records
@@ -48,7 +48,7 @@ IsNext Done records [] = ⊥
 IsNext Done records (timed ∷ commands) = Done records timed.0 timed.1
 
 -- The records after a prefix of the commands stand: after those which came to the first of the outcomes, or after these and the next, whose
--- outcome is a fault that was told; no reply was given to any that is left.
+-- outcome is a fault that was replied; no reply was given to any that is left.
 pub record PartlyRun (signs : Signs) (identity : Identity) (Rests : Records → Type 0) (Done : Records → ℕ → Command → Type 0)
     (records : Records) (commands : List (ℕ × Command)) (outcomes : List (Result Reply Fault)) : Type 0 where
   pub done : List (ℕ × Command)
@@ -88,7 +88,7 @@ AreRunByOne {C = C} g signs identity old (timed ∷ commands) (outcome ∷ outco
 abbrev pub LeavesThese : {C : Type 0} → Ghosts C → Held C → Records → Type 0
 LeavesThese g held records = HasCleanDisk (state g held) → (trees : Trees) → (state g held).may_leave trees → IsAtRest records trees
 
--- the rows of the records after one change more, to which no acceptance was told: a command, or another schedule or key identifier
+-- the rows of the records after one change more, for which no acceptance was replied: a command, or another schedule or key identifier
 abbrev pub IsOneMore : Signs → Identity → Records → Trees → Type 0
 IsOneMore signs identity records trees =
     ((now : ℕ) × (command : Command) × IsDone signs identity records now command trees)

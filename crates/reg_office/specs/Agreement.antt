@@ -14,8 +14,8 @@ use Rattle.reg_office_api.specs.Ocsp.{IsOcspData}
 
 -- An answer agrees with the records: a CertID that names the issuer's certificate of a serial number is told revoked
 -- with the recorded time and reason where the serial number is revoked, good where it is registered and not revoked,
--- unknown where it is not registered; a CertID that names none is told unknown. So each entry of a CRL, of the latest
--- one too, is told revoked with the same time and reason.
+-- unknown where it is not registered; a CertID that names none is answered unknown. So each entry of a CRL, of the latest
+-- one too, is answered as revoked with the same time and reason.
 pub record Agrees (records : Records) (id : Id) (answer : SingleAnswer) : Type 0 where
   pub repeated : answer.raw ≡ id.raw
   pub revoked : (serial : ℕ) (revocation : RevocationRow)

@@ -1,4 +1,4 @@
--- Who answers OCSP requests for an office.
+-- The responder to OCSP requests for an office.
 use Rattle.std.specs.Prelude.{◌≡◌, ◌<◌, ℕ, Some, None, option_copied, option_map}
 use Rattle.reg_crl.specs.Signing.{Identity}
 use Rattle.reg_crl.specs.declared.signer.Signer.{Ghosts as Signer}
@@ -7,7 +7,7 @@ use Rattle.reg_office.specs.declared.responder.Naming.{Naming}
 use Rattle.reg_office.specs.declared.responder.Responder.{Responder as Held}
 use Rattle.reg_office.specs.declared.responder.Responder.TheVariants.{Issuer, Delegate}
 
--- one who signs under this identity, with what an answer has of it
+-- a signer under this identity, with what an answer has of it
 abbrev pub responder_named : Identity → Naming → Responder
 responder_named identity naming = record {
   identity = identity;
@@ -15,7 +15,7 @@ responder_named identity naming = record {
   certificate = option_copied naming.certificate;
 }
 
--- who answers, where this one signs CRLs: the same, under the issuer's key; or another one, under the key of its certificate
+-- the responder, where this is the signer of CRLs: the same, under the issuer's key; or another one, under the key of its certificate
 abbrev pub answers_by : {S : Type 0} → (S → Identity) → Identity → Held S → Responder
 answers_by identity crls (Issuer certificate) = record {
   identity = crls;
@@ -28,20 +28,20 @@ answers_by identity crls (Delegate signer certificate) = record {
   certificate = Some certificate.der;
 }
 
--- who signs for an office
+-- the signers of an office
 abbrev pub signatory_of : {S : Type 0} → (S → Identity) → Identity → Held S → Signatory
 signatory_of identity crls responder = record { crls = crls; answers = answers_by identity crls responder }
 
--- how many failures who answers has counted, where who signs CRLs has counted so many
+-- how many failures the responder has counted, where the signer of CRLs has counted so many
 abbrev pub failures_of : {S : Type 0} → (S → ℕ) → ℕ → Held S → ℕ
 failures_of count crls (Issuer certificate) = crls
 failures_of count crls (Delegate signer certificate) = count signer
 
--- who answers, by this one who signs CRLs
+-- the responder, by this signer of CRLs
 abbrev pub answering : {S : Type 0} → Signer S → S → Held S → Responder
 answering signer crls responder = answers_by signer.identity (signer.identity crls) responder
 
--- those who sign for an office are the same
+-- the signers of an office are the same
 abbrev pub SameSignatory : {S : Type 0} → Signer S → S → Held S → S → Held S → Type 0
 SameSignatory signer old answered new answers =
     signatory_of signer.identity (signer.identity new) answers ≡ signatory_of signer.identity (signer.identity old) answered
@@ -50,7 +50,7 @@ SameSignatory signer old answered new answers =
 abbrev pub SignerHasFailed : {S : Type 0} → Signer S → S → S → Type 0
 SignerHasFailed signer old new = signer.failure_count old < signer.failure_count new
 
--- who answers counted a failure
+-- the responder counted a failure
 abbrev pub AnswerFailed : {S : Type 0} → Signer S → S → Held S → S → Held S → Type 0
 AnswerFailed signer old answered new answers =
     failures_of signer.failure_count (signer.failure_count old) answered < failures_of signer.failure_count (signer.failure_count new) answers

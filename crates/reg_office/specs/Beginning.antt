@@ -34,7 +34,7 @@ RefusesRequest request (Ready response) =
     × (response.kind ≡ SignerFailure → response.bytes.items ≡ refusal_response status.Internal)
 RefusesRequest request (Unsigned left) = ¬ (HasNoReading request)
 
--- the bytes of the response of which this was left to be signed: with a signature by who answers, or internalError
+-- the bytes of the response of which this was left to be signed: with a signature by the responder, or internalError
 abbrev pub IsSignedBy : Signs → Responder → Drafted → List ℕ → Type 0
 IsSignedBy signs responder draft bytes =
     (bytes ≡ refusal_response status.Internal)
@@ -65,7 +65,7 @@ abbrev pub IsReady : ResponseKind → List ℕ → Begun OcspResponse Drafted �
 IsReady kind bytes (Ready response) = (response.kind ≡ kind) × (response.bytes.items ≡ bytes)
 IsReady kind bytes (Unsigned draft) = ⊥
 
--- the response over this ResponseData: signed, or internalError where the signer failed; or what is left of it for who answers to sign
+-- the response over this ResponseData: signed, or internalError where the signer failed; or what is left of it for the responder to sign
 abbrev pub IsResponseOver : Signs → Responder → List ℕ → Begun OcspResponse Drafted → Type 0
 IsResponseOver signs responder message (Ready response) =
     ((response.kind ≡ Signed) × response_signed_by signs responder message response.bytes.items)

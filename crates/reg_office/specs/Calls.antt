@@ -18,17 +18,17 @@ use Rattle.reg_office.specs.Commands.{RunsCommand}
 use Rattle.reg_office.specs.Stands.{Stands}
 use Rattle.reg_office.specs.declared.office.Office.{Office}
 
--- the records stand in a store for those who sign, and a stop leaves them, or one change more
+-- the records stand in a store for the signers, and a stop leaves them, or one change more
 abbrev pub StandsFor : {C : Type 0} → Ghosts C → Signs → Held C × Signatory → Signatory → Records → Type 0
-StandsFor g signs office who records =
-    (office.1 ≡ who) × Stands g signs office.0 who.crls records × LeavesReported g signs office.0 who.crls records
+StandsFor g signs office signatory records =
+    (office.1 ≡ signatory) × Stands g signs office.0 signatory.crls records × LeavesReported g signs office.0 signatory.crls records
 
--- a call of an office over a store leads from its store, and who signs for it, to those after it by a step of the records
+-- a call of an office over a store leads from its store, and its signers, to those after it by a step of the records
 abbrev pub LeadsOver : {C : Type 0} → Ghosts C → Signs → (Signatory → Records → Records → Type 0) → Held C × Signatory → Held C × Signatory → Type 0
 LeadsOver {C = C} g signs step =
-    Leads (λ (office : Held C × Signatory). HasCleanDisk (state g office.0)) (λ who office records. StandsFor g signs office who records) step
+    Leads (λ (office : Held C × Signatory). HasCleanDisk (state g office.0)) (λ signatory office records. StandsFor g signs office signatory records) step
 
--- an office as its calls see it: its store, and those who sign for it
+-- an office as its calls see it: its store, and its signers
 abbrev pub seen : {C S : Type 0} → Signer S → Office C S → Held C × Signatory
 seen signer office = (office.store, signatory_of signer.identity (signer.identity office.signer) office.responder)
 
@@ -52,7 +52,7 @@ SignsNothing old new = (new.signer ≡ old.signer) × (new.responder ≡ old.res
 abbrev pub answer_failures_in : {C S : Type 0} → Signer S → Office C S → ℕ
 answer_failures_in signer office = failures_of signer.failure_count (signer.failure_count office.signer) office.responder
 
--- A look-up of an office: no table changes, those who sign are the same, and this holds of the records that stand in it.
+-- A look-up of an office: no table changes, the signers are the same, and this holds of the records that stand in it.
 pub record OfficeLooks {C S : Type 0} (g : Ghosts C) (signer : Signer S) (Holds : Records → Type 0) (old new : Office C S) : Type 0 where
   pub looked : Looked g old.store new.store
   pub same : (seen signer new).1 ≡ (seen signer old).1

@@ -23,7 +23,7 @@ use Rattle.reg_core.specs.declared.rows.RequestRow.{RequestRow}
 use Rattle.reg_core.specs.declared.rows.RevocationRow.{RevocationRow}
 use Rattle.reg_core.specs.declared.rows.CrlRow.{CrlRow}
 
--- a refusal is told and the records stay; what was decided is replied so, and changes the records so
+-- a refusal is replied and the records stay; what was decided is replied so, and changes the records so
 abbrev pub IsStepOf : {Answer : Type 0} → (CertList → List ℕ → Type 0) → Records → ℕ → Command → (Answer → Reply) → (Answer → Change) → Result Answer Refusal → Type 0
 IsStepOf signed records now command replied changes (Err refused) = Step signed records now command (Err (Refused refused)) records
 IsStepOf signed records now command replied changes (Ok answer) = Step signed records now command (Ok (replied answer)) (changed_by records now (changes answer))
@@ -92,7 +92,7 @@ RevocationsAreSteps signed =
     result
     → IsStepOf signed records now (Revoke id) (λ decided. Revoked decided.1) (λ decided. change.Revocation decided.0 not_after) result
 
--- a refusal is told and the records stay; a CRL is issued with any bytes that are signed over what it lists
+-- a refusal is replied and the records stay; a CRL is issued with any bytes that are signed over what it lists
 abbrev pub IsIssue : (CertList → List ℕ → Type 0) → Records → ℕ → Result CrlRow Refusal → Type 0
 IsIssue signed records now (Err refused) = Step signed records now IssueCrl (Err (Refused refused)) records
 IsIssue signed records now (Ok row) =

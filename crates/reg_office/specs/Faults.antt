@@ -3,7 +3,7 @@ use Rattle.std.specs.Prelude.{◌≡◌, ◌⊎◌}
 use Rattle.reg_core.specs.declared.refusal.Fault.{Fault}
 use Rattle.reg_core.specs.declared.refusal.Fault.TheVariants.{Memory, Store, Signer, Read, Write}
 
--- a refusal, want of memory, or a failure of the store
+-- a refusal, out of memory, or a failure of the store
 abbrev pub IsTableFault : Fault → Type 0
 IsTableFault Signer = ⊥
 IsTableFault Read = ⊥
@@ -16,11 +16,11 @@ IsOfficeFault Read = ⊥
 IsOfficeFault Write = ⊥
 IsOfficeFault other = Unit {0}
 
--- want of memory, or a failure of the signer
+-- out of memory, or a failure of the signer
 abbrev pub IsSigningFault : Fault → Type 0
 IsSigningFault fault = (fault ≡ Memory) ⊎ (fault ≡ Signer)
 
--- want of memory, or a failure of the store or of the signer: why a CRL is not made
+-- out of memory, or a failure of the store or of the signer: why a CRL is not made
 abbrev pub IsMakingFault : Fault → Type 0
 IsMakingFault Memory = Unit {0}
 IsMakingFault Store = Unit {0}

@@ -14,7 +14,7 @@ use Rattle.reg_office_api.specs.Signatories.{Signs}
 use Rattle.reg_core_laws.specs.Run.{Run}
 use Rattle.reg_office.specs.Stands.{SoundFor, Stands}
 
--- a law of how CRLs are signed, whoever signs them
+-- a law of how CRLs are signed, by any signer
 abbrev pub Signed : {S : Type 0} → Signer S → ((CertList → List ℕ → Type 0) → Type 0) → Type 0
 Signed {S = S} signer Law = (it : S) → Law (signed_by signer.signs (signer.identity it))
 
@@ -22,7 +22,7 @@ Signed {S = S} signer Law = (it : S) → Law (signed_by signer.signs (signer.ide
 abbrev pub Sealed : {S : Type 0} → Signer S → ((CertList → List ℕ → Type 0) → Type 0) → Type 0
 Sealed {S = S} signer Law = (it : S) (since : ℕ) → Law (sealed_until since signer.signs (signer.identity it))
 
--- a run in which who signs signs each new CRL is one whose CRLs are sealed by the digest below a number that was reached before it
+-- a run in which the signer signs each new CRL is one whose CRLs are sealed by the digest below a number that was reached before it
 abbrev pub RunsSince : Signs → Identity → Type 0
 RunsSince signs identity =
     (records after : Records) (commands : List (ℕ × Command)) (outcomes : List (Result Reply Fault))
@@ -30,12 +30,12 @@ RunsSince signs identity =
     → Run (signed_by signs identity) records commands outcomes after
     → Run (sealed_until sound.since signs identity) records commands outcomes after
 
--- who signs so is the digest: under the AlgorithmIdentifier of SHA-1, and each signature is the SHA-1 of its message
+-- this signer is the digest: under the AlgorithmIdentifier of SHA-1, and each signature is the SHA-1 of its message
 pub record IsSeal (signs : Signs) (identity : Identity) : Type 0 where
   pub algorithm : identity.algorithm ≡ sha1_algorithm
   pub seals : (message signature : List ℕ) → signs identity message signature → signature ≡ sha1 message
 
--- records that stood for the digest stand for whoever signs next: the CRLs that are there were all sealed by the digest
+-- records that stood for the digest stand for the next signer: the CRLs that are there were all sealed by the digest
 abbrev pub FollowsSeal : {C : Type 0} → Ghosts C → Signs → Type 0
 FollowsSeal {C = C} g signs =
     (held : Held C) (seal identity : Identity) (records : Records)

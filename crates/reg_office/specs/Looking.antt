@@ -27,7 +27,7 @@ IsDecidedOr refused IsWhat (Err Signer) = Unit {0}
 IsDecidedOr refused IsWhat (Err Read) = Unit {0}
 IsDecidedOr refused IsWhat (Err Write) = Unit {0}
 
--- look-ups, and a decision over what they told: the refusal that applies to the records, or what is decided
+-- look-ups, and a decision over their answers: the refusal that applies to the records, or what is decided
 pub record LooksAndDecides {C T : Type 0} (g : Ghosts C) (old new : Held C) (refused : Records → Option Refusal) (IsWhat : Records → T → Type 0) (result : Result T Fault) : Type 0 where
   pub looks : LooksUp g old new (λ records. IsDecidedOr (refused records) (IsWhat records) result)
   pub faults : IfErr result IsTableFault

@@ -2,7 +2,7 @@
 use Rattle.std.specs.Prelude.{ℕ, ◌-◌, ◌==◌, List, Option, Some, None, cond, length, option_and_then, option_map, slice_get}
 use Rattle.reg_core.specs.Records.{Records, order_in, request_in, subscriber_in}
 use Rattle.reg_core.specs.declared.rows.CertRow.{CertRow}
-use Rattle.reg_core_lists.specs.Lists.{certificate_row, ending_row, history_row, open_row, order_row, overdue_row, subscriber_row}
+use Rattle.reg_core_lists.specs.Lists.{certificate_row, expiring_row, history_row, open_row, order_row, overdue_row, subscriber_row}
 use Rattle.reg_core_lists.specs.declared.cursor.Cursor.{Cursor}
 use Rattle.reg_core_lists.specs.declared.cursor.Cursor.TheVariants as cursor
 use Rattle.reg_core_lists.specs.declared.rows.Row.{Row}
@@ -43,7 +43,7 @@ certificates_after (Some before) after = cursor.Ending before after
 -- the row of one, where that list has it
 abbrev pub certificate_listed : Records → ℕ → Option ℕ → CertRow → Option Row
 certificate_listed records now None certificate = certificate_row records now certificate
-certificate_listed records now (Some before) certificate = ending_row records now before certificate
+certificate_listed records now (Some before) certificate = expiring_row records now before certificate
 
 -- the key of the last of these rows, where they are as many as a page may look at
 abbrev pub last_of_full : {A : Type 0} → (A → ℕ) → ℕ → List A → Option ℕ

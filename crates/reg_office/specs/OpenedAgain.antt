@@ -49,7 +49,7 @@ OpensAfterAPrefix {C = C} g signs =
 
 -- ---- over any calls
 
--- the records stand after one change more, to which no acceptance was told: a command, or another schedule or key identifier
+-- the records stand after one change more, for which no acceptance was replied: a command, or another schedule or key identifier
 abbrev pub StandsOneMore : {C : Type 0} → Ghosts C → Signs → Held C → Identity → Records → Type 0
 StandsOneMore g signs held identity records =
     ((now : ℕ) × (command : Command) × StandsDone g signs held identity records now command)

@@ -1,7 +1,7 @@
 -- A revoked certificate is shown as revoked everywhere, and nothing else is.
 --
--- A register tells whether a certificate is revoked in three ways: by the status of its serial number, by answers to
--- OCSP requests (RFC 6960), and by the CRLs that it issues (RFC 5280 5). Here is said what each tells after any run of
+-- A register shows in three ways whether a certificate is revoked: by the status of its serial number, by answers to
+-- OCSP requests (RFC 6960), and by the CRLs that it issues (RFC 5280 5). Stated here is what each shows after any run of
 -- commands: so it holds at every moment that is reached while commands are run, for what ran up to it is a run.
 use Rattle.std.specs.Prelude.{◌≡◌, ◌⊎◌, ℕ, Bool, ◌+◌, ◌<◌, ◌≤◌, nat_lt, List, [], ◌∷◌, ◌++◌, find, ◌==◌, Option, Some, None, Result, Ok, Err, MatchBool, IsFalse, IsSome, IsSomeAnd}
 use Rattle.std.specs.List.{AllByRecursion, AllZip}
@@ -35,8 +35,8 @@ use Rattle.reg_office.specs.Stands.{SoundFor}
 
 -- A RUN, AND THE REVOCATIONS THAT IT ACCEPTED
 
--- a run: from records that are sound for who signs, commands, each at its moment, came to these outcomes, one for each and in order, and
--- led to the records after them; each new CRL was signed by who signs
+-- a run: from records that are sound for the signer, commands, each at its moment, came to these outcomes, one for each and in order, and
+-- led to the records after them; each new CRL was signed by the signer
 pub record SoundRun (signs : Signs) (identity : Identity) : Type 0 where
   pub start : Records
   pub commands : List (ℕ × Command)
@@ -74,8 +74,8 @@ pub record IsReached (records : Records) (moment : ℕ) : Type 0 where
 
 -- WHAT OCSP TELLS
 
--- a response in which each CertID that names the issuer's certificate of the serial number is told so (RFC 6960 4.2.1)
-pub record ResponseTells (signs : Signs) (responder : Responder) (records : Records) (moment serial : ℕ)
+-- a response in which each CertID that names the issuer's certificate of the serial number is answered so (RFC 6960 4.2.1)
+pub record ResponseHasStatuses (signs : Signs) (responder : Responder) (records : Records) (moment serial : ℕ)
     (IsSo : Status → Type 0) (asked reply : List ℕ) : Type 0 where
   pub ids : List Id
   pub nonce : Option (List ℕ)
@@ -85,11 +85,11 @@ pub record ResponseTells (signs : Signs) (responder : Responder) (records : Reco
 
 -- what bytes are replied: malformedRequest, to bytes that are no request; or internalError (RFC 6960 2.3); or such a
 -- response, signed
-abbrev pub OcspTells : Signs → Responder → Records → ℕ → ℕ → (Status → Type 0) → List ℕ → List ℕ → Type 0
-OcspTells signs responder records moment serial IsSo asked reply =
+abbrev pub AnswersStatuses : Signs → Responder → Records → ℕ → ℕ → (Status → Type 0) → List ℕ → List ℕ → Type 0
+AnswersStatuses signs responder records moment serial IsSo asked reply =
     (HasNoReading asked × (reply ≡ refusal_response Malformed))
     ⊎ (reply ≡ refusal_response Internal)
-    ⊎ ResponseTells signs responder records moment serial IsSo asked reply
+    ⊎ ResponseHasStatuses signs responder records moment serial IsSo asked reply
 
 -- WHAT CRLS TELL
 
@@ -112,7 +112,7 @@ ListedThroughFirstPast records entry not_after (crl ∷ rest) =
     (AllByRecursion (λ later. entry_in records later entry.serial ≡ None) rest)
     (ListedThroughFirstPast records entry not_after rest)
 
--- each recorded CRL is signed over its entries, by the one who signs, or sealed by the digest where its number is below this one
+-- each recorded CRL is signed over its entries, by the signer, or sealed by the digest where its number is below this one
 abbrev pub AreSignedSo : ℕ → Signs → Identity → Records → Type 0
 AreSignedSo since signs identity records =
     AllByRecursion (λ crl. sealed_until since signs identity (signed_in records crl) crl.bytes) records.crls
@@ -145,19 +145,19 @@ pub record IsShownEverywhere {signs : Signs} {identity : Identity} {run : SoundR
   -- however long after the certificate's end: it is never expired
   pub past_its_end : (seconds : ℕ)
       → status run.after request.serial (certificate.not_after + seconds) ≡ revoked_at its.at request
-  -- whoever asks for the status is told so, or that memory was short or the store failed
+  -- a query for the status is answered so, or fails: out of memory, or a failure of the store
   pub when_asked : (moment : ℕ)
       → IsReached run.after moment
       → (outcome : Result Reply Fault)
       → IsAnswered run.after moment (AskStatus request.serial) outcome
       → (outcome ≡ Ok (StatusIs (revoked_at its.at request))) ⊎ (outcome ≡ Err Memory) ⊎ (outcome ≡ Err Store)
-  -- each CertID of an OCSP request that names the certificate is told so, whoever answers
+  -- each CertID of an OCSP request that names the certificate is answered so, by any responder
   pub by_ocsp : (moment : ℕ)
       → IsReached run.after moment
       → (responder : Responder)
       → (asked reply : List ℕ)
       → IsOcspReply signs responder run.after moment asked reply
-      → OcspTells signs responder run.after moment request.serial (λ told. told ≡ revoked_at its.at request) asked reply
+      → AnswersStatuses signs responder run.after moment request.serial (λ told. told ≡ revoked_at its.at request) asked reply
   -- each CRL that was issued later in the run has its entry, up to and including the first one past the certificate's end
   pub later : List Crl
   pub issued_later : run.after.crls ≡ its.before.crls ++ later
@@ -178,18 +178,18 @@ WasRevoked run serial =
 pub record IsNowhereShown {signs : Signs} {identity : Identity} (run : SoundRun signs identity) (serial : ℕ) : Type 0 where
   -- its status is never revoked
   pub by_status : (moment : ℕ) → IsFalse (is_revoked (status run.after serial moment))
-  -- whoever asks for its status is told another
+  -- a query for its status is answered by another
   pub when_asked : (moment : ℕ)
       → (told : Status)
       → IsAnswered run.after moment (AskStatus serial) (Ok (StatusIs told))
       → IsFalse (is_revoked told)
-  -- no CertID of an OCSP request that names it is told that it is revoked, whoever answers
+  -- no CertID of an OCSP request that names it is answered as revoked, by any responder
   pub by_ocsp : (moment : ℕ)
       → IsReached run.after moment
       → (responder : Responder)
       → (asked reply : List ℕ)
       → IsOcspReply signs responder run.after moment asked reply
-      → OcspTells signs responder run.after moment serial (λ told. IsFalse (is_revoked told)) asked reply
+      → AnswersStatuses signs responder run.after moment serial (λ told. IsFalse (is_revoked told)) asked reply
   -- no CRL has an entry of it
   pub by_crls : AllByRecursion (λ crl. entry_in run.after crl serial ≡ None) run.after.crls
   -- and each CRL is signed over just its entries

@@ -13,7 +13,7 @@ use Rattle.reg_office_api.specs.Signatories.{Signs}
 use Rattle.reg_store_tables.specs.Kept.{ShowsKept}
 use Rattle.reg_core_laws.specs.Run.{Happens, Run}
 
--- the records hold together, and each CRL is signed over what it lists: from some number on, the next one at the latest, by who signs for
+-- the records hold together, and each CRL is signed over what it lists: from some number on, the next one at the latest, by the signers of
 -- the office, and below that number it is sealed by the digest, which was there before a key (1 where none was)
 pub record SoundFor (signs : Signs) (identity : Identity) (records : Records) : Type 0 where
   pub since : ℕ
@@ -21,7 +21,7 @@ pub record SoundFor (signs : Signs) (identity : Identity) (records : Records) : 
   pub rows : SoundRows records
   pub signatures : CrlsSigned (sealed_until since signs identity) records
 
--- the tables show the records, and what is kept beside them stands for these; the records are sound for who signs for the office
+-- the tables show the records, and what is kept beside them stands for these; the records are sound for the signers of the office
 pub record Stands {C : Type 0} (g : Ghosts C) (signs : Signs) (held : Held C) (identity : Identity) (records : Records) : Type 0 where
   pub shown : ShowsKept g held records
   pub sound : SoundFor signs identity records

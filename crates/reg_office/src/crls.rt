@@ -61,7 +61,7 @@ fn signed_crl<S: Signer>(
     Ok(crl_whole(alloc, &tbs, signer.algorithm(), &signature)?)
 }
 
-// Whoever issues a CRL waits for its signature, so the signer is asked during its back-off, too.
+// The command that issues a CRL waits for its signature, so the signer is asked during its back-off, too.
 fn signature_of<S: Signer>(
     alloc: Global,
     signer: &mut S,

@@ -31,7 +31,7 @@ pub fn headline<S: Signer>()
     statuses_agree();
 }
 
-/// A key follows the digest: records in which the digest alone has sealed stand for whoever signs next.
+/// A key follows the digest: records in which the digest alone has sealed stand for the next signer.
 pub fn a_key_follows_the_digest<C: Alter, S: Signer>()
     ensures { FollowsSeal C.Store S.signs }
 {}

@@ -1,11 +1,11 @@
-//! What lists tell of one record, from what is looked up for it.
+//! The fields of one record in lists, from what is looked up for it.
 
 ghost use Rattle.std.specs.Prelude.{◌≡◌, ◌-◌, Some, None, cond, nat_lt, option_map, IfOk};
 ghost use Rattle.reg_core.specs.Due.{deadline};
 ghost use Rattle.reg_core.specs.Queries.{listing};
 ghost use Rattle.reg_core.specs.Records.{certificate_in, order_in, request_in, revocation_in, subscriber_in};
 ghost use Rattle.reg_core.specs.Status.{is_good, status_by};
-ghost use Rattle.reg_core_lists.specs.Lists.{certificate_line, certificate_row, ending_row, history_row, lateness_of, open_row, open_until, order_row, overdue_row, request_line, revoked_row, status_at, subscriber_of_order};
+ghost use Rattle.reg_core_lists.specs.Lists.{certificate_line, certificate_row, expiring_row, history_row, lateness_of, open_row, open_until, order_row, overdue_row, request_line, revoked_row, status_at, subscriber_of_order};
 ghost use Rattle.reg_core_lists.specs.declared.rows.Row.TheVariants as kind;
 ghost use Rattle.reg_store_tables.specs.LookUps.{Learns, LooksUp};
 
@@ -137,14 +137,14 @@ pub(crate) fn certificate_row<C: Alter>(
 }
 
 /// The row of a certificate in the list of those that are good and end before a moment.
-pub(crate) fn ending_row<C: Alter>(
+pub(crate) fn expiring_row<C: Alter>(
     tables: &mut Tables<C>,
     now: Moment,
     before: Moment,
     certificate: CertRow,
 ) -> Result<Option<Row>, DatabaseFault>
     ensures { Learns C.Store tables.old tables.new result (λ records row.
-        row ≡ ending_row records now before certificate) }
+        row ≡ expiring_row records now before certificate) }
 {
     if ends_before(&certificate, before) {
         good_row(tables, now, certificate)

@@ -18,7 +18,7 @@ use reg_crl::{SignFault, Signer};
 use reg_der::Issuer;
 use reg_io::Begun;
 use reg_ocsp::{
-    AskFault, Asked, Draft, RefusalStatus, basic_with, read_request, refusal, response_data_by,
+    Asked, Draft, RefusalStatus, RequestFault, basic_with, read_request, refusal, response_data_by,
     slice_of,
 };
 use reg_office_api::{OcspResponse, ResponseKind};
@@ -95,10 +95,10 @@ fn begin<C: Alter, S: Signer>(
 {
     let asked = match read_request(alloc, request) {
         Ok(asked) => asked,
-        Err(AskFault::Malformed) => {
+        Err(RequestFault::Malformed) => {
             return refused(alloc, RefusalStatus::Malformed, ResponseKind::Malformed);
         }
-        Err(AskFault::Memory) => return Err(Memory),
+        Err(RequestFault::Memory) => return Err(Memory),
     };
     match ocsp_data(alloc, tables, naming.own_key, now, &asked) {
         Ok(message) => respond(alloc, signer, naming, &message),

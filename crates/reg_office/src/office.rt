@@ -1,4 +1,4 @@
-//! The office over a store: a register's tables, and those who sign for it.
+//! The office over a store: a register's tables, and its signers.
 
 ghost use Rattle.std.specs.Prelude.{◌≡◌, None};
 ghost use Rattle.reg_office.specs.declared.responder.Responder.TheVariants.{Issuer};
@@ -21,7 +21,7 @@ use reg_store::Store;
 use sqlite::Alter;
 use std::alloc::Global;
 
-/// A register in a store, who signs its CRLs, and who answers OCSP requests. Nothing is kept between them but what the store's
+/// A register in a store, the signer of its CRLs, and the responder to OCSP requests. Nothing is kept between them but what the store's
 /// tables show.
 #[derive(Drop)]
 pub struct Office<C: Alter, S: Signer> {
@@ -29,7 +29,7 @@ pub struct Office<C: Alter, S: Signer> {
     pub store: Store<C>,
     /// Who signs the CRLs.
     pub signer: S,
-    /// Who answers OCSP requests: who signs the CRLs, or another one.
+    /// The responder to OCSP requests: who signs the CRLs, or another one.
     pub responder: Responder<S>,
 }
 
@@ -49,7 +49,7 @@ impl<C: Alter, S: Signer + Drop> Office<C, S> {
 }
 
 impl<C: Alter, S: Signer> Office<C, S> {
-    /// An office over a store and a signer, who also answers OCSP requests, with no certificate.
+    /// An office over a store and a signer, which also answers OCSP requests, with no certificate.
     pub fn new(store: Store<C>, signer: S) -> Office<C, S>
         ensures store { result.store ≡ store }
         ensures signer { result.signer ≡ signer }
@@ -58,7 +58,7 @@ impl<C: Alter, S: Signer> Office<C, S> {
         Office::answering(store, signer, Responder::Issuer(None))
     }
 
-    /// An office over a store and a signer, with who answers OCSP requests.
+    /// An office over a store and a signer, with the responder to OCSP requests.
     pub fn answering(store: Store<C>, signer: S, responder: Responder<S>) -> Office<C, S>
         ensures store { result.store ≡ store }
         ensures signer { result.signer ≡ signer }
@@ -102,7 +102,7 @@ impl<C: Alter, S: Signer> reg_office_api::Office for Office<C, S> {
 
     ghost is_clean = { λ office. HasCleanDisk (state C.Store office.store) };
 
-    ghost stands = { λ who office records. StandsFor C.Store S.signs (seen S.Signer office) who records };
+    ghost stands = { λ signatory office records. StandsFor C.Store S.signs (seen S.Signer office) signatory records };
 
     ghost signs = { S.signs };
 
@@ -215,7 +215,7 @@ impl<C: Alter, S: Signer> reg_office_api::Office for Office<C, S> {
     }
 
     fn crl_message(&mut self, alloc: Global, now: Moment) -> Option<Vec<u8>>
-        ensures stays { OfficeLeads C.Store S.Signer (λ who before after. after ≡ before) self.old self.new }
+        ensures stays { OfficeLeads C.Store S.Signer (λ signatory before after. after ≡ before) self.old self.new }
         ensures looks { OfficeLooks C.Store S.Signer (λ records. Unit {0}) self.old self.new }
         ensures untouched { SignsNothing self.old self.new }
     {
@@ -256,7 +256,7 @@ impl<C: Alter, S: Signer> reg_office_api::Office for Office<C, S> {
     }
 
     fn set_schedule(&mut self, alloc: Global, schedule: Schedule) -> Result<(), Fault>
-        ensures sets { OfficeLeads C.Store S.Signer (λ who. Reschedules schedule result) self.old self.new }
+        ensures sets { OfficeLeads C.Store S.Signer (λ signatory. Reschedules schedule result) self.old self.new }
         ensures faults { IfErr result IsOfStore }
         ensures ok { (records : Records) → StandsIn C.Store S.Signer self.old records
             → OnOk result (StandsIn C.Store S.Signer self.new (with_schedule records schedule)) }
@@ -274,7 +274,7 @@ impl<C: Alter, S: Signer> reg_office_api::Office for Office<C, S> {
     }
 
     fn set_key_identifier(&mut self, alloc: Global, octets: Label) -> Result<(), Fault>
-        ensures sets { OfficeLeads C.Store S.Signer (λ who. Identifies octets result) self.old self.new }
+        ensures sets { OfficeLeads C.Store S.Signer (λ signatory. Identifies octets result) self.old self.new }
         ensures faults { IfErr result IsOfStore }
         ensures ok { (records : Records) → StandsIn C.Store S.Signer self.old records
             → HasCleanDisk (state C.Store self.new.store)

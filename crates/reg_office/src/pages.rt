@@ -11,7 +11,7 @@ ghost use Rattle.reg_store_tables.specs.LookUps.{Learns, LooksUp};
 ghost use Rattle.reg_office.specs.Numbered.{certificate_listed, certificates_after, cursor_of, last_of_full, row_at, numbered_table};
 
 use crate::lines::{
-    certificate_row, ending_row, history_row, open_row, order_at, order_row, overdue_row,
+    certificate_row, expiring_row, history_row, open_row, order_at, order_row, overdue_row,
     request_at, revoked_row, subscriber_at,
 };
 use reg_core::{CertRow, CrlRow, Fault, Moment, RevocationRow, Serial, clock};
@@ -152,7 +152,7 @@ fn certificate_listed<C: Alter>(
 {
     match before {
         None => certificate_row(tables, now, certificate),
-        Some(before) => ending_row(tables, now, *before, certificate),
+        Some(before) => expiring_row(tables, now, *before, certificate),
     }
 }
 

@@ -1,4 +1,4 @@
-//! Who answers OCSP requests for an office.
+//! The responder to OCSP requests for an office.
 
 ghost use Rattle.std.specs.Prelude.{◌≡◌, ◌≤◌, None, Some, IfSome, length, option_copied, option_map};
 ghost use Rattle.reg_office.specs.Answering.{failures_of};

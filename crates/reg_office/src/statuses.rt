@@ -1,4 +1,4 @@
-//! What CertIDs are told.
+//! The statuses of CertIDs.
 
 ghost use Rattle.std.specs.Prelude.{◌≡◌, ◌⊎◌, map, IfOk, IfErr};
 ghost use Rattle.std.specs.List.{AllByRecursion};
@@ -15,7 +15,7 @@ use reg_store::{DatabaseFault, Tables};
 use sqlite::Alter;
 use std::alloc::Global;
 
-/// Each CertID with what it is told at a moment, in their order.
+/// Each CertID with its status at a moment, in their order.
 pub(crate) fn answers<'a, C: Alter>(
     alloc: Global,
     tables: &mut Tables<C>,

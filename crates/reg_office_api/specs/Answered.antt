@@ -10,7 +10,7 @@ use Rattle.reg_core.specs.declared.refusal.Refusal.TheVariants.{NoCrl}
 use Rattle.reg_core.specs.declared.refusal.Fault.{Fault}
 use Rattle.reg_core.specs.declared.refusal.Fault.TheVariants.{Refused, Memory, Store, Signer, Read, Write}
 
--- a query's outcome: its answer; or, below the clock's end, want of memory or a failure of the store
+-- a query's outcome: its answer; or, below the clock's end, out of memory or a failure of the store
 abbrev pub IsAnswered : Records → ℕ → Query → Result Reply Fault → Type 0
 IsAnswered records now query (Ok reply) = answer records now query ≡ Ok reply
 IsAnswered records now query (Err (Refused refusal)) = answer records now query ≡ Err refusal
@@ -21,14 +21,14 @@ IsAnswered records now query (Err Read) = ⊥
 IsAnswered records now query (Err Write) = ⊥
 
 -- the CRL that is asked for: the one with a number, or the latest
-abbrev pub crl_asked_for : Records → Option ℕ → Option Crl
-crl_asked_for records (Some number) = crl_in records.crls number
-crl_asked_for records None = latest records.crls
+abbrev pub crl_for_number : Records → Option ℕ → Option Crl
+crl_for_number records (Some number) = crl_in records.crls number
+crl_for_number records None = latest records.crls
 
--- what is given for it: its bytes, a refusal where there is none, or want of memory or a failure of the store
+-- what is given for it: its bytes, a refusal where there is none, or out of memory or a failure of the store
 abbrev pub IsGiven : Records → Option ℕ → Result (List ℕ) Fault → Type 0
-IsGiven records number (Ok bytes) = option_map (λ crl. crl.bytes) (crl_asked_for records number) ≡ Some bytes
-IsGiven records number (Err (Refused refusal)) = (refusal ≡ NoCrl) × (crl_asked_for records number ≡ None)
+IsGiven records number (Ok bytes) = option_map (λ crl. crl.bytes) (crl_for_number records number) ≡ Some bytes
+IsGiven records number (Err (Refused refusal)) = (refusal ≡ NoCrl) × (crl_for_number records number ≡ None)
 IsGiven records number (Err Memory) = Unit {0}
 IsGiven records number (Err Store) = Unit {0}
 IsGiven records number (Err Signer) = ⊥

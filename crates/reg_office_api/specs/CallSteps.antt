@@ -13,33 +13,33 @@ use Rattle.reg_office_api.specs.Ocsp.{IsOcspReply}
 use Rattle.reg_office_api.specs.Signatories.{Signatory}
 pub use Rattle.reg_office_api.specs.Signatories.{Signs}
 
--- a command: what it comes to by the rules, with CRLs that are signed by who signs them
+-- a command: what it comes to by the rules, with CRLs that are signed by its signer
 abbrev pub Runs : Signs → Signatory → Records → ℕ → Command → Result Reply Fault → Records → Type 0
-Runs signs who = Happens (signed_by signs who.crls)
+Runs signs signatory = Happens (signed_by signs signatory.crls)
 
 -- a query: its answer; the records stay
 abbrev pub Asks : Records → ℕ → Query → Result Reply Fault → Records → Type 0
 Asks before now query outcome after = IsAnswered before now query outcome × (after ≡ before)
 
--- an OCSP request: its response (RFC 6960 4.2), or want of memory; the records stay
+-- an OCSP request: its response (RFC 6960 4.2), or out of memory; the records stay
 abbrev pub Ocsps : Signs → Signatory → Records → ℕ → List ℕ → Result (List ℕ) Memory → Records → Type 0
-Ocsps signs who before now request (Ok response) after = IsOcspReply signs who.answers before now request response × (after ≡ before)
-Ocsps signs who before now request (Err memory) after = after ≡ before
+Ocsps signs signatory before now request (Ok response) after = IsOcspReply signs signatory.answers before now request response × (after ≡ before)
+Ocsps signs signatory before now request (Err memory) after = after ≡ before
 
 -- the bytes of a CRL, or why there are none; the records stay
 abbrev pub Crls : Records → Option ℕ → Result (List ℕ) Fault → Records → Type 0
 Crls before number given after = IsGiven before number given × (after ≡ before)
 
--- ---- each as a step of the records, for those who sign
+-- ---- each as a step of the records, for the signers
 
 abbrev pub CommandStep : Signs → ℕ → Command → Result Reply Fault → Signatory → Records → Records → Type 0
-CommandStep signs now command outcome = λ who before after. Runs signs who before now command outcome after
+CommandStep signs now command outcome = λ signatory before after. Runs signs signatory before now command outcome after
 
 abbrev pub QueryStep : ℕ → Query → Result Reply Fault → Signatory → Records → Records → Type 0
-QueryStep now query outcome = λ who before after. Asks before now query outcome after
+QueryStep now query outcome = λ signatory before after. Asks before now query outcome after
 
 abbrev pub OcspStep : Signs → ℕ → List ℕ → Result (List ℕ) Memory → Signatory → Records → Records → Type 0
-OcspStep signs now request given = λ who before after. Ocsps signs who before now request given after
+OcspStep signs now request given = λ signatory before after. Ocsps signs signatory before now request given after
 
 abbrev pub CrlStep : Option ℕ → Result (List ℕ) Fault → Signatory → Records → Records → Type 0
-CrlStep number given = λ who before after. Crls before number given after
+CrlStep number given = λ signatory before after. Crls before number given after

@@ -28,11 +28,11 @@ module _ {O : Type 0} (office : Office O) where
 
   -- the same with the kind of the response
   abbrev pub RepliesIn : O → ℕ → List ℕ → Result (ResponseKind × List ℕ) Memory → O → Type 0
-  RepliesIn s now request given t = Leads office.is_clean office.stands (λ who before after. Replies office.signs who before now request given after) s t
+  RepliesIn s now request given t = Leads office.is_clean office.stands (λ signatory before after. Replies office.signs signatory before now request given after) s t
 
   -- an OCSP request whose answer is left to be signed
   abbrev pub DraftsIn : O → ℕ → List ℕ → Drafted → O → Type 0
-  DraftsIn s now request draft t = Leads office.is_clean office.stands (λ who before after. Drafts who before now request draft after) s t
+  DraftsIn s now request draft t = Leads office.is_clean office.stands (λ signatory before after. Drafts signatory before now request draft after) s t
 
   -- the bytes of a CRL
   abbrev pub CrlsIn : O → Option ℕ → Result (List ℕ) Fault → O → Type 0

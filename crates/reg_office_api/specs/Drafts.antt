@@ -14,7 +14,7 @@ use Rattle.reg_office_api.specs.declared.response.ResponseKind.TheVariants.{Sign
 use Rattle.reg_io.specs.declared.begun.Begun.{Begun}
 use Rattle.reg_io.specs.declared.begun.Begun.TheVariants.{Ready, Unsigned}
 
--- what is to be signed is to be signed by who answers, and the answer has its certificate, where one stands there
+-- what is to be signed is to be signed by the responder, and the answer has its certificate, where one stands there
 pub record IsBy (responder : Responder) (draft : Drafted) : Type 0 where
   pub algorithm : draft.algorithm ≡ responder.identity.algorithm
   pub key : draft.key ≡ responder.identity.public_key
@@ -33,9 +33,9 @@ pub record IsDraft (responder : Responder) (records : Records) (now : ℕ) (requ
   pub timely : first_of_all (clock_checks now records.last) ≡ None
   pub read : IsReadDraft responder records now ids nonce draft
 
--- what is left to be signed for a request, by who answers; the records stay
+-- what is left to be signed for a request, by the responder; the records stay
 abbrev pub Drafts : Signatory → Records → ℕ → List ℕ → Drafted → Records → Type 0
-Drafts who before now request draft after = IsDraft who.answers before now request draft × (after ≡ before)
+Drafts signatory before now request draft after = IsDraft signatory.answers before now request draft × (after ≡ before)
 
 -- what a call comes to whose answer may be left to be signed, by what answers that are ready are and what is left
 abbrev pub Begins : {S : Type 0} → (S → ℕ → List ℕ → Result (ResponseKind × List ℕ) Memory → S → Type 0)
@@ -44,9 +44,9 @@ Begins replies drafts s now request (Ok (Ready response)) t = replies s now requ
 Begins replies drafts s now request (Ok (Unsigned draft)) t = drafts s now request draft t
 Begins replies drafts s now request (Err memory) t = replies s now request (Err memory) t
 
--- the same, as a step of the records for those who sign
+-- the same, as a step of the records for the signers
 abbrev pub BeginStep : Signs → ℕ → List ℕ → Result (Begun OcspResponse Drafted) Memory → Signatory → Records → Records → Type 0
-BeginStep signs now request begun = λ who before after. Begins (Replies signs who) (Drafts who) before now request begun after
+BeginStep signs now request begun = λ signatory before after. Begins (Replies signs signatory) (Drafts signatory) before now request begun after
 
 -- the signer failed at it
 abbrev pub IsSignerFailure : {U : Type 0} → Begun OcspResponse U → Type 0

@@ -1,4 +1,4 @@
--- What an office tells of its records that is no query.
+-- What an office shows of its records beside queries.
 use Rattle.std.specs.Prelude.{◌≡◌, ℕ, ◌==◌, ◌&&◌, min, filter, length, Option, option_map, Result, IfOk}
 use Rattle.reg_core.specs.Crls.{latest, row_of}
 use Rattle.reg_core.specs.Due.{is_open}
@@ -14,7 +14,7 @@ use Rattle.reg_office_api.specs.declared.register_summary.Intake.{Intake}
 use Rattle.reg_office_api.specs.declared.register_summary.Rows.{Rows}
 use Rattle.reg_office_api.specs.declared.register_summary.Standing.{Standing}
 
--- want of memory, or a failure of the store
+-- out of memory, or a failure of the store
 abbrev pub IsOfStore : Fault → Type 0
 IsOfStore Memory = Unit {0}
 IsOfStore Store = Unit {0}
@@ -68,4 +68,4 @@ HasLongest records order not_before result = IfOk result (λ days. days ≡ long
 
 -- a page of a list, as a step that leaves the records
 abbrev pub PageStep : ℕ → ℕ → Cursor → Result Page Fault → Signatory → Records → Records → Type 0
-PageStep now most from given = λ who before after. Pages before now most from given after
+PageStep now most from given = λ signatory before after. Pages before now most from given after

@@ -17,27 +17,27 @@ use Rattle.reg_office_api.specs.Signatories.{Responder, Signs, responder_key}
 abbrev pub HasNoReading : List ℕ → Type 0
 HasNoReading bytes = (ids : List Id) (nonce : Option (List ℕ)) → ¬ (IsOcspRequest bytes ids nonce)
 
--- what a CertID is told: the status of the issuer's certificate that it names, and unknown where it names none
+-- the answer to a CertID: the status of the issuer's certificate that it names, and unknown where it names none
 -- (RFC 6960 2.2)
 abbrev pub IsTold : Records → ℕ → Id → Status → Type 0
 IsTold records now id told =
     ((serial : ℕ) × IsMatch records.issuer id serial × (told ≡ status records serial now))
     ⊎ (((serial : ℕ) → ¬ (IsMatch records.issuer id serial)) × (told ≡ Unknown))
 
--- the answer to a CertID: it is repeated byte for byte, with what it is told (SingleResponse, RFC 6960 4.2.1)
+-- the answer to a CertID: it is repeated byte for byte, with its status (SingleResponse, RFC 6960 4.2.1)
 pub record IsAnswer (records : Records) (now : ℕ) (id : Id) (answer : SingleAnswer) : Type 0 where
   pub repeated : answer.raw ≡ id.raw
   pub told : IsTold records now id answer.status
 
--- the ResponseData of the records at a moment, by the key of who answers: one answer for each CertID in the order asked, each
+-- the ResponseData of the records at a moment, by the key of the responder: one answer for each CertID in the order asked, each
 -- from this moment on for the life that the policy gives it, and the nonce (RFC 6960 4.2.1)
 pub record IsOcspData (key : List ℕ) (records : Records) (now : ℕ) (ids : List Id) (nonce : Option (List ℕ)) (tbs : List ℕ) : Type 0 where
   pub answers : List SingleAnswer
   pub each : AllZip (IsAnswer records now) ids answers
   pub spelled : tbs ≡ response_data key now (now + records.policy.ocsp_life) answers nonce
 
--- The bytes are the response signed: there is a signature of the ResponseData by who answers, and the bytes are the OCSPResponse
--- of the ResponseData, the algorithm and the signature, with the certificate of who answers, where one stands there
+-- The bytes are the response signed: there is a signature of the ResponseData by the responder, and the bytes are the OCSPResponse
+-- of the ResponseData, the algorithm and the signature, with the certificate of the responder, where one stands there
 -- (RFC 6960 4.2.1, 4.2.2.2).
 abbrev pub response_signed_by : Signs → Responder → List ℕ → List ℕ → Type 0
 response_signed_by signs responder tbs bytes =

@@ -40,9 +40,9 @@ IsOcspResponse signs responder records now request kind bytes =
 
 -- the response to a request, with its kind; or out of memory; the records stay
 abbrev pub Replies : Signs → Signatory → Records → ℕ → List ℕ → Result (ResponseKind × List ℕ) Memory → Records → Type 0
-Replies signs who before now request (Ok response) after =
-    IsOcspResponse signs who.answers before now request response.0 response.1 × (after ≡ before)
-Replies signs who before now request (Err memory) after = after ≡ before
+Replies signs signatory before now request (Ok response) after =
+    IsOcspResponse signs signatory.answers before now request response.0 response.1 × (after ≡ before)
+Replies signs signatory before now request (Err memory) after = after ≡ before
 
 -- what became of the signature
 abbrev pub signature_of : ResponseKind → SignatureFate

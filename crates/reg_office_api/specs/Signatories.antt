@@ -1,4 +1,4 @@
--- Who signs for an office.
+-- The signers of an office.
 use Rattle.std.specs.Prelude.{ℕ, List, Option, None, unwrap_or}
 use Rattle.reg_core.specs.Records.{Records}
 use Rattle.reg_crl.specs.Signing.{Identity}
@@ -7,7 +7,7 @@ use Rattle.reg_crl.specs.Signing.{Identity}
 abbrev pub Signs : Type 1
 Signs = Identity → List ℕ → List ℕ → Type 0
 
--- Who answers OCSP requests for an issuer (RFC 6960 2.2, 4.2.2.2): under whose algorithm and key; the key of its own by which it is named,
+-- The responder to OCSP requests for an issuer (RFC 6960 2.2, 4.2.2.2): under whose algorithm and key; the key of its own by which it is named,
 -- or none where that is the issuer's; the certificate that stands with each answer, where one does.
 pub record Responder : Type 0 where
   pub identity : Identity
@@ -18,7 +18,7 @@ pub record Responder : Type 0 where
 abbrev pub responder_key : Responder → Records → List ℕ
 responder_key responder records = unwrap_or responder.own_key records.issuer.key
 
--- who signs for an office: its CRLs, and its OCSP answers
+-- the signers of an office: its CRLs, and its OCSP answers
 pub record Signatory : Type 0 where
   pub crls : Identity
   pub answers : Responder

@@ -8,8 +8,8 @@ use reg_io::Begun;
 use reg_ocsp::Draft;
 use std::alloc::Global;
 
-/// An office that keeps the records of a register, and those who sign for it. Each call leads from whatever records stand in it to those
-/// that stand afterwards, where the medium has returned all that was written to it ([`Leads`](crate::specs::Leads)).
+/// An office that keeps the records of a register, and its signers. A clause of each call relates the records before it to those
+/// after it, provided that the medium has returned all that was written to it ([`Leads`](crate::specs::Leads)).
 pub trait Office {
     ghost use Rattle.std.specs.Prelude.{◌≡◌, ◌≤◌, ◌<◌, ◌↔◌, ◌^◌, ℕ, List, IfErr, IfOk, IsErrOf};
     ghost use Rattle.reg_office_api.specs.CallSteps.{CommandStep, QueryStep, OcspStep, CrlStep};
@@ -26,7 +26,7 @@ pub trait Office {
     /// The medium has returned all that was written to it.
     ghost is_clean: { Self → Type 0 };
 
-    /// The records that stand in the office, with those who sign for it.
+    /// The records that stand in the office, with the signers for it.
     ghost stands: { Signatory → Self → Records → Type 0 };
 
     /// Which bytes are a signature over which, by whom.
@@ -53,7 +53,7 @@ pub trait Office {
     fn ocsp(&mut self, alloc: Global, now: Moment, request: &[u8]) -> Result<Vec<u8>, Memory>
         ensures { Leads is_clean stands (OcspStep signs now request.now (items_of result)) self.old self.new };
 
-    /// Begins the same response: where a signer has a key, its signature is left to be asked for, and nobody waits for it. The
+    /// Begins the same response: where a signer has a key, the response is left unsigned, and the caller requests its signature. The
     /// response of a signer without a key is ready, and so is a refusal.
     fn begin_ocsp(
         &mut self,
@@ -70,16 +70,16 @@ pub trait Office {
     fn crl_bytes(&mut self, alloc: Global, number: Option<u64>) -> Result<Vec<u8>, Fault>
         ensures { Leads is_clean stands (CrlStep number (items_of result)) self.old self.new };
 
-    /// What would be signed in the next CRL at a moment (RFC 5280 5.1.2), where its signer has a key. `None` where none would be
-    /// issued then, where a digest seals it, and where memory or the store fails. Nothing is signed.
+    /// The bytes to sign of the next CRL at a moment (RFC 5280 5.1.2). `None` if none would be issued then, if the signer has no
+    /// key (placeholder digest), and if memory or the store fails. Nothing is signed.
     fn crl_message(&mut self, alloc: Global, now: Moment) -> Option<Vec<u8>>
-        ensures { Leads is_clean stands (λ who before after. after ≡ before) self.old self.new };
+        ensures { Leads is_clean stands (λ signatory before after. after ≡ before) self.old self.new };
 
-    /// A page of a list from a key on, at a moment, over so many rows at most. Errors: `ClockEnd`, `ClockBack`; `Memory`, `Store`.
+    /// A page of a list from a cursor on, at a moment, over at most `most` rows. Errors: `ClockEnd`, `ClockBack`; `Memory`, `Store`.
     fn page(&mut self, alloc: Global, now: Moment, from: Cursor, most: u64) -> Result<Page, Fault>
         ensures { Leads is_clean stands (PageStep now most from result) self.old self.new };
 
-    /// What stands beside the counts: the last accepted moment, the latest CRL, the life of CRLs, the cap, and how many rows the tables have.
+    /// The register's summary: the last accepted moment, the latest CRL, the life of CRLs, the cap, and how many rows the tables have.
     fn standing(&mut self) -> Result<Standing, Fault>
         ensures looks { Looks is_clean stands (λ records. HasStanding records result) self.old self.new }
         ensures faults { IfErr result IsOfStore };
@@ -104,16 +104,16 @@ pub trait Office {
 
     /// Sets the schedule of longest validities, which is no command: nothing else changes, and at an error nothing does.
     fn set_schedule(&mut self, alloc: Global, schedule: Schedule) -> Result<(), Fault>
-        ensures sets { Leads is_clean stands (λ who. Reschedules schedule result) self.old self.new }
+        ensures sets { Leads is_clean stands (λ signatory. Reschedules schedule result) self.old self.new }
         ensures faults { IfErr result IsOfStore };
 
     /// Gives the issuer a key identifier of its own, which its CRLs have from the next one on (RFC 5280 5.2.1). It is no command:
     /// nothing else changes, and at an error nothing does.
     fn set_key_identifier(&mut self, alloc: Global, octets: Label) -> Result<(), Fault>
-        ensures sets { Leads is_clean stands (λ who. Identifies octets result) self.old self.new }
+        ensures sets { Leads is_clean stands (λ signatory. Identifies octets result) self.old self.new }
         ensures faults { IfErr result IsOfStore };
 
-    /// How many signatures the signer of CRLs and that of OCSP answers failed to make; one count twice where one signer signs both.
+    /// How many signatures the signer of CRLs and that of OCSP answers failed to make; the same count twice if one signer makes both.
     fn failure_counts(&self) -> (u64, u64)
         ensures crls { result.0 ≡ failures self.now }
         ensures answers { result.1 ≡ answer_failures self.now };

@@ -20,7 +20,7 @@ use Rattle.reg_store_tables.proofs.PublicLaws.{select_never, selects, as_command
 use Rattle.reg_store_tables.specs.Rows.{number, stored_revocation, stored_crl}
 use Rattle.reg_store_tables.specs.Shows.{IsShownBy}
 use Rattle.reg_store_tables.specs.ReadStatements.{IsReading, command_of, shown_revocation, shown_crl}
-use Rattle.reg_store_migration.specs.Asked.{AreAnswer}
+use Rattle.reg_store_migration.specs.RecordReading.{AreAnswer}
 use Rattle.reg_store_migration.specs.declared.sql.TheConstants.{REVOCATIONS, CRLS}
 
 -- ---- a text that only reads changes nothing

@@ -1,4 +1,4 @@
-pub mod Asked
+pub mod RecordReading
 pub mod NumberedRows
 pub mod Older
 pub mod Makes

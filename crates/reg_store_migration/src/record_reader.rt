@@ -9,7 +9,7 @@ ghost use Rattle.reg_core.specs.Serial.{IsSerial};
 ghost use Rattle.reg_store_tables.specs.ReadStatements.{IsReading, shown_certificate};
 ghost use Rattle.reg_store_tables.specs.Stays.{Stepped};
 ghost use Rattle.reg_store_tables.specs.Steps.{Asks};
-ghost use Rattle.reg_store_migration.specs.Asked.{AreAnswer, OfRecords};
+ghost use Rattle.reg_store_migration.specs.RecordReading.{AreAnswer, OfRecords};
 
 use crate::sql;
 use reg_core::{CertRow, CrlRow, Moment, RevocationRow, Serial};

@@ -5,7 +5,7 @@ ghost use Rattle.reg_store_tables.specs.Columns.{Letter, letter_counts, letter_t
 ghost use Rattle.reg_store_tables.specs.Rows.{number};
 ghost use Rattle.reg_store_tables.specs.Stays.{Stepped};
 ghost use Rattle.reg_store_tables.specs.Steps.{Asks};
-ghost use Rattle.reg_store_migration.specs.Asked.{OfColumns};
+ghost use Rattle.reg_store_migration.specs.RecordReading.{OfColumns};
 
 use crate::record_reader::ask;
 use crate::sql;

@@ -10,7 +10,7 @@ use Rattle.reg_store_schema.specs.declared.versions.Version.{Version}
 use Rattle.reg_store_migration.specs.Older.{older_schema}
 use Rattle.reg_store_migration.specs.declared.version.OlderVersion.{OlderVersion}
 use Rattle.reg_store_opening.specs.Examined.{SaysFound, IsFoundOf, found_version}
-use Rattle.reg_store_opening.specs.Said.{version_of, schema_of, HasVersion, HasOthers, IsOlder, IsShownAs, TellsVersion, version_told}
+use Rattle.reg_store_opening.specs.Said.{version_of, schema_of, HasVersion, HasOthers, IsOlder, IsShownAs, SchemaHasVersion, version_or_ours}
 use Rattle.reg_store_opening.specs.declared.version_check.OlderOffice.{OlderOffice}
 
 has_found : (db : Database) (found : Option OlderOffice) → SaysFound db found → HasVersion db (version_of (found_version found))
@@ -27,19 +27,19 @@ schema_as None db records shown = shown.schema
 schema_as (Some version) db records shown = shown.schema
 
 -- the tables of a database, by what was compared
-module _ (db : Database) (tables : Option Version) (is : TellsVersion tables db.schema) (found : Option OlderOffice) where
-  pub current_there : tables ≡ Some (version_told (found_version found)) → found ≡ None → db.schema ≡ register_schema
+module _ (db : Database) (tables : Option Version) (is : SchemaHasVersion tables db.schema) (found : Option OlderOffice) where
+  pub current_there : tables ≡ Some (version_or_ours (found_version found)) → found ≡ None → db.schema ≡ register_schema
   current_there same none = (is (found_version found)).0 same ∙ ap (λ f. schema_of (found_version f)) none
 
-  pub older_there : tables ≡ Some (version_told (found_version found)) → (older : OlderOffice) → found ≡ Some older → db.schema ≡ older_schema older.version
+  pub older_there : tables ≡ Some (version_or_ours (found_version found)) → (older : OlderOffice) → found ≡ Some older → db.schema ≡ older_schema older.version
   older_there same older some = (is (found_version found)).0 same ∙ ap (λ f. schema_of (found_version f)) some
 
-  pub older_said : tables ≡ Some (version_told (found_version found)) → (older : OlderOffice) → found ≡ Some older → SaysFound db found → IsOlder db
+  pub older_said : tables ≡ Some (version_or_ours (found_version found)) → (older : OlderOffice) → found ≡ Some older → SaysFound db found → IsOlder db
   older_said same older some says =
       let it = subst (SaysFound db) some says in
       (older.version, older_there same older some, it.0, (older.days, older.last, it.1))
 
-  module _ (other : tables ≢ Some (version_told (found_version found))) where
+  module _ (other : tables ≢ Some (version_or_ours (found_version found))) where
     differs : db.schema ≢ schema_of (found_version found)
     differs same = other ((is (found_version found)).1 same)
 

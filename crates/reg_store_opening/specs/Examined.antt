@@ -33,16 +33,16 @@ found_version None = None
 found_version (Some older) = Some older.version
 
 module _ {S : Type 0} (g : Ghosts S) (old new : Held S) where
-  -- what an answer tells of the database, which was open
-  abbrev pub Tells : {T E : Type 0} → Result T E → (T → Database → Type 0) → Type 0
-  Tells result Told = HasCleanDisk (state g new) → IfOk result (λ found. IsTrue (state g old).is_open × Told found (state g old).now)
+  -- what an answer says of the database, which was open
+  abbrev pub ReportsState : {T E : Type 0} → Result T E → (T → Database → Type 0) → Type 0
+  ReportsState result Told = HasCleanDisk (state g new) → IfOk result (λ found. IsTrue (state g old).is_open × Told found (state g old).now)
 
-  -- what a refusal tells of it: that it is newer, or this
-  abbrev pub TellsNewer : {T : Type 0} → Result T StoreFault → Type 0
-  TellsNewer result = HasCleanDisk (state g new) → result ≡ Err NewVersion → IsNewer (state g old).now
+  -- what a refusal says of it: that it is newer, or this
+  abbrev pub ReportsNewer : {T : Type 0} → Result T StoreFault → Type 0
+  ReportsNewer result = HasCleanDisk (state g new) → result ≡ Err NewVersion → IsNewer (state g old).now
 
-  abbrev pub TellsNone : {T : Type 0} → Result T StoreFault → (Database → Type 0) → Type 0
-  TellsNone result Refused = HasCleanDisk (state g new) → result ≡ Err NotARegister → Refused (state g old).now
+  abbrev pub ReportsNone : {T : Type 0} → Result T StoreFault → (Database → Type 0) → Type 0
+  ReportsNone result Refused = HasCleanDisk (state g new) → result ≡ Err NotARegister → Refused (state g old).now
 
   -- of tables that show records what was found is theirs, and if these are within their ranges, memory or the database alone refuses them
   abbrev pub Finds : {T : Type 0} → Result T StoreFault → (Database → Records → Type 0) → (T → Records → Type 0) → Type 0

@@ -39,16 +39,16 @@ pub record Opens {S : Type 0} (g : Ghosts S) (old new : Held S) : Type 0 where
   -- a stop finds what it would have found before, or the tables made newer
   pub survives : Survives (state g old) (state g new) (IsOpened g old)
 
--- A database that can't be opened, and the fault that tells why.
+-- A database that can't be opened, and the fault that gives the reason.
 pub record IsUnopened {S : Type 0} (g : Ghosts S) (old new : Held S) (fault : StoreFault) : Type 0 where
   -- the tables are as they were
   pub same : Stays (state g old) (state g new)
   -- a register whose values are within their ranges is refused where memory or the database fails, and nowhere else
   pub shown : (version : Option OlderVersion) (records : Records) → InRange records → ShowsAs version g old records
       → HasCleanDisk (state g new) → IsDatabaseFault fault
-  -- a newer version is told where the tables say one
+  -- a newer version is reported where the tables say one
   pub newer : HasCleanDisk (state g new) → fault ≡ NewVersion → IsNewer (state g old).now
-  -- no register is told where the tables say none, or are others than those of the version that they say
+  -- no register is reported where the tables say none, or are others than those of the version that they say
   pub none : HasCleanDisk (state g new) → fault ≡ NotARegister → IsNoRegister (state g old).now
   -- and, over tables with no view, where none of any version stands
   pub alone : HasCleanDisk (state g new) → fault ≡ NotARegister → HoldsNoRegister (state g old).now
@@ -67,7 +67,7 @@ pub record Creates {S : Type 0} (g : Ghosts S) (old new : Held S) (issuer : Issu
   -- a stop finds what it would have found before, or the whole register
   pub survives : Survives (state g old) (state g new) (IsCreated old issuer policy)
 
--- A database in which no register can be made, and the fault that tells why.
+-- A database in which no register can be made, and the fault that gives the reason.
 pub record IsUncreated {S : Type 0} (g : Ghosts S) (old new : Held S) (issuer : Issuer) (policy : Terms) (fault : StoreFault) : Type 0 where
   -- the tables are as they were
   pub same : Stays (state g old) (state g new)

@@ -239,11 +239,11 @@ pub record InRange (records : Records) : Type 0 where
   pub last : records.last < clock_end
 
 -- a version, which is the program's where it is none
-abbrev pub version_told : Option OlderVersion → Version
-version_told None = version.Third
-version_told (Some First) = version.First
-version_told (Some Second) = version.Second
+abbrev pub version_or_ours : Option OlderVersion → Version
+version_or_ours None = version.Third
+version_or_ours (Some First) = version.First
+version_or_ours (Some Second) = version.Second
 
--- a schema is told to be a version's where it is
-abbrev pub TellsVersion : Option Version → Schema → Type 0
-TellsVersion tables schema = (version : Option OlderVersion) → (tables ≡ Some (version_told version)) ↔ (schema ≡ schema_of version)
+-- a schema is found to be a version's where it is
+abbrev pub SchemaHasVersion : Option Version → Schema → Type 0
+SchemaHasVersion tables schema = (version : Option OlderVersion) → (tables ≡ Some (version_or_ours version)) ↔ (schema ≡ schema_of version)

@@ -6,7 +6,7 @@ ghost use Rattle.sqlite.specs.State.{HasCleanDisk};
 ghost use Rattle.sqlite_schema.specs.declared.schema.Schema.{Schema};
 ghost use Rattle.reg_store_tables.specs.Stays.{IsDatabaseFault, Stepped};
 ghost use Rattle.reg_store_opening.specs.Said.{is_call_error, IsQuery, IsNeverRefused, IsRead, IsRefusedText};
-ghost use Rattle.reg_store_opening.specs.Examined.{TellsNone};
+ghost use Rattle.reg_store_opening.specs.Examined.{ReportsNone};
 ghost use Rattle.reg_store_tables.specs.Steps.{Asks, WhileOpen};
 
 use reg_store_tables::StoreFault;
@@ -33,7 +33,7 @@ fn unread(error: Error) -> StoreFault
 pub(crate) fn peek<S: Alter>(tx: &mut Transaction<'_, S>, sql: &str) -> Result<Vec<Row>, StoreFault>
     requires { IsQuery sql.now }
     ensures asked { Asks S.Store tx.old tx.new result (λ rows db. IsRead db sql.now rows.items) }
-    ensures none { TellsNone S.Store tx.old.conn.now tx.new.conn.now result (λ db. IsRefusedText db sql.now) }
+    ensures none { ReportsNone S.Store tx.old.conn.now tx.new.conn.now result (λ db. IsRefusedText db sql.now) }
     ensures refused { HasCleanDisk (state S.Store tx.new.conn.now)
         → (schema : Schema) → IsNeverRefused schema sql.now
         → WhileOpen (state S.Store tx.old.conn.now) (λ db. db.schema ≡ schema)

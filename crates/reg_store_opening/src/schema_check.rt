@@ -2,7 +2,7 @@
 
 ghost use Rattle.std.specs.Prelude.{◌≡◌, ◌↔◌, Some, false, IfOk, IsTrue};
 ghost use Rattle.sqlite.specs.Held.{state};
-ghost use Rattle.reg_store_opening.specs.Said.{TellsVersion, version_told};
+ghost use Rattle.reg_store_opening.specs.Said.{SchemaHasVersion, version_or_ours};
 
 use reg_store_migration::OlderVersion;
 use reg_store_schema::{Version, version_of};
@@ -11,7 +11,7 @@ use std::alloc::{AllocError, Global};
 
 /// Whether the tables of a version are those of this one, which is the program's where it is none.
 pub(crate) fn is_same(tables: Option<Version>, version: Option<OlderVersion>) -> bool
-    ensures { IsTrue result ↔ (tables ≡ Some (version_told version)) }
+    ensures { IsTrue result ↔ (tables ≡ Some (version_or_ours version)) }
 {
     match version {
         None => matches!(tables, Some(Version::Third)),
@@ -27,7 +27,7 @@ pub(crate) fn look<S: Alter>(
     conn: &Connection<S>,
 ) -> Result<Option<Version>, AllocError>
     requires { conn.now.in_transaction ≡ false }
-    ensures tables { IfOk result (λ tables. TellsVersion tables (state S.Store conn.now).now.schema) }
+    ensures tables { IfOk result (λ tables. SchemaHasVersion tables (state S.Store conn.now).now.schema) }
     ensures settled { IsTrue (state S.Store conn.now).is_open
         → (state S.Store conn.now).now ≡ (state S.Store conn.now).committed }
 {

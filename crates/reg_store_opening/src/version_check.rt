@@ -9,8 +9,8 @@ ghost use Rattle.reg_store_tables.specs.Shows.{IsShownBy};
 ghost use Rattle.reg_store_tables.specs.Stays.{IsDatabaseFault, LeavesNothing, Stays, Stepped};
 ghost use Rattle.reg_store_migration.specs.Older.{IsShownByOlder};
 ghost use Rattle.reg_store_tables.specs.Steps.{Asks, WhileOpen};
-ghost use Rattle.reg_store_opening.specs.Said.{version_of, IsOfVersion, HasVersion, InRange, IsShownAs, ShowsAs, SaysOffice, ReadsOlder, SaysNoVersion, SaysNoOffice, SaysNoOlder, SaysNoRegister, version_told};
-ghost use Rattle.reg_store_opening.specs.Examined.{Tells, TellsNewer, TellsNone, Finds, SaysFound, IsFoundOf, found_version};
+ghost use Rattle.reg_store_opening.specs.Said.{version_of, IsOfVersion, HasVersion, InRange, IsShownAs, ShowsAs, SaysOffice, ReadsOlder, SaysNoVersion, SaysNoOffice, SaysNoOlder, SaysNoRegister, version_or_ours};
+ghost use Rattle.reg_store_opening.specs.Examined.{ReportsState, ReportsNewer, ReportsNone, Finds, SaysFound, IsFoundOf, found_version};
 ghost use Rattle.reg_store_opening.specs.Opens.{Opens, IsUnopened};
 
 use crate::office_rows::{judge_office, judge_older, judge_version};
@@ -36,8 +36,8 @@ pub struct OlderOffice {
 /// The version of the tables where it is older than the program's, and none where it is the program's.
 fn test_version<S: Alter>(tx: &mut Transaction<'_, S>) -> Result<Option<OlderVersion>, StoreFault>
     ensures asked { Asks S.Store tx.old tx.new result (λ found db. HasVersion db (version_of found)) }
-    ensures newer { TellsNewer S.Store tx.old.conn.now tx.new.conn.now result }
-    ensures none { TellsNone S.Store tx.old.conn.now tx.new.conn.now result SaysNoVersion }
+    ensures newer { ReportsNewer S.Store tx.old.conn.now tx.new.conn.now result }
+    ensures none { ReportsNone S.Store tx.old.conn.now tx.new.conn.now result SaysNoVersion }
     ensures version { HasCleanDisk (state S.Store tx.new.conn.now) → (version : Option OlderVersion)
         → WhileOpen (state S.Store tx.old.conn.now) (IsOfVersion version)
         → MatchResult result (λ found. found ≡ version) IsDatabaseFault }
@@ -49,8 +49,8 @@ fn test_version<S: Alter>(tx: &mut Transaction<'_, S>) -> Result<Option<OlderVer
 }
 
 fn test_office<S: Alter>(tx: &mut Transaction<'_, S>) -> Result<(), StoreFault>
-    ensures told { Tells S.Store tx.old.conn.now tx.new.conn.now result (λ _ db. SaysOffice db) }
-    ensures none { TellsNone S.Store tx.old.conn.now tx.new.conn.now result SaysNoOffice }
+    ensures told { ReportsState S.Store tx.old.conn.now tx.new.conn.now result (λ _ db. SaysOffice db) }
+    ensures none { ReportsNone S.Store tx.old.conn.now tx.new.conn.now result SaysNoOffice }
     ensures shown { Finds S.Store tx.old.conn.now tx.new.conn.now result IsShownBy (λ _ _. Unit {0}) }
     ensures stepped { Stepped S.Store tx.old tx.new }
     ensures faults { IfErr result (λ fault. IsDatabaseFault fault ⊎ (fault ≡ StoreFault.NotARegister)) }
@@ -61,9 +61,9 @@ fn test_office<S: Alter>(tx: &mut Transaction<'_, S>) -> Result<(), StoreFault>
 }
 
 fn test_older<S: Alter>(tx: &mut Transaction<'_, S>) -> Result<(u64, Moment), StoreFault>
-    ensures told { Tells S.Store tx.old.conn.now tx.new.conn.now result
+    ensures told { ReportsState S.Store tx.old.conn.now tx.new.conn.now result
         (λ found db. ReadsOlder db found.0 found.1) }
-    ensures none { TellsNone S.Store tx.old.conn.now tx.new.conn.now result SaysNoOlder }
+    ensures none { ReportsNone S.Store tx.old.conn.now tx.new.conn.now result SaysNoOlder }
     ensures shown { (version : OlderVersion)
         → Finds S.Store tx.old.conn.now tx.new.conn.now result (IsShownByOlder version) (λ found records.
         (records.policy.schedule ≡ one_step found.0) × (records.last ≡ found.1)) }
@@ -76,9 +76,9 @@ fn test_older<S: Alter>(tx: &mut Transaction<'_, S>) -> Result<(u64, Moment), St
 
 /// Tests the tables, the version first: what an older office says, or none where they are of the program's version.
 fn test_tables<S: Alter>(tx: &mut Transaction<'_, S>) -> Result<Option<OlderOffice>, StoreFault>
-    ensures told { Tells S.Store tx.old.conn.now tx.new.conn.now result (λ found db. SaysFound db found) }
-    ensures newer { TellsNewer S.Store tx.old.conn.now tx.new.conn.now result }
-    ensures none { TellsNone S.Store tx.old.conn.now tx.new.conn.now result SaysNoRegister }
+    ensures told { ReportsState S.Store tx.old.conn.now tx.new.conn.now result (λ found db. SaysFound db found) }
+    ensures newer { ReportsNewer S.Store tx.old.conn.now tx.new.conn.now result }
+    ensures none { ReportsNone S.Store tx.old.conn.now tx.new.conn.now result SaysNoRegister }
     ensures shown { (version : Option OlderVersion)
         → Finds S.Store tx.old.conn.now tx.new.conn.now result (IsShownAs version)
         (λ found records. IsFoundOf version records found) }
@@ -114,8 +114,8 @@ pub fn examine<S: Alter>(conn: &mut Connection<S>) -> Result<Option<OlderOffice>
         → IfOk result (λ found. SaysFound (state S.Store conn.old).now found) }
     ensures live { HasCleanDisk (state S.Store conn.new)
         → OnOk result (IsTrue (state S.Store conn.old).is_open) }
-    ensures newer { TellsNewer S.Store conn.old conn.new result }
-    ensures none { TellsNone S.Store conn.old conn.new result SaysNoRegister }
+    ensures newer { ReportsNewer S.Store conn.old conn.new result }
+    ensures none { ReportsNone S.Store conn.old conn.new result SaysNoRegister }
     ensures shown { (version : Option OlderVersion) → (records : Records)
         → ShowsAs version S.Store conn.old records → HasCleanDisk (state S.Store conn.new)
         → MatchResult result (IsFoundOf version records) (λ fault. InRange records → IsDatabaseFault fault) }
@@ -142,9 +142,9 @@ fn version_in(found: Option<OlderOffice>) -> Option<OlderVersion>
 }
 
 fn test_schema(tables: Option<Version>, found: Option<OlderOffice>) -> Result<(), StoreFault>
-    ensures ok { OnOk result (tables ≡ Some (version_told (found_version found))) }
+    ensures ok { OnOk result (tables ≡ Some (version_or_ours (found_version found))) }
     ensures err { IfErr result (λ fault. (fault ≡ StoreFault.NotARegister)
-        × (tables ≢ Some (version_told (found_version found)))) }
+        × (tables ≢ Some (version_or_ours (found_version found)))) }
 {
     if is_same(tables, version_in(found)) {
         return Ok(());

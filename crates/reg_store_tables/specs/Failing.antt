@@ -1,4 +1,4 @@
--- When a look-up may tell that the store failed.
+-- When a look-up may report that the store failed.
 use Rattle.std.specs.Prelude.{◌≡◌, ◌≤◌, ◌⊎◌, ℕ, false, List, length, Option, IsSome, Result, Ok, Err, IfErr}
 use Rattle.std.specs.List.{AllByRecursion}
 use Rattle.sqlite_disk.specs.Disk.{MoreFaults}
@@ -25,7 +25,7 @@ use Rattle.reg_store_tables.specs.RecordValues.{HasValues}
 unfoldable pub HasFailed : State → State → Type 0
 HasFailed old new = MoreFaults old.faults new.faults ⊎ ((old.is_open ≡ false) ⊎ IsSome old.step_limit)
 
--- where a call tells this failure, the database failed
+-- where a call reports this failure, the database failed
 abbrev pub FailsWith : {T E : Type 0} → E → State → State → Result T E → Type 0
 FailsWith failure old new result = HasCleanDisk new → IfErr result (λ fault. fault ≡ failure → HasFailed old new)
 

@@ -1,4 +1,4 @@
--- When the kept columns stand for the records.
+-- When the derived columns belong to the records.
 use Rattle.std.specs.Prelude.{◌≡◌, ℕ, map, unwrap_or, option_map, IsPermutation}
 use Rattle.sqlite_trees.specs.declared.store.Store.{Ghosts}
 use Rattle.sqlite.specs.Held.{Held}

@@ -47,7 +47,7 @@ module _ {C R : Type 0} (is_keyed has_values : R → Type 0) (shown : R → Row)
 -- ---- a look-up
 
 -- A look-up: it changes nothing, and what it finds is so of the records that the tables show, where the disk is clean behind it. Over
--- rows that a register writes it tells a failure of the store only where the database failed, if it may be asked so.
+-- rows that a register writes it reports a failure of the store only where the database failed, if it may be asked so.
 pub record FindsIf {C T : Type 0} (MayBeAsked : Records → Type 0) (g : Ghosts C) (old new : Held C) (result : Result T DatabaseFault) (IsSo : Records → T → Type 0) : Type 0 where
   pub looked : Looked g old new
   pub found : (records : Records) → Shows g old records → HasCleanDisk (state g new) → IfOk result (IsSo records)
@@ -59,7 +59,7 @@ Finds g old new result IsSo = FindsIf (λ records. Unit {0}) g old new result Is
 
 -- ---- look-ups, one after another
 
--- They change nothing, and what they tell holds of sound records that the tables show, with what is kept beside them.
+-- They change nothing, and what they answer holds of sound records that the tables show, with what is kept beside them.
 pub record LooksUp {C : Type 0} (g : Ghosts C) (old new : Held C) (Tells : Records → Type 0) : Type 0 where
   pub looked : Looked g old new
   pub found : (records : Records) → ShowsKept g old records → SoundRows records → HasCleanDisk (state g new) → Tells records

@@ -1,4 +1,4 @@
-//! Rows of the tables as rows of the register, with the columns in the order in which the statements name them.
+//! Reads rows of the SQL tables as values of the register. The columns are in the order in which the statements name them.
 
 ghost use Rattle.std.specs.Prelude.{◌≡◌, ◌≤◌, List, Option, map, length, IfOk, IfErr, OnErr};
 ghost use Rattle.std.specs.List.{AllByRecursion};
@@ -16,25 +16,25 @@ use reg_core::{
 use sqlite::Row;
 use std::alloc::Global;
 
-/// What one row shows.
+/// A kind of row, and how it is read.
 pub trait ShownRow {
     ghost use Rattle.std.specs.Prelude.{◌≡◌, IfSome, IsSome};
     ghost use Rattle.sqlite_value.specs.Order.{Row as Cells};
     ghost use Rattle.reg_store_tables.specs.ShownRows.{HasCells};
 
-    /// What it is read as.
+    /// The value as which a row is read.
     type Record: Copy;
 
-    /// Its columns, in the order in which the statement names them.
+    /// The columns of a value, in the order in which the statement names them.
     ghost shown: { Self.Record → Cells };
 
-    /// Its serial number, where it has one, is one (RFC 5280 4.1.2.2).
+    /// The serial number of a value, if it has one, is valid (RFC 5280 4.1.2.2).
     ghost is_keyed: { Self.Record → Type 0 };
 
-    /// Its other values are such that the register's types have them.
+    /// The other fields of a value are within the ranges of the register's types.
     ghost has_values: { Self.Record → Type 0 };
 
-    /// What the row shows, or none where a value in it is none that a register writes.
+    /// Reads a row: `None` if a column has a value that no register writes.
     fn in_row(row: &Row) -> Option<Self::Record>
         ensures read { (it : Self.Record) → is_keyed it → row.now ≡ shown it
             → IfSome result (λ read. read ≡ it) }
@@ -274,7 +274,7 @@ impl ShownRow for Number {
     }
 }
 
-/// One moment, which the clock lets pass.
+/// One moment, before the end of the clock.
 pub(crate) struct ClockMoment;
 
 impl ShownRow for ClockMoment {
@@ -313,7 +313,7 @@ impl ShownRow for Terms {
     }
 }
 
-/// What each row shows. `At` tells the first row that has a value that no register writes.
+/// Reads all rows. [`Unshown::At`] has the index of the first row with a value that no register writes.
 pub fn rows_in<T: ShownRow>(alloc: Global, rows: &[Row]) -> Result<Vec<T::Record>, Unshown>
     ensures read { (shown : List T.Record) → AllByRecursion T.is_keyed shown → rows.now ≡ map T.shown shown
         → IfOk result (λ read. read.items ≡ shown) }
@@ -330,7 +330,7 @@ pub fn rows_in<T: ShownRow>(alloc: Global, rows: &[Row]) -> Result<Vec<T::Record
     Ok(found)
 }
 
-/// What the one row shows, or none where there is none. `Store` for more.
+/// Reads the only row; `None` if there is no row. `Store` if there are more rows, or if the row has a value that no register writes.
 pub(crate) fn row_in<T: ShownRow>(rows: &[Row]) -> Result<Option<T::Record>, DatabaseFault>
     ensures read { (wanted : Option T.Record) → IsRowOf T.is_keyed T.shown rows.now wanted
         → IfOk result (λ found. found ≡ wanted) }

@@ -3,7 +3,7 @@ use Rattle.reg_store_tables.specs.declared.fault.Unshown.TheVariants.{Memory, At
 use Rattle.reg_audit.proofs.typed.typed.Goals as goal
 
 -- a place is not want of memory
-no_place : {place : ℕ} → At place ≡ Memory → ⊥
+no_place : {row_index : ℕ} → At row_index ≡ Memory → ⊥
 no_place clash = cc
 
 pub returns-in-Err-At-clause-has : goal.returns-in-Err-At-clause-has

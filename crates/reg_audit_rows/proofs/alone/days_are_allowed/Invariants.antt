@@ -4,5 +4,5 @@ use Rattle.reg_core.specs.Schedule.{IsDays}
 use Rattle.reg_core.specs.declared.rows.OrderRow.{OrderRow}
 use Rattle.reg_audit_rows.proofs.alone.days_are_allowed.Given as goal
 
-abbrev pub invariant-loop-place : goal.invariant-loop-place
-invariant-loop-place l = AllByRecursion (λ (row : OrderRow). IsDays row.days) (take l.place l.orders)
+abbrev pub invariant-loop-row_index : goal.invariant-loop-row_index
+invariant-loop-row_index l = AllByRecursion (λ (row : OrderRow). IsDays row.days) (take l.row_index l.orders)

@@ -4,9 +4,9 @@ use Rattle.reg_core.specs.Sound.{NeverFalls}
 use Rattle.reg_core.specs.declared.rows.RevocationRow.{RevocationRow}
 use Rattle.reg_audit_rows.proofs.chain.firsts_never_fall.Given as goal
 
-abbrev pub invariant-loop-place : goal.invariant-loop-place
-invariant-loop-place l = record {
-  falls : NeverFalls (λ (row : RevocationRow). row.first) (take l.place l.revocations);
-  top : (low : ℕ) → AllByRecursion (λ (row : RevocationRow). row.first ≤ low) (take l.place l.revocations) → l.latest ≤ low;
-  latest : AllByRecursion (λ (row : RevocationRow). row.first ≤ l.latest) (take l.place l.revocations);
+abbrev pub invariant-loop-row_index : goal.invariant-loop-row_index
+invariant-loop-row_index l = record {
+  falls : NeverFalls (λ (row : RevocationRow). row.first) (take l.row_index l.revocations);
+  top : (low : ℕ) → AllByRecursion (λ (row : RevocationRow). row.first ≤ low) (take l.row_index l.revocations) → l.latest ≤ low;
+  latest : AllByRecursion (λ (row : RevocationRow). row.first ≤ l.latest) (take l.row_index l.revocations);
 }

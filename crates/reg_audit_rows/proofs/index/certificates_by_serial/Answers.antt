@@ -9,9 +9,9 @@ use Rattle.reg_audit_rows.proofs.index.certificates_by_serial.Goals as goal
 pub returns-then-is_some-clause-broken : goal.returns-then-is_some-clause-broken
 returns-then-is_some-clause-broken c is differ =
     let known = some_of c.in_ok-insert.field-0 (search rules) in
-    known_key c.args.certificates.now c.loop-place.place c.index-certificates-place.result c.loop-place-test.true c.index-certificates-place.is (λ (x : CertRow). x.serial) (get nat_cmp c.loop-place.found) c.loop-place.invariant.found known.0 (search rules) differ
+    known_key c.args.certificates.now c.loop-row_index.row_index c.index-certificates-row_index.result c.loop-row_index-test.true c.index-certificates-row_index.is (λ (x : CertRow). x.serial) (get nat_cmp c.loop-row_index.found) c.loop-row_index.invariant.found known.0 (search rules) differ
 
-pub loop-place-preserved : goal.loop-place-preserved
-loop-place-preserved c =
-    entered_more c.args.certificates.now c.loop-place.place c.index-certificates-place.result c.loop-place-test.true c.index-certificates-place.is (λ (x : CertRow). x.serial)
-    (get nat_cmp c.loop-place.found) (get nat_cmp c.insert.new.self) c.loop-place.invariant.differ c.loop-place.invariant.found c.in_ok-insert.ensures.updates.0 (search rules)
+pub loop-row_index-preserved : goal.loop-row_index-preserved
+loop-row_index-preserved c =
+    entered_more c.args.certificates.now c.loop-row_index.row_index c.index-certificates-row_index.result c.loop-row_index-test.true c.index-certificates-row_index.is (λ (x : CertRow). x.serial)
+    (get nat_cmp c.loop-row_index.found) (get nat_cmp c.insert.new.self) c.loop-row_index.invariant.differ c.loop-row_index.invariant.found c.in_ok-insert.ensures.updates.0 (search rules)

@@ -5,15 +5,15 @@ use Rattle.reg_audit_rows.proofs.index.names_differ.Goals as goal
 
 pub returns-then-not-branch-clause-broken : goal.returns-then-not-branch-clause-broken
 returns-then-not-branch-clause-broken c is differ =
-    let row = c.index-subscribers-place.result in
-    let at : is_some (subscriber_named (Rattle.std.proofs.Common.take c.loop-place.place c.args.subscribers.now) c.as_bytes.result.now) ≡ true = (let found = c.loop-place.invariant.found c.as_bytes.result in search rules) in
-    name_repeats c.args.subscribers.now c.loop-place.place row c.loop-place-test.true c.index-subscribers-place.is (rw c.as_bytes.ensures.bytes at at) differ
+    let row = c.index-subscribers-row_index.result in
+    let at : is_some (subscriber_named (Rattle.std.proofs.Common.take c.loop-row_index.row_index c.args.subscribers.now) c.as_bytes.result.now) ≡ true = (let found = c.loop-row_index.invariant.found c.as_bytes.result in search rules) in
+    name_repeats c.args.subscribers.now c.loop-row_index.row_index row c.loop-row_index-test.true c.index-subscribers-row_index.is (rw c.as_bytes.ensures.bytes at at) differ
 
-pub loop-place-preserved : goal.loop-place-preserved
-loop-place-preserved c =
-    let row = c.index-subscribers-place.result in
-    let free : is_some (subscriber_named (Rattle.std.proofs.Common.take c.loop-place.place c.args.subscribers.now) c.as_bytes.result.now) ≡ false = (let found = c.loop-place.invariant.found c.as_bytes.result in search rules) in
+pub loop-row_index-preserved : goal.loop-row_index-preserved
+loop-row_index-preserved c =
+    let row = c.index-subscribers-row_index.result in
+    let free : is_some (subscriber_named (Rattle.std.proofs.Common.take c.loop-row_index.row_index c.args.subscribers.now) c.as_bytes.result.now) ≡ false = (let found = c.loop-row_index.invariant.found c.as_bytes.result in search rules) in
     record {
-      differ = name_differs c.args.subscribers.now c.loop-place.place row c.loop-place-test.true c.index-subscribers-place.is c.loop-place.invariant.differ (rw c.as_bytes.ensures.bytes at free);
-      found = λ name. name_entered c.args.subscribers.now c.loop-place.place row c.loop-place-test.true c.index-subscribers-place.is c.as_bytes.result.now name.now _ _ c.as_bytes.ensures.bytes (c.loop-place.invariant.found name) (c.in_ok-insert.ensures.updates.0 name);
+      differ = name_differs c.args.subscribers.now c.loop-row_index.row_index row c.loop-row_index-test.true c.index-subscribers-row_index.is c.loop-row_index.invariant.differ (rw c.as_bytes.ensures.bytes at free);
+      found = λ name. name_entered c.args.subscribers.now c.loop-row_index.row_index row c.loop-row_index-test.true c.index-subscribers-row_index.is c.as_bytes.result.now name.now _ _ c.as_bytes.ensures.bytes (c.loop-row_index.invariant.found name) (c.in_ok-insert.ensures.updates.0 name);
     }

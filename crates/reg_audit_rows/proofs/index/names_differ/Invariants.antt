@@ -8,8 +8,8 @@ use Rattle.reg_core.specs.declared.rows.SubscriberRow.{SubscriberRow}
 use denote.Ref.{Bor}
 use Rattle.reg_audit_rows.proofs.index.names_differ.Given as goal
 
-abbrev pub invariant-loop-place : goal.invariant-loop-place
-invariant-loop-place l = record {
-  differ : KeysDiffer (λ (row : SubscriberRow). row.name) (take l.place l.subscribers);
-  found : (name : Bor (List ℕ)) → contains (λ (x y : Bor (List ℕ)). slice_cmp nat_cmp x.now y.now) l.names name ≡ is_some (subscriber_named (take l.place l.subscribers) name.now);
+abbrev pub invariant-loop-row_index : goal.invariant-loop-row_index
+invariant-loop-row_index l = record {
+  differ : KeysDiffer (λ (row : SubscriberRow). row.name) (take l.row_index l.subscribers);
+  found : (name : Bor (List ℕ)) → contains (λ (x y : Bor (List ℕ)). slice_cmp nat_cmp x.now y.now) l.names name ≡ is_some (subscriber_named (take l.row_index l.subscribers) name.now);
 }

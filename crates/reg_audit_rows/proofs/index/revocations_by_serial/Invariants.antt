@@ -5,8 +5,8 @@ use Rattle.reg_core.specs.Sound.{KeysDiffer}
 use Rattle.reg_core.specs.declared.rows.RevocationRow.{RevocationRow}
 use Rattle.reg_audit_rows.proofs.index.revocations_by_serial.Given as goal
 
-abbrev pub invariant-loop-place : goal.invariant-loop-place
-invariant-loop-place l = record {
-  differ : KeysDiffer (λ (row : RevocationRow). row.serial) (take l.place l.revocations);
-  found : (key : ℕ) → get nat_cmp l.found key ≡ find (λ (row : RevocationRow). row.serial == key) (take l.place l.revocations);
+abbrev pub invariant-loop-row_index : goal.invariant-loop-row_index
+invariant-loop-row_index l = record {
+  differ : KeysDiffer (λ (row : RevocationRow). row.serial) (take l.row_index l.revocations);
+  found : (key : ℕ) → get nat_cmp l.found key ≡ find (λ (row : RevocationRow). row.serial == key) (take l.row_index l.revocations);
 }

@@ -7,5 +7,5 @@ use Rattle.reg_core.specs.declared.rows.OrderRow.{OrderRow}
 use Rattle.reg_audit_rows.specs.Read.{IsAsOrdered}
 use Rattle.reg_audit_rows.proofs.relations.are_as_ordered.Given as goal
 
-abbrev pub invariant-loop-place : goal.invariant-loop-place
-invariant-loop-place l = NumberedFrom (λ (row : OrderRow). row.id) 1 l.orders → AllByRecursion (λ (row : CertRow). IsAsOrdered row (order_in l.orders row.order)) (take l.place l.certificates)
+abbrev pub invariant-loop-row_index : goal.invariant-loop-row_index
+invariant-loop-row_index l = NumberedFrom (λ (row : OrderRow). row.id) 1 l.orders → AllByRecursion (λ (row : CertRow). IsAsOrdered row (order_in l.orders row.order)) (take l.row_index l.certificates)

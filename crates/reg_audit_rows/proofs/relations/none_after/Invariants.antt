@@ -6,5 +6,5 @@ use Rattle.reg_core.specs.declared.rows.RequestRow.{RequestRow}
 use Rattle.reg_audit_rows.specs.Read.{IsBefore}
 use Rattle.reg_audit_rows.proofs.relations.none_after.Given as goal
 
-abbrev pub invariant-loop-place : goal.invariant-loop-place
-invariant-loop-place l = AllByRecursion (λ (row : RequestRow). IsBefore row (get nat_cmp l.revocations row.serial)) (take l.place l.requests)
+abbrev pub invariant-loop-row_index : goal.invariant-loop-row_index
+invariant-loop-row_index l = AllByRecursion (λ (row : RequestRow). IsBefore row (get nat_cmp l.revocations row.serial)) (take l.row_index l.requests)

@@ -9,6 +9,6 @@ use Rattle.reg_core.specs.declared.rows.RevocationRow.{RevocationRow}
 use Rattle.reg_audit_rows.specs.Read.{FitsIn}
 use Rattle.reg_audit_rows.proofs.relations.revocations_fit.Given as goal
 
-abbrev pub invariant-loop-place : goal.invariant-loop-place
-invariant-loop-place l = NumberedFrom (λ (row : RequestRow). row.id) 1 l.requests
-    → AllByRecursion (λ (row : RevocationRow). FitsIn l.last (get nat_cmp l.certificates row.serial) (request_in l.requests row.request) l.crls row) (take l.place l.revocations)
+abbrev pub invariant-loop-row_index : goal.invariant-loop-row_index
+invariant-loop-row_index l = NumberedFrom (λ (row : RequestRow). row.id) 1 l.requests
+    → AllByRecursion (λ (row : RevocationRow). FitsIn l.last (get nat_cmp l.certificates row.serial) (request_in l.requests row.request) l.crls row) (take l.row_index l.revocations)

@@ -1,5 +1,5 @@
 use Rattle.std.proofs.Common.{◌∙◌, sym}
-use Rattle.reg_http.specs.Asked.{asked}
+use Rattle.reg_http.specs.RoutedRequests.{asked}
 use Rattle.reg_desk_jobs.proofs.Admitting.{admitted, within}
 use Rattle.reg_desk_jobs.proofs.admission.begin_admitted.Goals as goal
 

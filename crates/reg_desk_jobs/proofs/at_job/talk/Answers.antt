@@ -6,7 +6,7 @@ loop-init g c = begins _ _ _ _
 
 pub loop-preserved : goal.loop-preserved
 loop-preserved g c =
-    goes_on _ _ _ _ _ _ _ _ _ _ _ _ _ c.in-Told.accepted _ c.loop.invariant (rw c.in-Told.is at c.in-Ok.ensures) c.both-is_accepted.ensures
+    goes_on _ _ _ _ _ _ _ _ _ _ _ _ _ c.in-Replied.accepted _ c.loop.invariant (rw c.in-Replied.is at c.in-Ok.ensures) c.both-is_accepted.ensures
 
 pub returns-in-Cut : goal.returns-in-Cut
 returns-in-Cut g c = cuts _ _ _ _ _ _ _ _ _ _ _ _ _ c.loop.invariant (rw c.in-Cut.is at c.in-Ok.ensures) c.cut_off.ensures

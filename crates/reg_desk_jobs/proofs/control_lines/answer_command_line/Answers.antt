@@ -13,9 +13,9 @@ returns-in_default-clause-came g c = fault_came Memory _ _ c.fault.ensures
 
 pub returns-clause-moves : goal.returns-clause-moves
 returns-clause-moves g c =
-    let step : Signatory → Records → Records → Type 0 = λ who before after.
-    CommandAt g.M.Office.Office.signs c.args.now who before c.args.line.now c.answer_command-reply.result.text.items after in
+    let step : Signatory → Records → Records → Type 0 = λ signatory before after.
+    CommandAt g.M.Office.Office.signs c.args.now signatory before c.args.line.now c.answer_command-reply.result.text.items after in
     then_still g.M.Office.Office.is_clean g.M.Office.Office.stands step _ _ _
     (follows g.M.Office.Office.is_clean g.M.Office.Office.stands _ step
-    (λ who before after comes. inl (c.run_line-answered.result, comes, c.answer_command-reply.ensures.text)) _ _ c.run_line-answered.ensures.leads)
+    (λ signatory before after comes. inl (c.run_line-answered.result, comes, c.answer_command-reply.ensures.text)) _ _ c.run_line-answered.ensures.leads)
     c.answer_command-reply.ensures.stays

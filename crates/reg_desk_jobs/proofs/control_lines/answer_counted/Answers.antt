@@ -8,12 +8,12 @@ use Rattle.reg_desk_jobs.proofs.control_lines.answer_counted.Goals as goal
 
 pub returns-clause-moves : goal.returns-clause-moves
 returns-clause-moves g c =
-    let step : Signatory → Records → Records → Type 0 = λ who before after.
-    WordAt c.args.accepted.now g.M.Office.Office.signs c.args.now who before c.args.line.now c.answer_word-reply.result.text.items after in
+    let step : Signatory → Records → Records → Type 0 = λ signatory before after.
+    WordAt c.args.accepted.now g.M.Office.Office.signs c.args.now signatory before c.args.line.now c.answer_word-reply.result.text.items after in
     still_then g.M.Office.Office.is_clean g.M.Office.Office.stands step _ _ _
-    (follows g.M.Office.Office.is_clean g.M.Office.Office.stands _ (λ who before after. after ≡ before) (λ who before after looked. looked.1) _ _
+    (follows g.M.Office.Office.is_clean g.M.Office.Office.stands _ (λ signatory before after. after ≡ before) (λ signatory before after looked. looked.1) _ _
     c.named_before-named.ensures)
-    (then_still g.M.Office.Office.is_clean g.M.Office.Office.stands step _ _ _ c.answer_word-reply.ensures.moves c.note_due.ensures)
+    (then_still g.M.Office.Office.is_clean g.M.Office.Office.stands step _ _ _ c.answer_word-reply.ensures.moves c.keep_due_reason.ensures)
 
 pub returns-clause-counted : goal.returns-clause-counted
 returns-clause-counted g c = (

@@ -11,7 +11,7 @@ returns-in-Ok-Copy-clause-moves g c =
 
 pub returns-in-Ok-Settle-clause-moves : goal.returns-in-Ok-Settle-clause-moves
 returns-in-Ok-Settle-clause-moves g c =
-    told_word g.M.Office.Office.is_clean g.M.Office.Office.stands c.args.accepted.now g.M.Office.Office.signs c.args.now _ _ c.args.line.now _ (settles c.in-Ok-Settle.settling)
+    told_word g.M.Office.Office.is_clean g.M.Office.Office.stands c.args.accepted.now g.M.Office.Office.signs c.args.now _ _ c.args.line.now _ (settles c.in-Ok-Settle.serial_decision)
     (rw c.in-Ok-Settle.field-0-is at c.in-Ok-Settle.ensures) c.settle_by_clock.ensures.moves
 
 pub returns-in-Ok-Line-Some-clause-moves : goal.returns-in-Ok-Line-Some-clause-moves

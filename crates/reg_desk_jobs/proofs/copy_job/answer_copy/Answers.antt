@@ -7,7 +7,7 @@ use Rattle.reg_desk_jobs.proofs.copy_job.answer_copy.Goals as goal
 
 pub returns-in-Ok-clause-came : goal.returns-in-Ok-clause-came
 returns-in-Ok-clause-came g c =
-    came_told (copied_text c.in-Ok.bytes c.millis_since.result) Done _ _ c.told_copied.ensures (copy_accepted c.in-Ok.bytes c.millis_since.result)
+    came_told (copied_text c.in-Ok.bytes c.millis_since.result) Done _ _ c.copied_reply.ensures (copy_accepted c.in-Ok.bytes c.millis_since.result)
 
 pub returns-in-Err-clause-came : goal.returns-in-Err-clause-came
-returns-in-Err-clause-came g c = came_told (fault_line c.in-Err.why.fault ++ 10 ∷ []) (Uncopied c.in-Err.why.fault) _ _ c.told_uncopied.ensures refl
+returns-in-Err-clause-came g c = came_told (fault_line c.in-Err.why.fault ++ 10 ∷ []) (Uncopied c.in-Err.why.fault) _ _ c.uncopied_reply.ensures refl

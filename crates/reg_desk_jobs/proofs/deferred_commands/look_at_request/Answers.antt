@@ -9,5 +9,5 @@ returns-in_default g c = stays g.O.Office.is_clean g.O.Office.stands _ _ refl
 pub returns : goal.returns
 returns g c =
     follows g.O.Office.is_clean g.O.Office.stands _ _
-    (λ who before after begun. begun_still g.O.Office.signs who before c.args.looked.moment c.deref.result.now c.begin_ocsp-begun.result after begun) _ _
+    (λ signatory before after begun. begun_still g.O.Office.signs signatory before c.args.looked.moment c.deref.result.now c.begin_ocsp-begun.result after begun) _ _
     c.begin_ocsp-begun.ensures.begins

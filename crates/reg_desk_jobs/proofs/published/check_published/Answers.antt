@@ -16,14 +16,14 @@ returns-then-is_empty-clause-compares g c =
     compares g.O.Office.is_clean g.O.Office.stands (g.R.Read.remaining c.args.reader.now) _ _ c.in_ok-bytes.bytes.items (Ok lines) (Ok tt) _ _
     c.in_ok-bytes.ensures (tells_none (g.W.Write.contents c.args.writer.now) lines none) (rw c.deref.ensures.value at c.in_ok-lines.ensures)
 
-pub returns-in_err-say-clause-compares : goal.returns-in_err-say-clause-compares
-returns-in_err-say-clause-compares g c =
+pub returns-in_err-print_text-clause-compares : goal.returns-in_err-print_text-clause-compares
+returns-in_err-print_text-clause-compares g c =
     let lines = c.in_ok-lines.lines.items in
     let some : 1 ≤ length lines = let ne = eqb-false c.in_ok-lines.lines.len 0 (sym c.is_empty.ensures ∙ c.if-is_empty.false) in omega (arith, ne, c.in_ok-lines.lines.ok.0) in
     compares g.O.Office.is_clean g.O.Office.stands (g.R.Read.remaining c.args.reader.now) _ _ c.in_ok-bytes.bytes.items (Ok lines)
-    c.from_residual-in_err-say.result _ _ c.in_ok-bytes.ensures
-    (tells_front (g.W.Write.contents c.args.writer.now) (g.W.Write.contents c.say.new.writer) lines _ c.from_residual-in_err-say.result some
-    c.from_residual-in_err-say.ensures.1 (rw c.deref-2.ensures.value at c.in_err-say.ensures))
+    c.from_residual-in_err-print_text.result _ _ c.in_ok-bytes.ensures
+    (tells_front (g.W.Write.contents c.args.writer.now) (g.W.Write.contents c.print_text.new.writer) lines _ c.from_residual-in_err-print_text.result some
+    c.from_residual-in_err-print_text.ensures.1 (rw c.deref-2.ensures.value at c.in_err-print_text.ensures))
     (rw c.deref.ensures.value at c.in_ok-lines.ensures)
 
 pub returns-clause-compares : goal.returns-clause-compares
@@ -32,5 +32,5 @@ returns-clause-compares g c =
     let some : 1 ≤ length lines = let ne = eqb-false c.in_ok-lines.lines.len 0 (sym c.is_empty.ensures ∙ c.if-is_empty.false) in omega (arith, ne, c.in_ok-lines.lines.ok.0) in
     compares g.O.Office.is_clean g.O.Office.stands (g.R.Read.remaining c.args.reader.now) _ _ c.in_ok-bytes.bytes.items (Ok lines) (Err LacksPublished) _ _
     c.in_ok-bytes.ensures
-    (tells_all (g.W.Write.contents c.args.writer.now) (g.W.Write.contents c.say.new.writer) lines some (rw c.deref-2.ensures.value at c.in_ok-say.ensures))
+    (tells_all (g.W.Write.contents c.args.writer.now) (g.W.Write.contents c.print_text.new.writer) lines some (rw c.deref-2.ensures.value at c.in_ok-print_text.ensures))
     (rw c.deref.ensures.value at c.in_ok-lines.ensures)

@@ -5,10 +5,10 @@ use Rattle.reg_desk_jobs.proofs.row_job.revoke_row.Goals as goal
 
 pub returns-clause-ok : goal.returns-clause-ok
 returns-clause-ok g c =
-    rw c.in-Some.is (leads_on _ _ _ _ _ _ _ _ c.in_ok-entered.entered.items (λ entered. Sends (row_revocation c.in-Some.row entered)) c.ask-3.result
+    rw c.in-Some.is (leads_on _ _ _ _ _ _ _ _ c.in_ok-entered.entered.items (λ entered. Sends (row_revocation c.in-Some.row entered)) c.request_reply-3.result
     (rw (c.deref.ensures.value, c.in-Ok.ensures) at c.in_ok-entered.ensures.sent)
-    c.in_ok-entered.ensures.came
+    c.in_ok-entered.ensures.incoming
     (sym (rw c.deref-2.ensures.value at c.if-not-has_first_word.ensures))
-    (sent_alone _ _ c.ask-3.result
-    (rw (c.deref-4.ensures.value, c.in-Ok-revocation_line.ensures, c.deref-3.ensures.value) at c.ask-3.ensures.sent)
-    c.ask-3.ensures.came))
+    (sent_alone _ _ c.request_reply-3.result
+    (rw (c.deref-4.ensures.value, c.in-Ok-revocation_line.ensures, c.deref-3.ensures.value) at c.request_reply-3.ensures.sent)
+    c.request_reply-3.ensures.incoming))

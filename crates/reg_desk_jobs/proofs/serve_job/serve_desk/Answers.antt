@@ -1,7 +1,7 @@
 use Rattle.std.proofs.Common.{[], inl, inr, refl}
 use Rattle.std.specs.Prelude.{is_some}
 use Rattle.reg_office_api.proofs.PublicLaws.{stays}
-use Rattle.reg_desk_jobs.specs.WhoSigns.{answer_socket}
+use Rattle.reg_desk_jobs.specs.Signers.{answer_socket}
 use Rattle.reg_desk_jobs.proofs.DeskRuns.{desk_moves}
 use Rattle.reg_desk_jobs.proofs.Fates.{unbound}
 use Rattle.reg_desk_jobs.proofs.serve_job.serve_desk.Goals as goal
@@ -21,13 +21,13 @@ returns g c =
       ran.1,
       desk_moves
           (λ desk. g.M.Office.Office.is_clean desk.office)
-          (λ who desk records. g.M.Office.Office.stands who desk.office records)
+          (λ signatory desk records. g.M.Office.Office.stands signatory desk.office records)
           (λ desk. desk.is_open)
           g.M.Office.Office.signs
-          g.M.Machine.gave
+          g.M.Machine.signer_answered
           (answer_socket c.args.signer.now c.args.answerer.now)
-          g.M.Machine.told
-          (is_some c.args.counter)
+          g.M.Machine.clock_reached
+          (is_some c.args.control_path)
           _
           c.run_event_loop-ending.new.handler
           ran.0

@@ -1,5 +1,5 @@
 use Rattle.std.proofs.Common.{◌∷◌, ◌++◌, []}
-use Rattle.reg_desk_jobs.specs.Showings.{help_text}
+use Rattle.reg_desk_jobs.specs.RowLookUps.{help_text}
 use Rattle.reg_desk_jobs.specs.declared.control_reply.LineOutcome.TheVariants.{Done}
 use Rattle.reg_desk_jobs.proofs.ControlLines.{came_told, help_accepted, said_of}
 use Rattle.reg_desk_jobs.proofs.show.answer_help.Goals as goal

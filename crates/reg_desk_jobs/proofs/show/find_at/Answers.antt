@@ -1,6 +1,6 @@
 use Rattle.std.specs.List.{find}
 use Rattle.reg_core_lists.specs.Lists.{page}
-use Rattle.reg_desk_jobs.specs.Showings.{is_shown}
+use Rattle.reg_desk_jobs.specs.RowLookUps.{is_shown}
 use Rattle.reg_desk_jobs.proofs.Finding.{seen_in, unseen}
 use Rattle.reg_desk_jobs.proofs.show.find_at.Goals as goal
 

@@ -1,6 +1,6 @@
 use Rattle.std.proofs.Common.{[], ◌++◌, refl, sym}
 use Rattle.reg_core_lists.specs.declared.cursor.Cursor.TheVariants.{Subscribers}
-use Rattle.reg_desk_jobs.specs.Showings.{is_shown, row_shown}
+use Rattle.reg_desk_jobs.specs.RowLookUps.{is_shown, row_shown}
 use Rattle.reg_desk_jobs.specs.declared.words.Shown.TheVariants.{Subscriber}
 use Rattle.reg_desk_jobs.proofs.Finding.{seen_here, seen_nowhere, unseen_at_last, unseen_behind}
 use Rattle.reg_desk_jobs.proofs.FoundRows.{none_more}

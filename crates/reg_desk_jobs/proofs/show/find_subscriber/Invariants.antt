@@ -3,7 +3,7 @@ use Rattle.std.specs.List.{find}
 use Rattle.reg_core_lists.specs.declared.cursor.Cursor.TheVariants.{Subscribers}
 use Rattle.reg_core_lists.specs.declared.rows.Row.{Row}
 use Rattle.reg_office_api.specs.Leads.{Leads}
-use Rattle.reg_desk_jobs.specs.Showings.{is_shown}
+use Rattle.reg_desk_jobs.specs.RowLookUps.{is_shown}
 use Rattle.reg_desk_jobs.specs.declared.words.Shown.TheVariants.{Subscriber}
 use Rattle.reg_desk_jobs.proofs.PageByPage.{IsGoing}
 use Rattle.reg_desk_jobs.proofs.show.find_subscriber.Given as goal

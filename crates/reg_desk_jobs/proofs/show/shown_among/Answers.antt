@@ -1,7 +1,7 @@
 use Rattle.std.proofs.Common.{◌≡◌, ◌+◌, None, refl, sym, suc, subst, take, ◌∙◌, arith}
 use Rattle.std.specs.List.{find}
 use Rattle.std.proofs.lemmas.Option.{slice_get_read}
-use Rattle.reg_desk_jobs.specs.Showings.{is_shown}
+use Rattle.reg_desk_jobs.specs.RowLookUps.{is_shown}
 use Rattle.reg_desk_jobs.proofs.FoundRows.{found_now, not_now}
 use Rattle.reg_desk_jobs.proofs.show.shown_among.Goals as goal
 

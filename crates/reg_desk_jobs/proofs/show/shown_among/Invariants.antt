@@ -1,6 +1,6 @@
 use Rattle.std.proofs.Common.{◌≡◌, None, take}
 use Rattle.std.specs.List.{find}
-use Rattle.reg_desk_jobs.specs.Showings.{is_shown}
+use Rattle.reg_desk_jobs.specs.RowLookUps.{is_shown}
 use Rattle.reg_desk_jobs.proofs.show.shown_among.Given as goal
 
 -- none of the rows so far is it

@@ -3,14 +3,14 @@ use Rattle.reg_desk_metrics.specs.Metrics.{sum_of}
 use Rattle.reg_desk_metrics.proofs.Fronts.{buckets_begin, buckets_more, sum_begin, sum_more}
 use Rattle.reg_desk_metrics.proofs.families.put_buckets.Goals as goal
 
-pub loop-place-init : goal.loop-place-init
-loop-place-init c = (buckets_begin c.args.text.now.items c.args.buckets.now, sum_begin c.args.buckets.now)
+pub loop-index-init : goal.loop-index-init
+loop-index-init c = (buckets_begin c.args.text.now.items c.args.buckets.now, sum_begin c.args.buckets.now)
 
-pub loop-place-preserved : goal.loop-place-preserved
-loop-place-preserved c =
-    let counted : c.saturating_add-sum.result ≡ sum_of c.args.buckets.now (c.loop-place.place + 1) =
-    sum_more c.loop-place.sum c.saturating_add-sum.result c.args.buckets.now c.loop-place.place c.loop-place.invariant.1 c.saturating_add-sum.ensures in (
-      buckets_more c.args.text.now.items c.loop-place.text.items c.put_bucket.new.text.items c.bucket_name.result.now c.args.buckets.now c.loop-place.place
-          c.saturating_add-sum.result c.loop-place.invariant.0 c.in_ok-put_bucket.ensures c.bucket_name.ensures counted,
+pub loop-index-preserved : goal.loop-index-preserved
+loop-index-preserved c =
+    let counted : c.saturating_add-sum.result ≡ sum_of c.args.buckets.now (c.loop-index.index + 1) =
+    sum_more c.loop-index.sum c.saturating_add-sum.result c.args.buckets.now c.loop-index.index c.loop-index.invariant.1 c.saturating_add-sum.ensures in (
+      buckets_more c.args.text.now.items c.loop-index.text.items c.put_bucket.new.text.items c.bucket_name.result.now c.args.buckets.now c.loop-index.index
+          c.saturating_add-sum.result c.loop-index.invariant.0 c.in_ok-put_bucket.ensures c.bucket_name.ensures counted,
       counted,
     )

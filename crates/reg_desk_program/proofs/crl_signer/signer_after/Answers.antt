@@ -1,5 +1,5 @@
 use Rattle.std.proofs.Common.{List, ℕ, rules, subst}
-use Rattle.reg_desk_jobs.specs.WhoSigns.{MayFollow}
+use Rattle.reg_desk_jobs.specs.Signers.{MayFollow}
 use Rattle.reg_desk_program.proofs.crl_signer.signer_after.Goals as goal
 
 pub returns-in-None-clause-signs : goal.returns-in-None-clause-signs

@@ -1,6 +1,6 @@
 use Rattle.std.proofs.Common.{sym, subst}
 use Rattle.std.proofs.lemmas.Result.{IfOk-weaker}
-use Rattle.reg_desk_jobs.specs.WhoSigns.{IsSigning}
+use Rattle.reg_desk_jobs.specs.Signers.{IsSigning}
 use Rattle.reg_desk_jobs.specs.declared.crl_signer.CrlSigner.{CrlSigner}
 use Rattle.reg_store_tables.proofs.PublicLaws.{looked_then}
 use Rattle.reg_desk_program.proofs.Signers.{signs_for}
@@ -10,7 +10,7 @@ pub returns-in-Holder-clause-signs : goal.returns-in-Holder-clause-signs
 returns-in-Holder-clause-signs g c =
     IfOk-weaker c.signer_after.result _ _
     (λ signer it. signs_for g.C.Store _ _ _ _ _ c.args.crls.now _ _
-    (λ key who same. subst (λ (s : CrlSigner). IsSigning s key who) (sym c.in-Holder.is) same)
+    (λ key signatory same. subst (λ (s : CrlSigner). IsSigning s key signatory) (sym c.in-Holder.is) same)
     c.latest_crl.ensures.looked c.signer_after.ensures.looked c.in_ok-latest.ensures.found it)
     c.signer_after.ensures.signs
 
@@ -21,7 +21,7 @@ pub returns-in-Digest-clause-signs : goal.returns-in-Digest-clause-signs
 returns-in-Digest-clause-signs g c =
     IfOk-weaker c.signer_after-in-Digest.result _ _
     (λ signer it. signs_for g.C.Store _ _ _ _ _ c.args.crls.now _ _
-    (λ key who same. subst (λ (s : CrlSigner). IsSigning s key who) (sym c.in-Digest.is) same)
+    (λ key signatory same. subst (λ (s : CrlSigner). IsSigning s key signatory) (sym c.in-Digest.is) same)
     c.latest_crl.ensures.looked c.signer_after-in-Digest.ensures.looked c.in_ok-latest.ensures.found it)
     c.signer_after-in-Digest.ensures.signs
 
@@ -32,7 +32,7 @@ pub returns-clause-signs : goal.returns-clause-signs
 returns-clause-signs g c =
     IfOk-weaker c.silent_after.result _ _
     (λ signer it. signs_for g.C.Store _ _ _ _ _ c.args.crls.now it.0 _
-    (λ key who same. subst (λ (s : CrlSigner). IsSigning s key who) (sym c.in-Nobody.is) (it.0, same))
+    (λ key signatory same. subst (λ (s : CrlSigner). IsSigning s key signatory) (sym c.in-Nobody.is) (it.0, same))
     c.latest_crl.ensures.looked c.silent_after.ensures.looked c.in_ok-latest.ensures.found it.1)
     c.silent_after.ensures.signs
 

@@ -6,7 +6,7 @@ pub returns-in-Ok-clause-ok : goal.returns-in-Ok-clause-ok
 returns-in-Ok-clause-ok g c = (
   record {
     connection = c.args.connection;
-    after = c.judge-told.new.conn;
+    after = c.judge-judged.new.conn;
     connects = c.requires.connects;
     says = record {
       sound = c.in-Ok.ensures.sound;
@@ -15,7 +15,7 @@ returns-in-Ok-clause-ok g c = (
       broken = c.in-Ok.ensures.broken;
       tells = c.in-Ok.ensures.tells;
       register = c.in-Ok.ensures.register;
-      stays = c.judge-told.ensures.same;
+      stays = c.judge-judged.ensures.same;
     };
   },
   refl,

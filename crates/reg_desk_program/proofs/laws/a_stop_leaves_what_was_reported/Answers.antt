@@ -11,5 +11,5 @@ returns g c = record {
     record { shown = opened.opens.kept records kept; sound = sound },
     λ clean trees may register. inl (opened.opens.leaves opened.connects.whole records kept clean trees may),
   );
-  leaves = λ office who records stood. opens_told over_files g.S.Signer.signs office.0 who.crls records stood.1.sound stood.2;
+  leaves = λ office signatory records stood. opens_told over_files g.S.Signer.signs office.0 signatory.crls records stood.1.sound stood.2;
 }

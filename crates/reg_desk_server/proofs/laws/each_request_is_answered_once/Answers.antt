@@ -17,8 +17,8 @@ returns-clause-answers g c = λ s t.
 pub returns-clause-finishes : goal.returns-clause-finishes
 returns-clause-finishes g c = λ s.
     served_by g.S.Write.contents g.S.Read.remaining g.H.Handler (Finishing (g.H.Handler.finishes s))
-    (λ before after came gone ended ended' once step ends.
-    finishing_on g.H.Handler.answers (FinishesOnce g.H.Handler.finishes) before after came gone ended ended' once
+    (λ before after arrived gone ended ended' once step ends.
+    finishing_on g.H.Handler.answers (FinishesOnce g.H.Handler.finishes) before after arrived gone ended ended' once
     (finishes_once g.H.Handler.finishes s before after step) ends)
 
 pub returns-clause-waits : goal.returns-clause-waits

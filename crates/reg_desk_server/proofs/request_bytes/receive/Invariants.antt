@@ -1,4 +1,4 @@
-use Rattle.reg_desk_server.specs.Held.{Collects}
+use Rattle.reg_desk_server.specs.Buffers.{Collects}
 use Rattle.reg_desk_server.specs.declared.request_bytes.Received.TheVariants as received
 use Rattle.reg_desk_server.proofs.request_bytes.receive.Given as goal
 

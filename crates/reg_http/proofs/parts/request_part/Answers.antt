@@ -1,12 +1,12 @@
 use Rattle.std.proofs.Common.{sym, ap, ◌∙◌, Option, option_and_then}
 use Rattle.serde_json.specs.Data.{Data}
-use Rattle.reg_http.specs.Asked.{Asked, asks_revocation, wanted_in}
+use Rattle.reg_http.specs.RoutedRequests.{RoutedRequest, revocation_request, wanted_in}
 use Rattle.reg_http.proofs.JsonLemmas.{json_none, json_is}
 use Rattle.reg_http.proofs.parts.request_part.Goals as goal
 
 -- what a body with this value asks
-abbrev pub asks_of : Option Data → Asked
-asks_of value = asks_revocation (option_and_then wanted_in value)
+abbrev pub asks_of : Option Data → RoutedRequest
+asks_of value = revocation_request (option_and_then wanted_in value)
 
 pub returns-in_default : goal.returns-in_default
 returns-in_default c = λ posted. sym (ap asks_of (json_none c.args.body.now c.in_default.ensures.cases.0))

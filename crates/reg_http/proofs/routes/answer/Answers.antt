@@ -3,9 +3,9 @@ use Rattle.reg_office_api.specs.Calls.{RunsIn, AsksIn, OcspsIn, RepliesIn, CrlsI
 use Rattle.reg_office_api.specs.Items.{items_of}
 use Rattle.reg_http_head.specs.Response.{shown}
 use Rattle.reg_http.specs.Answers.{of_any_kind}
-use Rattle.reg_http.specs.Asked.{ocsp_of}
-use Rattle.reg_http.specs.Parts.{call_asks}
-use Rattle.reg_http.specs.Told.{told}
+use Rattle.reg_http.specs.RoutedRequests.{ocsp_of}
+use Rattle.reg_http.specs.Parts.{request_of_call}
+use Rattle.reg_http.specs.AnswerEffects.{answer_effects}
 use Rattle.reg_http.proofs.ByRecords.{responds_leads}
 use Rattle.reg_http.proofs.Replying.{call_answers, ocsp_responds}
 use Rattle.reg_http.proofs.routes.answer.Goals as goal
@@ -26,10 +26,10 @@ returns-in-Decoded-clause-ok g c =
 
 pub returns-in-Other-clause-ok : goal.returns-in-Other-clause-ok
 returns-in-Other-clause-ok g c =
-    responds_leads g.O.Office c.args.now _ _ (call_asks c.in-Other.call) _ (shown c.respond.result.answer)
+    responds_leads g.O.Office c.args.now _ _ (request_of_call c.in-Other.call) _ (shown c.respond.result.answer)
     (rw c.in-Other.is at c.in_ok-read_part.ensures) (
-      told c.respond.result,
+      answer_effects c.respond.result,
       call_answers (RunsIn g.O.Office) (AsksIn g.O.Office) (RepliesIn g.O.Office) (of_any_kind (OcspsIn g.O.Office)) (CrlsIn g.O.Office)
-          c.args.now c.args.office.now c.respond.new.office c.in-Other.call (told c.respond.result) c.respond.ensures,
+          c.args.now c.args.office.now c.respond.new.office c.in-Other.call (answer_effects c.respond.result) c.respond.ensures,
       refl,
     )

@@ -1,5 +1,5 @@
 use Rattle.reg_io.specs.declared.begun.Begun.TheVariants.{Ready}
-use Rattle.reg_http.specs.Parts.{call_asks}
+use Rattle.reg_http.specs.Parts.{request_of_call}
 use Rattle.reg_http.proofs.ByRecords.{begin_leads, ocsp_leads}
 use Rattle.reg_http.proofs.routes.begin.Goals as goal
 
@@ -15,5 +15,5 @@ returns-in-Decoded-clause-ok g c =
 
 pub returns-in-Other-clause-ok : goal.returns-in-Other-clause-ok
 returns-in-Other-clause-ok g c =
-    begin_leads g.O.Office c.args.now _ _ (call_asks c.in-Other.call) _ (Ready c.respond.result) (rw c.in-Other.is at c.in_ok-read_part.ensures)
+    begin_leads g.O.Office c.args.now _ _ (request_of_call c.in-Other.call) _ (Ready c.respond.result) (rw c.in-Other.is at c.in_ok-read_part.ensures)
     c.respond.ensures

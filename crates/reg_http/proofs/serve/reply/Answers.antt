@@ -9,8 +9,8 @@ pub returns-in-Ok-clause-ends : goal.returns-in-Ok-clause-ends
 returns-in-Ok-clause-ends g c =
     rw c.in-Asked.is
     (follows g.O.Office.is_clean g.O.Office.stands _ _
-    (λ who before after made. (
-      reply_ends (Runs g.O.Office.signs who) Asks (Ocsps g.O.Office.signs who) Crls c.args.now before after
+    (λ signatory before after made. (
+      reply_ends (Runs g.O.Office.signs signatory) Asks (Ocsps g.O.Office.signs signatory) Crls c.args.now before after
           c.in-Asked.method (string_bytes c.in-Asked.target) c.in-Asked.body.items (shown c.in-Ok.answer) _ _ c.send.result
           made.0 c.send.ensures.ok c.send.ensures.err,
       made.1,

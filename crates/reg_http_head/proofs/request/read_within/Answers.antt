@@ -8,12 +8,12 @@ use Rattle.reg_http_head.proofs.request.read_within.Goals as goal
 pub read_rest-requires-clause-head : goal.read_rest-requires-clause-head
 read_rest-requires-clause-head g c =
     let to = rw c.in-Ok-Mark.field-0-is at c.in-Ok-Mark.ensures.ok in
-    head_at_mark _ _ c.args.room.now c.fill_to_mark.new.buf c.in-Ok-Mark.end c.in-Ok-Mark.held to (omega (arith, c.requires))
+    head_at_mark _ _ c.args.room.now c.fill_to_mark.new.buf c.in-Ok-Mark.end c.in-Ok-Mark.buffered to (omega (arith, c.requires))
 
 pub returns-in-Ok-Mark-clause-ok : goal.returns-in-Ok-Mark-clause-ok
 returns-in-Ok-Mark-clause-ok g c =
     let to = rw c.in-Ok-Mark.field-0-is at c.in-Ok-Mark.ensures.ok in
-    let same = taken_at_mark _ _ c.args.room.now c.fill_to_mark.new.buf c.in-Ok-Mark.end c.in-Ok-Mark.held to in
+    let same = taken_at_mark _ _ c.args.room.now c.fill_to_mark.new.buf c.in-Ok-Mark.end c.in-Ok-Mark.buffered to in
     let most : length c.fill_to_mark.new.buf ≡ 8192 = omega (arith, c.requires) in
     let few : length to.took ≤ 8192 = omega (arith, to.fills.within, most) in
     IfOk-weaker c.read_rest.result _ _
@@ -28,7 +28,7 @@ returns-in-Ok-Mark-clause-ok g c =
 pub returns-in-Ok-Mark-clause-err : goal.returns-in-Ok-Mark-clause-err
 returns-in-Ok-Mark-clause-err g c =
     let to = rw c.in-Ok-Mark.field-0-is at c.in-Ok-Mark.ensures.ok in
-    let same = taken_at_mark _ _ c.args.room.now c.fill_to_mark.new.buf c.in-Ok-Mark.end c.in-Ok-Mark.held to in
+    let same = taken_at_mark _ _ c.args.room.now c.fill_to_mark.new.buf c.in-Ok-Mark.end c.in-Ok-Mark.buffered to in
     let most : length c.fill_to_mark.new.buf ≡ 8192 = omega (arith, c.requires) in
     let few : length to.took ≤ 8192 = omega (arith, to.fills.within, most) in
     IfErr-weaker c.read_rest.result _ _

@@ -5,11 +5,11 @@ use Rattle.reg_io.proofs.fill.fill_to_mark.Given as goal
 
 abbrev pub invariant-reading : goal.invariant-reading
 invariant-reading g l = record {
-  so_far : SoFar (g.R.Read.remaining l.initial.reader) (g.R.Read.remaining l.reader) l.initial.buf l.buf l.held l.filled;
+  so_far : SoFar (g.R.Read.remaining l.initial.reader) (g.R.Read.remaining l.reader) l.initial.buf l.buf l.buffered l.filled;
   searched_held : l.searched ≤ l.filled;
   unmarked : (n : ℕ) → n ≤ l.searched → ¬ EndsWith (take n l.buf) l.mark;
-  marked : (end : ℕ) → end ≤ l.held → EndsWith (take end l.initial.buf) l.mark → (l.reader ≡ l.initial.reader) × (l.buf ≡ l.initial.buf);
-  no_room : l.held ≡ length l.initial.buf → (l.reader ≡ l.initial.reader) × (l.buf ≡ l.initial.buf);
+  marked : (end : ℕ) → end ≤ l.buffered → EndsWith (take end l.initial.buf) l.mark → (l.reader ≡ l.initial.reader) × (l.buf ≡ l.initial.buf);
+  no_room : l.buffered ≡ length l.initial.buf → (l.reader ≡ l.initial.reader) × (l.buf ≡ l.initial.buf);
 }
 
 abbrev pub decreases-reading : goal.decreases-reading

@@ -10,8 +10,8 @@ loop-init g c = record {
   going = going_start (HostLines g.O.Office g.H.Host c.args.host.now) (longest_of (g.H.Host.clocked c.args.host.now)) (g.H.Host.clocked c.args.host.now) c.args.is_strict _ _ _;
 }
 
-pub run_next-requires-clause-held_fits : goal.run_next-requires-clause-held_fits
-run_next-requires-clause-held_fits g c = omega (arith, c.loop.invariant.room, c.loop.auto.buffer, c.requires)
+pub run_next-requires-clause-buffered_fits : goal.run_next-requires-clause-buffered_fits
+run_next-requires-clause-buffered_fits g c = omega (arith, c.loop.invariant.room, c.loop.auto.buffer, c.requires)
 
 pub returns-in-Ok-End : goal.returns-in-Ok-End
 returns-in-Ok-End g c =
@@ -35,14 +35,14 @@ loop-preserved g c =
           _ _ _ _ _ _ _ _ _ _ c.loop.counter c.loop.invariant.going c.loop-test.true _ ends.1 ends.2;
     }
 
-pub returns-then-held-gt0 : goal.returns-then-held-gt0
-returns-then-held-gt0 g c =
+pub returns-then-buffered-gt0 : goal.returns-then-buffered-gt0
+returns-then-buffered-gt0 g c =
     run_over (HostLines g.O.Office g.H.Host c.args.host.now) (longest_of (g.H.Host.clocked c.args.host.now)) (g.H.Host.clocked c.args.host.now) c.args.is_strict
-    _ _ _ _ _ _ c.loop.buffer c.loop.held c.loop.counter c.loop.invariant.going (omega (arith, c.loop.auto.counter-end, c.loop-test.false))
-    c.if-held-gt0.true c.loop.invariant.room (c.loop.auto.buffer ∙ c.requires)
+    _ _ _ _ _ _ c.loop.buffer c.loop.buffered c.loop.counter c.loop.invariant.going (omega (arith, c.loop.auto.counter-end, c.loop-test.false))
+    c.if-buffered-gt0.true c.loop.invariant.room (c.loop.auto.buffer ∙ c.requires)
 
 pub returns : goal.returns
 returns g c =
     run_checked (HostLines g.O.Office g.H.Host c.args.host.now) (longest_of (g.H.Host.clocked c.args.host.now)) (g.H.Host.clocked c.args.host.now) c.args.is_strict
-    _ _ _ _ _ _ _ c.loop.buffer c.loop.held c.loop.counter _ c.loop.invariant.going (omega (arith, c.loop.auto.counter-end, c.loop-test.false))
-    (omega (arith, c.if-held-gt0.false)) (longest_some (g.H.Host.clocked c.args.host.now)) c.end_of_input.ensures
+    _ _ _ _ _ _ _ c.loop.buffer c.loop.buffered c.loop.counter _ c.loop.invariant.going (omega (arith, c.loop.auto.counter-end, c.loop-test.false))
+    (omega (arith, c.if-buffered-gt0.false)) (longest_some (g.H.Host.clocked c.args.host.now)) c.end_of_input.ensures

@@ -7,8 +7,8 @@ use Rattle.reg_lines.proofs.lines.run_all.Given as goal
 -- the lines so far ran, and less than a whole buffer is held behind them
 abbrev pub invariant-loop : goal.invariant-loop
 invariant-loop g l = record {
-  room : l.held ≤ longest_of (g.H.Host.clocked l.host);
+  room : l.buffered ≤ longest_of (g.H.Host.clocked l.host);
   going : Going (HostLines g.O.Office g.H.Host l.host) (longest_of (g.H.Host.clocked l.host)) (g.H.Host.clocked l.host) l.is_strict
       l.initial.office l.office (g.R.Read.remaining l.initial.reader) (g.R.Read.remaining l.reader)
-      (g.W.Write.contents l.initial.writer) (g.W.Write.contents l.writer) (take l.held l.buffer) l.counter;
+      (g.W.Write.contents l.initial.writer) (g.W.Write.contents l.writer) (take l.buffered l.buffer) l.counter;
 }

@@ -1,6 +1,6 @@
 use Rattle.std.proofs.Common.{List, ℕ, Ok, Err, refl, subst, sym, ◌∙◌}
 use Rattle.reg_core.specs.declared.memory.Memory.{Memory}
-use Rattle.reg_lines.specs.Answer.{TellsGiven}
+use Rattle.reg_lines.specs.Answer.{OcspLineComesTo}
 use Rattle.reg_lines.specs.ByCalls.{LineCalls, responded}
 use Rattle.reg_lines.specs.Meaning.{decoded_bytes}
 use Rattle.reg_lines.proofs.Unasked.{unasked}
@@ -19,7 +19,7 @@ returns-in-Ok-ocsp g c =
       given,
       subst (λ (b : List ℕ). LineCalls g.O.Office c.args.office.now c.args.now (responded b given) c.ocsp.new.self) same
           (c.in-Ok-ocsp.ensures, (λ failed. absurd failed)),
-      subst (λ (b : List ℕ). TellsGiven (Ok b) c.respond.result) c.deref-in-Ok-ocsp.ensures.value c.respond.ensures,
+      subst (λ (b : List ℕ). OcspLineComesTo (Ok b) c.respond.result) c.deref-in-Ok-ocsp.ensures.value c.respond.ensures,
     )
 
 pub returns : goal.returns

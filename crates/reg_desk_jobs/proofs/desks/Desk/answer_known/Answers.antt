@@ -10,7 +10,7 @@ returns-clause-moves g c =
     let at : Signatory → Records → Records → Type 0 = λ identity before after.
     WordAt c.args.self.now.admission.accepted g.M.Office.Office.signs c.args.known.moment identity before c.args.line.now c.answer_counted-reply.result.items after in
     let step : Signatory → Records → Records → Type 0 = λ identity before after.
-    Word g.M.Office.Office.signs g.M.Machine.told identity before c.args.line.now c.answer_counted-reply.result.items after in
+    Word g.M.Office.Office.signs g.M.Machine.clock_reached identity before c.args.line.now c.answer_counted-reply.result.items after in
     then_still g.M.Office.Office.is_clean g.M.Office.Office.stands step _ _ _
     (still_then g.M.Office.Office.is_clean g.M.Office.Office.stands step _ _ _ c.set_preset.ensures
     (follows g.M.Office.Office.is_clean g.M.Office.Office.stands at step (λ identity before after said. (c.args.self.now.admission.accepted, c.args.known.moment, c.requires.told_at, said))

@@ -8,4 +8,4 @@ pub returns-in-None : goal.returns-in-None
 returns-in-None g c made =
     handled_then g.H.Handler _ _ _ made made made
     (handled_deferring g.H.Handler _ _ made c.in-Some.connection c.defer.ensures.looked)
-    (handled_told g.H.Handler _ c.tell-told.result _ _ made c.defer.new.self c.tell-told.new.self c.tell-told.ensures.ok c.tell-told.ensures.err)
+    (handled_told g.H.Handler _ c.answer_line-line_answered.result _ _ made c.defer.new.self c.answer_line-line_answered.new.self c.answer_line-line_answered.ensures.ok c.answer_line-line_answered.ensures.err)

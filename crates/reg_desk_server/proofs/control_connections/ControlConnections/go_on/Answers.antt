@@ -3,5 +3,5 @@ use Rattle.reg_desk_server.proofs.control_connections.ControlConnections.go_on.G
 
 pub returns-then-is_due : goal.returns-then-is_due
 returns-then-is_due g c made =
-    handled_told_later g.H.Handler _ c.answer_deferred-told.result _ _ made c.into_parts-slot.result.1 c.answer_deferred-told.new.self
-    c.answer_deferred-told.ensures.ok c.answer_deferred-told.ensures.err
+    handled_told_later g.H.Handler _ c.answer_deferred-line_answered.result _ _ made c.into_parts-slot.result.1 c.answer_deferred-line_answered.new.self
+    c.answer_deferred-line_answered.ensures.ok c.answer_deferred-line_answered.ensures.err

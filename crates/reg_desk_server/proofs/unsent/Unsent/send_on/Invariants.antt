@@ -1,4 +1,4 @@
-use Rattle.reg_desk_server.specs.Held.{SendsOn, unsent_of}
+use Rattle.reg_desk_server.specs.Buffers.{SendsOn, unsent_of}
 use Rattle.reg_desk_server.specs.declared.unsent.Sent.TheVariants as sent
 use Rattle.reg_desk_server.proofs.unsent.Unsent.send_on.Given as goal
 

@@ -14,4 +14,4 @@ returns-clause-looks g c =
 pub returns-clause-pages : goal.returns-clause-pages
 returns-clause-pages g c =
     office_leads g.C.Store g.S.Signer _ _ (λ records. IsPagedSoundly records c.args.now c.args.most c.args.from c.page.result)
-    (λ who before after. Pages before c.args.now c.args.most c.args.from c.page.result after) (returns-clause-looks g c) (λ records paged. (paged, refl))
+    (λ signatory before after. Pages before c.args.now c.args.most c.args.from c.page.result after) (returns-clause-looks g c) (λ records paged. (paged, refl))

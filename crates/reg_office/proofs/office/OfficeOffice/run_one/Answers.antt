@@ -21,14 +21,14 @@ returns-in-Crl-clause-counts g c failed = (c.issue_crl.ensures.device failed).1
 
 pub returns-in-Err-clause-ran : goal.returns-in-Err-clause-ran
 returns-in-Err-clause-ran g c =
-    let who = g.S.Signer in
+    let signatory = g.S.Signer in
     let fault = c.in-Err.fault in
     let below : c.args.now < clock_end = search rules in
     let decides = c.in-Err.ensures in
     let looks = lent c.deref_mut.ensures.shows decides.looks in
-    not_run g.C.Store who.signs who.identity who.failure_count c.args.self.now.store c.args.self.now.signer c.args.now c.args.command.now
+    not_run g.C.Store signatory.signs signatory.identity signatory.failure_count c.args.self.now.store c.args.self.now.signer c.args.now c.args.command.now
     _ fault refl refl looks.looked
-    (λ records kept sound clean. fault_happens (IsAcceptance c.args.now c.args.command.now records) (signed_by who.signs (who.identity c.args.self.now.signer)) records c.args.now c.args.command.now fault below decides.faults (looks.found records kept sound clean))
+    (λ records kept sound clean. fault_happens (IsAcceptance c.args.now c.args.command.now records) (signed_by signatory.signs (signatory.identity c.args.self.now.signer)) records c.args.now c.args.command.now fault below decides.faults (looks.found records kept sound clean))
     (office_fault fault decides.faults) (never_signer fault decides.faults)
 
 pub returns-in-Err-clause-runs : goal.returns-in-Err-clause-runs
@@ -39,11 +39,11 @@ returns-in-Err-clause-counts g c failed = ((returns-in-Err-clause-ran g c).devic
 
 pub returns-in_err-apply-in-Ok-clause-ran : goal.returns-in_err-apply-in-Ok-clause-ran
 returns-in_err-apply-in-Ok-clause-ran g c =
-    let who = g.S.Signer in
+    let signatory = g.S.Signer in
     let below : c.args.now < clock_end = search rules in
     let looks = lent c.deref_mut.ensures.shows c.in-Ok.ensures.looks in
     let decided : Reply × Change = (c.in-Ok.reply, c.in-Ok.change) in
-    not_carried_out g.C.Store who.signs who.identity who.failure_count c.args.self.now.store c.args.self.now.signer c.args.now c.args.command.now
+    not_carried_out g.C.Store signatory.signs signatory.identity signatory.failure_count c.args.self.now.store c.args.self.now.signer c.args.now c.args.command.now
     _ _ _ decided.0 decided.1 refl looks.looked
     (λ records kept sound clean. may_change records c.args.now c.args.command.now decided c.in_default.not-Crl (looks.found records kept sound clean))
     c.apply.ensures.changed.survives.clean
@@ -57,10 +57,10 @@ returns-in_err-apply-in-Ok-clause-counts g c failed = ((returns-in_err-apply-in-
 
 pub returns-in_ok-apply-in-Ok-clause-ran : goal.returns-in_ok-apply-in-Ok-clause-ran
 returns-in_ok-apply-in-Ok-clause-ran g c =
-    let who = g.S.Signer in
+    let signatory = g.S.Signer in
     let looks = lent c.deref_mut.ensures.shows c.in-Ok.ensures.looks in
     let decided : Reply × Change = (c.in-Ok.reply, c.in-Ok.change) in
-    carried_out g.C.Store who.signs who.identity who.failure_count c.args.self.now.store c.args.self.now.signer c.args.now c.args.command.now
+    carried_out g.C.Store signatory.signs signatory.identity signatory.failure_count c.args.self.now.store c.args.self.now.signer c.args.now c.args.command.now
     _ _ _ decided.0 decided.1 refl looks.looked
     (λ records kept sound clean. may_change records c.args.now c.args.command.now decided c.in_default.not-Crl (looks.found records kept sound clean))
     c.apply.ensures.changed.survives.clean c.in_ok-apply-in-Ok.ensures.ok c.in_ok-apply-in-Ok.ensures.changed

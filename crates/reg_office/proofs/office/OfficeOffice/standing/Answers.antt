@@ -8,6 +8,6 @@ use Rattle.reg_office.proofs.office.OfficeOffice.standing.Goals as goal
 pub returns-clause-looks : goal.returns-clause-looks
 returns-clause-looks g c =
     let Told : Records → Type 0 = λ records. HasStanding records c.standing_in.result in
-    office_leads g.C.Store g.S.Signer _ _ Told (λ who before after. Told before × (after ≡ before))
+    office_leads g.C.Store g.S.Signer _ _ Told (λ signatory before after. Told before × (after ≡ before))
     (office_looks g.C.Store g.S.Signer _ _ Told Told (lent c.deref_mut.ensures.shows c.standing_in.ensures.looks) refl (λ records sound told. told))
     (λ records told. (told, refl))

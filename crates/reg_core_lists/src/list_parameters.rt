@@ -1,0 +1,274 @@
+//! The query for a list: a page, by its word and its parameters, `after=KEY&limit=N&before=MOMENT` and a filter,
+//! `subscriber=NAME&serial=PREFIX&from=MOMENT&to=MOMENT`.
+
+ghost use Rattle.std.specs.Prelude.{◌≡◌, ◌≤◌, ◌<◌, ◌+◌, ◌==◌, drop, length};
+ghost use Rattle.std.specs.Char.{is_ascii_hexdigit};
+ghost use Rattle.std.specs.List.{list_all, position, position_or_len};
+ghost use Rattle.reg_core.specs.Calendar.{moment_of};
+ghost use Rattle.reg_core_lists.specs.ListParameters.{at_most, cursor_at, filter_with, label_of, page_query, params_of, prefix_of, with_after, with_before, with_filter, filtered_from, with_limit, with_piece, filtered_by_serial, filtered_by_name, filtered_to, with_value};
+
+use crate::cursor::Cursor;
+use crate::filter::Filter;
+use reg_core::{Label, Moment, read_number};
+
+/// The most rows that a page may be asked for.
+const LONGEST_LIMIT: u64 = 1_000;
+
+/// The most rows that a page looks at that is asked for from outside, so that nobody else waits long.
+const MOST_ROWS: u64 = 250;
+
+const MOST_PARAMS: usize = 7;
+
+/// The most hexadecimal digits of a serial number.
+const MOST_DIGITS: usize = 40;
+
+/// What is told beside the word of a list.
+#[derive(Clone, Copy)]
+struct Params {
+    after: Option<Label>,
+    before: Option<Moment>,
+    limit: Option<u64>,
+    filter: Filter,
+}
+
+/// A page that is asked for: from where on, how many rows it looks at, and which of them are wanted.
+#[derive(Clone, Copy)]
+pub struct PageQuery {
+    pub from: Cursor,
+    pub most: u64,
+    pub filter: Filter,
+}
+
+/// The page of a list that a word and what is told beside it ask for, which looks at 250 rows at most. `None` where the word
+/// names no list, a name stands twice or is none of the seven, a value can't be read, a limit is not 1 to 1,000, or the rows
+/// of the list have not what the filter tells.
+pub fn read_page(word: &[u8], told: &[u8]) -> Option<PageQuery>
+    ensures { result ≡ page_query word.now told.now }
+{
+    let params = read_params(told)?;
+    let from = cursor_of(Cursor::named(word, params.before)?, params.after)?;
+    let most = rows_of(params.limit)?;
+    if !params.filter.fits(from) {
+        return None;
+    }
+    Some(PageQuery {
+        from,
+        most,
+        filter: params.filter,
+    })
+}
+
+fn cursor_of(from: Cursor, after: Option<Label>) -> Option<Cursor>
+    ensures { result ≡ cursor_at from after }
+{
+    match after {
+        Some(key) => from.past(key.as_bytes()),
+        None => Some(from),
+    }
+}
+
+fn rows_of(limit: Option<u64>) -> Option<u64>
+    ensures { result ≡ at_most limit }
+{
+    match limit {
+        Some(limit) if limit == 0 || limit > LONGEST_LIMIT => None,
+        Some(limit) if limit < MOST_ROWS => Some(limit),
+        _ => Some(MOST_ROWS),
+    }
+}
+
+fn read_params(told: &[u8]) -> Option<Params>
+    ensures { result ≡ params_of told.now }
+{
+    let mut params = Params {
+        after: None,
+        before: None,
+        limit: None,
+        filter: Filter {
+            subscriber: None,
+            serial: None,
+            from: None,
+            to: None,
+        },
+    };
+    if told.is_empty() {
+        return Some(params);
+    }
+    let mut rest = told;
+    for _ in 0..MOST_PARAMS {
+        let end = place_of(rest, b'&');
+        params = with_piece(params, &rest[..end])?;
+        if end == rest.len() {
+            return Some(params);
+        }
+        rest = behind(rest, end);
+    }
+    None
+}
+
+fn behind(text: &[u8], index: usize) -> &[u8]
+    requires { index < length text.now }
+    ensures { result.now ≡ drop (index + 1) text.now }
+{
+    &text[index + 1..]
+}
+
+fn place_of(text: &[u8], wanted: u8) -> usize
+    ensures index { result ≡ position_or_len (λ byte. byte == wanted) text.now }
+    ensures within { result ≤ length text.now }
+{
+    match first_of(text, wanted) {
+        Some(index) => index,
+        None => text.len(),
+    }
+}
+
+fn first_of(text: &[u8], wanted: u8) -> Option<usize>
+    ensures { result ≡ position (λ byte. byte == wanted) text.now }
+{
+    text.iter().position(|byte| *byte == wanted)
+}
+
+fn with_piece(params: Params, piece: &[u8]) -> Option<Params>
+    ensures { result ≡ with_piece params piece.now }
+{
+    let end = place_of(piece, b'=');
+    if end == piece.len() {
+        return None;
+    }
+    with_value(params, &piece[..end], behind(piece, end))
+}
+
+/// What is told with one value more. `None` where the name stands already, or is none of the seven.
+fn with_value(params: Params, name: &[u8], value: &[u8]) -> Option<Params>
+    ensures { result ≡ with_value params name.now value.now }
+{
+    match name {
+        _ if name == b"after".as_slice() => with_after(params, value),
+        _ if name == b"before".as_slice() => with_before(params, value),
+        _ if name == b"limit".as_slice() => with_limit(params, value),
+        _ => with_filter(params, name, value),
+    }
+}
+
+fn with_after(params: Params, value: &[u8]) -> Option<Params>
+    ensures { result ≡ with_after params value.now }
+{
+    if params.after.is_some() {
+        return None;
+    }
+    let after = Some(read_key(value)?);
+    Some(Params { after, ..params })
+}
+
+fn with_before(params: Params, value: &[u8]) -> Option<Params>
+    ensures { result ≡ with_before params value.now }
+{
+    if params.before.is_some() {
+        return None;
+    }
+    let before = Some(read_moment(value)?);
+    Some(Params { before, ..params })
+}
+
+fn with_limit(params: Params, value: &[u8]) -> Option<Params>
+    ensures { result ≡ with_limit params value.now }
+{
+    if params.limit.is_some() {
+        return None;
+    }
+    let limit = Some(read_number(value)?);
+    Some(Params { limit, ..params })
+}
+
+/// What is told with one value more of a filter. `None` as of [`with_value`].
+fn with_filter(params: Params, name: &[u8], value: &[u8]) -> Option<Params>
+    ensures { result ≡ with_filter params name.now value.now }
+{
+    let filter = filter_with(params.filter, name, value)?;
+    Some(Params { filter, ..params })
+}
+
+fn filter_with(filter: Filter, name: &[u8], value: &[u8]) -> Option<Filter>
+    ensures { result ≡ filter_with filter name.now value.now }
+{
+    match name {
+        _ if name == b"subscriber".as_slice() => filtered_by_name(filter, value),
+        _ if name == b"serial".as_slice() => filtered_by_serial(filter, value),
+        _ if name == b"from".as_slice() => filtered_from(filter, value),
+        _ if name == b"to".as_slice() => filtered_to(filter, value),
+        _ => None,
+    }
+}
+
+fn filtered_by_name(filter: Filter, value: &[u8]) -> Option<Filter>
+    ensures { result ≡ filtered_by_name filter value.now }
+{
+    if filter.subscriber.is_some() {
+        return None;
+    }
+    let subscriber = Some(read_key(value)?);
+    Some(Filter {
+        subscriber,
+        ..filter
+    })
+}
+
+fn filtered_by_serial(filter: Filter, value: &[u8]) -> Option<Filter>
+    ensures { result ≡ filtered_by_serial filter value.now }
+{
+    if filter.serial.is_some() {
+        return None;
+    }
+    let serial = Some(read_prefix(value)?);
+    Some(Filter { serial, ..filter })
+}
+
+fn filtered_from(filter: Filter, value: &[u8]) -> Option<Filter>
+    ensures { result ≡ filtered_from filter value.now }
+{
+    if filter.from.is_some() {
+        return None;
+    }
+    let from = Some(read_moment(value)?);
+    Some(Filter { from, ..filter })
+}
+
+fn filtered_to(filter: Filter, value: &[u8]) -> Option<Filter>
+    ensures { result ≡ filtered_to filter value.now }
+{
+    if filter.to.is_some() {
+        return None;
+    }
+    let to = Some(read_moment(value)?);
+    Some(Filter { to, ..filter })
+}
+
+fn read_key(text: &[u8]) -> Option<Label>
+    ensures { result ≡ label_of text.now }
+{
+    Label::of(text)
+}
+
+/// Reads 1 to 40 hexadecimal digits with which serial numbers begin; `None` for any other text.
+pub fn read_prefix(text: &[u8]) -> Option<Label>
+    ensures { result ≡ prefix_of text.now }
+{
+    if are_digits(text) && text.len() <= MOST_DIGITS {
+        read_key(text)
+    } else {
+        None
+    }
+}
+
+fn are_digits(text: &[u8]) -> bool
+    ensures { result ≡ list_all is_ascii_hexdigit text.now }
+{
+    text.iter().all(|digit| digit.is_ascii_hexdigit())
+}
+
+fn read_moment(text: &[u8]) -> Option<Moment>
+    ensures { result ≡ moment_of text.now }
+{
+    Moment::read(text)
+}

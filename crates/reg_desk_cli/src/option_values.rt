@@ -1,0 +1,347 @@
+//! The values that the words of a command give.
+
+ghost use Rattle.std.specs.Prelude.{◌≡◌, ◌≤◌, ◌==◌, IfOk, IfSome, List, ℕ, map, option_and_then, option_map, position};
+ghost use Rattle.reg_core.specs.Calendar.{moment_of};
+ghost use Rattle.reg_core_lists.specs.ListParameters.{label_of};
+ghost use Rattle.clap.specs.Words.{all_of, first_of, found_of, rows_of};
+ghost use Rattle.reg_desk_cli.specs.Jobs.{answerer_in, answerer_by, given, value_or_usual, chosen, filter_in, has_own_key, holder_by_options, holder_chosen, holder_in, has_flag, label_given, loopback_in, loopback_named, moment_given, number_in, order_terms_given, prefix_given, way_in};
+ghost use Rattle.reg_desk_cli.specs.WordValues.{order_terms_of, step_of, step_from, steps_of, within};
+
+use crate::job::{Answerer, KeyHolder, Loopback, OrderTerms, Way};
+use crate::word::{Steps, Word};
+use clap::ArgMatches;
+use reg_core::{Label, Moment, read_number};
+use reg_core_lists::{Filter, read_prefix};
+use reg_crl_signer::Algorithm;
+use std::alloc::{AllocError, Global};
+
+pub(crate) fn word_of<'a>(matches: &ArgMatches<'a>, id: &str) -> Option<Word<'a>>
+    ensures { result ≡ first_of id.now (rows_of (found_of matches.now)) }
+{
+    Some(Word::of(text_of(matches, id)?))
+}
+
+pub(crate) fn text_of<'a>(matches: &ArgMatches<'a>, id: &str) -> Option<&'a str>
+    ensures { option_map (λ text. text.now) result ≡ first_of id.now (rows_of (found_of matches.now)) }
+{
+    matches.get_str(id)
+}
+
+fn texts_of<'m, 'a>(matches: &'m ArgMatches<'a>, id: &str) -> Option<&'m [&'a str]>
+    ensures { option_map (λ texts. map (λ text. text.now) texts.now) result ≡ all_of id.now (rows_of (found_of matches.now)) }
+{
+    matches.get_strs(id)
+}
+
+/// The number of an option, or the usual one where the option is left out; `None` where it is no number.
+pub(crate) fn number_or(matches: &ArgMatches<'_>, id: &str, usual: u64) -> Option<u64>
+    ensures { result ≡ value_or_usual usual id.now (rows_of (found_of matches.now)) }
+{
+    match text_of(matches, id) {
+        Some(text) => read_number(text.as_bytes()),
+        None => Some(usual),
+    }
+}
+
+/// The number of an option, if it is given; `None` where it is given and no number.
+pub(crate) fn number_option(matches: &ArgMatches<'_>, id: &str) -> Option<Option<u64>>
+    ensures { result ≡ given id.now (rows_of (found_of matches.now)) }
+{
+    match text_of(matches, id) {
+        Some(text) => Some(Some(read_number(text.as_bytes())?)),
+        None => Some(None),
+    }
+}
+
+/// The number of an option, where it is one and within bounds.
+pub(crate) fn number_within(
+    matches: &ArgMatches<'_>,
+    id: &str,
+    least: u64,
+    most: u64,
+) -> Option<u64>
+    ensures exact { result ≡ number_in least most id.now (rows_of (found_of matches.now)) }
+    ensures at_most { IfSome result (λ number. number ≤ most) }
+{
+    bounded(read_number(text_of(matches, id)?.as_bytes())?, least, most)
+}
+
+fn bounded(number: u64, least: u64, most: u64) -> Option<u64>
+    ensures exact { result ≡ within least most number }
+    ensures at_most { IfSome result (λ number. number ≤ most) }
+{
+    if least <= number && number <= most {
+        Some(number)
+    } else {
+        None
+    }
+}
+
+pub(crate) fn moment(matches: &ArgMatches<'_>, id: &str) -> Option<Moment>
+    ensures { result ≡ option_and_then moment_of (first_of id.now (rows_of (found_of matches.now))) }
+{
+    read_moment(text_of(matches, id)?.as_bytes())
+}
+
+/// The moment of an option, if it is given; `None` where it is given and none.
+pub(crate) fn moment_option(matches: &ArgMatches<'_>, id: &str) -> Option<Option<Moment>>
+    ensures { result ≡ moment_given id.now (rows_of (found_of matches.now)) }
+{
+    match text_of(matches, id) {
+        Some(text) => Some(Some(read_moment(text.as_bytes())?)),
+        None => Some(None),
+    }
+}
+
+/// The address of `--listen`, or 127.0.0.1 where it is left out; `None` where it is none of the loopback interface.
+pub(crate) fn loopback(matches: &ArgMatches<'_>) -> Option<Loopback>
+    ensures { result ≡ loopback_in (rows_of (found_of matches.now)) }
+{
+    match text_of(matches, "listen") {
+        Some(text) => read_loopback(text),
+        None => Some(Loopback::V4),
+    }
+}
+
+fn read_loopback(text: &str) -> Option<Loopback>
+    ensures { result ≡ loopback_named text.now }
+{
+    if text == "127.0.0.1" {
+        Some(Loopback::V4)
+    } else if text == "[::1]" {
+        Some(Loopback::V6)
+    } else {
+        None
+    }
+}
+
+/// The filter that the four options of `list` give; `None` where the value of one can't be read.
+#[tactic(auto, unfolding(crate::specs::Jobs::filter_in))]
+pub(crate) fn filter_option(matches: &ArgMatches<'_>) -> Option<Filter>
+    ensures { result ≡ filter_in (rows_of (found_of matches.now)) }
+{
+    Some(Filter {
+        subscriber: label_option(matches, "subscriber")?,
+        serial: prefix_option(matches, "serial")?,
+        from: moment_option(matches, "from")?,
+        to: moment_option(matches, "to")?,
+    })
+}
+
+/// The text of an option, if it is given; `None` where it is given and not of 1 to 64 bytes.
+pub(crate) fn label_option(matches: &ArgMatches<'_>, id: &str) -> Option<Option<Label>>
+    ensures { result ≡ label_given id.now (rows_of (found_of matches.now)) }
+{
+    match text_of(matches, id) {
+        Some(text) => Some(Some(read_label(text.as_bytes())?)),
+        None => Some(None),
+    }
+}
+
+fn read_label(text: &[u8]) -> Option<Label>
+    ensures { result ≡ label_of text.now }
+{
+    Label::of(text)
+}
+
+/// The hexadecimal digits of an option, if it is given; `None` where it is given and not of 1 to 40 of them.
+pub(crate) fn prefix_option(matches: &ArgMatches<'_>, id: &str) -> Option<Option<Label>>
+    ensures { result ≡ prefix_given id.now (rows_of (found_of matches.now)) }
+{
+    match text_of(matches, id) {
+        Some(text) => Some(Some(read_prefix(text.as_bytes())?)),
+        None => Some(None),
+    }
+}
+
+/// The signer, if one is given; `None` where one of its two options is given alone, or no algorithm has the name.
+pub(crate) fn key_holder<'a>(matches: &ArgMatches<'a>) -> Option<Option<KeyHolder<'a>>>
+    ensures { result ≡ holder_in (rows_of (found_of matches.now)) }
+{
+    holder_by(matches, "signer", "algorithm")
+}
+
+/// The responder to OCSP requests; `None` where an option of a responder is given without the others, no algorithm has the name, or
+/// `--embed` is given beside them.
+#[tactic(auto, unfolding(crate::specs::Jobs::answerer_in))]
+pub(crate) fn answerer<'a>(matches: &ArgMatches<'a>) -> Option<Answerer<'a>>
+    ensures { result ≡ answerer_in (rows_of (found_of matches.now)) }
+{
+    let holder = holder_by(matches, "responder-signer", "responder-algorithm")?;
+    let embedded = word_of(matches, "embed");
+    answerer_of(word_of(matches, "responder"), holder, embedded)
+}
+
+fn answerer_of<'a>(
+    responder: Option<Word<'a>>,
+    holder: Option<KeyHolder<'a>>,
+    embedded: Option<Word<'a>>,
+) -> Option<Answerer<'a>>
+    ensures { result ≡ answerer_by responder.entry holder.entry embedded.entry }
+{
+    match (responder, holder) {
+        (Some(certificate), Some(holder)) => {
+            if embedded.is_some() {
+                return None;
+            }
+            Some(Answerer::Delegate {
+                certificate,
+                holder,
+            })
+        }
+        (None, None) => Some(Answerer::Issuer {
+            certificate: embedded,
+        }),
+        (Some(_), None) => None,
+        (None, Some(_)) => None,
+    }
+}
+
+fn holder_by<'a>(
+    matches: &ArgMatches<'a>,
+    socket: &str,
+    algorithm: &str,
+) -> Option<Option<KeyHolder<'a>>>
+    ensures { result ≡ holder_by_options socket.now algorithm.now (rows_of (found_of matches.now)) }
+{
+    match (word_of(matches, socket), text_of(matches, algorithm)) {
+        (Some(socket), Some(name)) => {
+            let algorithm = Algorithm::read(name)?;
+            Some(Some(KeyHolder { socket, algorithm }))
+        }
+        (None, None) => Some(None),
+        _ => None,
+    }
+}
+
+/// The signer of CRLs where one is to be chosen: a signer, or `--unsigned`, or neither beside a responder; `None` for any other choice.
+pub(crate) fn chosen_holder<'a>(
+    matches: &ArgMatches<'a>,
+    answerer: &Answerer<'_>,
+) -> Option<Option<KeyHolder<'a>>>
+    ensures { result ≡ holder_chosen answerer.now (rows_of (found_of matches.now)) }
+{
+    let is_unsigned = is_set(matches, "unsigned");
+    choose(key_holder(matches)?, is_unsigned, is_delegate(answerer))
+}
+
+fn is_delegate(answerer: &Answerer<'_>) -> bool
+    ensures { result ≡ has_own_key answerer.now }
+{
+    match answerer {
+        Answerer::Issuer { .. } => false,
+        Answerer::Delegate { .. } => true,
+    }
+}
+
+fn choose<'a>(
+    holder: Option<KeyHolder<'a>>,
+    is_unsigned: bool,
+    is_delegated: bool,
+) -> Option<Option<KeyHolder<'a>>>
+    ensures { result ≡ chosen holder.entry is_unsigned is_delegated }
+{
+    let has_other = holder.is_some() || is_delegated;
+    if has_other == is_unsigned {
+        None
+    } else {
+        Some(holder)
+    }
+}
+
+/// How the lines of a script are run.
+pub(crate) fn way_of(matches: &ArgMatches<'_>) -> Way
+    ensures { result ≡ way_in (rows_of (found_of matches.now)) }
+{
+    Way {
+        is_clocked: is_set(matches, "clock"),
+        accepts_clock: is_set(matches, "accept-clock"),
+        is_strict: is_set(matches, "strict"),
+    }
+}
+
+/// Whether an option is given that takes no value.
+pub(crate) fn is_set(matches: &ArgMatches<'_>, id: &str) -> bool
+    ensures { result ≡ has_flag id.now (rows_of (found_of matches.now)) }
+{
+    match text_of(matches, id) {
+        Some(text) => text == "true",
+        None => false,
+    }
+}
+
+/// The terms of `--orders`, if it is given; `None` where it is given and they are not two numbers.
+pub(crate) fn order_terms_option(matches: &ArgMatches<'_>) -> Option<Option<OrderTerms>>
+    ensures { result ≡ order_terms_given (rows_of (found_of matches.now)) }
+{
+    match texts_of(matches, "orders") {
+        Some(texts) => Some(Some(read_order_terms(texts)?)),
+        None => Some(None),
+    }
+}
+
+fn read_order_terms(texts: &[&str]) -> Option<OrderTerms>
+    ensures { result ≡ order_terms_of (map (λ text. text.now) texts.now) }
+{
+    let [subscriber, days] = texts else {
+        return None;
+    };
+    Some(OrderTerms {
+        subscriber: read_number(subscriber.as_bytes())?,
+        days: read_number(days.as_bytes())?,
+    })
+}
+
+/// The steps of a schedule; `None` where there are none, or one has another form than MOMENT=DAYS.
+pub(crate) fn steps(
+    alloc: Global,
+    matches: &ArgMatches<'_>,
+    id: &str,
+) -> Result<Option<Steps>, AllocError>
+    ensures { IfOk result (λ steps. steps ≡ option_and_then steps_of (all_of id.now (rows_of (found_of matches.now)))) }
+{
+    match texts_of(matches, id) {
+        Some(texts) => read_steps(alloc, texts),
+        None => Ok(None),
+    }
+}
+
+fn read_steps(alloc: Global, texts: &[&str]) -> Result<Option<Steps>, AllocError>
+    ensures { IfOk result (λ steps. steps ≡ steps_of (map (λ text. text.now) texts.now)) }
+{
+    let mut steps = Vec::new(alloc);
+    for text in texts {
+        match read_step(text.as_bytes()) {
+            Some(step) => steps.push(step)?,
+            None => return Ok(None),
+        }
+    }
+    Ok(Some(Steps::of(steps)))
+}
+
+/// Reads `MOMENT=DAYS`, a step of a schedule; `None` where the text has another form.
+pub fn read_step(text: &[u8]) -> Option<(Moment, u64)>
+    ensures { result ≡ step_of text.now }
+{
+    let equals = first_equals(text)?;
+    step_by(&text[..equals], &text[equals + 1..])
+}
+
+fn first_equals(text: &[u8]) -> Option<usize>
+    ensures { result ≡ position (λ byte. byte == 61) text.now }
+{
+    text.iter().position(|byte| *byte == b'=')
+}
+
+fn step_by(from: &[u8], days: &[u8]) -> Option<(Moment, u64)>
+    ensures { result ≡ step_from from.now days.now }
+{
+    let days = read_number(days)?;
+    Some((read_moment(from)?, days))
+}
+
+fn read_moment(text: &[u8]) -> Option<Moment>
+    ensures { result ≡ moment_of text.now }
+{
+    Moment::read(text)
+}

@@ -1,0 +1,5 @@
+use Rattle.reg_desk_jobs.proofs.Fates.{told}
+use Rattle.reg_desk_jobs.proofs.output_lines.report_line.Goals as goal
+
+pub returns-in-Ok : goal.returns-in-Ok
+returns-in-Ok g c = told _ _ _ _ c.in-Ok.ensures.ok c.put.ensures

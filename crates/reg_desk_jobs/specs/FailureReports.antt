@@ -1,0 +1,40 @@
+-- What standard error gets at the end of a job.
+use Rattle.std.specs.Prelude.{◌≡◌, ◌⊎◌, ℕ, List, [], ◌∷◌, ◌++◌, Result, Ok, Err}
+use Rattle.std.specs.Prelude.{Bool, IsTrue, codes}
+use Rattle.std.specs.declared.option.Option.{Option}
+use Rattle.std.specs.Io.KnownBytes.{Appends}
+use Rattle.reg_core.specs.Causes.{cause_line}
+use Rattle.reg_core.specs.declared.cause.Cause.{Cause}
+use Rattle.reg_desk_cli.specs.ExitStatus.{failure_line, exit_status}
+use Rattle.reg_desk_cli.specs.declared.failure.Failure.{Failure}
+use Rattle.reg_desk_jobs.specs.Reasons.{reason_text}
+use Rattle.reg_desk_jobs.specs.declared.reasons.Reason.{Reason}
+use Rattle.reg_io.specs.Put.{AppendsPrefix}
+
+-- the bytes were written, or only a prefix of them, where the device failed
+abbrev pub IsWritten : Option (List ℕ) → Option (List ℕ) → List ℕ → Type 0
+IsWritten old new bytes = Appends old new bytes ⊎ AppendsPrefix old new bytes
+
+-- the line was written with its LF, or a prefix of that
+abbrev pub IsReportedLine : Option (List ℕ) → Option (List ℕ) → List ℕ → Type 0
+IsReportedLine old new line = IsWritten old new (line ++ 10 ∷ [])
+
+-- what standard error gets: nothing where the job is done, else the failure's line
+abbrev pub ReportsExit : Result (Unit {0}) Failure → Option (List ℕ) → Option (List ℕ) → Type 0
+ReportsExit (Ok done) old new = new ≡ old
+ReportsExit (Err why) old new = IsReportedLine old new (failure_line why)
+
+-- nothing is written, or why a registration was refused
+abbrev pub ReportsReason : Option (List ℕ) → Option (List ℕ) → Type 0
+ReportsReason old new = (new ≡ old) ⊎ ((reason : Reason) × IsReportedLine old new (codes "  " ++ reason_text reason))
+
+-- nothing more is written; or, where that is asked for, a cause where the exit status is 1, and why a registration was refused where it is 3
+abbrev pub Adds : Bool → ℕ → Option (List ℕ) → Option (List ℕ) → Type 0
+Adds is_asked exit_status old new =
+    (new ≡ old)
+    ⊎ (IsTrue is_asked × (((exit_status ≡ 1) × ((cause : Cause) × IsReportedLine old new (cause_line cause))) ⊎ ((exit_status ≡ 3) × ReportsReason old new)))
+
+-- what standard error gets of an ending where more is asked for or not: what it gets without that, and then perhaps one line more
+abbrev pub Explains : Bool → Result (Unit {0}) Failure → Option (List ℕ) → Option (List ℕ) → Type 0
+Explains is_asked ending old new =
+    (between : Option (List ℕ)) × ReportsExit ending old between × Adds is_asked (exit_status ending) between new

@@ -1,0 +1,14 @@
+-- What a signer at a path was asked, and what it gave.
+use Rattle.std.specs.Prelude.{◌≡◌, ℕ, List, Option, Some}
+
+-- there is a path, and this holds of it
+abbrev pub AtGivenPath : Option (List ℕ) → (List ℕ → Type 0) → Type 0
+AtGivenPath given_path Holds = (path : List ℕ) × (given_path ≡ Some path) × Holds path
+
+-- a signer at some path answered this message so
+abbrev pub AnsweredAtSomePath : (List ℕ → List ℕ → List ℕ → Type 0) → List ℕ → List ℕ → Type 0
+AnsweredAtSomePath signer_answered message answer = (path : List ℕ) × signer_answered path message answer
+
+-- the signer at the given path did
+abbrev pub AnsweredAtPath : (List ℕ → List ℕ → List ℕ → Type 0) → Option (List ℕ) → List ℕ → List ℕ → Type 0
+AnsweredAtPath signer_answered given_path message answer = AtGivenPath given_path (λ path. signer_answered path message answer)

@@ -1,0 +1,46 @@
+-- The received bytes that are kept, and the sent part of a text.
+use Rattle.std.specs.Prelude.{◌≡◌, ◌⊎◌, ℕ, List, [], ◌∷◌, ◌++◌, Option, drop}
+use Rattle.std.specs.Io.KnownBytes.{Appends, Consumes}
+use Rattle.reg_http_head.specs.Bytes.{collected_bytes}
+use Rattle.reg_http_head.specs.Collected.{IsWholeRequest}
+use Rattle.reg_http_head.specs.declared.collected.Collected.{Collected}
+use Rattle.reg_desk_server.specs.declared.request_bytes.Received.{Received}
+use Rattle.reg_desk_server.specs.declared.request_bytes.Received.TheVariants as received
+use Rattle.reg_desk_server.specs.declared.unsent.Sent.{Sent}
+use Rattle.reg_desk_server.specs.declared.unsent.Sent.TheVariants as sent
+use Rattle.reg_desk_server.specs.declared.unsent.Unsent.{Unsent}
+
+-- one more stands behind the others; out of memory, all is as it was
+abbrev pub AppendsIfMemory : {A : Type 0} → A → List A → List A → Type 0
+AppendsIfMemory one before after = (after ≡ before ++ one ∷ []) ⊎ (after ≡ before)
+
+-- bytes that came were held behind the others; the last of them may have been lost, where there was no memory for them
+abbrev pub AddsTo : List ℕ → List ℕ → List ℕ → Received → Type 0
+AddsTo before arrived after received.OutOfMemory = (kept : List ℕ) × (lost : List ℕ) × (arrived ≡ kept ++ lost) × (after ≡ before ++ kept)
+AddsTo before arrived after other = after ≡ before ++ arrived
+
+-- what was taken from the reader is held, in its order and whole
+pub record Receives (input left : Option (List ℕ)) (before after : List ℕ) (result : Received) : Type 0 where
+  pub arrived : List ℕ
+  pub consumed : Consumes input left arrived
+  pub held : AddsTo before arrived after result
+
+-- what was taken from the reader was collected, and where that ended at a whole request, one is held
+pub record Collects (input left : Option (List ℕ)) (before after : Collected) (result : Received) : Type 0 where
+  pub took : Receives input left (collected_bytes before) (collected_bytes after) result
+  pub whole : result ≡ received.Whole → ∥ IsWholeRequest (collected_bytes after) ∥₁
+
+-- the next bytes of what is left were appended to what the writer holds; where all was taken nothing is left
+pub record SendsOn (old new : Option (List ℕ)) (before after : List ℕ) (rests : Sent) : Type 0 where
+  pub went : List ℕ
+  pub appended : Appends old new went
+  pub parted : before ≡ went ++ after
+  pub all : rests ≡ sent.All → after ≡ []
+
+-- what is left of a text on its way to a client
+abbrev pub unsent_of : Unsent → List ℕ
+unsent_of unsent = drop unsent.sent unsent.text.items
+
+-- the next bytes of it were appended to what a writer holds
+abbrev pub SendsUnsent : {W : Type 0} → (W → Option (List ℕ)) → W → W → Unsent → Unsent → Sent → Type 0
+SendsUnsent contents s t before after rests = SendsOn (contents s) (contents t) (unsent_of before) (unsent_of after) rests

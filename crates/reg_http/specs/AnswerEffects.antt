@@ -1,0 +1,80 @@
+-- An answer's response, with what became of its signature, what it says of the store, and the request for revocation that it
+-- names.
+use Rattle.std.specs.Prelude.{ℕ, List, codes, Option, Some, Some as ground, None, Result, Ok, Err}
+use Rattle.reg_office_api.specs.Responses.{signature_of, store_of, store_of_fault}
+use Rattle.reg_office_api.specs.declared.effects.SignatureFate.{SignatureFate}
+use Rattle.reg_office_api.specs.declared.effects.SignatureFate.TheVariants.{NotAsked}
+use Rattle.reg_office_api.specs.declared.effects.StoreEffect.{StoreEffect}
+use Rattle.reg_office_api.specs.declared.effects.StoreEffect.TheVariants.{Unwritten, Written}
+use Rattle.reg_office_api.specs.declared.response.ResponseKind.{ResponseKind}
+use Rattle.reg_core.specs.declared.command.Reply.{Reply}
+use Rattle.reg_core.specs.declared.command.Reply.TheVariants.{Status, Counts, Request}
+use Rattle.reg_core.specs.declared.memory.Memory.{Memory as NoMemory}
+use Rattle.reg_core.specs.declared.refusal.Fault.{Fault}
+use Rattle.reg_core.specs.declared.refusal.Fault.TheVariants.{Memory, Store}
+use Rattle.reg_http_head.specs.Response.{Response, shown}
+use Rattle.reg_http.specs.Bodies.{counts_text, der, due_text, fault_response, json, status_text}
+use Rattle.reg_http.specs.declared.answered.Answered.{Answered}
+use Rattle.reg_http.specs.declared.answered.NamedRequest.{NamedRequest}
+
+pub record AnswerEffects : Type 0 where
+  pub response : Response
+  pub signature : SignatureFate
+  pub store : StoreEffect
+  pub named : Option NamedRequest
+
+-- the same of an answer
+abbrev pub answer_effects : Answered → AnswerEffects
+answer_effects answered = record {
+  response = shown answered.answer;
+  signature = answered.signature;
+  store = answered.store;
+  named = answered.named;
+}
+
+-- a response without a signature, which says this of the store and names no request
+abbrev pub unsigned_answer : Response → StoreEffect → AnswerEffects
+unsigned_answer response effect = record { response = response; signature = NotAsked; store = effect; named = None }
+
+-- a response that says nothing of the store either
+abbrev pub plain : Response → AnswerEffects
+plain response = unsigned_answer response Unwritten
+
+-- the answer to a refusal or a fault is its line
+abbrev pub fault_effects : Fault → AnswerEffects
+fault_effects fault = unsigned_answer (fault_response fault) (store_of_fault fault)
+
+-- a reply to what a request can ask: 200 with its body; any other, which no office gives, is a fault of the store
+abbrev pub reply_effects : Reply → AnswerEffects
+reply_effects (Status status) = plain (json 200 (status_text status))
+reply_effects (Counts counts) = plain (json 200 (counts_text counts))
+reply_effects (Request id due) = unsigned_answer (json 200 (due_text id due)) Written
+reply_effects other = fault_effects Store
+
+abbrev pub outcome_effects : Result Reply Fault → AnswerEffects
+outcome_effects (Ok reply) = reply_effects reply
+outcome_effects (Err fault) = fault_effects fault
+
+-- the request for revocation that a command entered: by the id that the reply has, and the serial number and the word that the command had
+abbrev pub entered_request : ℕ → List ℕ → Result Reply Fault → Option NamedRequest
+entered_request serial word (Ok (Request id due)) = Some (record { id = id; serial = serial; ground = ground word })
+entered_request serial word other = None
+
+-- the outcome of a command for a revocation, which names the request that it entered
+abbrev pub request_effects : ℕ → List ℕ → Result Reply Fault → AnswerEffects
+request_effects serial word outcome = record (outcome_effects outcome) { named = entered_request serial word outcome }
+
+-- a CRL (RFC 2585 4.2), or why there is none
+abbrev pub crl_effects : Result (List ℕ) Fault → AnswerEffects
+crl_effects (Ok body) = plain (der (codes "application/pkix-crl") body)
+crl_effects (Err fault) = fault_effects fault
+
+-- an OCSP response, of any status (RFC 6960 A.2), by its kind; out of memory is a fault
+abbrev pub ocsp_effects : Result (ResponseKind × List ℕ) NoMemory → AnswerEffects
+ocsp_effects (Ok given) = record {
+  response = der (codes "application/ocsp-response") given.1;
+  signature = signature_of given.0;
+  store = store_of given.0;
+  named = None;
+}
+ocsp_effects (Err memory) = fault_effects Memory

@@ -1,8 +1,0 @@
-use Rattle.reg_io.proofs.PublicLaws as laws
-use Rattle.reg_io.proofs.laws.held_is_what_came.Goals as goal
-
-pub returns-clause-all : goal.returns-clause-all
-returns-clause-all c = laws.held_now
-
-pub returns-clause-parts : goal.returns-clause-parts
-returns-clause-parts c = laws.cut_at_mark

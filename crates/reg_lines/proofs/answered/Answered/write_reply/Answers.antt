@@ -1,0 +1,14 @@
+use Rattle.std.proofs.Common.{◌∙◌}
+use Rattle.std.proofs.lemmas.Bool.{false≢true}
+use Rattle.reg_lines.proofs.Accepting.{told_why}
+use Rattle.reg_lines.proofs.answered.Answered.write_reply.Goals as goal
+
+pub returns-then-not-is_accepted : goal.returns-then-not-is_accepted
+returns-then-not-is_accepted g c = (
+  c.in_ok-write.ensures,
+  (
+    c.if-is_strict.true,
+    (λ accepted. false≢true (c.if-not-is_accepted.ensures ∙ c.requires.1 accepted)),
+    rw c.refused.ensures (told_why c.args.self.now),
+  ),
+)

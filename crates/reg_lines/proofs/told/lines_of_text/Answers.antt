@@ -1,4 +1,0 @@
-use Rattle.reg_lines.proofs.told.lines_of_text.Goals as goal
-
-pub returns-in-Ok : goal.returns-in-Ok
-returns-in-Ok c = c.in-Ok.ensures c.args.text.now c.rows_of-rows.ensures.reads
