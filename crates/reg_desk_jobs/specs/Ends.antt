@@ -43,7 +43,7 @@ use Rattle.reg_desk_metrics.specs.Ahead.{is_ahead}
 use Rattle.reg_desk_jobs.specs.Conversations.{AtControlSocket, RowsAtControlSocket}
 use Rattle.reg_desk_jobs.specs.Copies.{copied_text}
 use Rattle.reg_desk_jobs.specs.Digest.{digest_alone, digests}
-use Rattle.reg_desk_jobs.specs.RegisterFailures.{IsMaking, IsOpening}
+use Rattle.reg_desk_jobs.specs.RegisterFailures.{IsMaking, IsOpening, IsFileFailure}
 use Rattle.reg_office_api.specs.LookUps.{IsOfStore}
 use Rattle.reg_office_api.specs.Settings.{Identifies, Reschedules}
 use Rattle.reg_desk_jobs.specs.SignerAnswers.{AnsweredAtPath}
@@ -144,7 +144,7 @@ module _ {M O D S R W : Type 0} (machines : Machine M O D S R) (offices : Office
   -- how many milliseconds it took
   abbrev pub CopyAt : List ℕ → List ℕ → Result (Unit {0}) Failure → Type 0
   CopyAt path to result =
-      ((why : Failure) × (result ≡ Err why) × machines.uncopied machine path to why machine' × IsOpening why × (writer' ≡ writer))
+      ((why : Failure) × (result ≡ Err why) × machines.uncopied machine path to why machine' × IsFileFailure why × (writer' ≡ writer))
       ⊎ ((bytes millis : ℕ) × machines.copied machine path to bytes machine'
       × PrintsLine (copied_text bytes millis) contents writer writer' result)
 

@@ -17,3 +17,9 @@ IsOpening failure.NewVersion = Unit {0}
 IsOpening failure.BadSigner = Unit {0}
 IsOpening failure.BadResponder = Unit {0}
 IsOpening other = ⊥
+
+-- of a file that is looked at or copied: such a fault, or a file that holds no register
+abbrev pub IsFileFailure : Failure → Type 0
+IsFileFailure (failure.Fault fault) = IsOfStore fault
+IsFileFailure failure.NotARegister = Unit {0}
+IsFileFailure other = ⊥

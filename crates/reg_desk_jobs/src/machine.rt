@@ -31,7 +31,7 @@ pub trait Machine {
     ghost use Rattle.reg_audit_rows.specs.declared.audit_result.AuditResult.{AuditResult as AuditResults};
     ghost use Rattle.reg_desk_jobs.specs.Clocks.{IsClockMoment};
     ghost use Rattle.reg_desk_jobs.specs.SignerAnswers.{AnsweredAtSomePath};
-    ghost use Rattle.reg_desk_jobs.specs.RegisterFailures.{IsMaking, IsOpening};
+    ghost use Rattle.reg_desk_jobs.specs.RegisterFailures.{IsMaking, IsOpening, IsFileFailure};
     ghost use Rattle.reg_desk_jobs.specs.Signers.{HasCertificate};
     ghost use Rattle.reg_desk_jobs.specs.declared.crl_signer.CrlSigner.{CrlSigner as SignsCrls};
     ghost use Rattle.reg_crl_signer.specs.SignatureRequest.{IsSignatureRequest};
@@ -135,7 +135,7 @@ pub trait Machine {
     fn look_at(&self, path: &str) -> Result<(), Failure>
         ensures begun { OnOk result (begun self.now path.now) }
         ensures unread { IfErr result (unread self.now path.now) }
-        ensures faults { IfErr result IsOpening };
+        ensures faults { IfErr result IsFileFailure };
 
     /// Opens the file at a path as a database, and creates one where none is; `Store` where that can't be done.
     fn connect(&mut self, path: &str) -> Result<Self::Database, Failure>
@@ -186,7 +186,7 @@ pub trait Machine {
     fn read(&self, path: &str) -> Result<Self::Sources, Failure>
         ensures read { IfOk result (read self.now path.now) }
         ensures unread { IfErr result (unread self.now path.now) }
-        ensures faults { IfErr result IsOpening };
+        ensures faults { IfErr result (λ why. (why ≡ Failure.Fault Fault.Memory) ⊎ (why ≡ Failure.Fault Fault.Store)) };
 
     /// Audits the register in files, without migrating an older version; `NotARegister` and `NewVersion` for other tables.
     fn audit_in(&self, sources: Self::Sources) -> Result<AuditResult, Failure>
@@ -199,7 +199,7 @@ pub trait Machine {
     fn copy(&mut self, path: &str, to: &str) -> Result<u64, Failure>
         ensures ok { IfOk result (λ bytes. copied self.old path.now to.now bytes self.new) }
         ensures err { IfErr result (λ why. uncopied self.old path.now to.now why self.new) }
-        ensures faults { IfErr result IsOpening };
+        ensures faults { IfErr result IsFileFailure };
 
     /// Copies the register that this program has open in the same way, as it is between two calls of it; a fault of the store also where the file
     /// at the path is not the one that is open.

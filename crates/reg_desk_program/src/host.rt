@@ -5,7 +5,7 @@ ghost use Rattle.std.specs.Duration.{as_nanos};
 ghost use Rattle.reg_office_api.specs.LookUps.{IsOfStore};
 ghost use Rattle.reg_office_api.specs.Leads.{Leads};
 ghost use Rattle.reg_desk_files.specs.Reading.{IsUnread};
-ghost use Rattle.reg_desk_jobs.specs.RegisterFailures.{IsOpening};
+ghost use Rattle.reg_desk_jobs.specs.RegisterFailures.{IsOpening, IsFileFailure};
 ghost use Rattle.reg_desk_program.specs.Calls.{Unsaid, is_claimed};
 ghost use Rattle.reg_desk_program.specs.Files.{failure_of};
 ghost use Rattle.reg_crl_signer.specs.SignatureRequest.{IsSignatureRequest};
@@ -67,6 +67,7 @@ impl<'a> Host<'a> {
         requires { IsUnread why }
         ensures told { result ≡ failure_of why }
         ensures opening { IsOpening result }
+        ensures reading { IsFileFailure result }
     {
         match why {
             Unread::Nothing => Failure::NotARegister,

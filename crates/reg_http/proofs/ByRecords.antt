@@ -1,8 +1,8 @@
 -- What a request comes to, by the calls of an office, is a step of the records that stand in it.
-use Rattle.std.proofs.Common.{◌≡◌, ℕ, List, refl, subst, sym, ◌∙◌}
+use Rattle.std.proofs.Common.{◌≡◌, ℕ, List, refl, subst, sym}
 use Rattle.std.specs.Prelude.{Result, Ok, Err}
 use Rattle.reg_office_api.specs.CallSteps.{Runs, Asks, Ocsps, Crls}
-use Rattle.reg_office_api.specs.Calls.{RunsIn, AsksIn, OcspsIn, RepliesIn, DraftsIn, CrlsIn}
+use Rattle.reg_office_api.specs.Calls.{RunsIn, AsksIn, DraftsIn, CrlsIn}
 use Rattle.reg_office_api.specs.Drafts.{Begins, Drafts}
 use Rattle.reg_office_api.specs.Leads.{Leads}
 use Rattle.reg_office_api.specs.Responses.{Replies}
@@ -15,7 +15,7 @@ use Rattle.reg_core.specs.Records.{Records}
 use Rattle.reg_core.specs.declared.memory.Memory.{Memory}
 use Rattle.reg_http_head.specs.Response.{Response}
 use Rattle.reg_http.specs.Added.{AddsARequestAtMost}
-use Rattle.reg_http.specs.Answers.{Answers, BeginsTo, RespondsTo, BeginsOcsp, of_any_kind}
+use Rattle.reg_http.specs.Answers.{Answers, BeginsIn, BeginsTo, RespondsIn, RespondsTo, BeginsOcsp, of_any_kind}
 use Rattle.reg_http.specs.RoutedRequests.{RoutedRequest, refused, only, unread, malformed, ocsp_of, crl_of, status_of, counts_of, request_of}
 use Rattle.reg_http.specs.AnswerEffects.{AnswerEffects, answer_effects}
 use Rattle.reg_http.specs.declared.answered.Answered.{Answered}
@@ -68,43 +68,39 @@ module _ {O : Type 0} (office : Office O) (now : ℕ) (s t : O) where
         (λ signatory before after made. ((given, made, is), request_adds (signed_by office.signs signatory.crls) now serial word before after given made)) s t came
 
   -- the response alone, to what is asked
-  pub responds_leads : (what asks : RoutedRequest) (response : Response) → what ≡ asks
-      → RespondsTo (RunsIn office) (AsksIn office) (OcspsIn office) (CrlsIn office) now s what response t
+  pub responds_to : (what asks : RoutedRequest) (response : Response) → what ≡ asks → RespondsIn office now s what response t → RespondsIn office now s asks response t
+  responds_to what asks response is = subst (λ a. RespondsIn office now s a response t) is
+
+  pub responds_leads : (asks : RoutedRequest) (response : Response) → RespondsIn office now s asks response t
       → Leads office.is_clean office.stands
       (λ signatory before after. RespondsTo (Runs office.signs signatory) Asks (Ocsps office.signs signatory) Crls now before asks response after
       × AddsARequestAtMost now before after)
       s t
-  responds_leads what asks response is (it, answered, same) =
-      let P : RoutedRequest → Type 0 = λ a. Answers (RunsIn office) (AsksIn office) (of_any_kind (OcspsIn office)) (CrlsIn office) now s a it t in
+  responds_leads asks response (it, answered, same) =
       follows office.is_clean office.stands _ _ (λ signatory before after made. ((it, made.0, same), made.1)) s t
-      (answer_leads (λ signatory. of_any_kind (Ocsps office.signs signatory)) (ocsps_stay office.signs) asks it (subst P is answered))
+      (answer_leads (λ signatory. of_any_kind (Ocsps office.signs signatory)) (ocsps_stay office.signs) asks it answered)
 
   -- the answer, or what is left to be signed for it
-  abbrev Begin : RoutedRequest → Begun Answered Drafted → Type 0
-  Begin what begun = Leads office.is_clean office.stands
-      (λ signatory before after. BeginsTo (Runs office.signs signatory) Asks (Replies office.signs signatory) Crls (Drafts signatory) now before what begun after
+  pub begins_to : (what asks : RoutedRequest) (begun : Begun Answered Drafted) → what ≡ asks → BeginsIn office now s what begun t → BeginsIn office now s asks begun t
+  begins_to what asks begun is = subst (λ a. BeginsIn office now s a begun t) is
+
+  pub begin_leads : (asks : RoutedRequest) (begun : Begun Answered Drafted) → BeginsIn office now s asks begun t
+      → Leads office.is_clean office.stands
+      (λ signatory before after. BeginsTo (Runs office.signs signatory) Asks (Replies office.signs signatory) Crls (Drafts signatory) now before asks begun after
       × AddsARequestAtMost now before after)
       s t
+  begin_leads asks (Ready answered) made = answer_leads (Replies office.signs) (replies_stay office.signs) asks (answer_effects answered) made
+  begin_leads asks (Unsigned draft) (request, is, drafted) =
+      follows office.is_clean office.stands _ _ (λ signatory before after made. ((request, is, made), nothing_added now before after made.1)) s t drafted
 
-  pub begin_leads : (what asks : RoutedRequest) (begun : Begun Answered Drafted) → what ≡ asks
-      → BeginsTo (RunsIn office) (AsksIn office) (RepliesIn office) (CrlsIn office) (DraftsIn office) now s what begun t → Begin asks begun
-  begin_leads what asks (Ready answered) is made =
-      let P : RoutedRequest → Type 0 = λ a. Answers (RunsIn office) (AsksIn office) (RepliesIn office) (CrlsIn office) now s a (answer_effects answered) t in
-      answer_leads (Replies office.signs) (replies_stay office.signs) asks (answer_effects answered) (subst P is made)
-  begin_leads what asks (Unsigned draft) same (request, is, drafted) =
-      follows office.is_clean office.stands _ _
-      (λ signatory before after made. ((request, sym same ∙ is, made), nothing_added now before after made.1)) s t drafted
-
-  -- the same of an OCSP request, as the office begins its response
-  pub ocsp_leads : (request : List ℕ) (asks : RoutedRequest) (given : Result (Begun OcspResponse Drafted) Memory) (begun : Begun Answered Drafted)
-      → ocsp_of request ≡ asks
+  -- an OCSP request, as the office begins its response
+  pub begins_ocsp : (request : List ℕ) (given : Result (Begun OcspResponse Drafted) Memory) (begun : Begun Answered Drafted)
       → Leads office.is_clean office.stands (λ signatory before after. Begins (Replies office.signs signatory) (Drafts signatory) before now request given after) s t
-      → BeginsOcsp given begun → Begin asks begun
-  ocsp_leads request asks (Ok (Ready response)) (Ready answered) is came it =
-      begin_leads (ocsp_of request) asks (Ready answered) is (Ok (response.kind, response.bytes.items), came, it)
-  ocsp_leads request asks (Ok (Unsigned draft)) (Unsigned left) is came it =
-      begin_leads (ocsp_of request) asks (Unsigned left) is (request, refl, subst (λ d. DraftsIn office s now request d t) (sym it) came)
-  ocsp_leads request asks (Err memory) (Ready answered) is came it = begin_leads (ocsp_of request) asks (Ready answered) is (Err memory, came, it)
-  ocsp_leads request asks (Ok (Ready response)) (Unsigned left) is came it = absurd it
-  ocsp_leads request asks (Ok (Unsigned draft)) (Ready answered) is came it = absurd it
-  ocsp_leads request asks (Err memory) (Unsigned left) is came it = absurd it
+      → BeginsOcsp given begun → BeginsIn office now s (ocsp_of request) begun t
+  begins_ocsp request (Ok (Ready response)) (Ready answered) came it = (Ok (response.kind, response.bytes.items), came, it)
+  begins_ocsp request (Ok (Unsigned draft)) (Unsigned left) came it =
+      (request, refl, subst (λ d. DraftsIn office s now request d t) (sym it) came)
+  begins_ocsp request (Err memory) (Ready answered) came it = (Err memory, came, it)
+  begins_ocsp request (Ok (Ready response)) (Unsigned left) came it = absurd it
+  begins_ocsp request (Ok (Unsigned draft)) (Ready answered) came it = absurd it
+  begins_ocsp request (Err memory) (Unsigned left) came it = absurd it

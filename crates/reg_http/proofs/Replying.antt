@@ -1,5 +1,5 @@
 -- The response to what is asked, and to a request that was read, once it is sent.
-use Rattle.std.proofs.Common.{◌≡◌, ℕ, List, inl, refl}
+use Rattle.std.proofs.Common.{◌≡◌, ◌+◌, ℕ, List, inl, refl}
 use Rattle.std.specs.Prelude.{Option, Result, Ok, Err, OnOk, IfErr}
 use Rattle.std.specs.Io.KnownBytes.{Appends}
 use Rattle.reg_core.specs.declared.command.Command.{Command}
@@ -8,7 +8,8 @@ use Rattle.reg_core.specs.declared.command.Reply.{Reply}
 use Rattle.reg_core.specs.declared.memory.Memory.{Memory as NoMemory}
 use Rattle.reg_core.specs.declared.refusal.Fault.{Fault}
 use Rattle.reg_core.specs.declared.refusal.Fault.TheVariants.{Memory, Write}
-use Rattle.reg_http_head.specs.Frame.{asked}
+use Rattle.reg_http_head.specs.Frame.{Framed, Part, TakesAtMost, asked}
+use Rattle.reg_http_head.specs.Head.{longest_head, longest_body}
 use Rattle.reg_http_head.specs.Response.{IsText, Response}
 use Rattle.reg_office_api.specs.declared.response.ResponseKind.{ResponseKind}
 use Rattle.reg_office_api.specs.declared.response.ResponseKind.TheVariants.{Signed}
@@ -19,7 +20,7 @@ use Rattle.reg_http.specs.Parts.{request_of_call}
 use Rattle.reg_http.specs.AnswerEffects.{AnswerEffects, ocsp_effects}
 use Rattle.reg_http.specs.declared.parts.Call.{Call}
 use Rattle.reg_http.specs.declared.parts.Call.TheVariants as call
-use Rattle.reg_http.specs.Served.{ReplyEnds}
+use Rattle.reg_http.specs.Served.{ReplyEnds, ServingEnds}
 use Rattle.reg_io.specs.Put.{AppendsPrefix}
 
 module _ {S : Type 0} (runs : S → ℕ → Command → Result Reply Fault → S → Type 0)
@@ -36,6 +37,31 @@ module _ {S : Type 0} (runs : S → ℕ → Command → Result Reply Fault → S
       (failed.1.0, inl (response, made, failed.1.1), failed.1.2)
   reply_ends now s t method target body response out written (Err Memory) made sent failed = tt
   reply_ends now s t method target body response out written (Err other) made sent failed = absurd (cc (failed.0))
+
+  -- the serving of a request that was read, by how the reply to it ends
+  pub serving_ends : (now : ℕ) (s t : S) (part : Part) (input left out written : Option (List ℕ)) (result : Result (Unit {0}) Fault)
+      → TakesAtMost input left (longest_head + longest_body) (λ took. Framed took part)
+      → ReplyEnds runs asks ocsps crls now s t part out written result → ServingEnds runs asks ocsps crls now s t input left out written result
+  serving_ends now s t part input left out written (Ok done) (took, consumed, few, framed) ends = record {
+    took = took;
+    part = part;
+    text = ends.0;
+    takes = record { consumed = consumed; few = few };
+    framed = framed;
+    responds = ends.1;
+    wrote = ends.2;
+  }
+  serving_ends now s t part input left out written (Err Write) (took, consumed, few, framed) ends = record {
+    took = took;
+    part = part;
+    text = ends.0;
+    takes = record { consumed = consumed; few = few };
+    framed = framed;
+    responds = ends.1;
+    wrote = ends.2;
+  }
+  serving_ends now s t part input left out written (Err Memory) (took, consumed, few, framed) ends = (took, record { consumed = consumed; few = few })
+  serving_ends now s t part input left out written (Err other) taken ends = absurd ends
 
   -- an OCSP response, as bytes
   pub ocsp_responds : (now : ℕ) (s t : S) (request : List ℕ) (given : Result (List ℕ) NoMemory) (response : Response)

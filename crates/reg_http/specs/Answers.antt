@@ -1,6 +1,6 @@
 -- The answer to each request, by the calls of the office.
 use Rattle.std.specs.Prelude.{◌≡◌, ℕ, List, Option, Result, Ok, Err, codes}
-use Rattle.reg_office_api.specs.Calls.{RunsIn, AsksIn, RepliesIn, CrlsIn}
+use Rattle.reg_office_api.specs.Calls.{RunsIn, AsksIn, OcspsIn, RepliesIn, DraftsIn, CrlsIn}
 use Rattle.reg_office_api.specs.declared.office.Office.{Ghosts as Office}
 use Rattle.reg_office_api.specs.declared.response.OcspResponse.{OcspResponse}
 use Rattle.reg_office_api.specs.declared.response.ResponseKind.{ResponseKind}
@@ -75,3 +75,11 @@ RespondsTo runs asks ocsps crls now s what response t = (it : AnswerEffects) × 
 -- the answers of an office, by its calls
 abbrev pub AnswersIn : {O : Type 0} → Office O → ℕ → O → RoutedRequest → AnswerEffects → O → Type 0
 AnswersIn office = Answers (RunsIn office) (AsksIn office) (RepliesIn office) (CrlsIn office)
+
+-- the same with what is left to be signed
+abbrev pub BeginsIn : {O : Type 0} → Office O → ℕ → O → RoutedRequest → Begun Answered Drafted → O → Type 0
+BeginsIn office = BeginsTo (RunsIn office) (AsksIn office) (RepliesIn office) (CrlsIn office) (DraftsIn office)
+
+-- its responses, by its calls
+abbrev pub RespondsIn : {O : Type 0} → Office O → ℕ → O → RoutedRequest → Response → O → Type 0
+RespondsIn office = RespondsTo (RunsIn office) (AsksIn office) (OcspsIn office) (CrlsIn office)

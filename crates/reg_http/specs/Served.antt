@@ -1,6 +1,8 @@
 -- How serving one request ends.
 use Rattle.std.specs.Prelude.{◌≡◌, ℕ, ◌+◌, ◌≤◌, ◌⊎◌, List, length, Option, Result, Ok, Err}
 use Rattle.std.specs.Io.KnownBytes.{Consumes, Appends}
+use Rattle.reg_office_api.specs.Calls.{RunsIn, AsksIn, OcspsIn, CrlsIn}
+use Rattle.reg_office_api.specs.declared.office.Office.{Ghosts as Office}
 use Rattle.reg_core.specs.declared.command.Command.{Command}
 use Rattle.reg_core.specs.declared.command.Query.{Query}
 use Rattle.reg_core.specs.declared.command.Reply.{Reply}
@@ -57,3 +59,11 @@ module _ {S : Type 0} (runs : S → ℕ → Command → Result Reply Fault → S
   ServingEnds now s t input left out written (Err Read) = (took : List ℕ) × TakesRequest input left took × IsUnfinished took
   ServingEnds now s t input left out written (Err Memory) = (took : List ℕ) × TakesRequest input left took
   ServingEnds now s t input left out written (Err other) = ⊥
+
+-- how a reply and the serving of a request end by the calls of an office
+module _ {O : Type 0} (office : Office O) where
+  abbrev pub ReplyEndsIn : ℕ → O → O → Part → Option (List ℕ) → Option (List ℕ) → Result (Unit {0}) Fault → Type 0
+  ReplyEndsIn = ReplyEnds (RunsIn office) (AsksIn office) (OcspsIn office) (CrlsIn office)
+
+  abbrev pub ServingEndsIn : ℕ → O → O → Option (List ℕ) → Option (List ℕ) → Option (List ℕ) → Option (List ℕ) → Result (Unit {0}) Fault → Type 0
+  ServingEndsIn = ServingEnds (RunsIn office) (AsksIn office) (OcspsIn office) (CrlsIn office)

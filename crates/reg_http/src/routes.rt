@@ -7,7 +7,7 @@ ghost use Rattle.reg_office_api.specs.Leads.{Leads};
 ghost use Rattle.reg_office_api.specs.Responses.{Replies};
 ghost use Rattle.reg_http_head.specs.Response.{shown};
 ghost use Rattle.reg_http.specs.Added.{AddsARequestAtMost};
-ghost use Rattle.reg_http.specs.Answers.{BeginsTo, RespondsTo};
+ghost use Rattle.reg_http.specs.Answers.{BeginsIn, BeginsTo, RespondsIn, RespondsTo};
 ghost use Rattle.reg_http.specs.RoutedRequests.{asked, requested_serial};
 ghost use Rattle.reg_http.specs.Bodies.{http_refusal, only as only_response};
 ghost use Rattle.reg_http.specs.Parts.{request_of_call};
@@ -46,6 +46,8 @@ pub fn answer<O: Office>(
         × AddsARequestAtMost now before after)
         office.old office.new) }
     ensures memory { OnErr result (office.new ≡ office.old) }
+    ensures calls { IfOk result (λ answer. RespondsIn O.Office now office.old
+        (asked method.now target.now body.now) (shown answer) office.new) }
 {
     let room = json_room(alloc)?;
     match read_part(alloc, method, target, body)? {
@@ -71,6 +73,8 @@ pub fn begin<O: Office>(
         × AddsARequestAtMost now before after)
         office.old office.new) }
     ensures memory { OnErr result (office.new ≡ office.old) }
+    ensures calls { IfOk result (λ begun. BeginsIn O.Office now office.old
+        (asked method.now target.now body.now) begun office.new) }
 {
     let room = json_room(alloc)?;
     match read_part(alloc, method, target, body)? {

@@ -9,7 +9,7 @@ ghost use Rattle.reg_http_head.specs.Frame.{part_of};
 ghost use Rattle.reg_http_head.specs.Response.{IsText, memory_text, shown};
 ghost use Rattle.reg_http.specs.Added.{AddsARequestAtMost};
 ghost use Rattle.reg_http.specs.Bodies.{http_refusal as refusal_of};
-ghost use Rattle.reg_http.specs.Served.{ReplyEnds, ServingEnds};
+ghost use Rattle.reg_http.specs.Served.{ReplyEnds, ReplyEndsIn, ServingEnds, ServingEndsIn};
 
 use crate::bodies::{json_room, refusal};
 use crate::routes::answer;
@@ -81,6 +81,8 @@ fn reply<W: Write, O: Office>(
         office.old office.new }
     ensures silent { IfErr result (λ fault. fault ≢ Fault.Write
         → (writer.new ≡ writer.old) × (office.new ≡ office.old)) }
+    ensures calls { ReplyEndsIn O.Office now office.old office.new (part_of request)
+        (W.contents writer.old) (W.contents writer.new) result }
 {
     match request {
         Request::Refused(status) => refuse(alloc, writer, room, status, now),
@@ -124,6 +126,8 @@ pub fn serve_one<R: Read, W: Write, O: Office>(
         office.old office.new }
     ensures silent { IfErr result (λ fault. fault ≢ Fault.Write
         → (writer.new ≡ writer.old) × (office.new ≡ office.old)) }
+    ensures calls { ServingEndsIn O.Office now office.old office.new (R.remaining reader.old) (R.remaining reader.new)
+        (W.contents writer.old) (W.contents writer.new) result }
 {
     let Ok(room) = Vec::with_capacity(alloc, HEAD_ROOM) else {
         return Err(Fault::Memory);

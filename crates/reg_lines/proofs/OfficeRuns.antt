@@ -8,12 +8,12 @@ use Rattle.reg_core.specs.declared.refusal.Fault.{Fault}
 use Rattle.reg_lines.specs.Accepted.{done_of}
 use Rattle.reg_lines.specs.Answer.{ComesTo}
 use Rattle.reg_lines.specs.declared.answered.Answered.{Answered as LineOutcome}
-use Rattle.reg_lines.specs.ByCalls.{CountsFailure, LineCalls, Lines}
+use Rattle.reg_lines.specs.ByCalls.{LineCalls, Lines}
 use Rattle.reg_lines.specs.Import.{ImportEnds}
 use Rattle.reg_lines.specs.Script.{LinesEnd, ScriptEnds}
 use Rattle.reg_lines.specs.Strict.{StrictEnds}
 use Rattle.reg_lines.specs.declared.answered.Ended.{Ended}
-use Rattle.reg_lines.proofs.ScriptsAndImports.{comes_moves, import_moves, input_moves, lines_follow, strict_import_moves}
+use Rattle.reg_lines.proofs.ScriptsAndImports.{comes_moves, import_moves, input_moves, strict_import_moves}
 
 -- a command line leads from records to records
 pub line_leads : {O : Type 0} (office : Office O) (s t : O) (now : ℕ) (line : List ℕ) (came : LineOutcome) → ComesTo (LineCalls office) now s line came t
@@ -33,21 +33,13 @@ module _ {O E W : Type 0} (office : Office O) (remaining : E → Option (List �
       input_moves office.is_clean office.stands (LineCalls office) (Lines office.signs) (λ v now call w called. called.0)
       told is_clocked is_strict remaining contents s t reader reader' writer writer' result ends
 
-  -- a script leads so too, and each fault of the signer that it tells was counted
-  module _ (told : ℕ → Type 0) (ran : Result Ended Fault) (result : Result (Unit {0}) Fault) (is : result ≡ done_of ran) where
-    pub script_leads : Leads office.is_clean office.stands
-        (λ signatory before after. LinesEnd (Lines office.signs signatory) remaining contents before after reader reader' writer writer' told false false ran) s t
-        → Leads office.is_clean office.stands
-        (λ signatory before after. ScriptEnds (Lines office.signs signatory) remaining contents before after reader reader' writer writer' result) s t
-    script_leads = follows office.is_clean office.stands _ _ (λ signatory before after ends. (ran, ends, is)) s t
-
-    pub script_counts : LinesEnd (LineCalls office) remaining contents s t reader reader' writer writer' told false false ran
-        → ScriptEnds (λ v now call w. CountsFailure (office.failures v) call (office.failures w)) remaining contents s t reader reader' writer writer' result
-    script_counts ends = (
-      ran,
-      lines_follow (LineCalls office) _ told false false remaining contents s t reader reader' writer writer' ran (λ v now call w called. called.1) ends,
-      is,
-    )
+  -- a script leads so too
+  pub script_leads : (told : ℕ → Type 0) (ran : Result Ended Fault) (result : Result (Unit {0}) Fault) → result ≡ done_of ran
+      → Leads office.is_clean office.stands
+      (λ signatory before after. LinesEnd (Lines office.signs signatory) remaining contents before after reader reader' writer writer' told false false ran) s t
+      → Leads office.is_clean office.stands
+      (λ signatory before after. ScriptEnds (Lines office.signs signatory) remaining contents before after reader reader' writer writer' result) s t
+  script_leads told ran result is = follows office.is_clean office.stands _ _ (λ signatory before after ends. (ran, ends, is)) s t
 
   -- an import
   pub import_leads : (now : ℕ) (result : Result (Unit {0}) Fault)

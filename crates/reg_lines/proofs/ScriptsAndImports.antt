@@ -1,5 +1,5 @@
 -- Runs of lines, and imports, over an office that keeps records.
-use Rattle.std.proofs.Common.{◌≡◌, ℕ, Bool, true, false, List, map, refl, sym, subst, inl, inr}
+use Rattle.std.proofs.Common.{ℕ, Bool, true, false, List, map, inl, inr}
 use Rattle.std.specs.Prelude.{Result, Ok, Err}
 use Rattle.std.specs.declared.option.Option.{Option}
 use Rattle.reg_core.specs.declared.refusal.Fault.{Fault}
@@ -185,21 +185,3 @@ module _ {S I R : Type 0} (is_clean : S → Type 0) (stands : I → S → R → 
       ends_moves remaining s t reader reader' writer writer' (StrictRan answers now s t (contents writer) (contents writer'))
       (λ i before after. StrictRan (kept i) now before after (contents writer) (contents writer')) result
       (λ text run. strict_run_moves now s t (contents writer) (contents writer') text result run)
-
--- a run of lines, by a relation that follows from each answer
-pub lines_follow : {S E W : Type 0} (answers other : S → ℕ → Call → S → Type 0) (told : ℕ → Type 0) (is_clocked is_strict : Bool)
-    (remaining : E → Option (List ℕ)) (contents : W → Option (List ℕ)) (s t : S) (reader reader' : E) (writer writer' : W) (result : Result Ended Fault)
-    → ((s : S) (now : ℕ) (call : Call) (t : S) → answers s now call t → other s now call t)
-    → LinesEnd answers remaining contents s t reader reader' writer writer' told is_clocked is_strict result
-    → LinesEnd other remaining contents s t reader reader' writer writer' told is_clocked is_strict result
-lines_follow {S} answers other told is_clocked is_strict remaining contents s t reader reader' writer writer' result from ends =
-    let moved =
-    input_moves (λ v. Unit {0}) (λ (i : Unit {0}) (v w : S). v ≡ w) answers (λ i. other) (λ v now call w answered. (
-      (λ clean. clean),
-      (λ i before is clean.
-          let P : S → Type 0 = λ b. other b now call w in
-          (w, subst P is (from v now call w answered), refl)),
-    )) told is_clocked is_strict remaining contents s t reader reader' writer writer' result ends in
-    let (after, made, is) = moved.1 tt s refl tt in
-    let Q : S → Type 0 = λ a. LinesEnd other remaining contents s a reader reader' writer writer' told is_clocked is_strict result in
-    subst Q (sym is) made

@@ -38,10 +38,12 @@ pub fn import<R: Read, W: Write, O: Office>(
     now: Moment,
     office: &mut O,
 ) -> Result<(), Fault>
-    ensures { Leads O.is_clean O.stands
+    ensures ends { Leads O.is_clean O.stands
         (λ signatory before after. ImportEnds (Lines O.signs signatory) R.remaining W.contents now before after
         reader.old reader.new writer.old writer.new result)
         office.old office.new }
+    ensures calls { ImportEnds (LineCalls O.Office) R.remaining W.contents now office.old office.new
+        reader.old reader.new writer.old writer.new result }
 {
     match read_text(alloc, reader) {
         Ok(text) => done(run_rows(alloc, writer, now, office, false, &text)),

@@ -2,7 +2,7 @@
 
 ghost use Rattle.std.specs.Prelude.{IsFalse};
 ghost use Rattle.reg_office_api.specs.Leads.{Leads};
-ghost use Rattle.reg_lines.specs.ByCalls.{CountsFailure, Lines};
+ghost use Rattle.reg_lines.specs.ByCalls.{LineCalls, Lines};
 ghost use Rattle.reg_lines.specs.Script.{ScriptEnds};
 
 use crate::answered::{Answered, done};
@@ -53,8 +53,8 @@ pub fn run_script<R: Read, W: Write, O: Office>(
         (λ signatory before after. ScriptEnds (Lines O.signs signatory) R.remaining W.contents before after
         reader.old reader.new writer.old writer.new result)
         office.old office.new }
-    ensures device { ScriptEnds (λ s now call t. CountsFailure (O.failures s) call (O.failures t))
-        R.remaining W.contents office.old office.new reader.old reader.new writer.old writer.new result }
+    ensures device { ScriptEnds (LineCalls O.Office) R.remaining W.contents office.old office.new
+        reader.old reader.new writer.old writer.new result }
 {
     run_script_for(alloc, reader, writer, office, &NoHost)
 }
@@ -73,8 +73,8 @@ pub fn run_script_for<R: Read, W: Write, O: Office, H: Host>(
         (λ signatory before after. ScriptEnds (Lines O.signs signatory) R.remaining W.contents before after
         reader.old reader.new writer.old writer.new result)
         office.old office.new }
-    ensures device { ScriptEnds (λ s now call t. CountsFailure (O.failures s) call (O.failures t))
-        R.remaining W.contents office.old office.new reader.old reader.new writer.old writer.new result }
+    ensures device { ScriptEnds (LineCalls O.Office) R.remaining W.contents office.old office.new
+        reader.old reader.new writer.old writer.new result }
 {
     done(run_lines(alloc, reader, writer, office, host, false))
 }

@@ -22,10 +22,12 @@ pub fn import_strictly<R: Read, W: Write, O: Office>(
     now: Moment,
     office: &mut O,
 ) -> Result<Ended, Fault>
-    ensures { Leads O.is_clean O.stands
+    ensures ends { Leads O.is_clean O.stands
         (λ signatory before after. StrictEnds (Lines O.signs signatory) R.remaining W.contents now before after
         reader.old reader.new writer.old writer.new result)
         office.old office.new }
+    ensures calls { StrictEnds (LineCalls O.Office) R.remaining W.contents now office.old office.new
+        reader.old reader.new writer.old writer.new result }
 {
     match read_text(alloc, reader) {
         Ok(text) => run_ended(alloc, writer, now, office, &text),

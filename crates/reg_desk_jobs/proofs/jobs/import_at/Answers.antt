@@ -52,7 +52,7 @@ returns g c = rw c.if-rows.false (inr (inr (
     opened = rw c.as_str-path.ensures at c.in_ok-office.ensures.ok;
     moves = still_then g.M.Office.Office.is_clean g.M.Office.Office.stands _ _ _ _
         (follows g.M.Office.Office.is_clean g.M.Office.Office.stands _ (λ signatory before after. after ≡ before) (λ signatory before after seen. seen.1) _ _ c.refuses_import.ensures.looks)
-        c.import-imported.ensures;
+        c.import-imported.ensures.ends;
     closed = rw c.as_str-path.ensures at c.close-2.ensures;
   },
 )))

@@ -1,5 +1,6 @@
 use Rattle.std.specs.Prelude.{string_bytes}
 use Rattle.reg_office_api.specs.CallSteps.{Runs, Asks, Ocsps, Crls}
+use Rattle.reg_office_api.specs.Calls.{RunsIn, AsksIn, OcspsIn, CrlsIn}
 use Rattle.reg_office_api.proofs.PublicLaws.{follows}
 use Rattle.reg_http_head.specs.Response.{shown}
 use Rattle.reg_http.proofs.Replying.{reply_ends}
@@ -16,3 +17,10 @@ returns-in-Ok-clause-ends g c =
       made.1,
     ))
     _ _ (rw (c.as_str.ensures.value, c.as_slice.ensures.value) at c.in-Ok.ensures.ok))
+
+pub returns-in-Ok-clause-calls : goal.returns-in-Ok-clause-calls
+returns-in-Ok-clause-calls g c =
+    rw c.in-Asked.is
+    (reply_ends (RunsIn g.O.Office) (AsksIn g.O.Office) (OcspsIn g.O.Office) (CrlsIn g.O.Office) c.args.now c.args.office.now c.answer.new.office
+    c.in-Asked.method (string_bytes c.in-Asked.target) c.in-Asked.body.items (shown c.in-Ok.answer) _ _ c.send.result
+    (rw (c.as_str.ensures.value, c.as_slice.ensures.value) at c.in-Ok.ensures.calls) c.send.ensures.ok c.send.ensures.err)

@@ -1,4 +1,4 @@
-use Rattle.reg_lines.proofs.OfficeRuns.{script_counts, script_leads}
+use Rattle.reg_lines.proofs.OfficeRuns.{script_leads}
 use Rattle.reg_lines.proofs.script.run_script_for.Goals as goal
 
 pub returns-clause-ends : goal.returns-clause-ends
@@ -7,6 +7,4 @@ returns-clause-ends g c =
     (rw c.requires at c.run_lines.ensures.ends)
 
 pub returns-clause-device : goal.returns-clause-device
-returns-clause-device g c =
-    script_counts g.O.Office g.R.Read.remaining g.W.Write.contents _ _ _ _ _ _ g.H.Host.clock_reached c.run_lines.result _ c.done.ensures
-    (rw c.requires at c.run_lines.ensures.device)
+returns-clause-device g c = (c.run_lines.result, rw c.requires at c.run_lines.ensures.device, c.done.ensures)
