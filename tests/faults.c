@@ -2,6 +2,7 @@
 
    FAULTS_CLOCK=PATH       the machine's clock is what the file PATH has: decimal seconds since 1970. The real one where there is none.
    FAULTS_PASSED=PATH      the time that passes, by which waiting ends, is what the file PATH has: milliseconds, in 8 bytes.
+   FAULTS_TICK=N           each time that this time is read, N milliseconds more have passed.
    FAULTS_FAIL=KIND:N ..   the Nth call of KIND fails, parted by commas; `KIND:N+` all from the Nth on, `KIND:N=EIO` by that error, and a
                            read or write by `=0` moves nothing. Kinds: see `names` below. Allocations count from `main` on.
    FAULTS_SHORT=N          reads and writes move N bytes at most.
@@ -55,7 +56,7 @@ void *__libc_memalign(size_t, size_t);
 static int ready, begun;
 static uint64_t counted_here[COUNTS], *counts = counted_here, *passed;
 static struct { uint64_t from; int after, error; } fails[KINDS];
-static uint64_t stop_at, most, lose;
+static uint64_t stop_at, most, lose, tick, ticks;
 static int torn, lose_files, same, quick;
 static const char *only, *slow_chmod;
 
@@ -120,7 +121,7 @@ __attribute__((constructor)) static void at_first(void) {
     const char *path = getenv("FAULTS_COUNT");
     read_fails(getenv("FAULTS_FAIL"));
     stop_at = number("FAULTS_STOP"), most = number("FAULTS_SHORT"), lose = number("FAULTS_LOSE");
-    slow_chmod = getenv("FAULTS_SLOW_CHMOD");
+    slow_chmod = getenv("FAULTS_SLOW_CHMOD"), tick = number("FAULTS_TICK");
     torn = number("FAULTS_TORN") != 0, lose_files = number("FAULTS_LOSE_FILES") != 0, same = number("FAULTS_SAME") != 0;
     quick = number("FAULTS_QUICK") != 0;
     only = getenv("FAULTS_ONLY");
@@ -558,9 +559,10 @@ static int seconds_told(time_t *seconds) {
 
 int clock_gettime(clockid_t which, struct timespec *at) {
     time_t seconds;
-    if (which == CLOCK_MONOTONIC && passed) {
-        at->tv_sec = *passed / 1000;
-        at->tv_nsec = *passed % 1000 * 1000000;
+    if (which == CLOCK_MONOTONIC && (passed || tick)) {
+        uint64_t now = (passed ? *passed : 0) + __atomic_add_fetch(&ticks, tick, __ATOMIC_RELAXED);
+        at->tv_sec = now / 1000;
+        at->tv_nsec = now % 1000 * 1000000;
         return 0;
     }
     if (which != CLOCK_REALTIME && which != CLOCK_REALTIME_COARSE)

@@ -1,11 +1,15 @@
-"""Limits of the process and the machine: long runs, full queues, file descriptors, slow clients and signers, idle time, names of files."""
+"""Limits of the process and the machine: long runs, full queues, file descriptors, slow clients and signers, idle time, names of files; and the numbers
+that other tests leave out: times in the log, in replies and on a terminal, and counts of lost connections."""
 
 import base64
 import contextlib
 import os
+import pty
 import re
 import select
+import shutil
 import socket
+import subprocess
 import threading
 import time
 from concurrent.futures import ThreadPoolExecutor
@@ -59,23 +63,36 @@ def a_control_socket_with_a_full_queue_is_not_taken_over(t):
 
 
 @test(seconds=4)
-def a_client_that_connects_before_the_mode_is_set_is_disconnected(t):
+def clients_that_connect_before_the_mode_is_set_are_disconnected(t):
     t.register()
-    with ThreadPoolExecutor(1) as pool:
+    with ThreadPoolExecutor(1) as pool, contextlib.ExitStack() as clients:
         opening = pool.submit(t.open, faults=faults.environment(slow_chmod=t.room / "connected"))
         authority.until(lambda: (t.room / "counter").is_socket(), "the socket")
-        with Control(t.room / "counter") as early:
-            t.true(oct((t.room / "counter").stat().st_mode & 0o777) != "0o600", "the mode was set before the client came")
+        early = [clients.enter_context(Control(t.room / "counter")) for _ in range(20)]
+        t.true(oct((t.room / "counter").stat().st_mode & 0o777) != "0o600", "the mode was set before the clients came")
+        for it in early:
             with contextlib.suppress(BrokenPipeError):
-                early.peer.sendall(b"subscriber mallory\n")
-            (t.room / "connected").touch()
-            opening.result()
+                it.peer.sendall(b"subscriber mallory\n")
+        (t.room / "connected").touch()
+        opening.result()
+        for at, it in enumerate(early):
             reply = b""
             with contextlib.suppress(ConnectionResetError, BrokenPipeError):
-                reply = early.file.readline()
-            t.same(reply, b"", "the reply to a client that came before the mode was set")
+                reply = it.file.readline()
+            t.same(reply, b"", f"the reply to client {at} that came before the mode was set")
     with t.control() as control:
         t.same(control.ask("subscriber owner"), "subscriber 1", "the owner's line")
+
+
+@test
+def a_link_to_a_socket_is_not_taken_over(t):
+    t.register()
+    t.open().end()
+    os.rename(t.room / "counter", t.room / "stale")
+    os.symlink("stale", t.room / "counter")
+    ran = t.desk("open", "ca.db", "--port", free_port(), "--control", "counter", "--unsigned")
+    t.same((ran.status, ran.out, ran.err), (1, b"", b"F4 read\n"), "a control socket at a link")
+    t.same((os.readlink(t.room / "counter"), (t.room / "stale").is_socket()), ("stale", True), "the link and the socket")
 
 
 @test(seconds=3)
@@ -98,7 +115,11 @@ def a_crl_whose_line_ends_in_cr_lf_holds_up_nobody(t):
 
 
 def timed_rows(count):
-    return "".join(f"1,{at:x},{DAY},2026-01-02T00:00:00Z,\n" for at in range(count))
+    return "".join(f"1,{at:x},{DAY},2026-01-02T00:00:00Z\n" for at in range(1, count + 1))
+
+
+def revoked_rows(count):
+    return "".join(f"{at:x},superseded\n" for at in range(1, count + 1))
 
 
 @test(seconds=20)
@@ -115,7 +136,57 @@ def as_many_replies_as_lines_and_rows(t):
     ran = t.desk("script", given=f"{DAY} counts\n" * MANY)
     t.same((ran.status, ran.lines.count("good 0 revoked 0 expired 0")), (0, MANY), "replies of `desk script`")
     ran = t.desk("import", "other.db", "--now", DAY, given=timed_rows(MANY))
-    t.same(len(ran.lines), MANY, f"replies of `desk import`, status {ran.status}, {ran.lines[:2]}")
+    t.same((ran.status, ran.lines.count("E08 no-order")), (0, MANY), "replies of `desk import`")
+
+
+@test(seconds=10)
+def a_desk_answers_more_than_a_million_lines(t):
+    """At one control connection, of which the event loop takes one line in each iteration. So it has more than a million iterations."""
+    lines, reply = 1_000, b"why nothing\n"
+    t.register()
+    desk = t.open()
+    with t.control() as control:
+        for piece in range(1_001):
+            control.peer.sendall(b"why\n" * lines)
+            replies = b"".join(control.file.readline() for _ in range(lines))
+            t.true(replies == reply * lines, f"replies to the lines from {piece * lines} on: {replies[-200:]!r}")
+        t.same(control.ask("counts"), "good 0 revoked 0 expired 0", "a line behind them")
+    t.same(parted(desk.send(COUNTS))[0], 200, "GET /counts behind them")
+    t.same(desk.process.poll(), None, "the desk has ended")
+
+
+@test(seconds=2)
+def a_list_of_more_than_a_hundred_thousand_rows(t):
+    t.register()
+    rows = "WITH RECURSIVE row (id) AS (SELECT 1 UNION ALL SELECT id + 1 FROM row WHERE id < ?) SELECT id, 'name ' || id FROM row"
+    t.sql("ca.db", f"INSERT INTO subscriber {rows}", MANY)
+    t.same(t.done("list", "ca.db", "subscribers").count("\n"), MANY + 1, "its lines, with the header")
+
+
+FILES = {
+    "rows to revoke": ("--revoke", revoked_rows, "E14 unknown-serial"),
+    "rows to register": ("--import", timed_rows, "E08 no-order"),
+}
+
+
+@each(FILES, seconds=12)
+def as_many_replies_as_a_file_has_rows(t, option, rows, reply):
+    t.register()
+    t.clock(DAY)
+    t.open()
+    (t.room / "rows.csv").write_text(rows(MANY))
+    ran = t.desk("at", "counter", option, "rows.csv")
+    t.same((ran.status, ran.lines.count(reply), len(ran.lines), ran.err), (3, MANY, MANY, b"refused\n"))
+
+
+@test
+def a_log_of_more_than_a_hundred_thousand_lines(t):
+    """Its last line has the only command."""
+    t.register()
+    t.clock(DAY)
+    t.open()
+    (t.room / "ca.log").write_text(f'{DAY} control "counts" "good 0 revoked 0 expired 0" 27 9\n' * MANY + f'{DAY} control "subscriber acme" "subscriber 1" 13 9\n')
+    t.same(t.done("replay", "counter", "ca.log"), "subscriber 1\n")
 
 
 # File descriptors
@@ -135,21 +206,72 @@ def a_signature_is_requested_again_once_there_is_a_descriptor(t, error):
     t.same(faults.counted(t.room / "count")["met"], 1, "faults that were met")
 
 
+@each({f"{error} at the {place}": (error, place) for error in ("EMFILE", "ENFILE") for place in ("port", "control socket")}, seconds=3)
+def a_client_is_accepted_once_there_is_a_descriptor(t, error, place):
+    t.register()
+    # The second poll is behind the calls of accept(2) at the start.
+    waits = lambda count: authority.until(lambda: faults.counted(t.room / count)["poll"] >= 2, "that the desk waits for clients")
+    desk = t.open("ca.db", faults=faults.environment(count=t.room / "usual"))
+    waits("usual")
+    before = faults.counted(t.room / "usual")["accept"]
+    desk.end()
+    desk = t.open("ca.db", "--control", "second", faults=faults.environment(count=t.room / "count", fail=f"accept:{before + 1}={error}"))
+    waits("count")
+    if place == "port":
+        t.same(parted(desk.send(COUNTS))[0], 200, "GET /counts")
+    else:
+        t.same(t.control("second").ask("counts"), "good 0 revoked 0 expired 0", "a line")
+    t.same((faults.counted(t.room / "count")["met"], desk.process.poll()), (1, None), "faults that were met, and whether the desk has ended")
+
+
 # Time
+
+
+def is_idle(t, desk):
+    """Checks that a desk takes less than a tenth of a processor's time while nothing happens."""
+    ticks = lambda: sum(map(int, open(f"/proc/{desk.process.pid}/stat").read().rsplit(") ", 1)[1].split()[11:13]))
+    time.sleep(0.3)
+    before = ticks()
+    time.sleep(2)
+    t.true(ticks() - before < 20, f"{ticks() - before} clock ticks in two seconds")
 
 
 @test(seconds=5)
 def an_idle_desk_uses_no_processor_time(t):
     t.register()
     desk = t.open()
-    ticks = lambda: sum(map(int, open(f"/proc/{desk.process.pid}/stat").read().rsplit(") ", 1)[1].split()[11:13]))
     with desk.connect() as silent, t.control() as control:
         silent.sendall(b"GET /co")
         t.same(control.ask("counts"), "good 0 revoked 0 expired 0")
-        time.sleep(0.3)
-        before = ticks()
-        time.sleep(2)
-        t.true(ticks() - before < 20, f"{ticks() - before} clock ticks in two seconds")
+        is_idle(t, desk)
+
+
+@test(seconds=8)
+def a_desk_uses_no_processor_time_during_signatures_and_after_them(t):
+    ends = threading.Event()
+    t.callback(ends.set)
+    t.register(key=P256_KEY)
+    signers = t.enter_context(Signers(t.room / "ca.sign", lambda message: ends.wait(60) and ANY_SIGNATURE))
+    desk = t.open("ca.db", *SIGNING)
+    with ThreadPoolExecutor(2) as pool, t.control() as control:
+        answer = pool.submit(desk.ask, "POST", "/ocsp", asks(1))
+        line = pool.submit(control.ask, "crl")
+        t.true(signers.until(2), "both signatures are requested")
+        is_idle(t, desk)
+        ends.set()
+        t.true(ANY_SIGNATURE in answer.result(), "the answer is signed")
+        t.same(line.result(), "crl 1 entries 0", "the CRL")
+        is_idle(t, desk)
+
+
+@test
+def a_lost_connection_is_logged_although_nothing_else_happens(t):
+    t.register()
+    desk = Passing(t)
+    desk.comes(COUNTS[:9])
+    desk.set_forward(30_000)
+    authority.until(lambda: desk.lost, "the line of the log")
+    t.same([why for _, why in desk.lost], ["late"], "why it was lost")
 
 
 @test(seconds=3)
@@ -170,7 +292,93 @@ def a_client_whose_request_took_29_seconds_gets_its_signature(t):
     t.true(ANY_SIGNATURE in response, "its signature")
 
 
-# Times in the log and in replies
+# Times in the log, in replies and on a terminal
+
+
+# Each reading of the elapsed time is so many milliseconds later than the one before.
+TICK = 7
+
+
+@test
+def the_log_has_the_time_between_two_readings(t):
+    t.register()
+    desk = t.open("ca.db", "--log", faults=faults.environment(tick=TICK))
+    desk.send(COUNTS)
+    with t.control() as control:
+        control.ask("subscriber acme")
+    t.same([it.rsplit(" ", 1)[1] for it in desk.end().err_lines], [f"{1_000 * TICK}"] * 2, "microseconds in the log")
+
+
+@test
+def a_copy_reports_the_time_between_two_readings(t):
+    t.register()
+    t.same(t.done("copy", "ca.db", "copy.db", faults=faults.environment(tick=TICK)).split(" in ")[1], f"{TICK} ms\n")
+
+
+@test(seconds=3)
+def the_log_has_the_time_until_a_signature_came(t):
+    ends = threading.Event()
+    t.callback(ends.set)
+    t.register(key=P256_KEY)
+    signers = t.enter_context(Signers(t.room / "ca.sign", lambda message: ends.wait(60) and ANY_SIGNATURE))
+    desk = Passing(t, *SIGNING)
+    with ThreadPoolExecutor(2) as pool, t.control() as control:
+        waits = [pool.submit(desk.desk.ask, "POST", "/ocsp", asks(1)), pool.submit(control.ask, "crl")]
+        t.true(signers.until(2), "both signatures are requested")
+        desk.advance(1_500)
+        ends.set()
+        for it in waits:
+            it.result()
+    micros = {it.split('"')[1]: it.rsplit(" ", 1)[1] for it in desk.desk.end().err_lines}
+    t.same({asked: micros.get(asked) for asked in ("POST /ocsp HTTP/1.1", "crl")}, {"POST /ocsp HTTP/1.1": "1500000", "crl": "1500000"})
+
+
+def on_a_terminal(t, *words, given=b"", **told):
+    """The lines that a run shows on standard error, which is a terminal."""
+    ours, theirs = pty.openpty()
+    with open(t.room / "replies", "wb") as replies:
+        it = subprocess.Popen(
+            [program.program(), *words], cwd=t.room, stdin=subprocess.PIPE, stdout=replies, stderr=theirs, env=program.environment(faults=faults.environment(**told))
+        )
+    os.close(theirs)
+    it.stdin.write(given)
+    it.stdin.close()
+    shown = b""
+    # The terminal's other side is closed when the program ends.
+    with contextlib.suppress(OSError):
+        while piece := os.read(ours, 4096):
+            shown += piece
+    os.close(ours)
+    it.wait(program.LONGEST)
+    return shown.decode().splitlines()
+
+
+@test
+def a_terminal_shows_the_lines_and_how_many_a_second(t):
+    t.register()
+    given = b"".join(b"%s subscriber %d\n" % (DAY.encode(), at) for at in range(3))
+    t.same(on_a_terminal(t, "script", "ca.db", given=given, tick=1_000), [f"{at} lines done, 1 a second" for at in (1, 2, 3)])
+
+
+@test
+def a_terminal_shows_the_rows_and_crls_of_an_audit(t):
+    registers.make(t.room / "ca.db", registers.Records(50, 4), 3)
+    t.done("script", "ca.db", given="9999-01-01T00:00:00Z counts\n")
+    shown = on_a_terminal(t, "audit", "ca.db", tick=1_000)
+    found = [re.fullmatch(r"(\d+) rows read, (\d+) CRLs compared", it) for it in shown]
+    t.true(all(found), f"what it shows: {shown}")
+    rows, crls = zip(*((int(it[1]), int(it[2])) for it in found))
+    t.same((list(rows), list(crls)), (sorted(rows), sorted(crls)), "they grow")
+    t.true(rows[-1] >= 50, f"{rows[-1]} rows of more than 50 certificates")
+    t.same(crls[-1], 4, "CRLs")
+
+
+@test
+def a_terminal_shows_that_a_large_file_is_opened(t):
+    for size, shown in ((67_108_864, ["opening large.db, 67 MB"]), (67_108_863, [])):
+        (t.room / "large.db").write_bytes(b"")
+        os.truncate(t.room / "large.db", size)
+        t.same([it for it in on_a_terminal(t, "crl", "large.db") if it.startswith("opening")], shown, f"a file of {size} bytes")
 
 
 @test(seconds=3)
@@ -208,6 +416,43 @@ def a_connection_without_memory_is_logged_as_that(t):
     lost = lambda: [it.rsplit(" lost ", 1)[1] for it in desk.log if " lost " in it]
     authority.until(lost, "a line of the log for the lost connection")
     t.same(lost(), ["memory"], "why it was lost")
+    t.same(lost_by(desk), {"broken": 0, "late": 0, "crowded": 0, "memory": 1}, "the metrics")
+
+
+# What is counted
+
+
+def lost_by(desk):
+    """How many connections were lost for each reason, by the metrics."""
+    return {why: int(count) for why, count in re.findall(r'desk_connections_lost_total\{why="(\w+)"\} (\d+)', desk.ask("GET", "/metrics").decode())}
+
+
+@test
+def late_and_evicted_connections_are_counted(t):
+    t.register()
+    desk = Passing(t)
+    desk.comes(COUNTS[:9])
+    desk.advance(30_000)
+    t.same(lost_by(desk.desk), {"broken": 0, "late": 1, "crowded": 0, "memory": 0}, "one that was late")
+    # There is a descriptor for one connection.
+    t.tool("prlimit", "--pid", desk.desk.process.pid, f"--nofile={desk.before + 1}:{desk.before + 1}")
+    desk.comes(COUNTS[:9])
+    authority.until(lambda: lost_by(desk.desk) == {"broken": 0, "late": 1, "crowded": 1, "memory": 0}, "the one that was evicted in the metrics")
+
+
+@test
+def closed_connections_are_counted_no_more(t):
+    t.register()
+    desk = t.open()
+    found = lambda: dict(re.findall(r'desk_connections\{at="(\w+)"\} (\d+)', desk.ask("GET", "/metrics").decode()))
+    with contextlib.ExitStack() as clients:
+        for _ in range(3):
+            clients.enter_context(Control(t.room / "counter")).ask("counts")
+            silent = clients.enter_context(desk.connect())
+            silent.sendall(COUNTS[:9])
+            authority.until(lambda: program.is_read(silent), "that it is read")
+        t.same(found(), {"port": "4", "counter": "3"}, "open connections, that of /metrics among them")
+    authority.until(lambda: found() == {"port": "1", "counter": "0"}, "that they are closed")
 
 
 # Long requests
@@ -298,3 +543,61 @@ def a_register_with_a_second_name_is_not_opened(t):
         for words in (["audit", "ca.db"], ["copy", "ca.db", "copy.db"], ["open", "ca.db", "--port", free_port(), "--control", "counter", "--unsigned"]):
             ran = t.desk(*words)
             t.same((ran.status, ran.out, ran.err), (1, b"", b"F2 store\n"), program.shown(words))
+
+
+def hot_journal():
+    """The head of a rollback journal (SQLite's file format 3), and a page."""
+    return bytes.fromhex("d9d505f920a163d7 00000001 00000000 00000001 00000200 00001000".replace(" ", "")) + bytes(484)
+
+
+def a_second_name(path):
+    (path.parent / "first").write_bytes(b"")
+    os.link(path.parent / "first", path)
+
+
+JOURNALS = {
+    "a journal": lambda path: path.write_bytes(hot_journal()),
+    "a folder": lambda path: path.mkdir(),
+    "a pipe": os.mkfifo,
+    "a link that leads nowhere": lambda path: path.symlink_to("nowhere"),
+    "a file with a second name": a_second_name,
+}
+
+
+@each({f"{what} beside a register{more}": (lay, bool(more)) for what, lay in JOURNALS.items() for more in ("", " with a log")})
+def what_may_be_a_journal_is_not_passed_over(t, lay, has_log):
+    """Only SQLite can play back a rollback journal. A register beside which one may lie is not read, whether it has a log or none."""
+    t.register()
+    if has_log:
+        desk = t.open()
+        t.same(t.control().ask("subscriber acme"), "subscriber 1")
+        desk.end()
+        os.remove(t.room / "counter")
+        t.true((t.room / "ca.db-wal").stat().st_size > 0, "its log")
+    else:
+        t.sql("ca.db", "PRAGMA wal_checkpoint(TRUNCATE)")
+        t.true(not (t.room / "ca.db-wal").exists(), "its log is in the file")
+    lay(t.room / "ca.db-journal")
+    for words in (["audit", "ca.db"], ["copy", "ca.db", "copy.db"], ["crl", "ca.db"], ["open", "ca.db", "--port", free_port(), "--control", "counter", "--unsigned"]):
+        ran = t.desk(*words)
+        t.same((ran.status, ran.out, ran.err), (1, b"", b"F2 store\n"), program.shown(words))
+
+
+@test
+def a_register_behind_a_link_is_read_with_its_own_log(t):
+    (t.room / "folder").mkdir()
+    t.register("folder/ca.db")
+    t.register("other.db", lines=f"{DAY} subscriber other\n")
+    desk = t.open("folder/ca.db")
+    t.same([t.control().ask(f"subscriber {it}") for it in ("acme", "second")], ["subscriber 1", "subscriber 2"])
+    desk.end()
+    t.true((t.room / "folder/ca.db-wal").stat().st_size > 0, "its log")
+    (t.room / "link.db").symlink_to("folder/ca.db")
+    for what in ("no log", "another register's log"):
+        t.same(t.done("copy", "link.db", "copy.db").split()[0], "copied")
+        t.same(t.sql("copy.db", "SELECT name FROM subscriber ORDER BY id"), [("acme",), ("second",)], f"{what} beside the link")
+        os.remove(t.room / "copy.db")
+        other = t.open("other.db", "--control", "second")
+        t.control("second").ask("subscriber mallory")
+        other.end()
+        shutil.copy(t.room / "other.db-wal", t.room / "link.db-wal")

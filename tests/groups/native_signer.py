@@ -4,6 +4,7 @@ examples/only_ours.py), clients of any manner, and how it is confined. The last 
 import copy
 import fcntl
 import os
+import pwd
 import random
 import shutil
 import signal
@@ -687,6 +688,12 @@ def a_socket_that_is_handed_over(t):
         process = handed(words, connection)
         told = process.communicate(timeout=program.LONGEST)[1]
         t.same((process.returncode, b"no socket that listens was handed over" in told), (1, True), "with a connection, as by Accept=yes")
+    with socket.socket(socket.AF_UNIX) as listener:
+        listener.bind(str(t.room / "other.sign"))
+        listener.listen(8)
+        for told in ("LISTEN_PID=1 LISTEN_FDS=1", "LISTEN_PID=$$ LISTEN_FDS=2"):
+            ran = t.tried("bash", "-c", f'exec 3<&"$0"; export {told}; exec "$@"', listener.fileno(), *words, pass_fds=[listener.fileno()])
+            t.same((ran.returncode, b"no socket was handed over" in ran.stderr), (1, True), told)
 
 
 # How it is confined
@@ -699,7 +706,8 @@ def status_of(number):
 @test(seconds=3)
 def its_memory_is_locked_and_never_dumped(t):
     it = Authority(t)
-    process = started(t, "--processes", 2, it.key)
+    # A shell that is allowed to has its core dumped.
+    process = started(t, "--processes", 2, it.key, before=["bash", "-c", 'ulimit -c unlimited 2> /dev/null; exec "$@"', "-"])
     for number in (process.pid, *native.children(process)):
         status = {name: int(status_of(number)[name].split()[0]) for name in ("VmLck", "VmSize", "VmSwap")}
         t.true(status["VmLck"] > 0.9 * status["VmSize"] > 0 and status["VmSwap"] == 0, f"its memory is locked: {status}")
@@ -720,11 +728,12 @@ def another_user(t):
     process = started(t, "--user", "nobody", "--processes", 2, it.key)
     path = t.room / "ca.sign"
     verifies(t, it, b"a message", signature(path, b"a message"))
-    nobody = path.stat().st_uid
+    nobody, group = path.stat().st_uid, pwd.getpwnam("nobody").pw_gid
     t.same((nobody != 0, path.stat().st_mode & 0o777), (True, 0o600), "the socket's owner and mode")
     for number in (process.pid, *native.children(process)):
         status = status_of(number)
-        t.same((set(status["Uid"].split()), status["Groups"].split()[1:]), ({str(nobody)}, []), "its user, and further groups")
+        t.same((set(status["Uid"].split()), set(status["Gid"].split())), ({str(nobody)}, {str(group)}), "its user and its group")
+        t.same(sorted(map(int, status["Groups"].split())), sorted(os.getgrouplist("nobody", group)), "its further groups")
         t.same((int(status["CapEff"], 16), int(status["CapPrm"], 16)), (0, 0), "its capabilities")
         t.same(Path(f"/proc/{number}/mem").stat().st_uid, 0, "the owner of /proc/NUMBER/mem, which is root if dumps are forbidden (proc(5))")
         t.true(int(status["VmLck"].split()[0]) > 0, "its memory is locked")

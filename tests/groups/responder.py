@@ -287,6 +287,28 @@ def a_responder_that_hangs_holds_up_no_crl(t):
 
 
 @test(seconds=4)
+def a_signer_of_crls_that_hangs_holds_up_no_answer(t):
+    """Neither in its ten seconds nor after them. The responder is asked once for each OCSP line at the control socket."""
+    it = Authority(t)
+    responder = Responder(it)
+    asked = responder.signer().asked
+    t.signer("day.sign", lambda message, call: it.sign(message))
+    a_day(t, it, *it.signing("day.sign"))
+    hanging = t.signer("ca.sign", lambda message, call: "hang")
+    desk = Passing(t, *it.signing(), *responder.words())
+    with ThreadPoolExecutor(1) as pool, t.control() as control:
+        crl = pool.submit(control.ask, "crl")
+        authority.until(lambda: hanging.asked, "that the CA's signer is asked")
+        t.same(it.reads("05", answer(t, it, desk.desk, "05")), "revoked", "an answer in its ten seconds")
+        desk.advance(10_000)
+        t.same(crl.result(), "F3 signer")
+        before = len(asked)
+        _, response = control.ask(f"ocsp {it.asks('05').hex()}").split()
+        t.same(it.reads("05", bytes.fromhex(response)), "revoked", "a line after them")
+        t.same(len(asked) - before, 1, "how often the responder was asked")
+
+
+@test(seconds=4)
 def the_log_s_last_word_is_about_either_key(t):
     """The word `signer` marks a missing signature: of the responder's key for an answer, of the CA's for a CRL; and no other line has it."""
     it = Authority(t)

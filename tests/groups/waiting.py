@@ -130,6 +130,7 @@ def a_disconnected_client_is_not_signed_for(t):
             body = asked_for(0x2200)
             gone.sendall(b"POST /ocsp HTTP/1.1\r\nContent-Length: %d\r\n\r\n" % len(body) + body)
             authority.until(lambda: program.is_read(gone), "that the request of the client that disconnects is read")
+            port = str(gone.getsockname()[1])
         # The desk looks for a client that has waited for some time before it requests its signature.
         passing.advance(1)
         stays = pool.submit(ocsp_answer, desk, 0x3300)
@@ -140,6 +141,8 @@ def a_disconnected_client_is_not_signed_for(t):
         t.same([is_signed(it.result()) for it in waits], [True] * AT_ONCE)
     asked = held.signers.asked
     t.same([sum(names(it, serial) for it in asked) for serial in (0x2200, 0x3300)], [0, 1], "signatures of who went and of who stayed")
+    passing.advance(0)
+    t.same(passing.lost, [(port, "broken")], "the lost connections in the log")
 
 
 @test(seconds=2)

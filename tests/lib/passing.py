@@ -24,12 +24,16 @@ class Passing:
         """How many descriptors it has."""
         return len(os.listdir(f"/proc/{self.desk.process.pid}/fd"))
 
-    def advance(self, millis):
-        """Lets so many milliseconds pass. When this returns, the desk has done what was due."""
+    def set_forward(self, millis):
+        """Lets so many milliseconds pass, and does nothing else that the desk could notice."""
         self.millis += millis
         # It is shared with the desk, so it is never empty.
         with open(self.file, "r+b") as it:
             it.write(struct.pack("=Q", self.millis))
+
+    def advance(self, millis):
+        """Lets so many milliseconds pass. When this returns, the desk has done what was due."""
+        self.set_forward(millis)
         for _ in range(2):
             self.t.same(parted(self.desk.send(ASKED))[0], 200, f"a request at {self.millis} ms")
 
