@@ -1,8 +1,10 @@
 """`desk init` beside another one at the same path, and with an output that can't be written."""
 
+import contextlib
+import os
 import subprocess
 
-from lib import faults, program
+from lib import authority, faults, program
 from lib.trial import each, test
 
 WORDS = ("--name", program.NAME, "--key", program.KEY)
@@ -37,6 +39,27 @@ def a_register_whose_reply_can_not_be_printed_is_not_left(t):
         )
     t.same((ran.returncode, ran.stderr), (1, b"F5 write\n"))
     t.same(sorted(it.name for it in t.room.iterdir()), [], "what is left")
+
+
+@test
+def a_register_that_another_program_has_open_is_not_removed(t):
+    """The program opened it before `desk init` finds that nobody reads its reply."""
+    reads, writes = os.pipe()
+    os.set_blocking(writes, False)
+    with contextlib.suppress(BlockingIOError):
+        while True:
+            os.write(writes, bytes(4_096))
+    os.set_blocking(writes, True)
+    it = subprocess.Popen([program.program(), "init", "ca.db", *WORDS], cwd=t.room, stdin=subprocess.DEVNULL, stdout=writes, stderr=subprocess.PIPE)
+    t.callback(it.kill)
+    os.close(writes)
+    authority.until(lambda: t.desk("audit", "ca.db").status == 0, "that the register is complete")
+    desk = t.open()
+    os.close(reads)
+    t.same((it.communicate(timeout=program.LONGEST)[1], it.returncode), (b"F5 write\n", 1), "the end of `desk init`")
+    t.same(t.control().ask("subscriber acme"), "subscriber 1")
+    desk.end()
+    t.same(t.desk("list", "ca.db", "subscribers").lines[1:], ["1,acme"], "the register")
 
 
 @each({"one sync": "", "each from then on": "+"}, seconds=3)

@@ -6,6 +6,7 @@ import contextlib
 import os
 import pty
 import re
+import resource
 import select
 import shutil
 import socket
@@ -17,7 +18,7 @@ from concurrent.futures import ThreadPoolExecutor
 from lib import authority, faults, program, registers
 from lib.passing import Passing
 from lib.program import ANY_SIGNATURE, P256_KEY, Control, Signers, free_port, parted, read_all
-from lib.trial import TEN_SECONDS, each, test
+from lib.trial import TEN_SECONDS, Skipped, each, test
 from model import der
 
 DAY = "2026-01-01T00:00:00Z"
@@ -95,6 +96,18 @@ def a_link_to_a_socket_is_not_taken_over(t):
     t.same((os.readlink(t.room / "counter"), (t.room / "stale").is_socket()), ("stale", True), "the link and the socket")
 
 
+WHY_NONE = {"in no folder": ("nowhere/counter", "  no such file\n"), "where a desk listens": ("counter", "  in use by another program\n"), "where a file lies": ("ca.db", "")}
+
+
+@each(WHY_NONE)
+def why_a_control_socket_is_not_created(t, path, cause):
+    t.register()
+    t.register("other.db")
+    t.open()
+    ran = t.desk("open", "other.db", "--port", free_port(), "--control", path, "--unsigned", "--why")
+    t.same((ran.status, ran.out, ran.err), (1, b"", f"F4 read\n{cause}".encode()))
+
+
 @test(seconds=3)
 def a_crl_whose_line_ends_in_cr_lf_holds_up_nobody(t):
     ends = threading.Event()
@@ -109,6 +122,25 @@ def a_crl_whose_line_ends_in_cr_lf_holds_up_nobody(t):
             authority.until(lambda: signers.asked and program.is_read(control.peer), "a signature request")
             with t.at_once("GET /counts"):
                 t.same(parted(desk.send(COUNTS))[0], 200, f"GET /counts behind {line[:5]!r}")
+
+
+@test(seconds=3)
+def the_sixth_crl_of_a_connection_holds_up_nobody(t):
+    signs = threading.Event()
+    signs.set()
+    t.callback(signs.set)
+    t.register(key=P256_KEY)
+    signers = t.enter_context(Signers(t.room / "ca.sign", lambda message: signs.wait(60) and ANY_SIGNATURE))
+    desk = t.open("ca.db", *SIGNING)
+    with t.control() as control:
+        t.same([control.ask("crl") for _ in range(5)], [f"crl {it} entries 0" for it in range(1, 6)])
+        signs.clear()
+        control.peer.sendall(b"crl\n")
+        t.true(signers.until(1), "a signature is requested")
+        with t.at_once("GET /counts"):
+            t.same(parted(desk.send(COUNTS))[0], 200, "GET /counts meanwhile")
+        signs.set()
+        t.same(control.file.readline(), b"crl 6 entries 0\n")
 
 
 # Long runs
@@ -191,6 +223,20 @@ def a_log_of_more_than_a_hundred_thousand_lines(t):
 
 # File descriptors
 
+
+@test(seconds=4)
+def a_thousand_clients_have_connections_at_once(t):
+    _, hard = resource.getrlimit(resource.RLIMIT_NOFILE)
+    if hard < 2_000 and hard != resource.RLIM_INFINITY:
+        raise Skipped("the system has no descriptors for 1,000 connections: ulimit -n 2000")
+    resource.setrlimit(resource.RLIMIT_NOFILE, (2_000, hard))
+    t.register()
+    desk = t.open()
+    clients = [t.enter_context(desk.connect()) for _ in range(1_000)]
+    # The last one is answered once all were accepted.
+    for it in reversed(clients):
+        it.sendall(COUNTS)
+        t.same(parted(read_all(it))[0], 200, "GET /counts")
 
 @each({"the process has no descriptor left": "EMFILE", "the machine has none": "ENFILE"}, seconds=3)
 def a_signature_is_requested_again_once_there_is_a_descriptor(t, error):
@@ -371,6 +417,8 @@ def a_terminal_shows_the_rows_and_crls_of_an_audit(t):
     t.same((list(rows), list(crls)), (sorted(rows), sorted(crls)), "they grow")
     t.true(rows[-1] >= 50, f"{rows[-1]} rows of more than 50 certificates")
     t.same(crls[-1], 4, "CRLs")
+    (t.room / "passed").write_bytes(bytes(8))
+    t.same(on_a_terminal(t, "audit", "ca.db", passed=t.room / "passed"), [], "what it shows in less than a second")
 
 
 @test
@@ -463,12 +511,13 @@ def a_long_ocsp_request_by_get_is_answered_as_by_post(t):
     t.register(key=P256_KEY)
     t.clock(DAY)
     t.enter_context(Signers(t.room / "ca.sign"))
-    desk, request = t.open("ca.db", *SIGNING), asks(60)
+    desk, request = t.open("ca.db", "--log", *SIGNING), asks(60)
     text = base64.b64encode(request).decode().replace("+", "%2B").replace("/", "%2F").replace("=", "%3D")
     t.true(len(text) > 5_000, f"the request has {len(text)} characters")
     t.same(parted(desk.ask("GET", f"/ocsp/{text}"))[2], parted(desk.ask("POST", "/ocsp", request))[2], "the answer by GET")
     status, _, body = parted(desk.ask("GET", "/list/certificates?" + "x" * 1_000))
     t.same((status, body), (400, b'{"error":"E22 syntax"}'), "a query of a thousand characters")
+    t.same(desk.end().err_lines[0].split('"')[1], f"GET /ocsp/{text}"[:256], "what the log has of the answer that was signed")
 
 
 # Signers
@@ -601,3 +650,17 @@ def a_register_behind_a_link_is_read_with_its_own_log(t):
         t.control("second").ask("subscriber mallory")
         other.end()
         shutil.copy(t.room / "other.db-wal", t.room / "link.db-wal")
+
+
+@test
+def a_log_that_is_a_link_is_not_read(t):
+    t.register()
+    desk = t.open()
+    t.same(t.control().ask("subscriber acme"), "subscriber 1")
+    desk.end()
+    os.remove(t.room / "counter")
+    os.rename(t.room / "ca.db-wal", t.room / "elsewhere")
+    (t.room / "ca.db-wal").symlink_to("elsewhere")
+    for words in (["audit", "ca.db"], ["copy", "ca.db", "copy.db"], ["crl", "ca.db"], ["open", "ca.db", "--port", free_port(), "--control", "counter", "--unsigned"]):
+        ran = t.desk(*words)
+        t.same((ran.status, ran.out, ran.err), (1, b"", b"F2 store\n"), program.shown(words))
