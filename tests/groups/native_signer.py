@@ -79,6 +79,12 @@ def named_messages(issuer):
     return {**messages, **other_crls(crl_by_hand(issuer)), **answers, **others, "nothing": b"", "one octet": b"0", "a text": b"hello"}
 
 
+def values_octets(printed):
+    """The SEQUENCE in what openssl printed, which may have a line about what it does before it or behind it."""
+    begin = printed.index(b"\x30\x77")
+    return printed[begin : begin + 0x79]
+
+
 # Signatures
 
 
@@ -109,6 +115,20 @@ def a_key_of_another_algorithm(t, *key):
     ran = t.tried(native.signer(), "ca.key", "ca.sign")
     t.same((ran.returncode, ran.stdout, (t.room / "ca.sign").exists()), (1, b"", False), "status, output, whether it listens")
     t.same(ran.stderr.startswith(b"desk-signer: ca.key: the key is none of P-256, P-384, RSA of 2,048 bits or more, and Ed25519"), True, ran.stderr)
+
+
+@test(seconds=2)
+def a_key_whose_signatures_don_t_verify(t):
+    """Its private key is another one than that of its public key: with --only-ours this is noticed at the start."""
+    it = Authority(t)
+    whole = bytearray(values_octets(t.tool("openssl", "ec", "-in", it.key, "-outform", "DER")))
+    # ECPrivateKey (RFC 5915 3): the private key has 32 octets behind the version.
+    t.same(bytes(whole[2:7]), bytes.fromhex("0201010420"), "the head of the key")
+    whole[7 + 31] ^= 1
+    (t.room / "other.der").write_bytes(whole)
+    t.tool("openssl", "ec", "-inform", "DER", "-in", "other.der", "-out", "other.key")
+    ran = t.tried(native.signer(), "--only-ours", it.pem, "other.key", "ca.sign")
+    t.same((ran.returncode, (t.room / "ca.sign").exists(), ran.stderr[:23]), (1, False, b"desk-signer: other.key:"), "status, whether it listens, and the beginning of its reason")
 
 
 @test(seconds=2)
@@ -637,6 +657,19 @@ def no_nonce_signs_twice(t, algorithm, *words):
     t.same(len(found), 347, "different r")
 
 
+@test(seconds=5)
+def it_uses_no_processor_time_once_its_nonces_are_forgotten(t):
+    """A second after its last signature it forgets those that it drew ahead."""
+    it = Authority(t)
+    process = started(t, it.key)
+    t.true(signature(t.room / "ca.sign", b"a message") != b"", "it signs")
+    ticks = lambda: sum(map(int, Path(f"/proc/{process.pid}/stat").read_text().rsplit(") ", 1)[1].split()[11:13]))
+    time.sleep(1.5)
+    before = ticks()
+    time.sleep(2)
+    t.true(ticks() - before < 20, f"{ticks() - before} clock ticks in two seconds")
+
+
 @test(seconds=3)
 def its_standard_streams(t):
     """Closed from the start, no client gets a warning as its signature; and if their reader ends, the signer goes on."""
@@ -756,6 +789,10 @@ def memory_that_can_t_be_locked(t):
     t.has(ran.stderr, b"desk-signer: the memory can't be locked (LimitMEMLOCK= in systemd, ulimit -l; or --allow-swap): Cannot allocate memory")
     authority.started(t, [*limited, "--allow-swap", it.key, "ca.sign"], t.room / "ca.sign")
     t.true(signature(t.room / "ca.sign", b"a message") != b"", "with --allow-swap it signs")
+    # A limit that it may raise itself, where this test may do so.
+    if subprocess.run(["bash", "-c", "ulimit -H -l unlimited"], capture_output=True).returncode == 0:
+        raised = ["bash", "-c", 'ulimit -H -l unlimited; ulimit -S -l 64; exec "$@"', "-", *as_nobody, copy]
+        authority.started(t, [*raised, it.key, "raised.sign"], t.room / "raised.sign")
     # The limit of systemd and of Debian's kernel.
     usual = ["bash", "-c", 'ulimit -l 8192; exec "$@"', "-", *as_nobody, copy]
     authority.started(t, [*usual, "--only-ours", it.pem, it.key, "usual.sign"], t.room / "usual.sign")
