@@ -59,7 +59,7 @@ abbrev pub sound_text : Audited → List ℕ
 sound_text found =
     codes "sound, " ++ decimal found.certificates ++ codes " certificates, " ++ decimal found.revoked ++ codes " revoked, " ++ decimal found.crls ++ codes " CRLs\n"
 
--- a row that breaks a rule: its table, its place there from 1 on, and why
+-- a row that breaks a rule: its table, its number there, counted from 1, and why
 abbrev pub broken_text : BrokenRow → List ℕ
 broken_text broken =
     codes "broken: " ++ table_name broken.table ++ codes " " ++ decimal broken.row ++ codes ": " ++ why_text broken.why ++ codes "\n"

@@ -14,7 +14,7 @@ use Rattle.reg_store_tables.specs.Kept.{listed_of}
 use Rattle.reg_audit_rows.specs.KeptAsRead.{listed_in}
 use Rattle.reg_audit_rows.specs.declared.kept.Listed.{Listed}
 
--- the bytes are the CRL of what is listed, under this algorithm, whatever its signature is: one of at most 65,536 bytes
+-- the bytes are this CRL, with this algorithm, and any signature of at most 65,536 bytes
 abbrev pub IsCrlOf : List ℕ → CertList → List ℕ → Type 0
 IsCrlOf algorithm crl bytes = (signature : List ℕ) × (length signature ≤ 65536) × (bytes ≡ certificate_list (tbs_of algorithm crl) algorithm signature)
 
@@ -23,29 +23,29 @@ abbrev pub crl_with_entries : Issuer → CrlRow → ℕ → List Entry → CertL
 crl_with_entries issuer crl next_update entries =
     record { issuer = issuer; number = crl.number; this_update = crl.this_update; next_update = next_update; entries = entries }
 
--- what stands behind the first octet
+-- the octets after the first one
 abbrev pub behind_first : List ℕ → Option (List ℕ)
 behind_first [] = None
 behind_first (first ∷ rest) = Some rest
 
--- the octets of the BIT STRING that stands third in a value
+-- the octets of the BIT STRING that is the third value in a SEQUENCE: the signature of a CRL
 abbrev pub signature_at : List ℕ → Option (List ℕ)
 signature_at bytes =
     value_at bytes >>= λ list. value_at list.0.contents >>= λ tbs. value_at tbs.1 >>= λ algorithm. value_at algorithm.1 >>= λ bits. behind_first bits.0.contents
 
--- not yet past the last number
+-- n is not above the number of the last CRL, if there is one
 abbrev pub still_on : ℕ → Option ℕ → Bool
 still_on n None = true
 still_on n (Some last) = nat_le n last
 
--- a row is listed by CRL n
+-- CRL n lists a row
 abbrev pub lists_row : ℕ → Listed → Bool
 lists_row n row = nat_le row.first n && still_on n row.last
 
 abbrev pub listed_entry : Listed → Entry
 listed_entry row = record { serial = row.serial; at = row.at; reason = row.reason }
 
--- the issuer, the seconds to nextUpdate, and what is kept of each revocation, are those of the records
+-- the issuer, the seconds from thisUpdate to nextUpdate, and the rows of `listed` are those of the records
 pub record Lists (issuer : Issuer) (crl_life : ℕ) (listed : List Listed) (records : Records) : Type 0 where
   pub by_issuer : issuer ≡ records.issuer
   pub by_life : crl_life ≡ records.policy.crl_life

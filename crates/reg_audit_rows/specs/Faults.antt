@@ -1,13 +1,13 @@
--- How a check ends that finds nothing well.
+-- How a check fails.
 use Rattle.std.specs.Prelude.{Result, IfErr}
 use Rattle.reg_audit_rows.specs.declared.fault.CheckFault.{CheckFault}
 use Rattle.reg_audit_rows.specs.declared.fault.CheckFault.TheVariants.{Memory, Broken}
 
--- a row breaks a rule, and memory was not lacking
+-- the fault is a row that breaks a rule, and not that memory ran out
 abbrev pub IsBroken : CheckFault → Type 0
 IsBroken Memory = ⊥
 IsBroken (Broken broken) = Unit {0}
 
--- a check that ends at a broken row refutes this
+-- if a check ends at a row that breaks a rule, `Holds` is false
 abbrev pub NotBrokenIf : {T : Type 0} → Type 0 → Result T CheckFault → Type 0
 NotBrokenIf Holds result = IfErr result (λ fault. IsBroken fault → ¬ Holds)

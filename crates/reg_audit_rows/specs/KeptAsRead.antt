@@ -1,4 +1,4 @@
--- What is kept beside the records, as it was read.
+-- The rows of the derived tables, as they were read.
 use Rattle.std.specs.Prelude.{◌≡◌, ℕ, Bool, true, false, List, length, map, filter, Option, None, Some}
 use Rattle.reg_core.specs.Status.{status_by}
 use Rattle.reg_core.specs.declared.command.Counts.{Counts}
@@ -15,7 +15,7 @@ use Rattle.reg_audit_rows.specs.declared.kept.Letter.TheVariants.{Good, Revoked,
 use Rattle.reg_audit_rows.specs.declared.kept.Standing.{Standing}
 use Rattle.reg_audit_rows.specs.declared.kept.Listed.{Listed}
 
--- a letter as it is kept
+-- a letter as it is stored
 abbrev pub letter_in : Letter → column.Letter
 letter_in Good = column.good
 letter_in Revoked = column.revoked
@@ -27,20 +27,20 @@ standing_in row = record { serial = row.serial; not_after = row.not_after; lette
 abbrev pub listed_in : Listed → column.Listed
 listed_in row = record { serial = row.serial; at = row.at; reason = row.reason; first = row.first; not_after = row.not_after; last = row.last }
 
--- the rows are those of these columns
+-- the rows are these ones of the derived tables
 pub record AreColumnsOf (kept : KeptRows) (columns : column.Columns) : Type 0 where
   pub letters : map standing_in kept.letters.now ≡ columns.letters
   pub counts : kept.counts ≡ columns.counts
   pub listed : map listed_in kept.listed.now ≡ columns.listed
 
--- the letter of a status; a registered certificate's is never unknown
+-- the letter of a status; a registered certificate never has the status unknown
 abbrev pub letter_by : Status → Letter
 letter_by state.Unknown = Good
 letter_by state.Good = Good
 letter_by state.Expired = Expired
 letter_by (state.Revoked at reason) = Revoked
 
--- a certificate's row, by the revocations that are looked up
+-- a certificate's row of `standing`, by the revocations that are looked up
 abbrev pub standing_by : ℕ → (ℕ → Option RevocationRow) → CertRow → Standing
 standing_by last revocations certificate = record {
   serial = certificate.serial;
@@ -53,7 +53,7 @@ abbrev pub found_end : Option CertRow → ℕ
 found_end None = 0
 found_end (Some certificate) = certificate.not_after
 
--- a revocation's row, by the certificates that are looked up
+-- a revocation's row of `listed`, by the certificates that are looked up
 abbrev pub listed_with : List CrlRow → (ℕ → Option CertRow) → RevocationRow → Listed
 listed_with crls certificates revocation = record {
   serial = revocation.serial;

@@ -1,4 +1,4 @@
--- Rows that were read of a register's tables.
+-- Rows that were read from a register's tables.
 use Rattle.std.specs.Prelude.{◌≡◌, ◌⊎◌, ◌==◌, find, ℕ, ◌+◌, ◌*◌, ◌<◌, ◌≤◌, List, [], map, length, Option, IfSome, IsSome, IsSomeAnd, IsTrue}
 use Rattle.std.specs.BTreeMap.{get}
 use Rattle.std.specs.List.{AllByRecursion, list_any}
@@ -17,7 +17,7 @@ use Rattle.reg_core.specs.declared.rows.CrlRow.{CrlRow}
 use Rattle.reg_audit_rows.specs.declared.rows.Found.{Found}
 use Rattle.reg_audit_rows.specs.declared.rows.Rows.{Rows}
 
--- the rows are those of the records, each list in the order of entry, the CRLs without their bytes; their policy is one
+-- the rows are those of the records, each list in the order of entry, the CRLs without their bytes; the policy is valid
 pub record AreOf (rows : Rows) (records : Records) : Type 0 where
   pub policy : IsPolicy records.policy
   pub cap : rows.cap ≡ records.policy.cap
@@ -29,7 +29,7 @@ pub record AreOf (rows : Rows) (records : Records) : Type 0 where
   pub revocations : rows.revocations.now ≡ records.revocations
   pub crls : rows.crls.now ≡ map row_of records.crls
 
--- before anybody is entered, CRLs alone set the last accepted moment
+-- if there is no subscriber, the last accepted moment is 0 or the thisUpdate of a CRL
 abbrev pub IsLastSet : Rows → Type 0
 IsLastSet rows = rows.subscribers.now ≡ [] → (rows.last ≡ 0) ⊎ IsTrue (list_any (λ crl. crl.this_update == rows.last) rows.crls.now)
 
@@ -37,7 +37,7 @@ IsLastSet rows = rows.subscribers.now ≡ [] → (rows.last ≡ 0) ⊎ IsTrue (l
 abbrev pub Indexes : {Row : Type 0} → (Row → ℕ) → List Row → (ℕ → Option Row) → Type 0
 Indexes key rows row_with = (k : ℕ) → row_with k ≡ find (λ row. key row == k) rows
 
--- the subscriber of each order is there
+-- the subscriber of each order exists
 abbrev pub HaveSubscribers : List SubscriberRow → List OrderRow → Type 0
 HaveSubscribers subscribers orders = AllByRecursion (λ row. IsSome (subscriber_in subscribers row.subscriber)) orders
 
@@ -55,19 +55,19 @@ IsInTime request certificate = IsSomeAnd certificate (λ found. request.received
 abbrev pub AreInTime : (ℕ → Option CertRow) → List RequestRow → Type 0
 AreInTime certificate_with requests = AllByRecursion (λ row. IsInTime row (certificate_with row.serial)) requests
 
--- nor after the revocation, where one was found
+-- a request was not received after the revocation that was looked up, if there is one
 abbrev pub IsBefore : RequestRow → Option RevocationRow → Type 0
 IsBefore request revocation = IfSome revocation (λ found. request.received ≤ found.at)
 
 abbrev pub AreBeforeRevocation : (ℕ → Option RevocationRow) → List RequestRow → Type 0
 AreBeforeRevocation revocation_with requests = AllByRecursion (λ row. IsBefore row (revocation_with row.serial)) requests
 
--- no CRL below a number has its thisUpdate after a moment, and none from the number on before it
+-- no CRL with a number below `first` has a thisUpdate after `at`, and no other CRL has one before it
 pub record AreAround (first at : ℕ) (crls : List CrlRow) : Type 0 where
   pub before : AllByRecursion (λ crl. crl.number < first → crl.this_update ≤ at) crls
   pub after : AllByRecursion (λ crl. first ≤ crl.number → at ≤ crl.this_update) crls
 
--- a revocation holds together with the certificate and the request that were looked up, and with the CRLs
+-- a revocation fits the certificate and the request that were looked up, and the CRLs
 pub record FitsIn (last : ℕ) (certificate : Option CertRow) (request : Option RequestRow) (crls : List CrlRow) (revocation : RevocationRow) : Type 0 where
   pub within_validity : IsSomeAnd certificate (λ found. revocation.at ≤ found.not_after)
   pub by_request : IsSomeAnd request (LeadsTo revocation)
@@ -76,7 +76,7 @@ pub record FitsIn (last : ℕ) (certificate : Option CertRow) (request : Option 
   pub first_by_next : revocation.first ≤ length crls + 1
   pub around : AreAround revocation.first revocation.at crls
 
--- each revocation holds together with its certificate, its request and the CRLs
+-- each revocation fits its certificate, its request and the CRLs
 abbrev pub FitTogether : ℕ → (ℕ → Option CertRow) → List RequestRow → List CrlRow → List RevocationRow → Type 0
 FitTogether last certificate_with requests crls revocations =
     AllByRecursion (λ row. FitsIn last (certificate_with row.serial) (request_in requests row.request) crls row) revocations
@@ -88,8 +88,8 @@ pub record AreCrls (cap last : ℕ) (crls : List CrlRow) : Type 0 where
   pub updates_by_last : AllByRecursion (λ crl. crl.this_update ≤ last) crls
   pub within_cap : length crls ≤ cap
 
--- one revocation of a serial number, and one of a request, each of a certificate that is found; neither moments nor first CRL
--- numbers fall; and no request for a serial number was received after its revocation
+-- a serial number and a request have one revocation at most; each revocation fits the rows that it refers to; neither moments nor first
+-- CRL numbers fall; and no request for a serial number was received after its revocation
 pub record AreRevocations (found : ℕ → Option CertRow) (rows : Rows) : Type 0 where
   pub serials_differ : KeysDiffer (λ row. row.serial) rows.revocations.now
   pub requests_differ : KeysDiffer (λ row. row.request) rows.revocations.now

@@ -1,4 +1,4 @@
-//! What a row says by itself.
+//! Checks of single rows.
 
 ghost use Rattle.std.specs.Prelude.{◌≤◌, OnOk};
 ghost use Rattle.std.specs.List.{AllByRecursion};
@@ -34,7 +34,7 @@ pub(crate) fn days_are_allowed(orders: &[OrderRow]) -> Result<(), CheckFault>
     Ok(())
 }
 
-/// Each validity runs forward (RFC 5280 4.1.2.5).
+/// Checks that no notBefore is after its notAfter (RFC 5280 4.1.2.5).
 pub(crate) fn run_forward(certificates: &[CertRow]) -> Result<(), CheckFault>
     ensures ok { OnOk result (AllByRecursion (λ row. row.not_before ≤ row.not_after) certificates.now) }
     ensures broken { NotBrokenIf (AllByRecursion (λ row. row.not_before ≤ row.not_after) certificates.now) result }

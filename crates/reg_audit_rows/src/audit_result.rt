@@ -1,6 +1,6 @@
 use crate::broken_row::BrokenRow;
 
-/// How many rows an audit found well: those of certificates, of revocations and of CRLs.
+/// How many certificates, revocations and CRLs a register has whose audit found no broken row.
 #[derive(Clone, Copy, PartialEq, Eq)]
 pub struct Audited {
     pub certificates: usize,
@@ -8,15 +8,15 @@ pub struct Audited {
     pub crls: usize,
 }
 
-/// What an audit says of a register.
+/// The result of an audit of a register.
 #[derive(Clone, Copy, PartialEq, Eq)]
 pub enum AuditResult {
-    /// The rows that are looked at are those of sound records: how many there are.
+    /// No row breaks a rule; how many rows there are.
     Sound(Audited),
     /// A row breaks a rule.
     Broken(BrokenRow),
-    /// The register is of version 1 or 2: its rows are not looked at.
+    /// The register is of version 1 or 2: its rows are not checked.
     Older,
-    /// The tables, columns or indexes are not those of a register: its rows are not looked at.
+    /// The tables, columns or indexes are not those of a register: its rows are not checked.
     OtherSchema,
 }

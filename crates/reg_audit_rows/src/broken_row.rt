@@ -16,13 +16,13 @@ pub enum RegisterTable {
 /// What is wrong with a row.
 #[derive(Clone, Copy, PartialEq, Eq)]
 pub enum Defect {
-    /// The last accepted moment is past the clock's end.
+    /// The last accepted moment is at or past the clock's end.
     PastClockEnd,
-    /// No command set the last accepted moment: nobody was entered, and it is neither 0 nor that of a CRL.
+    /// No command can have set the last accepted moment: there is no subscriber, and it is neither 0 nor the thisUpdate of a CRL.
     NeverAccepted,
     /// There are more rows than the policy's cap.
     AboveCap,
-    /// Its id, or its CRL number (RFC 5280 5.2.3), is not one more than the one before.
+    /// Its id, or its CRL number (RFC 5280 5.2.3), is not one more than that of the previous row (1 in the first row).
     OutOfOrder,
     /// Its name has a byte that no command takes.
     BadName,
@@ -31,7 +31,7 @@ pub enum Defect {
     /// An earlier row has the same serial number (RFC 5280 4.1.2.2).
     SameSerial,
     SameOrder,
-    /// An earlier row was led to by the same request.
+    /// An earlier row has the same request.
     SameRequest,
     NoSubscriber,
     NoOrder,
@@ -49,27 +49,27 @@ pub enum Defect {
     AfterEnd,
     /// Its moment is after the revocation of its serial number.
     AfterRevocation,
-    /// Its moment is before that of the row before.
+    /// Its moment is before that of the previous row.
     Earlier,
-    /// Its first CRL is none of the issued ones, nor the next.
+    /// Its first CRL is neither an issued one nor the next.
     NoFirst,
-    /// A CRL before its first is after it, or one from its first on before it.
+    /// A CRL before its first CRL has a thisUpdate after its moment, or its first CRL or a later one has a thisUpdate before it.
     WrongFirst,
-    /// Its first CRL is before that of the row before.
+    /// Its first CRL is before that of the previous row.
     EarlierFirst,
-    /// Its thisUpdate (RFC 5280 5.1.2.4) is before that of the CRL before.
+    /// Its thisUpdate (RFC 5280 5.1.2.4) is before that of the previous CRL.
     BeforeThePrevious,
-    /// It does not follow from the records, or the row of a serial number before its own is missing.
+    /// It does not match the records, or the row of a lower serial number is missing.
     NotKept,
-    /// Its bytes are not those of the CRL of what the records list (RFC 5280 5.1).
+    /// Its bytes are not those of a CRL with the entries that the records have for it (RFC 5280 5.1).
     OtherBytes,
     /// The counts are not those of the letters.
     WrongCounts,
-    /// A value in it is none that a register writes.
+    /// It has a value that no register writes, or a table that must have one row has none or more.
     NoValue,
 }
 
-/// A row that breaks a rule: its place in its table, from 1 on, and why.
+/// A row that breaks a rule: its table, its number there, counted from 1, and why.
 #[derive(Clone, Copy, PartialEq, Eq)]
 pub struct BrokenRow {
     pub table: RegisterTable,

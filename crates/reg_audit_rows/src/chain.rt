@@ -1,4 +1,4 @@
-//! Numbers that rise by one, and moments that do not fall.
+//! Checks that numbers rise by one, and that moments do not fall.
 
 ghost use Rattle.std.specs.Prelude.{◌≡◌, ◌≤◌, OnOk};
 ghost use Rattle.std.specs.List.{AllByRecursion};
@@ -51,7 +51,7 @@ impl Numbered for CrlRow {
     }
 }
 
-/// The rows have the numbers from one on.
+/// Checks that the rows have the numbers 1, 2, 3 and so on.
 pub(crate) fn in_order<T: Numbered>(table: RegisterTable, rows: &[T]) -> Result<(), CheckFault>
     ensures ok { OnOk result (NumberedFrom T.number 1 rows.now) }
     ensures broken { NotBrokenIf (NumberedFrom T.number 1 rows.now) result }
@@ -64,7 +64,7 @@ pub(crate) fn in_order<T: Numbered>(table: RegisterTable, rows: &[T]) -> Result<
     Ok(())
 }
 
-/// A row of a moment: that of its receipt, of the revocation, or thisUpdate (RFC 5280 5.1.2.4).
+/// A row with a moment: that of a request's receipt, that of a revocation, or a CRL's thisUpdate (RFC 5280 5.1.2.4).
 pub(crate) trait Dated {
     ghost use Rattle.std.specs.Prelude.{ℕ, ◌≡◌};
 
@@ -98,7 +98,7 @@ impl Dated for CrlRow {
     }
 }
 
-/// Moments do not fall from one row to a later one.
+/// Checks that moments do not fall from one row to a later one.
 pub(crate) fn moments_never_fall<T: Dated>(
     table: RegisterTable,
     rows: &[T],
@@ -118,7 +118,7 @@ pub(crate) fn moments_never_fall<T: Dated>(
     Ok(())
 }
 
-/// The numbers of the first CRLs do not fall from one revocation to a later one.
+/// Checks that the numbers of the first CRLs do not fall from one revocation to a later one.
 pub(crate) fn firsts_never_fall(revocations: &[RevocationRow]) -> Result<(), CheckFault>
     ensures ok { OnOk result (NeverFalls (λ row. row.first) revocations.now) }
     ensures broken { NotBrokenIf (NeverFalls (λ row. row.first) revocations.now) result }
@@ -133,7 +133,7 @@ pub(crate) fn firsts_never_fall(revocations: &[RevocationRow]) -> Result<(), Che
     Ok(())
 }
 
-/// No moment is after the last accepted one.
+/// Checks that no moment is after the last accepted one.
 pub(crate) fn are_by_last<T: Dated>(
     table: RegisterTable,
     rows: &[T],

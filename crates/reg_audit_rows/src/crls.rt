@@ -21,7 +21,7 @@ const MOST_SIGNATURE: usize = 65_536;
 
 const MOST_ENTRIES: usize = 1_000_000;
 
-/// The octets of the signature that stands in a CRL (RFC 5280 5.1.1.3).
+/// The octets of the signature in a CRL (RFC 5280 5.1.1.3).
 fn signature_in(crl: &[u8]) -> Option<&[u8]>
     ensures { Gives (λ signature. signature.now) result (signature_at crl.now) }
 {
@@ -74,7 +74,7 @@ fn ascends(entries: &[Entry]) -> bool
     entries.is_sorted_by(|earlier, later| earlier.serial < later.serial)
 }
 
-/// The entries of what a CRL lists, in ascending order of serial number (RFC 5280 5.1.2.6): at most 1,000,000.
+/// The entries of a CRL, in ascending order of serial number (RFC 5280 5.1.2.6): at most 1,000,000.
 fn entries_of(alloc: Global, listed: &[Listed], number: u64) -> Result<Vec<Entry>, CheckFault>
     ensures same { IfOk result (λ entries. IsPermutation (map listed_entry (filter (lists_row number) listed.now)) entries.items) }
     ensures ascend { IfOk result (λ entries. EntriesAscend entries.items) }
@@ -93,7 +93,7 @@ fn entries_of(alloc: Global, listed: &[Listed], number: u64) -> Result<Vec<Entry
     Ok(entries)
 }
 
-/// The bytes are the CRL of these entries, under this algorithm and whatever signature: they are made anew and compared.
+/// Checks that the bytes are the CRL of these entries, with this algorithm and any signature: encodes it again and compares.
 fn check_bytes(
     alloc: Global,
     issuer: &Issuer,
@@ -131,8 +131,8 @@ fn check_bytes(
     }
 }
 
-/// Whether the bytes of a CRL are those of what the records say that it lists, under an algorithm and whatever signature;
-/// else `Broken`. It takes as many steps as there are rows of what CRLs list, and bytes.
+/// Checks that the bytes of a CRL are those of the entries that the records have for it, with this algorithm and any signature of at
+/// most 65,536 bytes. Errors: `Memory`; `Broken` if they are others. It walks `listed`, sorts the entries, and compares the bytes.
 pub fn check_crl(
     alloc: Global,
     issuer: &Issuer,

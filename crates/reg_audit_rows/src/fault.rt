@@ -5,7 +5,7 @@ use crate::{BrokenRow, Defect, RegisterTable};
 use reg_core::Memory;
 use std::alloc::{AllocError, AllocFailed};
 
-/// Why a check came to no end, or found a row that breaks a rule.
+/// Why a check fails: out of memory, or a row breaks a rule.
 #[derive(Clone, Copy, PartialEq, Eq)]
 pub enum CheckFault {
     Memory,
@@ -42,7 +42,7 @@ impl<T: Drop> From<AllocFailed<T>> for CheckFault {
     }
 }
 
-/// The row at a place of a table, counted from 0, breaks a rule.
+/// The fault for a row that breaks a rule, by its index in the table, counted from 0.
 pub(crate) fn broken_at(table: RegisterTable, row_index: usize, why: Defect) -> CheckFault
     ensures { IsBroken result }
 {

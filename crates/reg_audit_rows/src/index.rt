@@ -1,4 +1,4 @@
-//! Rows by their keys, where no two have the same.
+//! Maps of rows by their keys, and checks that no two rows have the same key.
 
 ghost use Rattle.std.specs.Prelude.{OnOk, IfOk};
 ghost use Rattle.std.specs.BTreeMap.{get};

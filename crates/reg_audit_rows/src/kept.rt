@@ -1,4 +1,4 @@
-//! What is kept beside the records: whether it follows from them.
+//! Checks that the derived tables match the records.
 
 ghost use Rattle.std.specs.Prelude.{◌≡◌, ◌≢◌, ◌==◌, ◌&&◌, ◌↔◌, ℕ, nat_le, nat_lt, not, find, filter, length, map, IsTrue, MatchOption, OnOk, IfOk, IfErr};
 ghost use Rattle.std.specs.BTreeMap.{get};
@@ -31,7 +31,7 @@ pub struct Standing {
     pub letter: Letter,
 }
 
-/// What CRLs list of a revocation: its certificate's notAfter, and the last CRL that lists it, where that has been issued.
+/// A revocation's entry in CRLs, with its first CRL, its certificate's notAfter, and the last CRL that lists it, if that has been issued.
 #[derive(Clone, Copy)]
 pub struct Listed {
     pub serial: Serial,
@@ -42,7 +42,7 @@ pub struct Listed {
     pub last: Option<u64>,
 }
 
-/// The rows of the tables that are kept beside the records, each table's in the order of its rowids.
+/// The rows of the derived tables, those of each table in the order of its rowids.
 #[derive(Clone, Copy)]
 pub struct KeptRows<'a> {
     pub letters: &'a [Standing],
@@ -50,7 +50,7 @@ pub struct KeptRows<'a> {
     pub listed: &'a [Listed],
 }
 
-/// A row of a serial number.
+/// A row with a serial number.
 pub(crate) trait OfSerial: Copy {
     ghost use Rattle.std.specs.Prelude.{◌≡◌, ◌↔◌, ℕ, IsTrue};
 
@@ -132,7 +132,7 @@ fn is_past(crl: &CrlRow, first: u64, not_after: Moment) -> bool
     first <= crl.number && not_after < crl.this_update
 }
 
-/// The number of the first CRL from a number on whose thisUpdate is past a moment, found by halves.
+/// The number of the first CRL, from the number `first` on, whose thisUpdate is after `not_after`; a binary search.
 fn last_listing(crls: &[CrlRow], first: u64, not_after: Moment) -> Option<u64>
     ensures { NumberedFrom (λ crl. crl.number) 1 crls.now → NeverFalls (λ crl. crl.this_update) crls.now
         → result ≡ last_in crls.now first not_after }
@@ -204,7 +204,7 @@ pub(crate) fn check_counts(rows: &[Standing], counts: Counts) -> Result<(), Chec
     }
 }
 
-/// The place of the first row that differs from the one at its place of another list, or where the first list ends.
+/// The index of the first row that differs from the wanted row with that index, or the number of rows if only wanted ones follow.
 fn first_difference<T: OfSerial>(held: &[T], wanted: &[T]) -> Option<usize>
     ensures { MatchOption result (held.now ≡ wanted.now) (λ _. held.now ≢ wanted.now) }
 {
@@ -221,7 +221,7 @@ fn first_difference<T: OfSerial>(held: &[T], wanted: &[T]) -> Option<usize>
     }
 }
 
-/// The place of a row among others, or where they end. Only the text of a row depends on it.
+/// The index of a row among others, or their number if it is not there. It is used only in the report.
 fn place_of<T: OfSerial>(rows: &[T], row: Option<&T>) -> usize {
     let Some(row) = row else {
         return rows.len();

@@ -1,4 +1,4 @@
-//! Whether rows are those of a register: sound records, and what follows from them.
+//! Checks that rows are those of a register: sound records, and derived tables that match them.
 #![tactic(auto)]
 
 mod alone;

@@ -9,7 +9,7 @@ use crate::broken_row::{BrokenRow, Defect, RegisterTable};
 use reg_core::Decimal;
 use std::alloc::{AllocError, Global};
 
-/// The line of a schema that is none of a register's.
+/// The line for a schema that is not that of a register.
 pub const OTHER_SCHEMA: &str =
     "broken: schema: other tables, columns or indexes than a register has\n";
 
@@ -84,7 +84,7 @@ fn with_number(text: Vec<u8>, word: &[u8], number: u64) -> Result<Vec<u8>, Alloc
     with(text, Decimal::of(number).as_bytes())
 }
 
-/// The line of rows that are all sound.
+/// The line for a register in which no row breaks a rule.
 pub fn sound_line(alloc: Global, found: Audited) -> Result<Vec<u8>, AllocError>
     ensures { IfOk result (λ line. line.items ≡ sound_text found) }
 {
@@ -94,7 +94,7 @@ pub fn sound_line(alloc: Global, found: Audited) -> Result<Vec<u8>, AllocError>
     with(text, b" CRLs\n")
 }
 
-/// The line of a row that breaks a rule.
+/// The line for a row that breaks a rule.
 pub fn broken_line(alloc: Global, broken: BrokenRow) -> Result<Vec<u8>, AllocError>
     ensures { IfOk result (λ line. line.items ≡ broken_text broken) }
 {

@@ -1,4 +1,4 @@
-//! What rows say of other rows.
+//! Checks of rows against other rows.
 
 ghost use Rattle.std.specs.Prelude.{◌≡◌, ◌+◌, ◌<◌, ◌≤◌, ◌==◌, ◌↔◌, find, IsTrue, MatchOption, OnOk};
 ghost use Rattle.std.specs.BTreeMap.{get};
@@ -17,7 +17,7 @@ use std::collections::BTreeMap;
 
 const SECONDS_OF_DAY: u64 = 86_400;
 
-/// Whether an id is one of so many, from 1 on.
+/// Whether an id is from 1 to the number of rows.
 fn is_one_of(id: u64, rows: usize) -> bool
     ensures { IsTrue result ↔ ((1 ≤ id) × (id ≤ rows)) }
 {
@@ -51,7 +51,7 @@ fn row_with<T: Numbered + Copy>(rows: &[T], number: u64) -> Option<T>
     }
 }
 
-/// Why a certificate is not as it was ordered, or none.
+/// Why a certificate does not match its order; `None` if it does.
 fn unordered(certificate: &CertRow, order: Option<OrderRow>) -> Option<Defect>
     ensures { MatchOption result (IsAsOrdered certificate.now order) (λ _. ¬ IsAsOrdered certificate.now order) }
 {
@@ -66,7 +66,7 @@ fn unordered(certificate: &CertRow, order: Option<OrderRow>) -> Option<Defect>
     None
 }
 
-/// Each certificate's order is there, and its validity no longer than ordered.
+/// Checks that each certificate's order exists, and that its validity is no longer than ordered.
 pub(crate) fn are_as_ordered(
     certificates: &[CertRow],
     orders: &[OrderRow],
@@ -85,7 +85,7 @@ pub(crate) fn are_as_ordered(
     Ok(())
 }
 
-/// Why a request is not for a certificate that had not ended, or none.
+/// Why a request is not for a certificate that had not ended; `None` if it is.
 fn untimely(request: &RequestRow, certificate: Option<CertRow>) -> Option<Defect>
     ensures { MatchOption result (IsInTime request.now certificate) (λ _. ¬ IsInTime request.now certificate) }
 {
@@ -139,7 +139,7 @@ pub(crate) fn none_after(
     Ok(())
 }
 
-/// Why a request did not lead to a revocation, or none.
+/// Why a revocation can't be by this request; `None` if it can.
 fn not_led(request: &RequestRow, revocation: &RevocationRow) -> Option<Defect>
     ensures { MatchOption result (LeadsTo revocation.now request.now) (λ _. ¬ LeadsTo revocation.now request.now) }
 {
@@ -155,7 +155,7 @@ fn not_led(request: &RequestRow, revocation: &RevocationRow) -> Option<Defect>
     None
 }
 
-/// Whether a CRL stands right to a number: below it not after a moment, and from it on not before the moment.
+/// Whether a CRL's thisUpdate is not after `at` if its number is below `first`, and not before `at` otherwise.
 fn is_around(crl: &CrlRow, first: u64, at: Moment) -> bool
     ensures { IsTrue result ↔ ((crl.now.number < first → crl.now.this_update ≤ at) × (first ≤ crl.now.number → at ≤ crl.now.this_update)) }
 {
@@ -177,7 +177,7 @@ fn are_around(crls: &[CrlRow], first: u64, at: Moment) -> bool
     true
 }
 
-/// Why a revocation does not hold together with what was looked up, or none.
+/// Why a revocation does not fit the certificate, the request and the CRLs that were looked up; `None` if it does.
 fn misfit(
     revocation: &RevocationRow,
     certificate: Option<CertRow>,
@@ -212,7 +212,7 @@ fn misfit(
     }
 }
 
-/// Each revocation holds together with its certificate, its request and the CRLs.
+/// Checks that each revocation fits its certificate, its request and the CRLs.
 pub(crate) fn revocations_fit(
     revocations: &[RevocationRow],
     certificates: &BTreeMap<Serial, CertRow>,

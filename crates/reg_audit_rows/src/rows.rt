@@ -1,4 +1,4 @@
-//! Rows of a register's tables, and whether they are those of sound records.
+//! The rows of a register's tables, and the check that they are those of sound records.
 
 ghost use Rattle.std.specs.Prelude.{◌≡◌, ◌<◌, ◌==◌, List, OnOk, IfOk};
 ghost use Rattle.std.specs.BTreeMap.{get};
@@ -40,7 +40,7 @@ pub struct Rows<'a> {
     pub crls: &'a [CrlRow],
 }
 
-/// Ids are 1, 2, 3 and so on, names are good and differ, and no more than the cap.
+/// Checks that ids are 1, 2, 3 and so on, names are valid and differ, and there are no more rows than the cap.
 fn check_subscribers(alloc: Global, rows: &[SubscriberRow], cap: u64) -> Result<(), CheckFault>
     ensures ok { OnOk result (SoundSubscribers cap rows.now) }
     ensures broken { NotBrokenIf (SoundSubscribers cap rows.now) result }
@@ -51,7 +51,7 @@ fn check_subscribers(alloc: Global, rows: &[SubscriberRow], cap: u64) -> Result<
     names_differ(alloc, rows)
 }
 
-/// Ids are 1, 2, 3 and so on, each subscriber is there, days are some that a schedule can allow, and no more than the cap.
+/// Checks that ids are 1, 2, 3 and so on, each subscriber exists, days are 1 to 398, and there are no more rows than the cap.
 fn check_orders(
     subscribers: &[SubscriberRow],
     rows: &[OrderRow],
@@ -68,7 +68,7 @@ fn check_orders(
     days_are_allowed(rows)
 }
 
-/// Serial numbers differ (RFC 5280 4.1.2.2), each fills an order of its own, validities are no longer than ordered.
+/// Checks that serial numbers differ (RFC 5280 4.1.2.2), each certificate fills an order of its own, and validities are no longer than ordered.
 fn check_certificates(
     alloc: Global,
     orders: &[OrderRow],
@@ -88,7 +88,7 @@ fn check_certificates(
     certificates_by_serial(alloc, rows)
 }
 
-/// Ids are 1, 2, 3 and so on, each certificate is there and had not ended, receipts do not fall.
+/// Checks that ids are 1, 2, 3 and so on, each certificate exists and had not ended, and moments of receipt do not fall.
 fn check_requests(
     certificates: &BTreeMap<Serial, CertRow>,
     rows: &[RequestRow],
@@ -109,7 +109,7 @@ fn check_requests(
     are_in_time(rows, certificates)
 }
 
-/// Numbers are 1, 2, 3 and so on (RFC 5280 5.2.3), thisUpdates do not fall.
+/// Checks that numbers are 1, 2, 3 and so on (RFC 5280 5.2.3), and thisUpdates do not fall.
 fn check_crls(rows: &[CrlRow], last: Moment, cap: u64) -> Result<(), CheckFault>
     ensures ok { OnOk result (AreCrls cap last rows.now) }
     ensures broken { NotBrokenIf (AreCrls cap last rows.now) result }
@@ -163,7 +163,7 @@ fn is_issued_at(crls: &[CrlRow], moment: Moment) -> bool
     crls.iter().any(|crl| crl.this_update == moment)
 }
 
-/// Before anybody is entered, CRLs alone set the last accepted moment.
+/// Checks the last accepted moment of a register without subscribers: it is 0 or the thisUpdate of a CRL.
 fn check_last_set(rows: &Rows<'_>) -> Result<(), CheckFault>
     ensures ok { OnOk result (IsLastSet rows.now) }
     ensures broken { NotBrokenIf (IsLastSet rows.now) result }
@@ -176,7 +176,7 @@ fn check_last_set(rows: &Rows<'_>) -> Result<(), CheckFault>
     }
 }
 
-/// The rows that were looked at, by their serial numbers.
+/// The certificates and the revocations, by their serial numbers.
 #[derive(Drop)]
 pub(crate) struct Found {
     pub(crate) certificates: BTreeMap<Serial, CertRow>,

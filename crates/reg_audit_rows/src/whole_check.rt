@@ -35,9 +35,9 @@ fn check_kept(
     same_rows(alloc, RegisterTable::Listed, beside.listed, listed)
 }
 
-/// Whether the rows are those of sound records, and what is kept beside these follows from them: the letters, their
-/// counts, and what CRLs list. The CRLs' bytes are not looked at. `Broken` with a row that breaks a rule.
-/// It takes as many steps as there are rows, with a look-up by halves for some, and one step for each revocation and CRL.
+/// Checks that the rows are those of sound records, and that the derived tables match them: the letters, their counts, and the
+/// entries of CRLs. It does not check the bytes of CRLs. Errors: `Memory`; `Broken` with a row that breaks a rule. It takes
+/// O(n log n) steps for n rows, and one step for each pair of a revocation and a CRL.
 pub fn check(alloc: Global, rows: &Rows<'_>, beside: &KeptRows<'_>) -> Result<(), CheckFault>
     ensures sound { (records : Records) → AreOf rows.now records → OnOk result (SoundRows records) }
     ensures kept { (records : Records) → AreOf rows.now records → (columns : Columns)

@@ -1,4 +1,4 @@
--- The civil date and time that a moment shows in UTC, and the texts of a moment.
+-- The civil date and time of a moment in UTC, and the texts of a moment.
 use Rattle.std.specs.Prelude.{◌≡◌, ℕ, zero, suc, ◌+◌, ◌-◌, ◌/◌, ◌%◌, ◌<◌, ◌≤◌, Bool, true, false, not, ◌&&◌, ◌||◌, ◌==◌, nat_lt, if◌then◌else◌, List, [], ◌∷◌, ◌++◌, codes, slice_index, pos, bytes_eq, cond, Option, Some, None}
 use Rattle.std.specs.Option.{option_or}
 use Rattle.jiff_core.specs.Calendar.{IsCivilDate, days_from_civil}
@@ -8,24 +8,24 @@ use Rattle.reg_core.specs.declared.calendar.Civil.{Civil}
 abbrev pub IsMoment : ℕ → Type 0
 IsMoment seconds = seconds < 253402300800
 
--- the register's clock ends before 9999-12-22T00:00:00Z, so that no nextUpdate leaves the range of GeneralizedTime
+-- the register accepts moments before 9999-12-22T00:00:00Z, so that each nextUpdate is in the range of GeneralizedTime
 -- (RFC 5280 4.1.2.5.2)
 abbrev pub clock_end : ℕ
 clock_end = 253401436800
 
--- the Gregorian rule: every fourth year is a leap year, but of the centuries only every fourth
+-- the Gregorian rule: every fourth year is a leap year, except the centuries that are not divisible by 400
 abbrev pub is_leap : ℕ → Bool
 is_leap year = (year % 4 == 0) && (not (year % 100 == 0) || (year % 400 == 0))
 
--- thirty days have September, April, June and November
+-- the number of days of a month
 abbrev pub month_length : ℕ → ℕ → ℕ
 month_length year month =
     if month == 2 then (if is_leap year then 29 else 28)
     else (if (month == 4) || (month == 6) || (month == 9) || (month == 11) then 30 else 31)
 
--- Year, month and day of the date that comes `days` days after the first of a month. The walk goes
--- on month by month, from December (month / 12 is 1) into the next year. `steps` bounds it: a walk
--- needs no more steps than there are days.
+-- The year, month and day of the date that is `days` days after the first of a month. It goes on month by month, and
+-- from December (month / 12 is 1) to the next year. `steps` bounds the recursion, which needs no more steps than
+-- there are days.
 unfoldable pub date_after : ℕ → ℕ → ℕ → ℕ → ℕ × ℕ × ℕ
 date_after zero year month days = (year, month, days + 1)
 date_after (suc steps) year month days =
@@ -34,7 +34,7 @@ date_after (suc steps) year month days =
       | false ↦ date_after steps (year + month / 12) (month % 12 + 1) (days - month_length year month)
     ]
 
--- what calendar and clock show at a moment: days of 86,400 seconds from 1 January 1970, no leap seconds
+-- the date and time of a moment: days of 86,400 seconds from 1 January 1970, without leap seconds
 unfoldable pub shown_of : ℕ → Civil
 shown_of seconds =
     let days = seconds / 86400 in
@@ -48,7 +48,7 @@ shown_of seconds =
       second = seconds % 60;
     }
 
--- the same in the words of jiff's calendar: a date that it has, with the day number of the moment
+-- the date and time of a moment, by the calendar of jiff: a date that exists, with the day number of the moment
 pub record IsShownAt (seconds : ℕ) (c : Civil) : Type 0 where
   pub date : IsCivilDate (pos c.year) c.month c.day
   pub day_number : days_from_civil (pos c.year) c.month c.day ≡ pos (seconds / 86400)
@@ -56,7 +56,7 @@ pub record IsShownAt (seconds : ℕ) (c : Civil) : Type 0 where
   pub minute : c.minute ≡ seconds % 3600 / 60
   pub second : c.second ≡ seconds % 60
 
--- the range of each part
+-- the range of each field
 pub record IsCivil (c : Civil) : Type 0 where
   pub first_year : 1970 ≤ c.year
   pub last_year : c.year ≤ 9999
@@ -68,7 +68,7 @@ pub record IsCivil (c : Civil) : Type 0 where
   pub minute : c.minute < 60
   pub second : c.second < 60
 
--- few enough digits for the texts
+-- each field has as many digits as the texts have for it, at most
 pub record HasDigits (c : Civil) : Type 0 where
   pub year : c.year < 10000
   pub month : c.month < 100
@@ -81,11 +81,11 @@ pub record HasDigits (c : Civil) : Type 0 where
 abbrev pub two_digits : ℕ → List ℕ
 two_digits n = (48 + n / 10) ∷ (48 + n % 10) ∷ []
 
--- a number below 10000 in four
+-- a number below 10000 in four decimal digits
 abbrev pub four_digits : ℕ → List ℕ
 four_digits n = two_digits (n / 100) ++ two_digits (n % 100)
 
--- the two bytes from a place on spell this number below 100
+-- the two bytes from index `at` on are the two digits of this number below 100
 abbrev pub Spells : List ℕ → ℕ → ℕ → Type 0
 Spells text at n = (n < 100) × ((slice_index text at ∷ slice_index text (at + 1) ∷ []) ≡ two_digits n)
 
@@ -117,18 +117,18 @@ unfoldable pub first_below : (ℕ → Bool) → ℕ → Option ℕ
 first_below test zero = None
 first_below test (suc n) = option_or (first_below test n) (cond (test n) (Some n) None)
 
--- the moment whose text it is (a moment is below 253402300800)
+-- the moment with this text (a moment is below 253402300800)
 unfoldable pub moment_of : List ℕ → Option ℕ
 moment_of text = first_below (λ m. bytes_eq text (moment_text m)) 253402300800
 
--- the contents of its UTCTime, whose two digits of the year mean 1950 to 2049
+-- the contents of the UTCTime of a moment: a two-digit year means 1950 to 2049
 unfoldable pub utc_text : ℕ → List ℕ
 utc_text seconds = utc_time (shown_of seconds)
 
--- the contents of its GeneralizedTime
+-- the contents of the GeneralizedTime of a moment
 unfoldable pub general_text : ℕ → List ℕ
 general_text seconds = generalized_time (shown_of seconds)
 
--- a byte of the register's text: `-`, a digit, `:`, `T` or `Z`, so no space, no end of line, none above 127
+-- a byte within the range of those in the register's text (`-`, digits, `:`, `T`, `Z`): no space, no line end, none above 127
 abbrev pub IsTextByte : ℕ → Type 0
 IsTextByte byte = (45 ≤ byte) × (byte ≤ 90)

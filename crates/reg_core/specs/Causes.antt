@@ -27,7 +27,7 @@ cause_line cause.Steps = codes "  steps: 1 to 16, from 1970 on ascending, days 1
 abbrev pub is_out : ℕ → ℕ → ℕ → Bool
 is_out least most number = nat_lt number least || nat_lt most number
 
--- which of the terms of a policy is out of its range, the first of them (docs/RULES.md, "What is kept")
+-- the first value of a policy that is out of its range, if one is (docs/RULES.md, "What is kept")
 unfoldable pub terms_cause : ℕ → ℕ → ℕ → ℕ → Option Cause
 terms_cause days crl_life ocsp_life cap =
     if is_out 1 398 days then Some cause.Days

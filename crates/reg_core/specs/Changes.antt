@@ -1,4 +1,4 @@
--- What accepted commands change in the records. Each also sets the last accepted moment.
+-- The changes of the records by accepted commands. Each also sets the last accepted moment.
 use Rattle.std.specs.Prelude.{◌≡◌, ◌≤◌, ◌+◌, ℕ, true, cond, ◌==◌, List, [], ◌∷◌, ◌++◌, map, length, None, IsSomeAnd}
 use Rattle.reg_core.specs.Crls.{next_number}
 use Rattle.reg_core.specs.Records.{Records, Crl, certificate_in, revocation_in}
@@ -10,27 +10,27 @@ use Rattle.reg_core.specs.declared.rows.CertRow.{CertRow}
 use Rattle.reg_core.specs.declared.rows.RequestRow.{RequestRow}
 use Rattle.reg_core.specs.declared.rows.RevocationRow.{RevocationRow}
 
--- the last accepted moment alone
+-- only the last accepted moment changes
 abbrev pub touched : Records → ℕ → Records
 touched records now = record records { last = now }
 
--- one subscriber more
+-- a new subscriber
 abbrev pub with_subscriber : Records → ℕ → SubscriberRow → Records
 with_subscriber records now row = record records { last = now; subscribers = records.subscribers ++ row ∷ [] }
 
--- one order more
+-- a new order
 abbrev pub with_order : Records → ℕ → OrderRow → Records
 with_order records now row = record records { last = now; orders = records.orders ++ row ∷ [] }
 
--- one certificate more
+-- a new certificate
 abbrev pub with_certificate : Records → ℕ → CertRow → Records
 with_certificate records now row = record records { last = now; certificates = records.certificates ++ row ∷ [] }
 
--- one request more
+-- a new request
 abbrev pub with_request : Records → ℕ → RequestRow → Records
 with_request records now row = record records { last = now; requests = records.requests ++ row ∷ [] }
 
--- a request, declined where it has the id
+-- a request, declined if it has the id
 abbrev pub declined_if : ℕ → RequestRow → RequestRow
 declined_if id row = cond (row.id == id) (record row { declined = true }) row
 
@@ -38,11 +38,11 @@ declined_if id row = cond (row.id == id) (record row { declined = true }) row
 abbrev pub with_declined : Records → ℕ → ℕ → Records
 with_declined records now id = record records { last = now; requests = map (declined_if id) records.requests }
 
--- one revocation more
+-- a new revocation
 abbrev pub with_revocation : Records → ℕ → RevocationRow → Records
 with_revocation records now row = record records { last = now; revocations = records.revocations ++ row ∷ [] }
 
--- one CRL more
+-- a new CRL
 abbrev pub with_crl : Records → ℕ → Crl → Records
 with_crl records now crl = record records { last = now; crls = records.crls ++ crl ∷ [] }
 
@@ -58,8 +58,8 @@ changed_by records now (Revocation row not_after) = with_revocation records now 
 changed_by records now (NewCrl row der) =
     with_crl records now (record { number = row.number; this_update = row.this_update; bytes = der.now })
 
--- what the decision made sure of before a change at a moment: an id or a number is the next one; a certificate is new and
--- has not ended; what is revoked is registered with this notAfter, has not ended, and was not revoked
+-- what a decision ensures of a change at a moment: an id or a number is the next one; a certificate is new and not
+-- expired; a revoked certificate is registered with this notAfter, not expired, and was not revoked
 abbrev pub Fits : Records → ℕ → Change → Type 0
 Fits records now Touch = Unit {0}
 Fits records now (Subscriber row) = row.id ≡ length records.subscribers + 1
@@ -74,6 +74,6 @@ Fits records now (Revocation row not_after) =
     × (row.first ≡ next_number records.crls)
 Fits records now (NewCrl row der) = row.number ≡ next_number records.crls
 
--- another schedule of longest validities, which is no command: the last accepted moment stays
+-- another schedule of longest validities. This is not a command, so the last accepted moment stays.
 abbrev pub with_schedule : Records → List (ℕ × ℕ) → Records
 with_schedule records schedule = record records { policy = record records.policy { schedule = schedule } }

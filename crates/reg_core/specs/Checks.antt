@@ -1,5 +1,5 @@
--- The office's checks of each command, in the order in which they are made. Each check is a refusal where it applies;
--- the first that applies is the answer.
+-- The checks of each command, in their order. Each check gives a refusal if it applies; the command is refused with the
+-- first of them.
 use Rattle.std.specs.Prelude.{ℕ, Bool, true, not, cond, ◌||◌, ◌==◌, ◌+◌, ◌-◌, ◌*◌, min, nat_le, nat_lt, List, [], ◌∷◌, ◌++◌, Option, Some, None, Result, Ok, Err}
 pub use Rattle.reg_core.specs.Calendar.{clock_end}
 use Rattle.reg_core.specs.Label.{is_name}
@@ -15,16 +15,16 @@ use Rattle.reg_core.specs.declared.rows.RevocationRow.{RevocationRow}
 use Rattle.reg_core.specs.declared.refusal.Refusal.{Refusal}
 use Rattle.reg_core.specs.declared.refusal.Refusal.TheVariants.{ClockBack, ClockEnd, Full, BadName, NameTaken, NoSubscriber, BadDays, NoOrder, OrderFilled, SerialTaken, BadValidity, TooLong, Ended, UnknownSerial, NoRequest, DeclinedBefore, RevokedBefore, Expired}
 
--- the refusal, where the test holds
+-- the refusal, if the test holds
 abbrev pub when : Bool → Refusal → Option Refusal
 when test refusal = cond test (Some refusal) None
 
--- the refusal, where the look-up found nothing
+-- the refusal, if the look-up found no row
 abbrev pub where_none : {Row : Type 0} → Option Row → Refusal → Option Refusal
 where_none None refusal = Some refusal
 where_none (Some row) refusal = None
 
--- the row's refusal, where the look-up found one that passes the test
+-- the row's refusal, if the look-up found a row that passes the test
 abbrev pub where_some : {Row : Type 0} → Option Row → (Row → Bool) → (Row → Refusal) → Option Refusal
 where_some None test refusal = None
 where_some (Some row) test refusal = cond (test row) (Some (refusal row)) None
@@ -35,11 +35,11 @@ first_of_all [] = None
 first_of_all (None ∷ rest) = first_of_all rest
 first_of_all (Some refusal ∷ rest) = Some refusal
 
--- the moment is below the clock's end and not before the last accepted one
+-- the moment is before the clock's end, and not before the last accepted one
 abbrev pub clock_checks : ℕ → ℕ → List (Option Refusal)
 clock_checks now last = when (nat_le clock_end now) ClockEnd ∷ when (nat_lt now last) (ClockBack last) ∷ []
 
--- a name of allowed bytes that nobody has
+-- a name of allowed bytes, which no subscriber has
 abbrev pub subscriber_checks : List ℕ → Option SubscriberRow → Bool → List (Option Refusal)
 subscriber_checks name by_name full =
     when (not (is_name name)) BadName
@@ -47,7 +47,7 @@ subscriber_checks name by_name full =
     ∷ when full Full
     ∷ []
 
--- an order by a subscriber, for no more days than the longest validity
+-- an order of a registered subscriber, for at most the greatest of the longest validities
 abbrev pub order_checks : Terms → Option SubscriberRow → ℕ → Bool → List (Option Refusal)
 order_checks policy subscriber days full =
     where_none subscriber NoSubscriber
@@ -55,16 +55,16 @@ order_checks policy subscriber days full =
     ∷ when full Full
     ∷ []
 
--- how many seconds a validity has, both ends counted (RFC 5280 4.1.2.5)
+-- the seconds of a validity, from notBefore to notAfter, both included (RFC 5280 4.1.2.5)
 abbrev pub validity_seconds : CertRow → ℕ
 validity_seconds certificate = (certificate.not_after - certificate.not_before) + 1
 
--- longer than the order's days, or than the longest validity that may begin at notBefore
+-- the validity is longer than the order's days, or than the longest validity for its notBefore
 abbrev pub is_too_long : Terms → CertRow → OrderRow → Bool
 is_too_long policy wanted order =
     nat_lt (86400 * min order.days (longest_at policy.schedule wanted.not_before)) (validity_seconds wanted)
 
--- the validity runs forward, is no longer than ordered and allowed, and has not ended
+-- notAfter is not before notBefore, the validity is no longer than ordered and allowed, and the certificate is not expired
 abbrev pub validity_checks : Terms → ℕ → CertRow → Option OrderRow → List (Option Refusal)
 validity_checks policy now wanted order =
     when (nat_lt wanted.not_after wanted.not_before) BadValidity
@@ -72,7 +72,7 @@ validity_checks policy now wanted order =
     ∷ when (nat_lt wanted.not_after now) Ended
     ∷ []
 
--- a certificate that fills an open order, with a serial number that is new
+-- a certificate for an order that has none yet, with a new serial number
 abbrev pub register_checks : Terms → ℕ → CertRow → Option OrderRow → Option CertRow → Option CertRow → Bool → List (Option Refusal)
 register_checks policy now wanted order by_order by_serial full =
     where_none order NoOrder
@@ -80,32 +80,32 @@ register_checks policy now wanted order by_order by_serial full =
     ∷ where_some by_serial (λ row. true) (λ row. SerialTaken)
     ∷ (validity_checks policy now wanted order ++ when full Full ∷ [])
 
--- the refusal of a word that names no ground
+-- the refusal of a word that is not the name of a ground
 abbrev pub where_no_ground : Result Ground Refusal → Option Refusal
 where_no_ground (Ok named) = None
 where_no_ground (Err refusal) = Some refusal
 
--- the certificate is neither revoked nor past its end
+-- the certificate is neither revoked nor past notAfter
 abbrev pub live_checks : ℕ → Option CertRow → Option RevocationRow → List (Option Refusal)
 live_checks now certificate revocation =
     where_some revocation (λ row. true) (λ row. RevokedBefore row.at)
     ∷ where_some certificate (λ row. nat_lt row.not_after now) (λ row. Expired)
     ∷ []
 
--- a request for a live certificate, on a ground that there is
+-- a request for a registered certificate, neither revoked nor expired, on a ground that exists
 abbrev pub request_checks : ℕ → Option CertRow → List ℕ → Option RevocationRow → Bool → List (Option Refusal)
 request_checks now certificate word revocation full =
     where_none certificate UnknownSerial
     ∷ where_no_ground (ground_or_refusal word)
     ∷ (live_checks now certificate revocation ++ when full Full ∷ [])
 
--- a request that can be settled, declined or led to revocation: it was not declined, and its certificate is live
+-- a request that can be declined or lead to a revocation: it was not declined, and its certificate is neither revoked nor expired
 abbrev pub settle_checks : ℕ → Option RequestRow → Option CertRow → Option RevocationRow → List (Option Refusal)
 settle_checks now request certificate revocation =
     where_none request NoRequest
     ∷ where_some request (λ row. row.declined) (λ row. DeclinedBefore)
     ∷ live_checks now certificate revocation
 
--- room for one CRL more
+-- the table of CRLs is not full
 abbrev pub crl_checks : Bool → List (Option Refusal)
 crl_checks full = when full Full ∷ []

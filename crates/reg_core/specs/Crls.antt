@@ -1,4 +1,4 @@
--- What CRLs list, and what is signed in one.
+-- The entries of CRLs, and the fields that are signed in a CRL.
 use Rattle.std.specs.Prelude.{ℕ, Bool, false, cond, not, ◌&&◌, ◌+◌, ◌<◌, nat_le, nat_lt, List, [], ◌∷◌, map, filter, find, Option, Some, None, option_map}
 use Rattle.std.specs.List.{AllByRecursion, list_any}
 use Rattle.reg_core.specs.Issuer.{Issuer}
@@ -18,7 +18,7 @@ latest (crl ∷ next ∷ rest) = latest (next ∷ rest)
 abbrev pub row_of : Crl → CrlRow
 row_of crl = record { number = crl.number; this_update = crl.this_update }
 
--- one more than the greatest CRL number, 1 where there is no CRL
+-- one more than the number of this CRL, the latest; 1 if there is no CRL
 abbrev pub number_after : Option CrlRow → ℕ
 number_after None = 1
 number_after (Some crl) = crl.number + 1
@@ -27,7 +27,7 @@ number_after (Some crl) = crl.number + 1
 abbrev pub next_number : List Crl → ℕ
 next_number crls = number_after (option_map row_of (latest crls))
 
--- a moment is past the end of the serial number's certificate
+-- a moment is past notAfter of the serial number's certificate
 abbrev pub is_past_end : List CertRow → ℕ → ℕ → Bool
 is_past_end certificates serial moment = ended (certificate_in certificates serial)
   where
@@ -35,13 +35,13 @@ is_past_end certificates serial moment = ended (certificate_in certificates seri
     ended (Some certificate) = nat_lt certificate.not_after moment
     ended None = false
 
--- a CRL that can list the revocation, and whose thisUpdate is past the certificate's end
+-- the CRL can list the revocation, and its thisUpdate is past the certificate's notAfter
 abbrev pub is_past_on : List CertRow → RevocationRow → Crl → Bool
 is_past_on certificates revocation crl =
     nat_le revocation.first crl.number && is_past_end certificates revocation.serial crl.this_update
 
--- CRL n lists the revocation: it is not before the first that can, and no CRL between is past the certificate's end
--- (an entry stays until it appears on one regularly scheduled CRL issued beyond the validity, RFC 5280 3.3)
+-- CRL n lists the revocation: n is not below the first CRL that can, and no earlier CRL that can is past the certificate's
+-- notAfter (an entry stays until it appears on one regularly scheduled CRL issued beyond the validity, RFC 5280 3.3)
 abbrev pub is_on : List CertRow → List Crl → ℕ → RevocationRow → Bool
 is_on certificates crls n revocation =
     nat_le revocation.first n
@@ -51,7 +51,7 @@ is_on certificates crls n revocation =
 abbrev pub content : Records → ℕ → List RevocationRow
 content records n = filter (is_on records.certificates records.crls n) records.revocations
 
--- the number of the last CRL that lists the revocation: the first one past its certificate's end, where it has been issued
+-- the number of the last CRL that lists the revocation: the first one past its certificate's notAfter, if that is issued
 abbrev pub last_listing : Records → RevocationRow → Option ℕ
 last_listing records revocation =
     option_map (λ crl. crl.number) (find (is_past_on records.certificates revocation) records.crls)
@@ -60,7 +60,7 @@ last_listing records revocation =
 abbrev pub entry_of : RevocationRow → Entry
 entry_of revocation = record { serial = revocation.serial; at = revocation.at; reason = revocation.reason }
 
--- an entry put before the first of a greater serial number
+-- entries with one more, inserted before the first that has a greater serial number
 abbrev pub insert_entry : Entry → List Entry → List Entry
 insert_entry entry [] = entry ∷ []
 insert_entry entry (next ∷ rest) =
@@ -80,7 +80,7 @@ EntriesAscend (entry ∷ rest) = AllByRecursion (λ later. entry.serial < later.
 abbrev pub entries : Records → ℕ → List Entry
 entries records n = ascending (map entry_of (content records n))
 
--- what is signed in a CRL (tbsCertList, RFC 5280 5.1.2)
+-- the fields that are signed in a CRL (tbsCertList, RFC 5280 5.1.2)
 pub record CertList : Type 0 where
   pub issuer : Issuer
   pub number : ℕ
@@ -88,7 +88,7 @@ pub record CertList : Type 0 where
   pub next_update : ℕ
   pub entries : List Entry
 
--- what is signed in CRL n at its thisUpdate
+-- the fields that are signed in CRL n, with this thisUpdate
 abbrev pub cert_list : Records → ℕ → ℕ → CertList
 cert_list records n this_update = record {
   issuer = records.issuer;

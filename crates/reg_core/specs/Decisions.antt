@@ -1,4 +1,4 @@
--- What each decision answers on the rows that were looked up: a refusal, or the row to add or change.
+-- The result of each decision over the rows that were looked up: a refusal, or the row to add or change.
 use Rattle.std.specs.Prelude.{◌≡◌, ℕ, Bool, true, false, cond, ◌+◌, nat_le, nat_lt, List, [], ◌++◌, Option, Some, None, Result, Ok, Err, IfSome, IsOkAnd}
 use Rattle.reg_core.specs.Checks.{first_of_all, clock_checks, subscriber_checks, order_checks, register_checks, request_checks, settle_checks, crl_checks}
 use Rattle.reg_core.specs.Crls.{number_after}
@@ -15,11 +15,11 @@ use Rattle.reg_core.specs.declared.rows.RevocationRow.{RevocationRow}
 use Rattle.reg_core.specs.declared.rows.CrlRow.{CrlRow}
 use Rattle.reg_core.specs.declared.refusal.Refusal.{Refusal}
 
--- the head of the records at a moment, for a table of so many rows
+-- the head of the records at a moment, for a table with `held` rows
 abbrev pub head_of : Records → ℕ → ℕ → Head
 head_of records now held = record { now = now; last = records.last; policy = records.policy; held = held }
 
--- the table that would grow holds as many rows as the policy allows
+-- the table that would grow has as many rows as the policy allows
 abbrev pub head_is_full : Head → Bool
 head_is_full head = nat_le head.policy.cap head.held
 
@@ -28,17 +28,17 @@ abbrev pub refused_or : {Answer : Type 0} → Option Refusal → Answer → Resu
 refused_or (Some refusal) answer = Err refusal
 refused_or None answer = Ok answer
 
--- the refusal where one applies, or else an answer of this kind
+-- the refusal if one applies, or else an answer that satisfies `IsAnswer`
 abbrev pub IsDecidedBy : {Answer : Type 0} → Option Refusal → (Answer → Type 0) → Result Answer Refusal → Type 0
 IsDecidedBy (Some refusal) IsAnswer result = result ≡ Err refusal
 IsDecidedBy None IsAnswer result = IsOkAnd result IsAnswer
 
--- the first refusal that applies, those of the clock before the others, or else an answer of this kind
+-- the first refusal that applies, those of the clock before the others, or else an answer that satisfies `IsAnswer`
 abbrev pub IsDecided : {Answer : Type 0} → Head → List (Option Refusal) → (Answer → Type 0) → Result Answer Refusal → Type 0
 IsDecided head checks IsAnswer result =
     IsDecidedBy (first_of_all (clock_checks head.now head.last ++ checks)) IsAnswer result
 
--- a subscriber is entered under the next id
+-- a subscriber is entered with the next id
 abbrev pub DecidesSubscriber : Head → List ℕ → Option SubscriberRow → Result SubscriberRow Refusal → Type 0
 DecidesSubscriber head name by_name result =
     IsDecided
@@ -47,7 +47,7 @@ DecidesSubscriber head name by_name result =
     (λ row. row ≡ record { id = head.held + 1; name = name })
     result
 
--- an order is entered under the next id
+-- an order is entered with the next id
 abbrev pub DecidesOrder : Head → Option SubscriberRow → ℕ → Result OrderRow Refusal → Type 0
 DecidesOrder head subscriber days result =
     IsDecided
@@ -56,12 +56,12 @@ DecidesOrder head subscriber days result =
     (λ row. IfSome subscriber (λ known. row ≡ record { id = head.held + 1; subscriber = known.id; days = days }))
     result
 
--- the certificate with the serial number is equal in all parts to the one that is wanted
+-- the certificate with the serial number is equal in all fields to the wanted one
 abbrev pub is_same : CertRow → Option CertRow → Bool
 is_same wanted None = false
 is_same wanted (Some registered) = same_certificate wanted registered
 
--- a certificate is registered as it is wanted, and nothing is registered where it stands so
+-- the wanted certificate is registered; if it is registered already, there is no new row
 abbrev pub DecidesRegister : Head → CertRow → Option OrderRow → Option CertRow → Option CertRow → Result (Option CertRow) Refusal → Type 0
 DecidesRegister head wanted order by_order by_serial result =
     IsDecided
@@ -70,7 +70,7 @@ DecidesRegister head wanted order by_order by_serial result =
     (λ row. row ≡ cond (is_same wanted by_serial) None (Some wanted))
     result
 
--- the request for a certificate, received now on a ground in words
+-- the request for a certificate, received now, on the ground with the name `word`
 pub record IsRequest (head : Head) (certificate : CertRow) (word : List ℕ) (row : RequestRow) : Type 0 where
   pub next_id : row.id ≡ head.held + 1
   pub of_certificate : row.serial ≡ certificate.serial
@@ -78,7 +78,7 @@ pub record IsRequest (head : Head) (certificate : CertRow) (word : List ℕ) (ro
   pub received_now : row.received ≡ head.now
   pub not_declined : row.declined ≡ false
 
--- a request is entered under the next id
+-- a request is entered with the next id
 abbrev pub DecidesRequest : Head → Option CertRow → List ℕ → Option RevocationRow → Result RequestRow Refusal → Type 0
 DecidesRequest head certificate word revocation result =
     IsDecided
@@ -96,7 +96,7 @@ DecidesDecline head request certificate revocation result =
     (λ row. IfSome request (λ known. row ≡ record known { declined = true }))
     result
 
--- the revocation that a request leads to now, with whether it is past the request's deadline
+-- the revocation by a request now, and whether that is after the request's deadline
 abbrev pub revocation_by : Head → RequestRow → Option CrlRow → RevocationRow × Bool
 revocation_by head request latest = (
   record {
@@ -118,7 +118,7 @@ DecidesRevoke head request certificate revocation latest result =
     (λ answer. IfSome request (λ known. answer ≡ revocation_by head known latest))
     result
 
--- a CRL is issued under the next number
+-- a CRL is issued with the next number
 abbrev pub DecidesCrl : Head → Option CrlRow → Result CrlRow Refusal → Type 0
 DecidesCrl head latest result =
     IsDecided head (crl_checks (head_is_full head)) (λ row. row ≡ record { number = number_after latest; this_update = head.now }) result

@@ -10,11 +10,11 @@ use Rattle.reg_core.specs.declared.rows.RevocationRow.{RevocationRow}
 use Rattle.reg_core.specs.declared.rows.CrlRow.{CrlRow}
 use Rattle.reg_core.specs.declared.command.Overdue.{Overdue}
 
--- the moment up to which a request is to be decided
+-- a request's deadline: a revocation by it is late after this moment
 abbrev pub deadline : RequestRow → ℕ
 deadline request = request.received + limit_of request.ground
 
--- neither declined nor settled: the certificate is still good
+-- the request was not declined, and its certificate is neither revoked nor expired
 abbrev pub is_open : Records → ℕ → RequestRow → Bool
 is_open records moment request = not request.declined && is_good (status records request.serial moment)
 
@@ -23,7 +23,7 @@ abbrev pub overdue : Records → ℕ → List RequestRow
 overdue records moment =
     filter (λ request. is_open records moment request && nat_lt (deadline request) moment) records.requests
 
--- how many they are, and the least id
+-- how many requests are overdue, and the id of the first
 abbrev pub overdue_report : List RequestRow → Option Overdue
 overdue_report [] = None
 overdue_report (request ∷ rest) = Some (record { count = length (request ∷ rest); first = request.id })
@@ -32,7 +32,7 @@ overdue_report (request ∷ rest) = Some (record { count = length (request ∷ r
 abbrev pub unlisted : Records → List RevocationRow
 unlisted records = filter (λ revocation. nat_le (next_number records.crls) revocation.first) records.revocations
 
--- the moment of the earliest
+-- the moment of the earliest revocation
 abbrev pub earliest : List RevocationRow → Option ℕ
 earliest [] = None
 earliest (revocation ∷ rest) = Some (before revocation.at (earliest rest))
@@ -41,14 +41,14 @@ earliest (revocation ∷ rest) = Some (before revocation.at (earliest rest))
     before at None = at
     before at (Some other) = min at other
 
--- when the next CRL is due: a week after the latest, when that one's nextUpdate comes (RFC 5280 5.1.2.5), or a day
--- after the earliest revocation that waits, whichever is first; at once where there is no CRL
+-- when the next CRL is due: a week after thisUpdate of the latest one, at its nextUpdate (RFC 5280 5.1.2.5), or a day
+-- after the earliest revocation that waits for a CRL, whichever is first. `None` if there is no CRL: due at once.
 abbrev pub due_by : Terms → Option CrlRow → Option ℕ → Option ℕ
 due_by policy None waiting = None
 due_by policy (Some crl) None = Some (min (crl.this_update + 604800) (crl.this_update + policy.crl_life))
 due_by policy (Some crl) (Some at) =
     Some (min (min (crl.this_update + 604800) (crl.this_update + policy.crl_life)) (at + 86400))
 
--- the same over the records
+-- when the next CRL of these records is due
 abbrev pub due : Records → Option ℕ
 due records = due_by records.policy (option_map row_of (latest records.crls)) (earliest (unlisted records))

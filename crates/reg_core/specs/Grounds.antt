@@ -1,11 +1,11 @@
--- The grounds of revocation: the word, the limit and the reason of each.
+-- The grounds of revocation: the name, the time limit and the reasonCode of each.
 use Rattle.std.specs.Prelude.{ℕ, List, [], ◌∷◌, Option, Some, None, find, option_map, unwrap_or, Result, Ok, Err, bytes_eq, codes, cond}
 use Rattle.reg_core.specs.declared.grounds.Ground.{Ground}
 use Rattle.reg_core.specs.declared.grounds.Ground.TheVariants.{Asked, Unauthorized, KeyCompromise, ControlLost, Affiliation, Superseded, Cessation, Misuse, NameNotPermitted, Nonconforming, Inaccurate}
 use Rattle.reg_core.specs.declared.refusal.Refusal.{Refusal}
 use Rattle.reg_core.specs.declared.refusal.Refusal.TheVariants.{NoHold, BadGround}
 
--- how many seconds after its receipt a request on the ground is to be decided: a day, or five
+-- the seconds from the receipt of a request on this ground to its deadline: one day, or five
 abbrev pub limit_of : Ground → ℕ
 limit_of Asked = 86400
 limit_of Unauthorized = 86400
@@ -33,7 +33,7 @@ reason_of NameNotPermitted = 5  -- cessationOfOperation
 reason_of Nonconforming = 4  -- superseded
 reason_of Inaccurate = 9  -- privilegeWithdrawn
 
--- each ground and its word
+-- each ground with its name
 abbrev pub ground_words : List (List ℕ × Ground)
 ground_words =
     (codes "asked", Asked)
@@ -49,19 +49,19 @@ ground_words =
     ∷ (codes "inaccurate", Inaccurate)
     ∷ []
 
--- the ground that a word names
+-- the ground with this name
 abbrev pub ground_named : List ℕ → Option Ground
 ground_named word = option_map (λ row. row.1) (find (λ row. bytes_eq word row.0) ground_words)
 
--- the ground that a word names, or another where it names none
+-- the ground with this name, or `other` if there is none
 abbrev pub ground_or : Ground → List ℕ → Ground
 ground_or other word = unwrap_or (ground_named word) other
 
--- a ground that was found, or the refusal: a certificate is not put on hold, and no other word names a ground
+-- a ground that was found, or the refusal: `NoHold` for `hold`, since no certificate is put on hold, else `BadGround`
 abbrev pub found_or_refusal : List ℕ → Option Ground → Result Ground Refusal
 found_or_refusal word (Some named) = Ok named
 found_or_refusal word None = Err (cond (bytes_eq word (codes "hold")) NoHold BadGround)
 
--- the ground that a word names, or the refusal
+-- the ground with this name, or the refusal
 abbrev pub ground_or_refusal : List ℕ → Result Ground Refusal
 ground_or_refusal word = found_or_refusal word (ground_named word)

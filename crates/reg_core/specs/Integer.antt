@@ -1,23 +1,23 @@
--- INTEGER contents octets (X.690 8.3): two's complement, big-endian, in the fewest octets; here of numbers that are not negative.
+-- The contents octets of an INTEGER (X.690 8.3): two's complement, big-endian, in the fewest octets. Only numbers that are not negative.
 use Rattle.std.specs.Prelude.{◌≡◌, ℕ, suc, zero, ◌<◌, ◌≤◌, List, [], ◌∷◌, cond, nat_lt, get_or}
 use Rattle.std.specs.Int.{bytes_high_first}
 use Rattle.std.specs.Int.Digits.{number_from_digits}
 
--- each member of the list is a byte
+-- each number in the list is a byte
 abbrev pub IsBytes : List ℕ → Type 0
 IsBytes bytes = (i : ℕ) → get_or bytes i 0 < 256
 
--- the number that octets write, the first of them the highest, as digits of base 256
+-- the number in big-endian octets, as digits of base 256
 abbrev pub value : List ℕ → ℕ
 value octets = number_from_digits 256 octets
 
--- the octets without the zeros that lead
+-- the octets without leading zeros
 abbrev pub without_zeros : List ℕ → List ℕ
 without_zeros [] = []
 without_zeros (zero ∷ octets) = without_zeros octets
 without_zeros (suc octet ∷ octets) = suc octet ∷ octets
 
--- a number that is not negative leads with a clear bit: one zero more where its own first bit is set, or where it is 0 (X.690 8.3.3)
+-- the sign bit is clear: with one more zero in front if the first bit is set, or if there are no octets, as for 0 (X.690 8.3.3)
 abbrev pub with_clear_bit : List ℕ → List ℕ
 with_clear_bit [] = 0 ∷ []
 with_clear_bit (octet ∷ octets) = cond (nat_lt octet 128) (octet ∷ octets) (0 ∷ octet ∷ octets)
@@ -26,7 +26,7 @@ with_clear_bit (octet ∷ octets) = cond (nat_lt octet 128) (octet ∷ octets) (
 unfoldable pub integer : ℕ → List ℕ
 integer number = with_clear_bit (without_zeros (bytes_high_first 20 number))
 
--- the octets are the fewest: there is one at least, and the first nine bits are neither all zero nor all one (X.690 8.3.1, 8.3.2)
+-- the octets are the fewest: there is at least one, and the first nine bits are neither all zero nor all one (X.690 8.3.1, 8.3.2)
 abbrev pub IsShortest : List ℕ → Type 0
 IsShortest [] = ⊥
 IsShortest (first ∷ []) = Unit {0}

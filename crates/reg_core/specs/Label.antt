@@ -12,10 +12,10 @@ pub record IsLabel (text : List ℕ) : Type 0 where
 abbrev pub is_name_byte : ℕ → Bool
 is_name_byte byte = is_ascii_alphanumeric byte || byte == 46 || byte == 45 || byte == 95
 
--- each byte of a good name is such a byte
+-- each byte of the text is allowed in a name
 abbrev pub is_name : List ℕ → Bool
 is_name text = list_all is_name_byte text
 
--- the text is a good name
+-- the text is allowed as a name
 abbrev pub IsName : List ℕ → Type 0
 IsName text = IsTrue (is_name text)

@@ -1,4 +1,4 @@
--- Laws over the definitions: octets and the numbers that they spell, INTEGERs, serial numbers, and what texts say.
+-- Laws over the definitions: octets and the numbers that they encode, INTEGERs, serial numbers, and the reading of texts.
 use Rattle.std.specs.Prelude.{◌≡◌, ◌↔◌, ℕ, ◌+◌, ◌*◌, ◌%◌, ◌^◌, ◌<◌, ◌≤◌, List, ◌∷◌, length, Some}
 use Rattle.std.specs.Cmp.Lexicographic.{slice_cmp}
 use Rattle.std.specs.Int.{bytes_high_first}
@@ -10,33 +10,33 @@ use Rattle.reg_core.specs.Serial.{IsSerial, IsSerialText, serial_bytes, serial_o
 
 -- ---- octets
 
--- each octet counts 256 times what one in the next place does
+-- an octet counts 256 times as much as it would one position further
 abbrev pub OctetsAreDigits : Type 0
 OctetsAreDigits = (octet : ℕ) (octets : List ℕ) → value (octet ∷ octets) ≡ octet * 256 ^ length octets + value octets
 
--- octets spell a number below the power of 256 that their count gives
+-- the number in n octets is below 256^n
 abbrev pub OctetsAreBelow : Type 0
 OctetsAreBelow = (octets : List ℕ) → IsBytes octets → value octets < 256 ^ length octets
 
--- zeros that lead count nothing
+-- leading zeros don't change the number
 abbrev pub ZerosCountNothing : Type 0
 ZerosCountNothing = (octets : List ℕ) → value (without_zeros octets) ≡ value octets
 
--- as many octets that spell one number are the same
+-- octets of the same count with the same number are the same
 abbrev pub OneSpelling : Type 0
 OneSpelling = (xs ys : List ℕ) → IsBytes xs → IsBytes ys → length xs ≡ length ys → value xs ≡ value ys → xs ≡ ys
 
--- so many of the lowest octets of a number are as many, each of them a byte, and spell the number but for what is above their places
+-- the lowest `count` octets of a number: there are `count` of them, each is a byte, and they encode the number modulo 256^count
 pub record AreLowest (count number : ℕ) : Type 0 where
   pub counted : length (bytes_high_first count number) ≡ count
   pub each_byte : IsBytes (bytes_high_first count number)
   pub spelled : value (bytes_high_first count number) ≡ number % 256 ^ count
 
--- the octets that a number is kept in are its lowest
+-- `bytes_high_first` gives the lowest octets of a number
 abbrev pub OctetsAreLowest : Type 0
 OctetsAreLowest = (count number : ℕ) → AreLowest count number
 
--- as many octets, compared one by one, have the order of the numbers that they spell
+-- octets of the same count, compared one by one, are in the order of their numbers
 abbrev pub OctetsInOrder : Type 0
 OctetsInOrder =
     (xs ys : List ℕ) → IsBytes xs → IsBytes ys → length xs ≡ length ys → slice_cmp nat_cmp xs ys ≡ nat_cmp (value xs) (value ys)
@@ -47,7 +47,7 @@ OctetsInOrder =
 abbrev pub IntegersAreSpelled : Type 0
 IntegersAreSpelled = (number : ℕ) → number < 2 ^ 160 → IsInteger (integer number) number
 
--- and a number has no other
+-- a number has no other INTEGER
 abbrev pub OneInteger : Type 0
 OneInteger = (octets : List ℕ) (number : ℕ) → number < 2 ^ 160 → IsInteger octets number → octets ≡ integer number
 
@@ -55,13 +55,13 @@ OneInteger = (octets : List ℕ) (number : ℕ) → number < 2 ^ 160 → IsInteg
 abbrev pub OneNumber : Type 0
 OneNumber = (m n : ℕ) → m < 2 ^ 160 → n < 2 ^ 160 → integer m ≡ integer n → m ≡ n
 
--- an INTEGER has 21 octets at most, and that of a serial number 20 (RFC 5280 4.1.2.2)
+-- the INTEGER of a number below 2^160 has at most 21 octets, and that of a serial number at most 20 (RFC 5280 4.1.2.2)
 abbrev pub IntegersAreShort : Type 0
 IntegersAreShort = (number : ℕ) → (length (integer number) ≤ 21) × (number < 2 ^ 159 → length (integer number) ≤ 20)
 
 -- ---- serial numbers
 
--- the 20 octets of serial numbers, compared one by one, have the order of the numbers
+-- the 20 octets of serial numbers, compared one by one, are in the order of the numbers
 abbrev pub SerialsInOrder : Type 0
 SerialsInOrder = (m n : ℕ) → IsSerial m → IsSerial n → slice_cmp nat_cmp (serial_bytes m) (serial_bytes n) ≡ nat_cmp m n
 
@@ -75,10 +75,10 @@ OneSerial = (m n : ℕ) → IsSerial m → IsSerial n → serial_bytes m ≡ ser
 abbrev pub OneMoment : Type 0
 OneMoment = (a b : ℕ) → IsMoment a → IsMoment b → moment_text a ≡ moment_text b → a ≡ b
 
--- the number that is read of a text is the one that it writes
+-- the number that is read from a text is the one that the text writes
 abbrev pub NumbersAreRead : Type 0
 NumbersAreRead = (text : List ℕ) (number : ℕ) → (number_of text ≡ Some number) ↔ IsNumberText text number
 
--- and so is the serial number
+-- the serial number that is read from a text is the one that the text writes
 abbrev pub SerialsAreRead : Type 0
 SerialsAreRead = (text : List ℕ) (serial : ℕ) → (serial_of text ≡ Some serial) ↔ IsSerialText text serial

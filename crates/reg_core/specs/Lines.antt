@@ -1,4 +1,4 @@
--- The one line of each refusal and each fault, without its LF.
+-- The line of each refusal and each fault, without its LF.
 use Rattle.std.specs.Prelude.{ℕ, List, ◌++◌, codes, decimal}
 use Rattle.reg_core.specs.Calendar.{moment_text}
 use Rattle.reg_core.specs.declared.refusal.Refusal.{Refusal}
@@ -31,7 +31,7 @@ refusal_line Expired = codes "E20 expired"
 refusal_line NoCrl = codes "E21 no-crl"
 refusal_line Syntax = codes "E22 syntax"
 
--- the line of a fault, or of the refusal that it is
+-- the line of a fault; that of the refusal if the fault is a refusal
 unfoldable pub fault_line : Fault → List ℕ
 fault_line (Refused refusal) = refusal_line refusal
 fault_line Memory = codes "F1 memory"

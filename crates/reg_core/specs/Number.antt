@@ -4,14 +4,14 @@ use Rattle.std.specs.Char.{is_digit}
 use Rattle.std.specs.List.{list_all}
 use Rattle.std.specs.Str.Parse.{AllDigits, digits_value}
 
--- the text writes this number: 1 to 18 decimal digits, where leading zeros are allowed
+-- the text writes this number: 1 to 18 decimal digits, with leading zeros allowed
 pub record IsNumberText (text : List ℕ) (number : ℕ) : Type 0 where
   pub not_empty : 1 ≤ length text
   pub short : length text ≤ 18
   pub digits : AllDigits 10 text
   pub spelled : digits_value 10 text ≡ number
 
--- the same as a test of the text
+-- the text writes a number: as a test
 abbrev pub is_number_text : List ℕ → Bool
 is_number_text text =
     nat_le 1 (length text) && nat_le (length text) 18 && list_all (λ code. is_digit code 10) text

@@ -1,16 +1,16 @@
 use Rattle.std.specs.Prelude.{ℕ, ◌≤◌, List}
 use Rattle.reg_core.specs.Schedule.{IsSchedule}
 
--- what an office keeps to: the schedule of longest validities, the seconds from thisUpdate to nextUpdate of a CRL
--- and of an OCSP answer, and the most rows of a table
+-- the policy of a register: the schedule of longest validities, the seconds from thisUpdate to nextUpdate of a CRL
+-- and of an OCSP response, and the most rows of a table
 pub record Terms : Type 0 where
   pub schedule : List (ℕ × ℕ)
   pub crl_life : ℕ
   pub ocsp_life : ℕ
   pub cap : ℕ
 
--- lives below the ten days of the CA/Browser Forum Baseline Requirements 4.9.7 and 4.9.10, where an OCSP answer's
--- is at least eight hours, and 1 to 1,000,000 rows
+-- lives are below ten days, the limit of the CA/Browser Forum Baseline Requirements 4.9.7 and 4.9.10; that of an OCSP
+-- response is at least eight hours; and a table has 1 to 1,000,000 rows at most
 pub record IsPolicy (terms : Terms) : Type 0 where
   pub schedule : IsSchedule terms.schedule
   pub crl_life : (1 ≤ terms.crl_life) × (terms.crl_life ≤ 863999)

@@ -1,4 +1,4 @@
--- What a query is answered.
+-- The replies to queries.
 use Rattle.std.specs.Prelude.{ℕ, List, [], ◌∷◌, ◌++◌, Option, option_map, Result}
 use Rattle.reg_core.specs.Records.{Records, certificate_in, revocation_in}
 use Rattle.reg_core.specs.Checks.{first_of_all, clock_checks, where_none}
@@ -14,14 +14,14 @@ use Rattle.reg_core.specs.declared.command.Reply.TheVariants.{Status as StatusIs
 use Rattle.reg_core.specs.declared.refusal.Refusal.{Refusal}
 use Rattle.reg_core.specs.declared.refusal.Refusal.TheVariants.{UnknownSerial}
 
--- the first CRL that can list a revoked serial number, and the last one that does; none for one that is not revoked
+-- the first CRL that can list a revoked serial number, and the last one that does; `None` if it is not revoked
 abbrev pub listing : Records → ℕ → Option Listing
 listing records serial =
     option_map
     (λ revocation. record { first = revocation.first; last = last_listing records revocation })
     (revocation_in records.revocations serial)
 
--- a query's own checks
+-- the checks of a query, besides those of the clock
 abbrev pub query_checks : Records → Query → List (Option Refusal)
 query_checks records (AskListing serial) = where_none (certificate_in records.certificates serial) UnknownSerial ∷ []
 query_checks records (AskStatus serial) = []
@@ -29,7 +29,7 @@ query_checks records AskCounts = []
 query_checks records AskOverdue = []
 query_checks records AskNextCrl = []
 
--- what it is answered where it is not refused
+-- the reply to a query that is not refused
 abbrev pub query_reply : Records → ℕ → Query → Reply
 query_reply records now (AskStatus serial) = StatusIs (status records serial now)
 query_reply records now AskCounts = CountsAre (counts records now)
@@ -37,7 +37,7 @@ query_reply records now (AskListing serial) = ListingIs (listing records serial)
 query_reply records now AskOverdue = OverdueAre (overdue_report (overdue records now))
 query_reply records now AskNextCrl = NextCrlIs (due records)
 
--- the answer: the refusal that applies first, those of the clock before its own, or else the reply
+-- the answer to a query: the first refusal that applies, those of the clock before its own, or else the reply
 abbrev pub answer : Records → ℕ → Query → Result Reply Refusal
 answer records now query =
     refused_or (first_of_all (clock_checks now records.last ++ query_checks records query)) (query_reply records now query)

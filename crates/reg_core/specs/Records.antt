@@ -14,7 +14,7 @@ pub record Crl : Type 0 where
   pub this_update : ℕ
   pub bytes : List ℕ
 
--- the records, beside them the issuer, the policy and the last accepted moment
+-- the records, with the issuer, the policy and the last accepted moment
 pub record Records : Type 0 where
   pub issuer : Issuer
   pub policy : Terms
@@ -26,7 +26,7 @@ pub record Records : Type 0 where
   pub revocations : List RevocationRow
   pub crls : List Crl
 
--- a register as it is created
+-- the records of a new register
 abbrev pub no_records : Issuer → Terms → Records
 no_records issuer policy = record {
   issuer = issuer;

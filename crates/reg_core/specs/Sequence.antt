@@ -1,4 +1,4 @@
--- One step behind the other, where a step may give no value.
+-- A sequence of steps, each of which may give no value.
 use Rattle.std.specs.Prelude.{Option, option_and_then}
 
 -- the second step, if the first gave a value

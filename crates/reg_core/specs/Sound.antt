@@ -1,4 +1,4 @@
--- Records that a register can hold.
+-- Sound records: those that a register can have.
 use Rattle.std.specs.Prelude.{◌≡◌, ◌≢◌, ◌⊎◌, ℕ, ◌+◌, ◌*◌, ◌<◌, ◌≤◌, ◌==◌, false, List, [], ◌∷◌, length, IfSome, IsSome, IsSomeAnd, IsTrue}
 use Rattle.std.specs.List.{AllByRecursion, list_any}
 use Rattle.reg_core.specs.Checks.{clock_end, validity_seconds}
@@ -14,7 +14,7 @@ use Rattle.reg_core.specs.declared.rows.CertRow.{CertRow}
 use Rattle.reg_core.specs.declared.rows.RequestRow.{RequestRow}
 use Rattle.reg_core.specs.declared.rows.RevocationRow.{RevocationRow}
 
--- the rows have the numbers from one on, each one more than the one before
+-- the rows have ascending numbers from `from` on, without gaps
 abbrev pub NumberedFrom : {Row : Type 0} → (Row → ℕ) → ℕ → List Row → Type 0
 NumberedFrom number from [] = Unit {0}
 NumberedFrom number from (row ∷ rest) = (number row ≡ from) × NumberedFrom number (from + 1) rest
@@ -24,26 +24,26 @@ abbrev pub KeysDiffer : {Row Key : Type 0} → (Row → Key) → List Row → Ty
 KeysDiffer key [] = Unit {0}
 KeysDiffer key (row ∷ rest) = AllByRecursion (λ other. key row ≢ key other) rest × KeysDiffer key rest
 
--- a value does not fall from one row to a later one
+-- no later row has a smaller value
 abbrev pub NeverFalls : {Row : Type 0} → (Row → ℕ) → List Row → Type 0
 NeverFalls value [] = Unit {0}
 NeverFalls value (row ∷ rest) = AllByRecursion (λ later. value row ≤ value later) rest × NeverFalls value rest
 
--- ids are 1, 2, 3 and so on, names are good and differ, and no more than the cap
+-- ids are 1, 2, 3 and so on; names are allowed, and differ; there are at most `cap` rows
 pub record SoundSubscribers (cap : ℕ) (subscribers : List SubscriberRow) : Type 0 where
   pub numbered : NumberedFrom (λ row. row.id) 1 subscribers
   pub names : AllByRecursion (λ row. IsName row.name) subscribers
   pub names_differ : KeysDiffer (λ row. row.name) subscribers
   pub within_cap : length subscribers ≤ cap
 
--- ids are 1, 2, 3 and so on, each subscriber is there, and the days are some that a schedule can allow
+-- ids are 1, 2, 3 and so on; each order's subscriber exists, and a schedule can allow its days; there are at most `cap` rows
 pub record SoundOrders (cap : ℕ) (subscribers : List SubscriberRow) (orders : List OrderRow) : Type 0 where
   pub numbered : NumberedFrom (λ row. row.id) 1 orders
   pub subscribers_exist : AllByRecursion (λ row. IsSome (subscriber_in subscribers row.subscriber)) orders
   pub days : AllByRecursion (λ row. IsDays row.days) orders
   pub within_cap : length orders ≤ cap
 
--- serial numbers differ (RFC 5280 4.1.2.2), each fills an order of its own, and a validity runs forward and is no longer than ordered
+-- serial numbers differ (RFC 5280 4.1.2.2), and so do orders; notAfter is not before notBefore; no validity is longer than was ordered
 pub record SoundCertificates (cap : ℕ) (orders : List OrderRow) (certificates : List CertRow) : Type 0 where
   pub serials_differ : KeysDiffer (λ row. row.serial) certificates
   pub orders_differ : KeysDiffer (λ row. row.order) certificates
@@ -51,7 +51,7 @@ pub record SoundCertificates (cap : ℕ) (orders : List OrderRow) (certificates 
   pub as_ordered : AllByRecursion (λ row. IsSomeAnd (order_in orders row.order) (λ order. validity_seconds row ≤ 86400 * order.days)) certificates
   pub within_cap : length certificates ≤ cap
 
--- ids are 1, 2, 3 and so on; each was received before its certificate had ended, none before an earlier one, and none after
+-- ids are 1, 2, 3 and so on; each request was received by its certificate's notAfter, not before an earlier request, and by
 -- the last accepted moment
 pub record SoundRequests (cap last : ℕ) (certificates : List CertRow) (requests : List RequestRow) : Type 0 where
   pub numbered : NumberedFrom (λ row. row.id) 1 requests
@@ -60,14 +60,14 @@ pub record SoundRequests (cap last : ℕ) (certificates : List CertRow) (request
   pub received_by_last : AllByRecursion (λ row. row.received ≤ last) requests
   pub within_cap : length requests ≤ cap
 
--- a request leads to a revocation: it is for its serial number, was not declined, and has the ground of its reason
+-- the request led to the revocation: it has its serial number, was not declined, and its ground has the revocation's reason
 pub record LeadsTo (revocation : RevocationRow) (request : RequestRow) : Type 0 where
   pub same_serial : request.serial ≡ revocation.serial
   pub not_declined : request.declined ≡ false
   pub with_reason : revocation.reason ≡ reason_of request.ground
 
--- a revocation is of a registered certificate that had not ended, led to by a request for it, not after the last
--- accepted moment; the CRLs below its first are not after it, and those from its first on not before it
+-- A revocation is of a registered certificate that was not expired, by a request for it, at the last accepted moment or earlier.
+-- CRLs with numbers below its `first` were issued at its moment or earlier, the others at its moment or later.
 pub record SoundRevocation (last : ℕ) (certificates : List CertRow) (requests : List RequestRow) (crls : List Crl) (revocation : RevocationRow) : Type 0 where
   pub within_validity : IsSomeAnd (certificate_in certificates revocation.serial) (λ certificate. revocation.at ≤ certificate.not_after)
   pub by_request : IsSomeAnd (request_in requests revocation.request) (LeadsTo revocation)
@@ -77,8 +77,8 @@ pub record SoundRevocation (last : ℕ) (certificates : List CertRow) (requests 
   pub crls_before : AllByRecursion (λ crl. crl.number < revocation.first → crl.this_update ≤ revocation.at) crls
   pub crls_after : AllByRecursion (λ crl. revocation.first ≤ crl.number → revocation.at ≤ crl.this_update) crls
 
--- one revocation of a serial number, and one of a request; neither moments nor first CRL numbers fall; and no request for a
--- serial number was received after its revocation
+-- a serial number has at most one revocation, and so has a request; later revocations have no earlier moment and no smaller `first`; and no
+-- request for a serial number was received after its revocation
 pub record SoundRevocations (last : ℕ) (certificates : List CertRow) (requests : List RequestRow) (crls : List Crl) (revocations : List RevocationRow) : Type 0 where
   pub serials_differ : KeysDiffer (λ row. row.serial) revocations
   pub requests_differ : KeysDiffer (λ row. row.request) revocations
@@ -87,14 +87,14 @@ pub record SoundRevocations (last : ℕ) (certificates : List CertRow) (requests
   pub firsts_never_fall : NeverFalls (λ row. row.first) revocations
   pub none_after : AllByRecursion (λ request. IfSome (revocation_in revocations request.serial) (λ revocation. request.received ≤ revocation.at)) requests
 
--- CRL numbers are 1, 2, 3 and so on (RFC 5280 5.2.3), thisUpdates do not fall, and none is after the last accepted moment
+-- CRL numbers are 1, 2, 3 and so on (RFC 5280 5.2.3); no thisUpdate is before an earlier CRL's, or after the last accepted moment
 pub record SoundCrls (cap last : ℕ) (crls : List Crl) : Type 0 where
   pub numbered : NumberedFrom (λ crl. crl.number) 1 crls
   pub updates_never_fall : NeverFalls (λ crl. crl.this_update) crls
   pub updates_by_last : AllByRecursion (λ crl. crl.this_update ≤ last) crls
   pub within_cap : length crls ≤ cap
 
--- the records hold together, whatever signs the CRLs; before anybody is entered, CRLs alone set the last accepted moment
+-- the records are consistent, without their CRLs' bytes; while there is no subscriber, only CRLs set the last accepted moment
 pub record SoundRows (records : Records) : Type 0 where
   pub policy : IsPolicy records.policy
   pub before_clock_end : records.last < clock_end
@@ -106,12 +106,12 @@ pub record SoundRows (records : Records) : Type 0 where
   pub revocations : SoundRevocations records.last records.certificates records.requests records.crls records.revocations
   pub crls : SoundCrls records.policy.cap records.last records.crls
 
--- each CRL is signed over what it lists
+-- the bytes of each CRL are the signed CRL with its entries
 abbrev pub CrlsSigned : (CertList → List ℕ → Type 0) → Records → Type 0
 CrlsSigned signed records =
     AllByRecursion (λ crl. signed (cert_list records crl.number crl.this_update) crl.bytes) records.crls
 
--- the records hold together, and each CRL is signed over what it lists
+-- the records are consistent, and the bytes of each CRL are the signed CRL with its entries
 pub record Sound (signed : CertList → List ℕ → Type 0) (records : Records) : Type 0 where
   pub rows : SoundRows records
   pub signatures : CrlsSigned signed records

@@ -1,4 +1,4 @@
--- The status of serial numbers, and how many registered certificates have each.
+-- The status of serial numbers, and the number of registered certificates with each status.
 use Rattle.std.specs.Prelude.{ℕ, Bool, true, false, cond, nat_lt, List, length, filter, Option, Some, None}
 use Rattle.reg_core.specs.Records.{Records, certificate_in, revocation_in}
 use Rattle.reg_core.specs.declared.rows.CertRow.{CertRow}
@@ -7,13 +7,13 @@ use Rattle.reg_core.specs.declared.command.Counts.{Counts}
 use Rattle.reg_core.specs.declared.command.Status.{Status}
 use Rattle.reg_core.specs.declared.command.Status.TheVariants.{Unknown, Good, Expired, Revoked}
 
--- the status at a moment of the certificate and the revocation that were looked up
+-- the status at a moment, by the certificate and the revocation that were looked up
 abbrev pub status_by : ℕ → Option CertRow → Option RevocationRow → Status
 status_by moment None revocation = Unknown
 status_by moment (Some certificate) (Some revocation) = Revoked revocation.at revocation.reason
 status_by moment (Some certificate) None = cond (nat_lt certificate.not_after moment) Expired Good
 
--- the status of a serial number at a moment: revoked for good, else expired once notAfter is past (RFC 5280 4.1.2.5)
+-- the status of a serial number at a moment: once revoked, always revoked; else expired after notAfter (RFC 5280 4.1.2.5)
 abbrev pub status : Records → ℕ → ℕ → Status
 status records serial moment =
     status_by moment (certificate_in records.certificates serial) (revocation_in records.revocations serial)

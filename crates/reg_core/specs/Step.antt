@@ -1,4 +1,4 @@
--- One command: the refusal that applies first, and otherwise the reply and the records after.
+-- One command: the first refusal that applies, or else the reply, and the records after it.
 use Rattle.std.specs.Prelude.{◌≡◌, ℕ, Bool, false, cond, ◌==◌, ◌&&◌, ◌+◌, nat_le, nat_lt, List, [], ◌++◌, length, Option, Some, None, option_and_then, Result, Ok, Err}
 use Rattle.std.specs.List.{list_any}
 use Rattle.reg_core.specs.Records.{Records, subscriber_in, subscriber_named, order_in, certificate_in, certificate_of_order, request_in, revocation_in}
@@ -20,16 +20,16 @@ use Rattle.reg_core.specs.declared.refusal.Refusal.{Refusal}
 use Rattle.reg_core.specs.declared.refusal.Fault.{Fault}
 use Rattle.reg_core.specs.declared.refusal.Fault.TheVariants.{Refused}
 
--- as many rows as the policy allows
+-- the table has as many rows as the policy allows
 abbrev pub is_full : {Row : Type 0} → Records → List Row → Bool
 is_full records rows = nat_le records.policy.cap (length rows)
 
--- two certificates are equal in all four parts
+-- two certificates are equal in all four fields
 abbrev pub same_certificate : CertRow → CertRow → Bool
 same_certificate a b =
     (a.serial == b.serial) && (a.order == b.order) && (a.not_before == b.not_before) && (a.not_after == b.not_after)
 
--- the command registers a certificate that stands registered, equal in all four parts
+-- the command registers a certificate that is registered already, equal in all four fields
 abbrev pub is_repeat : Records → Command → Bool
 is_repeat records (Register order serial not_before not_after) =
     list_any
@@ -42,7 +42,7 @@ is_repeat records (Decline id) = false
 is_repeat records (Revoke id) = false
 is_repeat records IssueCrl = false
 
--- the certificate and the revocation of the serial number that a request names
+-- the certificate and the revocation of the request's serial number
 abbrev pub certificate_of_request : Records → ℕ → Option CertRow
 certificate_of_request records id =
     option_and_then (λ row. certificate_in records.certificates row.serial) (request_in records.requests id)
@@ -51,7 +51,7 @@ abbrev pub revocation_of_request : Records → ℕ → Option RevocationRow
 revocation_of_request records id =
     option_and_then (λ row. revocation_in records.revocations row.serial) (request_in records.requests id)
 
--- the command's own checks, over the records that it names
+-- the checks of a command, besides those of the clock, over the rows that it names
 abbrev pub checks : Records → ℕ → Command → List (Option Refusal)
 checks records now (Subscriber name) =
     subscriber_checks name (subscriber_named records.subscribers name) (is_full records records.subscribers)
@@ -79,13 +79,13 @@ checks records now (Revoke id) =
     settle_checks now (request_in records.requests id) (certificate_of_request records id) (revocation_of_request records id)
 checks records now IssueCrl = crl_checks (is_full records records.crls)
 
--- the refusal that applies first, where one does: the clock's, then, of a command that is no repeat, its own
+-- the first refusal that applies, if any: those of the clock, and then, unless it is a repeated registration, those of the command
 abbrev pub refusal : Records → ℕ → Command → Option Refusal
 refusal records now command =
     first_of_all
     (clock_checks now records.last ++ cond (is_repeat records command) [] (checks records now command))
 
--- the request that a command enters
+-- the row of a new request
 abbrev pub request_row : Records → ℕ → ℕ → List ℕ → RequestRow
 request_row records now serial word = record {
   id = length records.requests + 1;
@@ -95,7 +95,7 @@ request_row records now serial word = record {
   declined = false;
 }
 
--- the revocation that a request leads to
+-- the row of the revocation by a request
 abbrev pub revocation_row : Records → ℕ → RequestRow → RevocationRow
 revocation_row records now request = record {
   serial = request.serial;
@@ -126,7 +126,7 @@ reply records now (Revoke id) = Revoked (is_late records now id)
 reply records now IssueCrl =
     CrlIssued (next_number records.crls) (length (content records (next_number records.crls)))
 
--- the records after an accepted command; the bytes are those of the CRL where it issues one
+-- the records after an accepted command; `bytes` is the DER of the CRL, if the command issues one
 abbrev pub changed : Records → ℕ → Command → List ℕ → Records
 changed records now (Subscriber name) bytes =
     changed_by records now (change.Subscriber (record { id = length records.subscribers + 1; name = name }))
@@ -151,7 +151,7 @@ changed records now (Revoke id) bytes = revoked (request_in records.requests id)
 changed records now IssueCrl bytes =
     with_crl records now (record { number = next_number records.crls; this_update = now; bytes = bytes })
 
--- the bytes of a command that is accepted: of a CRL they are signed over what it lists; of any other there are none
+-- the bytes of an accepted command: the signed CRL with its entries, if it issues one; else none
 abbrev pub IsSigned : (CertList → List ℕ → Type 0) → Records → ℕ → Command → List ℕ → Type 0
 IsSigned signed records now IssueCrl bytes = signed (cert_list records (next_number records.crls) now) bytes
 IsSigned signed records now (Subscriber name) bytes = bytes ≡ []

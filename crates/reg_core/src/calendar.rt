@@ -38,7 +38,7 @@ impl Civil {
         }
     }
 
-    /// The seconds since 1970-01-01T00:00:00Z; `None` for what is no date or time, and before 1970.
+    /// The seconds since 1970-01-01T00:00:00Z; `None` if there is no such date or time, and before 1970.
     pub(crate) fn seconds(self) -> Option<u64>
         ensures { MatchOption result ((s : ℕ) → IsMoment s → shown_of s ≢ self)
             (λ s. IsMoment s × (shown_of s ≡ self)) }
@@ -80,7 +80,7 @@ impl Civil {
         ]
     }
 
-    /// The parts that such a text spells, whether or not the calendar has them; `None` for other bytes.
+    /// The fields of such a text, even if there is no such date or time; `None` for other bytes.
     #[tactic(auto, unfolding(crate::specs::Calendar::date_time))]
     pub(crate) fn read(text: &[u8]) -> Option<Civil>
         ensures { MatchOption result ((c : Civil) → HasDigits c → text.now ≢ date_time c)

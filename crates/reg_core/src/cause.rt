@@ -4,25 +4,25 @@ ghost use Rattle.reg_core.specs.Causes.{cause_line, terms_cause};
 use crate::Label;
 use std::io::ErrorKind;
 
-/// Why a call of the machine failed, who is to sign for a register does not fit it, or what is told is no policy.
+/// Why a system call failed, why a signer doesn't fit a register, or which option of a policy is out of its range.
 #[derive(Clone, Copy, PartialEq, Eq)]
 pub enum Cause {
     NoFile,
     NoRight,
-    /// Another program has it open.
+    /// Another program has the file open, or listens at the socket.
     InUse,
-    /// What lies there is not what was written, or no database.
+    /// The file is not what was written, or not a database.
     Damaged,
     DiskFull,
-    /// Something lies there already.
+    /// Something exists at the path already.
     Taken,
     PortInUse,
     Clock,
-    /// The latest CRL is signed under another algorithm.
+    /// The latest CRL was signed with another algorithm than the signer's.
     OtherAlgorithm,
-    /// The latest CRL is signed under an algorithm that is not known here.
+    /// The latest CRL was signed with an algorithm that this program doesn't know.
     UnknownAlgorithm,
-    /// The issuer's key is none of the algorithm.
+    /// The issuer's key is not of the signer's algorithm.
     OtherKey,
     Days,
     CrlLife,
@@ -32,7 +32,7 @@ pub enum Cause {
 }
 
 impl Cause {
-    /// The line of standard error that tells it, without LF: two spaces and its words.
+    /// The line for standard error, without LF: two spaces and the text.
     #[tactic(auto, unfolding(crate::specs::Causes::cause_line))]
     pub fn line(&self) -> Label
         ensures { result ≡ cause_line self.now }
@@ -66,7 +66,7 @@ fn words(text: &[u8]) -> Label
     Label::joined(text, b"")
 }
 
-/// The cause that an error of a call of the system tells.
+/// The cause of a failed system call, by the kind of its error; `None` for other kinds.
 pub fn of_io(kind: ErrorKind) -> Option<Cause>
     ensures no_file { kind ≡ ErrorKind.NotFound → result ≡ Some Cause.NoFile }
     ensures no_right { kind ≡ ErrorKind.PermissionDenied → result ≡ Some Cause.NoRight }
@@ -83,7 +83,7 @@ pub fn of_io(kind: ErrorKind) -> Option<Cause>
     }
 }
 
-/// The cause that an error tells where a new file is laid.
+/// The cause if a new file could not be created, by the kind of the error; `None` for other kinds.
 pub fn create_cause_of(kind: ErrorKind) -> Option<Cause>
     ensures taken { kind ≡ ErrorKind.AlreadyExists → result ≡ Some Cause.Taken }
     ensures no_right { kind ≡ ErrorKind.PermissionDenied → result ≡ Some Cause.NoRight }
@@ -95,7 +95,7 @@ pub fn create_cause_of(kind: ErrorKind) -> Option<Cause>
     }
 }
 
-/// The cause that an error tells where a port is bound.
+/// The cause if a port could not be bound, by the kind of the error; `None` for other kinds.
 pub fn of_port(kind: ErrorKind) -> Option<Cause>
     ensures in_use { kind ≡ ErrorKind.AddrInUse → result ≡ Some Cause.PortInUse }
     ensures no_right { kind ≡ ErrorKind.PermissionDenied → result ≡ Some Cause.NoRight }
@@ -106,7 +106,7 @@ pub fn of_port(kind: ErrorKind) -> Option<Cause>
     }
 }
 
-/// Which of the terms of a policy is out of its range: the first of them.
+/// The first value of a policy that is out of its range; `None` if all are in range.
 #[tactic(auto, unfolding(crate::specs::Causes::terms_cause))]
 pub fn of_terms(days: u64, crl_life: u64, ocsp_life: u64, cap: u64) -> Option<Cause>
     ensures { result ≡ terms_cause days crl_life ocsp_life cap }

@@ -4,7 +4,7 @@ use crate::rows::{CertRow, CrlRow, OrderRow, RequestRow, RevocationRow, Subscrib
 /// What an accepted command changes in the records. Each change also sets the last accepted moment.
 #[derive(Clone, Copy)]
 pub enum Change<'a> {
-    /// The last accepted moment alone.
+    /// Only the last accepted moment: the certificate was registered already.
     Touch,
     Subscriber(SubscriberRow),
     Order(OrderRow),
@@ -12,8 +12,8 @@ pub enum Change<'a> {
     Request(RequestRow),
     /// The request with this id is declined.
     Decline(u64),
-    /// One revocation more, of a certificate with this notAfter.
+    /// A new revocation, of a certificate with this notAfter.
     Revocation(RevocationRow, Moment),
-    /// One CRL more, with its DER.
+    /// A new CRL, with its DER.
     Crl(CrlRow, &'a [u8]),
 }

@@ -1,18 +1,18 @@
-//! Commands, queries, and what they are answered.
+//! Commands, queries, and their replies.
 
 use crate::label::Label;
 use crate::moment::Moment;
 use crate::refusal::Fault;
 use crate::serial::Serial;
 
-/// What changes the register.
+/// A command, which changes the register.
 #[derive(Clone, Copy, PartialEq, Eq)]
 pub enum Command {
     /// Enters a subscriber.
     Subscriber {
         name: Label,
     },
-    /// Enters a subscriber's order of one certificate, with its longest validity in days.
+    /// Enters a subscriber's order for one certificate, with its longest validity in days.
     Order {
         subscriber: u64,
         days: u64,
@@ -24,7 +24,7 @@ pub enum Command {
         not_before: Moment,
         not_after: Moment,
     },
-    /// Enters a request for revocation, on a ground in words.
+    /// Enters a request for revocation, on the ground with this name.
     Request {
         serial: Serial,
         ground: Label,
@@ -41,7 +41,7 @@ pub enum Command {
     Crl,
 }
 
-/// What asks the register and leaves it as it is.
+/// A query, which reads the register and changes nothing.
 #[derive(Clone, Copy, PartialEq, Eq)]
 pub enum Query {
     /// The status of a serial number.
@@ -50,7 +50,7 @@ pub enum Query {
     Counts,
     /// Which CRLs list a serial number.
     Listing(Serial),
-    /// The requests whose limit has passed.
+    /// The open requests past their deadline.
     Overdue,
     /// When the next CRL is due.
     NextCrl,
@@ -61,11 +61,11 @@ pub enum Query {
 pub enum Status {
     /// No certificate has the serial number.
     Unknown,
-    /// Registered, not revoked, and not past its end.
+    /// Registered, not revoked, and not past notAfter.
     Good,
-    /// Registered, not revoked, and past its end.
+    /// Registered, not revoked, and past notAfter.
     Expired,
-    /// Revoked, for good.
+    /// Revoked, permanently.
     Revoked { at: Moment, reason: u8 },
 }
 
@@ -82,19 +82,19 @@ pub struct Counts {
 pub struct Listing {
     /// The number of the first CRL that can list it.
     pub first: u64,
-    /// The number of the last one, where it has been issued.
+    /// The number of the last CRL that lists it, once that is issued.
     pub last: Option<u64>,
 }
 
-/// The requests whose limit has passed: at least one.
+/// The open requests past their deadline: at least one.
 #[derive(Clone, Copy, PartialEq, Eq)]
 pub struct Overdue {
     pub count: u64,
-    /// The least id.
+    /// The lowest of their ids.
     pub first: u64,
 }
 
-/// The answer of an accepted command, or of a query.
+/// The reply to an accepted command or to a query.
 #[derive(Clone, Copy, PartialEq, Eq)]
 pub enum Reply {
     /// The id of the subscriber that was entered.
@@ -103,13 +103,13 @@ pub enum Reply {
     Order { id: u64 },
     /// The certificate was registered.
     Registered,
-    /// The certificate stands registered, equal in all parts.
+    /// The same certificate, equal in all fields, was registered already.
     Same,
-    /// The id of the request, and the moment up to which it is to be decided.
+    /// The id of the request, and its deadline.
     Request { id: u64, due: Moment },
     /// The request was declined.
     Declined,
-    /// The certificate was revoked, after the request's limit or within it.
+    /// The certificate was revoked; `late` if that was after the request's deadline.
     Revoked { late: bool },
     /// The number of the CRL that was issued, and how many entries it has.
     Crl { number: u64, entries: u64 },
@@ -123,5 +123,5 @@ pub enum Reply {
     NextCrl(Option<Moment>),
 }
 
-/// What a command or query came to.
+/// The outcome of a command or query.
 pub type Outcome = Result<Reply, Fault>;

@@ -1,5 +1,5 @@
-//! The pure decisions: each command over the rows that the caller looked up for it by key. A refusal is the first that
-//! applies; it comes before any change.
+//! The pure decisions: each decides a command over the rows that the caller looked up for it by key. It returns the first refusal
+//! that applies. No decision changes anything.
 
 ghost use Rattle.std.specs.Prelude.{◌≡◌, ℕ, ◌+◌, ◌<◌, ◌^◌, false, IfSome, ⊤};
 ghost use Rattle.reg_core.specs.Checks.{clock_checks, first_of_all, live_checks, settle_checks, validity_checks, when};
@@ -14,7 +14,7 @@ use crate::rows::{CertRow, CrlRow, Head, OrderRow, RequestRow, RevocationRow, Su
 
 const SECONDS_OF_DAY: u64 = 86_400;
 
-/// The moment is below the clock's end, and not before the last accepted moment.
+/// Checks that the moment is before the clock's end, and not before the last accepted moment.
 /// Refusals: `ClockEnd` from 9999-12-22T00:00:00Z on; else `ClockBack` before the last accepted moment.
 pub fn clock(now: Moment, last: Moment) -> Result<(), Refusal>
     ensures { IsDecidedBy (first_of_all (clock_checks now last)) (λ _. ⊤) result }
@@ -28,7 +28,7 @@ pub fn clock(now: Moment, last: Moment) -> Result<(), Refusal>
     Ok(())
 }
 
-/// The subscriber to enter. `by_name` is the one that has the name.
+/// The row of the new subscriber. `by_name` is the subscriber that has the name already.
 /// Refusals: those of [`clock`]; then `BadName`, `NameTaken`, `Full`.
 pub fn decide_subscriber(
     head: &Head,
@@ -48,7 +48,7 @@ pub fn decide_subscriber(
     Ok(SubscriberRow { id, name })
 }
 
-/// The order to enter. `subscriber` is the one that the command names.
+/// The row of the new order. `subscriber` is the one with the id that the command has.
 /// Refusals: those of [`clock`]; then `NoSubscriber`, `BadDays`, `Full`.
 pub fn decide_order(
     head: &Head,
@@ -73,8 +73,8 @@ pub fn decide_order(
     })
 }
 
-/// The certificate to register, or `None` where it stands registered, equal in all parts. `order` is the one that it is
-/// to fill, `by_order` the certificate that fills that order, `by_serial` the one that has the serial number.
+/// The row of the new certificate, or `None` if the same certificate, equal in all fields, is registered already. `order` is the
+/// order to fill, `by_order` the certificate that fills it already, `by_serial` the one that has the serial number already.
 /// Refusals: those of [`clock`]; then `NoOrder`, `OrderFilled`, `SerialTaken`, `BadValidity`, `TooLong`, `Ended`, `Full`.
 pub fn decide_register(
     head: &Head,
@@ -105,7 +105,7 @@ pub fn decide_register(
     Ok(Some(wanted))
 }
 
-/// The request to enter, on a ground in words. `certificate` and `revocation` are those of the serial number.
+/// The row of the new request, on the ground with the name `word`. `certificate` and `revocation` are those of the serial number.
 /// Refusals: those of [`clock`]; then `UnknownSerial`, `NoHold`, `BadGround`, `RevokedBefore`, `Expired`, `Full`.
 pub fn decide_request(
     head: &Head,
@@ -132,7 +132,7 @@ pub fn decide_request(
     })
 }
 
-/// The request, declined. `certificate` and `revocation` are those of its serial number.
+/// The row of the request, declined. `certificate` and `revocation` are those of its serial number.
 /// Refusals: those of [`clock`]; then `NoRequest`, `DeclinedBefore`, `RevokedBefore`, `Expired`.
 pub fn decide_decline(
     head: &Head,
@@ -152,8 +152,8 @@ pub fn decide_decline(
     })
 }
 
-/// The revocation, and whether it comes after the request's deadline. `certificate` and `revocation` are those of the
-/// request's serial number, `latest` is the CRL that was issued last.
+/// The row of the new revocation, and whether it is after the request's deadline. `certificate` and `revocation` are those of
+/// the request's serial number, `latest` is the CRL that was issued last.
 /// Refusals: those of [`clock`]; then `NoRequest`, `DeclinedBefore`, `RevokedBefore`, `Expired`.
 pub fn decide_revoke(
     head: &Head,
@@ -177,7 +177,7 @@ pub fn decide_revoke(
     Ok((row, late))
 }
 
-/// The CRL to issue, with thisUpdate now. `latest` is the one that was issued last.
+/// The row of the new CRL, whose thisUpdate is the moment of the command. `latest` is the CRL that was issued last.
 /// Refusals: those of [`clock`]; then `Full`.
 pub fn decide_crl(head: &Head, latest: Option<CrlRow>) -> Result<CrlRow, Refusal>
     requires { IfSome latest (λ crl. crl.number < 10 ^ 18) }
@@ -255,7 +255,7 @@ fn check_live(
     }
 }
 
-/// The request, where it can be settled: it is there, not declined, and its certificate is live.
+/// The request, if it can be declined or lead to a revocation: it exists, is not declined, and its certificate is not revoked or expired.
 fn settle(
     head: &Head,
     request: Option<RequestRow>,

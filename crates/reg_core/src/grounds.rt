@@ -11,21 +11,21 @@ pub enum Ground {
     Unauthorized,
     /// The private key is no longer the subscriber's alone.
     KeyCompromise,
-    /// Control of what the certificate names can't be relied upon.
+    /// The control of the certificate's names can't be relied upon.
     ControlLost,
     Affiliation,
     Superseded,
-    /// What the certificate was for has ended.
+    /// The operation for which the certificate was issued has ended.
     Cessation,
     Misuse,
     NameNotPermitted,
     Nonconforming,
-    /// The certificate says what is not so.
+    /// The certificate has inaccurate information.
     Inaccurate,
 }
 
 impl Ground {
-    /// The ground that a word names; `NoHold` for `hold`, since no certificate is put on hold, `BadGround` for any other word.
+    /// The ground with this name. `NoHold` for `hold`, since no certificate is put on hold; `BadGround` for any other word.
     pub fn read(word: &[u8]) -> Result<Ground, Refusal>
         ensures { result ≡ ground_or_refusal word.now }
     {
@@ -46,7 +46,7 @@ impl Ground {
         }
     }
 
-    /// How many seconds after its receipt a request on this ground is to be decided: a day, or five.
+    /// The seconds from the receipt of a request on this ground to its deadline: one day, or five.
     pub fn limit_secs(self) -> u64
         ensures limit { result ≡ limit_of self }
         ensures at_most_five_days { result ≤ 432000 }

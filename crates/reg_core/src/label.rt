@@ -8,7 +8,7 @@ use std::marker::Model;
 
 const MAX_BYTES: usize = 64;
 
-/// A short text: 1 to 64 bytes of any value. Contracts see the list of its bytes.
+/// A short text: 1 to 64 bytes of any value. Its model in contracts is the list of its bytes.
 #[derive(Clone, Copy, Eq)]
 pub struct Label {
     /// The text, then zeros.
@@ -42,7 +42,7 @@ impl PartialEq for Label {
 }
 
 impl Label {
-    /// The label of these bytes, or `None` where there is none of them or are more than 64.
+    /// The label with these bytes; `None` if there are no bytes, or more than 64.
     pub fn of(text: &[u8]) -> Option<Label>
         ensures some { IsSome result ↔ IsLabel text.now }
         ensures value { IfSome result (λ label. label ≡ text.now) }
@@ -53,7 +53,7 @@ impl Label {
         Some(Label::joined(text, &[]))
     }
 
-    /// The label of two texts, one after the other, of 1 to 64 bytes in all.
+    /// The label that is the first text and then the second, of 1 to 64 bytes in all.
     pub fn joined(first: &[u8], second: &[u8]) -> Label
         requires not_empty { 1 ≤ length first.now + length second.now }
         requires at_most_64 { length first.now + length second.now ≤ 64 }
@@ -76,7 +76,7 @@ impl Label {
         &self.bytes[..self.len]
     }
 
-    /// Whether the text is a good name: each byte an ASCII letter, a digit, `.`, `-` or `_`.
+    /// Whether the text is allowed as a name: each byte is an ASCII letter, a digit, `.`, `-` or `_`.
     pub fn is_name(&self) -> bool
         ensures { result ≡ is_name self.now }
     {

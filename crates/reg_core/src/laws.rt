@@ -1,11 +1,11 @@
-//! Laws of octets, INTEGERs, serial numbers and texts. The functions do nothing: their contracts are the laws. Proofs above cite them by
+//! Laws of octets, INTEGERs, serial numbers and texts. The functions do nothing: their contracts are the laws. Proofs in other crates cite them by
 //! `proofs/PublicLaws.antt`.
 
 ghost use Rattle.reg_core.specs.Laws.{OctetsAreDigits, OctetsAreBelow, ZerosCountNothing, OneSpelling, OctetsAreLowest, OctetsInOrder};
 ghost use Rattle.reg_core.specs.Laws.{IntegersAreSpelled, OneInteger, OneNumber, IntegersAreShort, SerialsInOrder, OneSerial};
 ghost use Rattle.reg_core.specs.Laws.{OneMoment, NumbersAreRead, SerialsAreRead};
 
-/// What octets, the highest first, say of the number that they spell, and which octets a number is kept in.
+/// The number that big-endian octets encode, and the octets that encode a number.
 pub fn octets_are_digits()
     ensures places { OctetsAreDigits }
     ensures below { OctetsAreBelow }
@@ -14,7 +14,7 @@ pub fn octets_are_digits()
     ensures lowest { OctetsAreLowest }
 {}
 
-/// As many octets have the order of their numbers.
+/// Octets of the same count are in the order of their numbers.
 pub fn octets_in_order()
     ensures { OctetsInOrder }
 {}
@@ -28,7 +28,7 @@ pub fn one_integer()
     ensures short { IntegersAreShort }
 {}
 
-/// Serial numbers have the order of their 20 octets, and no two have the same.
+/// Serial numbers are in the order of their 20 octets, and no two have the same octets.
 pub fn serials_in_order()
     ensures order { SerialsInOrder }
     ensures one { OneSerial }
@@ -39,7 +39,7 @@ pub fn one_moment()
     ensures { OneMoment }
 {}
 
-/// What is read of a text, a number or a serial number, is what it writes.
+/// A number, or a serial number, is read from exactly the texts that write it.
 pub fn texts_are_read()
     ensures numbers { NumbersAreRead }
     ensures serials { SerialsAreRead }

@@ -1,3 +1,3 @@
-/// Memory that was asked for was refused: the only error of calls that fail for no other cause.
+/// Out of memory: the only error of calls that can't fail otherwise.
 #[derive(Clone, Copy, PartialEq, Eq)]
 pub struct Memory;

@@ -4,7 +4,7 @@ use crate::calendar::Civil;
 use std::marker::Model;
 
 /// A moment in whole seconds since 1970-01-01T00:00:00Z, from 0 to 253,402,300,799
-/// (9999-12-31T23:59:59Z, RFC 5280 4.1.2.5). Contracts see the number of seconds.
+/// (9999-12-31T23:59:59Z, RFC 5280 4.1.2.5). Its model in contracts is the number of seconds.
 #[derive(Clone, Copy, PartialEq, Eq, PartialOrd, Ord)]
 pub struct Moment {
     seconds: u64,
@@ -73,7 +73,7 @@ impl Moment {
         Civil::at(self.secs())
     }
 
-    /// The moment whose text this is: `YYYY-MM-DDTHH:MM:SSZ` (RFC 3339 5.6) with a date that the calendar has, hours 00
+    /// Reads the text of a moment: `YYYY-MM-DDTHH:MM:SSZ` (RFC 3339 5.6), with a date that the calendar has, hours 00
     /// to 23 and seconds 00 to 59. `None` for any other bytes: no other offset, no fraction, no lower case.
     pub fn read(bytes: &[u8]) -> Option<Moment>
         ensures found { IfSome result (λ m. IsMoment m × (bytes.now ≡ moment_text m)) }

@@ -1,4 +1,4 @@
-//! Decimal numbers: read from digits, and written in place, so that neither takes memory.
+//! Decimal numbers: read from digits, and written in place, both without an allocation.
 
 ghost use Rattle.std.specs.Prelude.{◌≡◌, ℕ, ◌^◌, ◌<◌, ◌≤◌, length, IfSome, IfNone, MatchOption, SomeIff};
 ghost use Rattle.std.specs.Fmt.{decimal};
@@ -7,7 +7,7 @@ ghost use Rattle.reg_core.specs.Number.{IsNumberText, number_of};
 
 use std::marker::Model;
 
-/// The most digits that [`read_number`] takes: any number of so many digits is below 10^18.
+/// The most digits that [`read_number`] takes: each number of that many digits is below 10^18.
 const MOST_DIGITS: usize = 18;
 
 const DECIMAL_ROOM: usize = 20;
@@ -24,8 +24,8 @@ pub fn read_number(text: &[u8]) -> Option<u64>
     Some(read_digits(text, 10)? as u64)
 }
 
-/// The number that at most 32 digits of a base from 2 to 16 write, letters in either case; 0 for no digits at all.
-/// `None` where a byte is no digit.
+/// The number in at most 32 digits of a base from 2 to 16, with letters in either case; 0 if there are no digits.
+/// `None` if a byte is not a digit.
 pub(crate) fn read_digits(digits: &[u8], base: u32) -> Option<u128>
     requires base { (2 ≤ base) × (base ≤ 16) }
     requires short { length digits.now ≤ 32 }
@@ -39,7 +39,7 @@ pub(crate) fn read_digits(digits: &[u8], base: u32) -> Option<u128>
     Some(number)
 }
 
-/// The decimal text of a `u64`, held in place: it takes no memory. Contracts see the list of its bytes.
+/// The decimal text of a `u64`, stored in place, without an allocation. Its model in contracts is the list of its bytes.
 #[derive(Clone, Copy)]
 pub struct Decimal {
     /// Zeros, then the text.

@@ -1,4 +1,4 @@
-//! The terms that an office keeps to.
+//! The policy of a register: the validities, lifetimes and table sizes that it allows.
 
 ghost use Rattle.std.specs.Prelude.{◌≡◌, ◌≤◌, ◌↔◌, IsSome, IfSome};
 ghost use Rattle.reg_core.specs.Policy.{IsPolicy};
@@ -8,22 +8,22 @@ use crate::moment::Moment;
 use crate::schedule::Schedule;
 use std::marker::Model;
 
-/// Ten days less a second, below what the CA/Browser Forum Baseline Requirements 4.9.7 and 4.9.10 allow.
+/// Ten days less a second, below the limits of the CA/Browser Forum Baseline Requirements 4.9.7 and 4.9.10.
 const LONGEST_LIFE: u64 = 863_999;
 
-/// Eight hours, the least that the Baseline Requirements 4.9.10 allow.
+/// Eight hours, the minimum of the Baseline Requirements 4.9.10.
 const SHORTEST_OCSP_LIFE: u64 = 28_800;
 
 /// The most rows of a table that a policy may allow.
 const LARGEST_CAP: u64 = 1_000_000;
 
-/// The terms of an office. Contracts see the record of them.
+/// The policy of a register. Its model in contracts is the record `Terms`.
 #[derive(Clone, Copy, PartialEq, Eq)]
 pub struct Policy {
     schedule: Schedule,
     /// Seconds from a CRL's thisUpdate to its nextUpdate.
     crl_life: u64,
-    /// Seconds from an OCSP answer's thisUpdate to its nextUpdate.
+    /// Seconds from an OCSP response's thisUpdate to its nextUpdate.
     ocsp_life: u64,
     /// The most rows of a table.
     cap: u64,
@@ -57,9 +57,9 @@ impl Model for Policy {
 }
 
 impl Policy {
-    /// The policy of one longest validity in days, of the lives of CRLs and OCSP answers in seconds, and of the most
-    /// rows of a table. `None` where days are not 1 to 398, `crl_life` is not 1 to 863,999, `ocsp_life` is not
-    /// 28,800 to 863,999, or `cap` is not 1 to 1,000,000.
+    /// The policy with one longest validity in days, the lives of CRLs and OCSP responses in seconds, and the most rows
+    /// of a table. `None` if `longest_days` is not 1 to 398, `crl_life` is not 1 to 863,999, `ocsp_life` is not 28,800 to
+    /// 863,999, or `cap` is not 1 to 1,000,000.
     pub fn new(longest_days: u64, crl_life: u64, ocsp_life: u64, cap: u64) -> Option<Policy>
         ensures some { IsSome result ↔ IsPolicy (record {
           schedule = one_step longest_days;
@@ -79,7 +79,7 @@ impl Policy {
         Policy::with(schedule, crl_life, ocsp_life, cap)
     }
 
-    /// The policy of a schedule of longest validities, with the rest as in [`Policy::new`].
+    /// The policy with a schedule of longest validities; the other values as in [`Policy::new`].
     pub fn with(schedule: Schedule, crl_life: u64, ocsp_life: u64, cap: u64) -> Option<Policy>
         ensures some { IsSome result ↔ IsPolicy (record {
           schedule = schedule;
@@ -94,7 +94,7 @@ impl Policy {
           cap = cap;
         }) }
     {
-        // Only its contract matters here: these are a schedule's steps, as the policy promises.
+        // Called only for its contract, which says that these are a schedule's steps.
         let _steps = schedule.steps();
         let in_range = (1..=LONGEST_LIFE).contains(&crl_life)
             && (SHORTEST_OCSP_LIFE..=LONGEST_LIFE).contains(&ocsp_life)
@@ -110,28 +110,28 @@ impl Policy {
         })
     }
 
-    /// The usual policy: 398 days, eight days for CRLs, four days for OCSP answers, 1,000,000 rows a table.
+    /// The default policy: 398 days, eight days for CRLs, four days for OCSP responses, 1,000,000 rows of a table.
     pub fn usual() -> Policy
         ensures { result ≡ record { schedule = one_step 398; crl_life = 691200; ocsp_life = 345600; cap = 1000000 } }
     {
         Policy::new(398, 691_200, 345_600, 1_000_000).unwrap()
     }
 
-    /// The same policy with another schedule.
+    /// This policy with another schedule.
     pub fn with_schedule(self, schedule: Schedule) -> Policy
         ensures { result ≡ record self { schedule = schedule } }
     {
-        // Only its contract matters here: these are a schedule's steps, as the policy promises.
+        // Called only for its contract, which says that these are a schedule's steps.
         let _steps = schedule.steps();
         Policy { schedule, ..self }
     }
 
-    /// The terms are in their ranges. It does nothing: its contract is what each policy promises.
+    /// States that the values of a policy are in their ranges. It does nothing: only its contract matters.
     pub fn promise(self)
         ensures { IsPolicy self }
     {}
 
-    /// The longest validities.
+    /// The schedule of longest validities.
     pub fn schedule(&self) -> Schedule
         ensures schedule { result ≡ self.now.schedule }
         ensures in_range { IsSchedule result }
@@ -148,7 +148,7 @@ impl Policy {
         self.crl_life
     }
 
-    /// The seconds from an OCSP answer's thisUpdate to its nextUpdate.
+    /// The seconds from an OCSP response's thisUpdate to its nextUpdate.
     pub fn ocsp_life(&self) -> u64
         ensures seconds { result ≡ self.now.ocsp_life }
         ensures at_least_8_hours { 28800 ≤ result }

@@ -15,19 +15,19 @@ pub enum Refusal {
     ClockBack { last: Moment },
     /// E02: the moment is 9999-12-22T00:00:00Z or later.
     ClockEnd,
-    /// E03: the table that would grow holds as many rows as the policy allows.
+    /// E03: the table that would grow has as many rows as the policy allows.
     Full,
-    /// E04: the name has a byte that is no letter, digit, dot, hyphen or underscore.
+    /// E04: the name has a byte that is not a letter, digit, dot, hyphen or underscore.
     BadName,
-    /// E05: a subscriber has the name.
+    /// E05: the subscriber with this id has the name.
     NameTaken { id: u64 },
     /// E06: there is no such subscriber.
     NoSubscriber,
-    /// E07: the days are 0 or more than the longest validity.
+    /// E07: the days are 0, or more than `most`, the most that any step of the schedule allows.
     BadDays { most: u64 },
     /// E08: there is no such order.
     NoOrder,
-    /// E09: the order has its certificate.
+    /// E09: the order has a certificate already.
     OrderFilled,
     /// E10: another certificate has the serial number.
     SerialTaken,
@@ -39,9 +39,9 @@ pub enum Refusal {
     Ended,
     /// E14: no certificate has the serial number.
     UnknownSerial,
-    /// E15: a certificate is not put on hold.
+    /// E15: the ground is `hold`, and no certificate is put on hold.
     NoHold,
-    /// E16: the word names no ground of revocation.
+    /// E16: the word is not the name of a ground of revocation.
     BadGround,
     /// E17: there is no such request.
     NoRequest,
@@ -49,22 +49,22 @@ pub enum Refusal {
     DeclinedBefore,
     /// E19: the serial number is revoked.
     RevokedBefore { at: Moment },
-    /// E20: the certificate is past its end.
+    /// E20: the certificate is past notAfter.
     Expired,
-    /// E21: no CRL, or none with the number, was issued.
+    /// E21: no CRL was issued, or none with this number.
     NoCrl,
     /// E22: the line, row, path or body can't be read.
     Syntax,
 }
 
-/// What a command or query comes to where it has no reply: a refusal, or a fault of memory, of the store, of the
-/// signer, of the input or of the output.
+/// Why a command or query has no reply: a refusal, or a fault of memory, of the store, of the signer, of the input or of
+/// the output.
 #[derive(Clone, Copy, PartialEq, Eq)]
 pub enum Fault {
     Refused(Refusal),
-    /// F1: memory was refused.
+    /// F1: out of memory.
     Memory,
-    /// F2: the store failed, or holds what no register writes.
+    /// F2: the store failed, or has a value that no register writes.
     Store,
     /// F3: the signer failed.
     Signer,
@@ -96,7 +96,7 @@ impl From<Memory> for Fault {
     }
 }
 
-/// A line of words alone.
+/// A line that is only this text.
 fn words(text: &[u8]) -> Label
     requires not_empty { 1 ≤ length text.now }
     requires short { length text.now ≤ 30 }
@@ -105,7 +105,7 @@ fn words(text: &[u8]) -> Label
     Label::joined(text, b"")
 }
 
-/// A line of words, and of the value that they have.
+/// A line of a text and a value.
 fn words_with(text: &[u8], value: &[u8]) -> Label
     requires not_empty { 1 ≤ length text.now }
     requires short { length text.now ≤ 30 }
@@ -116,7 +116,7 @@ fn words_with(text: &[u8], value: &[u8]) -> Label
 }
 
 impl Refusal {
-    /// The one line that tells it, without LF.
+    /// The line of the refusal, without LF.
     #[tactic(auto, unfolding(crate::specs::Lines::refusal_line))]
     pub fn line(&self) -> Label
         ensures { result ≡ refusal_line self.now }
@@ -149,7 +149,7 @@ impl Refusal {
 }
 
 impl Fault {
-    /// The one line that tells it, without LF.
+    /// The line of the fault, without LF.
     #[tactic(auto, unfolding(crate::specs::Lines::fault_line))]
     pub fn line(&self) -> Label
         ensures { result ≡ fault_line self.now }

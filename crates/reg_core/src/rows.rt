@@ -1,4 +1,4 @@
-//! The rows of the register, as its tables keep them.
+//! The rows of the register's tables.
 
 ghost use Rattle.std.specs.Prelude.{◌≡◌, ℕ, ◌<◌};
 ghost use Rattle.reg_core.specs.Calendar.{clock_end};
@@ -18,7 +18,7 @@ pub struct SubscriberRow {
     pub name: Label,
 }
 
-/// An order of one certificate.
+/// An order for one certificate.
 #[derive(Clone, Copy, PartialEq, Eq)]
 pub struct OrderRow {
     /// 1, 2, 3 and so on, in the order of entry.
@@ -52,7 +52,7 @@ pub struct RequestRow {
 }
 
 impl RequestRow {
-    /// The moment up to which the request is to be decided.
+    /// The last moment at which a revocation by the request is not late.
     pub fn deadline(&self) -> Moment
         requires { self.now.received < clock_end }
         ensures { result ≡ deadline self.now }
@@ -94,7 +94,7 @@ pub struct Entry {
     pub reason: u8,
 }
 
-/// What each decision looks at first: the clock, the policy, and how full the table is.
+/// What each decision needs besides the rows: the clock, the policy, and the size of the table.
 #[derive(Clone, Copy, PartialEq, Eq)]
 pub struct Head {
     /// The moment of the command.
@@ -102,6 +102,6 @@ pub struct Head {
     /// The last accepted moment.
     pub last: Moment,
     pub policy: Policy,
-    /// The number of rows in the table that would grow.
+    /// The number of rows in the table to which the command would add a row.
     pub held: u64,
 }

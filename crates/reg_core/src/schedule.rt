@@ -7,15 +7,15 @@ use std::marker::Model;
 
 const MAX_STEPS: usize = 16;
 
-/// The longest validity in days that any step may allow, the first of the Baseline Requirements 6.3.2.
+/// The longest validity in days that a step may allow: the first limit in the Baseline Requirements 6.3.2.
 const MAX_DAYS: u64 = 398;
 
-/// A schedule of longest validities, as the CA/Browser Forum Baseline Requirements 6.3.2 lower it by date:
-/// 1 to 16 steps, each a moment and the days of validity from it on, the first at moment 0, moments strictly
-/// ascending, days 1 to 398. Contracts see the list of the steps.
+/// A schedule of longest validities, as the CA/Browser Forum Baseline Requirements 6.3.2 lower them by date. It has 1 to 16
+/// steps, each a moment and the most days of validity from then on. The first is at moment 0, the moments ascend strictly,
+/// and the days are 1 to 398. Its model in contracts is the list of the steps.
 #[derive(Clone, Copy)]
 pub struct Schedule {
-    /// The steps, then steps of no days at moment 0.
+    /// The steps, then padding: 0 days at moment 0.
     steps: [(Moment, u64); MAX_STEPS],
     len: usize,
 }
@@ -50,8 +50,8 @@ impl Eq for Schedule {
 }
 
 impl Schedule {
-    /// The schedule of these steps, or `None` where they are none or more than 16, the first is after moment 0,
-    /// a moment is not after the one before it, or days are not 1 to 398.
+    /// The schedule with these steps. `None` if there are no steps or more than 16, the first is not at moment 0, a moment is
+    /// not after the one before it, or days are not 1 to 398.
     pub fn new(steps: &[(Moment, u64)]) -> Option<Schedule>
         ensures some { IsSome result ↔ IsSchedule steps.now }
         ensures value { IfSome result (λ schedule. schedule ≡ steps.now) }
@@ -74,7 +74,7 @@ impl Schedule {
         })
     }
 
-    /// Whether a schedule can allow so many days: 1 to 398.
+    /// Whether a schedule can allow this many days: 1 to 398.
     pub fn can_allow(days: u64) -> bool
         ensures { IsTrue result ↔ IsDays days }
     {
@@ -89,8 +89,7 @@ impl Schedule {
         &self.steps[..self.len]
     }
 
-    /// The longest validity in days of a certificate that is valid from this moment on: the days of the last step
-    /// that is not after it.
+    /// The longest validity in days of a certificate with this notBefore: the days of the last step that is not after it.
     pub fn longest(&self, moment: Moment) -> u64
         ensures days { result ≡ longest_at self.now moment }
         ensures at_least_1 { 1 ≤ result }
@@ -107,7 +106,7 @@ impl Schedule {
         days
     }
 
-    /// The greatest days of any step.
+    /// The most days of any step.
     pub fn greatest(&self) -> u64
         ensures days { result ≡ greatest_of self.now }
         ensures at_least_1 { 1 ≤ result }

@@ -13,19 +13,19 @@ use crate::number::read_digits;
 use std::cmp::Ordering;
 use std::marker::Model;
 
-/// How many bytes a serial number is written with.
+/// The bytes of a serial number in [`Serial::bytes20`].
 const BYTES: usize = 20;
 
-/// How many of them the lower half takes.
+/// The bytes of `low`.
 const LOW_BYTES: usize = 16;
 
-/// The most hexadecimal digits that a serial number is read from.
+/// The most hexadecimal digits of a serial number in [`Serial::read`].
 const MOST_DIGITS: usize = 2 * BYTES;
 
-/// How many of them the lower half takes.
+/// The hexadecimal digits of `low`.
 const LOW_DIGITS: usize = 2 * LOW_BYTES;
 
-/// A certificate's serial number, from 1 to 2^159 - 1 (RFC 5280 4.1.2.2). Contracts see the number.
+/// A certificate's serial number, from 1 to 2^159 - 1 (RFC 5280 4.1.2.2). Its model in contracts is the number.
 #[derive(Clone, Copy)]
 pub struct Serial {
     /// The bits above the lowest 128.
@@ -99,8 +99,8 @@ impl Serial {
         Serial::of_halves(read_digits(high, 16)?, read_digits(low, 16)?)
     }
 
-    /// Reads the contents octets of a DER INTEGER (X.690 8.3). `None` where they are none (no octet at all, or more
-    /// than the fewest), for 0 and negative numbers, and for a number above 2^159 - 1.
+    /// Reads the contents octets of a DER INTEGER (X.690 8.3). `None` if there are no octets or more than the fewest, for 0
+    /// and negative numbers, and for a number above 2^159 - 1.
     pub fn from_der(octets: &[u8]) -> Option<Serial>
         ensures read { MatchOption result ((n : ℕ) → IsSerial n → ¬ IsInteger octets.now n) (λ n. IsSerial n × IsInteger octets.now n) }
         ensures exact { MatchOption result ((n : ℕ) → IsSerial n → octets.now ≢ integer n) (λ n. octets.now ≡ integer n) }
@@ -111,8 +111,8 @@ impl Serial {
         }
     }
 
-    /// The serial number of exactly 20 bytes, the highest first, as [`Serial::bytes20`] gives them. `None` for
-    /// another length, for 0, and for a number above 2^159 - 1.
+    /// The serial number in exactly 20 big-endian bytes, as [`Serial::bytes20`] gives them. `None` for another length, for
+    /// 0, and for a number above 2^159 - 1.
     pub fn from_bytes20(bytes: &[u8]) -> Option<Serial>
         ensures { MatchOption result ((n : ℕ) → IsSerial n → bytes.now ≢ serial_bytes n) (λ n. IsSerial n × (bytes.now ≡ serial_bytes n)) }
     {
@@ -123,7 +123,7 @@ impl Serial {
         }
     }
 
-    /// The number as 20 bytes, the highest first.
+    /// The number as 20 big-endian bytes.
     pub fn bytes20(self) -> [u8; 20]
         ensures bytes { result ≡ serial_bytes self }
         ensures value { value result ≡ self }
@@ -147,8 +147,7 @@ impl Serial {
         text
     }
 
-    /// The serial number that at most 20 bytes write, the highest first. `None` for more bytes, and for a number out
-    /// of range.
+    /// The serial number in at most 20 big-endian bytes. `None` for more bytes, and for a number out of range.
     fn from_big_endian(bytes: &[u8]) -> Option<Serial>
         ensures { SomeIff result ((length bytes.now ≤ 20) × IsSerial (value bytes.now)) (value bytes.now) }
     {
@@ -190,7 +189,7 @@ fn is_shortest(octets: &[u8]) -> bool
     }
 }
 
-/// The number that at most 16 bytes write, the highest first.
+/// The number in at most 16 big-endian bytes.
 fn big_endian(bytes: &[u8]) -> u128
     requires { length bytes.now ≤ 16 }
     ensures { result ≡ value bytes.now }

@@ -1,5 +1,5 @@
-/// A signer of CRLs, as the laws of the register see it: a relation between what is signed in a CRL
-/// (tbsCertList, RFC 5280 5.1.2) and the DER of the CRL.
+/// A signer of CRLs. The register's laws use only the relation between the contents of a CRL (`CertList`: its
+/// tbsCertList, RFC 5280 5.1.2) and its DER.
 pub trait SignsCrls {
     ghost use Rattle.std.specs.Prelude.{ℕ, List};
     ghost use Rattle.reg_core.specs.Crls.{CertList};

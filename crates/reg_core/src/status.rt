@@ -15,8 +15,8 @@ const SECONDS_OF_WEEK: u64 = 604_800;
 /// A day: the longest time from a revocation to the first CRL that lists it.
 const SECONDS_OF_DAY: u64 = 86_400;
 
-/// The status at a moment of a serial number, given its certificate and its revocation: unknown with no certificate,
-/// revoked for good with a revocation, else expired after notAfter, else good, also before notBefore.
+/// The status of a serial number at a moment, by its certificate and its revocation: unknown without a certificate; revoked,
+/// permanently, with a revocation; else expired after notAfter; else good, even before notBefore.
 pub fn status_of(
     now: Moment,
     certificate: Option<CertRow>,
@@ -35,8 +35,8 @@ pub fn status_of(
     }
 }
 
-/// When the next CRL is due: a week after thisUpdate of the latest, at its nextUpdate (RFC 5280 5.1.2.5), or a day after
-/// the earliest revocation that no CRL has listed, whichever comes first. `None` where there is no CRL: at once.
+/// When the next CRL is due: a week after thisUpdate of the latest one, at its nextUpdate (RFC 5280 5.1.2.5), or a day after
+/// the earliest revocation that no CRL has listed, whichever is first. `None` if there is no CRL: then it is due at once.
 pub fn due_of(
     policy: &Policy,
     latest: Option<CrlRow>,

@@ -1,4 +1,4 @@
--- Worked examples: days at the office, and what each command comes to, each query is answered and each CRL has.
+-- Worked examples: days of a register, with the outcome of each command, the answer to each query and the entries of CRLs.
 use Rattle.std.specs.Prelude.{◌≡◌, ℕ, true, false, ◌+◌, ◌-◌, ◌*◌, List, [], ◌∷◌, ◌++◌, Option, Some, None, Result, Ok, Err, codes}
 use Rattle.reg_core.specs.Crls.{CertList, entries}
 use Rattle.reg_core.specs.Policy.{Terms}
@@ -28,11 +28,11 @@ pub data DayLine : Type 0 where
   decided : ℕ → Command → Reply → DayLine
   -- the command is refused
   refuse : ℕ → Command → Refusal → DayLine
-  -- the query is answered so
+  -- the query gets this reply
   queried : ℕ → Query → Reply → DayLine
   -- the query is refused
   deny : ℕ → Query → Refusal → DayLine
-  -- the CRL with this number, at no moment of its own, has these entries
+  -- the CRL with this number has these entries; such a line has no moment
   crl_has : ℕ → List Entry → DayLine
 
 -- the commands among the lines
@@ -44,7 +44,7 @@ commands_of (queried now query reply ∷ rest) = commands_of rest
 commands_of (deny now query refusal ∷ rest) = commands_of rest
 commands_of (crl_has number those ∷ rest) = commands_of rest
 
--- what they come to
+-- the outcomes of the commands among the lines
 abbrev pub outcomes_of : List DayLine → List (Result Reply Fault)
 outcomes_of [] = []
 outcomes_of (decided now command reply ∷ rest) = Ok reply ∷ outcomes_of rest
@@ -53,12 +53,12 @@ outcomes_of (queried now query reply ∷ rest) = outcomes_of rest
 outcomes_of (deny now query refusal ∷ rest) = outcomes_of rest
 outcomes_of (crl_has number those ∷ rest) = outcomes_of rest
 
--- the outcome of a refusal, or else of a reply
+-- the outcome of a command: the refusal if there is one, or else the reply
 abbrev pub outcome_by : Option Refusal → Reply → Result Reply Fault
 outcome_by (Some refused) reply = Err (Refused refused)
 outcome_by None reply = Ok reply
 
--- the records that stay, or else those after
+-- the same records if there is a refusal, or else those after
 abbrev pub records_by : Option Refusal → Records → Records → Records
 records_by (Some refused) records after = records
 records_by None records after = after
@@ -73,12 +73,12 @@ abbrev pub records_after_all : Records → List (ℕ × Command) → Records
 records_after_all records [] = records
 records_after_all records (timed ∷ rest) = records_after_all (records_after records timed.0 timed.1) rest
 
--- what a line that is no command shows
+-- what a line that is not a command shows
 pub data Seen : Type 0 where
   answered : Result Reply Refusal → Seen
   listed : List Entry → Seen
 
--- what is seen over the records, each line over those that were reached before it
+-- what the lines show, each over the records after the commands before it
 abbrev pub seen_over : Records → List DayLine → List Seen
 seen_over records [] = []
 seen_over records (decided now command reply ∷ rest) = seen_over (records_after records now command) rest
@@ -87,7 +87,7 @@ seen_over records (queried now query reply ∷ rest) = answered (answer records 
 seen_over records (deny now query refusal ∷ rest) = answered (answer records now query) ∷ seen_over records rest
 seen_over records (crl_has number those ∷ rest) = listed (entries records number) ∷ seen_over records rest
 
--- what the lines say that is seen
+-- what the lines claim to show
 abbrev pub seen_in : List DayLine → List Seen
 seen_in [] = []
 seen_in (decided now command reply ∷ rest) = seen_in rest
@@ -96,28 +96,28 @@ seen_in (queried now query reply ∷ rest) = answered (Ok reply) ∷ seen_in res
 seen_in (deny now query refusal ∷ rest) = answered (Err refusal) ∷ seen_in rest
 seen_in (crl_has number those ∷ rest) = listed those ∷ seen_in rest
 
--- a signature that is empty, over whatever is signed
+-- the bytes of every CRL are empty
 abbrev pub no_bytes : CertList → List ℕ → Type 0
 no_bytes list bytes = bytes ≡ []
 
--- the office on its first day, under a policy
+-- the records of a new register with this policy
 abbrev pub new_under : Terms → Records
 new_under policy = no_records (record { name = []; key = [] }) policy
 
--- a day goes by its lines: from a new register the commands run to these outcomes, and what is asked is answered so
+-- a day is as its lines say: from a new register, the commands have these outcomes, and the other lines show what they claim
 pub record DayUnder (policy : Terms) (lines : List DayLine) : Type 0 where
   pub run :
       Run no_bytes (new_under policy) (commands_of lines) (outcomes_of lines) (records_after_all (new_under policy) (commands_of lines))
   pub seen : seen_over (new_under policy) lines ≡ seen_in lines
 
--- a policy of 398 days, with CRLs for eight days and OCSP answers for four
+-- the default policy: 398 days, with lives of eight days for CRLs and four days for OCSP responses
 abbrev pub usual : Terms
 usual = record { schedule = one_step 398; crl_life = 691200; ocsp_life = 345600; cap = 1000000 }
 
 abbrev pub Day : List DayLine → Type 0
 Day lines = DayUnder usual lines
 
--- the seconds of 2026-01-01T00:00:00Z and of the days after it
+-- the moment at which a day of January 2026 begins; day 32 is February 1, and so on
 abbrev pub january : ℕ → ℕ
 january day = 1767225600 + 86400 * (day - 1)
 
@@ -129,7 +129,7 @@ first_day =
     ∷ decided (january 1) (Register 1 5 (january 1) (january 10)) Registered
     ∷ []
 
--- the same, and then more
+-- a day that begins with `first_day`, and then has these lines
 abbrev pub Then : List DayLine → Type 0
 Then more = Day (first_day ++ more)
 
@@ -161,7 +161,7 @@ TheLongestValidity =
     ∷ decided (january 1) (Register 1 5 (january 1) 1801612799) Registered
     ∷ [])
 
--- a certificate that is registered a second time is the same; one that differs is refused
+-- a second registration of the same certificate gets the reply `Same`; one that differs is refused
 abbrev pub ASecondRegisterIsTheSame : Type 0
 ASecondRegisterIsTheSame =
     Then
@@ -199,7 +199,7 @@ TheDeadlineIsInTime =
     ∷ decided (january 3) (Revoke 1) (Revoked false)
     ∷ [])
 
--- and late a second after it
+-- a request is late a second after its deadline
 abbrev pub ASecondLaterIsLate : Type 0
 ASecondLaterIsLate =
     Then
@@ -209,7 +209,7 @@ ASecondLaterIsLate =
     ∷ queried (january 3 + 1) (Status 5) (StatusIs (RevokedAt (january 3 + 1) 1))
     ∷ [])
 
--- each CRL lists a revocation while its certificate has not ended
+-- each CRL lists a revocation while its certificate is not past notAfter
 abbrev pub EachCrlListsARevocation : Type 0
 EachCrlListsARevocation =
     Then
@@ -224,7 +224,7 @@ EachCrlListsARevocation =
     ∷ queried (january 3) (Listing 5) (ListingIs (Some (record { first = 2; last = None })))
     ∷ [])
 
--- the last CRL that lists a revocation is the first one past the certificate's end
+-- the last CRL that lists a revocation is the first one past the certificate's notAfter
 abbrev pub TheLastListingIsPastTheEnd : Type 0
 TheLastListingIsPastTheEnd =
     Then
@@ -239,7 +239,7 @@ TheLastListingIsPastTheEnd =
     ∷ queried (january 10 + 1) (Status 5) (StatusIs (RevokedAt (january 2) 4))
     ∷ [])
 
--- so a revocation is listed once even where the first CRL after it comes long after the end
+-- so a revocation is listed once even if the first CRL after it is issued long after notAfter
 abbrev pub ALateCrlListsOnce : Type 0
 ALateCrlListsOnce =
     Then
@@ -252,7 +252,7 @@ ALateCrlListsOnce =
     ∷ queried (january 40 - 90000) (Listing 5) (ListingIs (Some (record { first = 1; last = Some 1 })))
     ∷ [])
 
--- there is no hold, a serial number is revoked once, and what is revoked is not overdue
+-- there is no hold, a serial number is revoked once, and a request for a revoked certificate is not overdue
 abbrev pub OneRevocationOfASerialNumber : Type 0
 OneRevocationOfASerialNumber =
     Then
@@ -265,7 +265,7 @@ OneRevocationOfASerialNumber =
     ∷ queried (january 5) Overdue (OverdueAre None)
     ∷ [])
 
--- the next CRL is due a week after the latest, or a day after a revocation that none has listed yet
+-- the next CRL is due a week after the latest one, or a day after a revocation that no CRL has listed yet
 abbrev pub TheNextCrlIsDue : Type 0
 TheNextCrlIsDue =
     Then
@@ -278,7 +278,7 @@ TheNextCrlIsDue =
     ∷ queried (january 3 + 3600) NextCrl (NextCrlIs (Some (january 10 + 3600)))
     ∷ [])
 
--- or when the latest one's nextUpdate comes, where that is sooner: here two days after it
+-- the next CRL is due at nextUpdate of the latest one, if that is sooner: here two days after thisUpdate
 abbrev pub TheNextCrlIsDueByNextUpdate : Type 0
 TheNextCrlIsDueByNextUpdate =
     DayUnder
@@ -330,7 +330,7 @@ EachGroundHasItsLimitAndReason =
     ∷ queried (january 4) Counts (counted 1 6 0)
     ∷ [])
 
--- a table that holds as many rows as the policy allows takes no more; that comes last among the refusals
+-- no row is added to a table with as many rows as the policy allows; this refusal is the last that is checked
 abbrev pub AFullTableTakesNoMore : Type 0
 AFullTableTakesNoMore =
     DayUnder
@@ -343,7 +343,7 @@ AFullTableTakesNoMore =
     ∷ decided (january 1) (Register 1 5 (january 1) (january 10)) Same
     ∷ [])
 
--- a request that was declined stays so
+-- a declined request stays declined
 abbrev pub ADeclinedRequestStaysSo : Type 0
 ADeclinedRequestStaysSo =
     Then
@@ -353,7 +353,7 @@ ADeclinedRequestStaysSo =
     ∷ refuse (january 2) (Revoke 1) DeclinedBefore
     ∷ [])
 
--- each refusal has its case
+-- the refusals that no other example has
 abbrev pub EachRefusalHasItsCase : Type 0
 EachRefusalHasItsCase =
     Then
@@ -380,7 +380,7 @@ TheClockEnds =
     ∷ refuse 253401436800 Crl ClockEnd
     ∷ [])
 
--- the longest validity is the one of the step that notBefore has reached: 398 days, and 200 from 2026-03-15 on
+-- the longest validity is that of the last step not after notBefore: 398 days, and 200 from 2026-03-15 on
 abbrev pub TheScheduleGoesByNotBefore : Type 0
 TheScheduleGoesByNotBefore =
     DayUnder

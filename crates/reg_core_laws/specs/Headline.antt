@@ -1,7 +1,7 @@
--- The headline: over every list of commands, each serial number ever registered stands at any moment reached in exactly
--- one of good, revoked and expired; the three counts move exactly as accepted commands and passing time record; every
--- CRL after a revocation lists it up to and including the first issued past its notAfter, and lists nothing else; a
--- refused command changes nothing.
+-- The main law. For every list of commands: at any moment from the last accepted one on, each registered serial number has exactly one
+-- of the statuses good, revoked and expired. Only accepted commands and the passing of time change the three counts. Every CRL after a
+-- revocation lists it, up to and including the first one issued past its certificate's notAfter, and lists nothing else. A command
+-- that is refused, or ends in a fault, changes nothing.
 use Rattle.std.specs.Prelude.{◌≡◌, ℕ, Bool, ◌&&◌, ◌⊎◌, ◌↔◌, ◌==◌, ◌+◌, ◌<◌, ◌≤◌, nat_le, nat_lt, List, [], ◌∷◌, ◌++◌, length, filter, Some, Result, Ok, Err, IsTrue, IsFalse}
 use Rattle.std.specs.List.{AllByRecursion, list_any}
 use Rattle.reg_core.specs.Checks.{clock_end}
@@ -23,7 +23,7 @@ use Rattle.reg_core.specs.declared.command.Status.TheVariants.{Good, Expired}
 use Rattle.reg_core_laws.specs.Revocations.{IsRevocationBy}
 use Rattle.reg_core_laws.specs.Run.{Happens, Run}
 
--- a register of any policy is sound as it is created
+-- a new register is sound, with any policy
 abbrev pub CreatedSound : (CertList → List ℕ → Type 0) → Type 0
 CreatedSound signed = (issuer : Issuer) (policy : Terms) → IsPolicy policy → Sound signed (no_records issuer policy)
 
@@ -37,7 +37,7 @@ KeepsSound signed =
     → Run signed records commands outcomes after
     → Sound signed after
 
--- every run is, at every prefix of its commands, the run of that prefix and then the run of the rest
+-- a run of commands is the run of any prefix of them, and then the run of the rest
 abbrev pub RunsInParts : (CertList → List ℕ → Type 0) → Type 0
 RunsInParts signed =
     (records after : Records)
@@ -58,7 +58,7 @@ ExactlyOne first second third =
     ⊎ (IsFalse first × IsTrue second × IsFalse third)
     ⊎ (IsFalse first × IsFalse second × IsTrue third)
 
--- each registered serial number is in one of good, revoked and expired and in no other, and together they are all
+-- each registered serial number is exactly one of good, revoked and expired, and the three counts add up to their number
 pub record Parted (records : Records) (moment : ℕ) : Type 0 where
   pub each : AllByRecursion
       (λ row. ExactlyOne
@@ -70,7 +70,7 @@ pub record Parted (records : Records) (moment : ℕ) : Type 0 where
       ((counts records moment).good + (counts records moment).revoked) + (counts records moment).expired
       ≡ length records.certificates
 
--- at any moment from the last accepted one on, each serial number ever registered is in exactly one
+-- registered serial numbers stay, and each is exactly one of the three at any moment from the last accepted one on
 abbrev pub StandsInExactlyOne : (CertList → List ℕ → Type 0) → Type 0
 StandsInExactlyOne signed =
     (records after : Records)
@@ -81,8 +81,8 @@ StandsInExactlyOne signed =
     → ((more : List CertRow) × (after.certificates ≡ records.certificates ++ more))
     × ((moment : ℕ) → after.last ≤ moment → moment < clock_end → Parted after moment)
 
--- the counts after a command: a registration adds one to good, a revocation moves one from good to revoked, and
--- nothing else moves any
+-- the counts after a command: a registration adds one to good, a revocation moves one from good to revoked, and any
+-- other outcome leaves them as they are
 abbrev pub CountsMove : Counts → Result Reply Fault → Counts → Type 0
 CountsMove before (Ok Registered) after =
     (after.good ≡ before.good + 1) × (after.revoked ≡ before.revoked) × (after.expired ≡ before.expired)
@@ -95,7 +95,7 @@ abbrev pub ends_between : Records → ℕ → ℕ → CertRow → Bool
 ends_between records moment later row =
     is_good (status records row.serial moment) && nat_le moment row.not_after && nat_lt row.not_after later
 
--- as time passes, those that are not revoked and end move from good to expired, and nothing else moves
+-- as time passes, certificates that are not revoked and pass notAfter move from good to expired, and no others change
 pub record TimeMoves (records : Records) (moment later : ℕ) : Type 0 where
   pub good :
       (counts records later).good + length (filter (ends_between records moment later) records.certificates)
@@ -113,7 +113,7 @@ pub record TimeMoves (records : Records) (moment later : ℕ) : Type 0 where
       → status records row.serial later ≡ status records row.serial moment)
       records.certificates
 
--- at every command of every run the counts move as the outcome says, and between commands as time says
+-- at every command of every run, the counts change as `CountsMove` says, and between commands as `TimeMoves` says
 abbrev pub CountsMoveExactly : (CertList → List ℕ → Type 0) → Type 0
 CountsMoveExactly signed =
     (records before next : Records)
@@ -132,13 +132,13 @@ CountsMoveExactly signed =
 abbrev pub lists : Records → ℕ → ℕ → Bool
 lists records n serial = list_any (λ entry. entry.serial == serial) (entries records n)
 
--- no CRL from one number up to below another was issued past the end
+-- no CRL with a number from `first` to below `n` was issued past notAfter
 abbrev pub NonePastBetween : List Crl → ℕ → ℕ → ℕ → Type 0
 NonePastBetween crls first n not_after =
     AllByRecursion (λ crl. first ≤ crl.number → crl.number < n → crl.this_update ≤ not_after) crls
 
--- a revocation as the CRLs of the records list it: those issued before it do not list it; each later one lists it
--- exactly while no later one before that was issued past the certificate's end
+-- a revocation in the CRLs: those issued before it do not list it; each later one lists it exactly if no CRL between it and
+-- the revocation was issued past the certificate's notAfter
 pub record ListedByCrls (earlier : List Crl) (after : Records) (certificate : CertRow) (revocation : RevocationRow) : Type 0 where
   pub stands : revocation_in after.revocations certificate.serial ≡ Some revocation
   pub later : List Crl
@@ -152,7 +152,7 @@ pub record ListedByCrls (earlier : List Crl) (after : Records) (certificate : Ce
       ↔ NonePastBetween after.crls revocation.first crl.number certificate.not_after))
       later
 
--- an entry of a CRL is that of a recorded revocation, which the CRL is to list, with its time and its reason
+-- an entry of CRL n is that of a recorded revocation, with its moment and its reason, which this CRL must list
 pub record IsDueEntry (records : Records) (n : ℕ) (entry : Entry) : Type 0 where
   pub certificate : CertRow
   pub revocation : RevocationRow
@@ -162,11 +162,11 @@ pub record IsDueEntry (records : Records) (n : ℕ) (entry : Entry) : Type 0 whe
   pub can_list : revocation.first ≤ n
   pub none_past : NonePastBetween records.crls revocation.first n certificate.not_after
 
--- each CRL lists revocations that it is to list, and nothing else
+-- each entry of each CRL is one that the CRL must list
 abbrev pub ListsNothingElse : Records → Type 0
 ListsNothingElse records = (n : ℕ) → AllByRecursion (IsDueEntry records n) (entries records n)
 
--- every CRL after a revocation lists it up to and including the first one issued past its certificate's end, and lists
+-- every CRL after a revocation lists it, up to and including the first one issued past its certificate's notAfter, and lists
 -- nothing else
 abbrev pub ListsRevoked : (CertList → List ℕ → Type 0) → Type 0
 ListsRevoked signed =
@@ -188,7 +188,7 @@ ListsRevoked signed =
     × ListedByCrls before.crls after certificate revocation)
     × ListsNothingElse after
 
--- a command that is refused, or answers a fault, changes nothing
+-- a command that is refused, or ends in a fault, changes nothing
 abbrev pub RefusalsChangeNothing : (CertList → List ℕ → Type 0) → Type 0
 RefusalsChangeNothing signed =
     (records after : Records)

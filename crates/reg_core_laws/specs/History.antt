@@ -1,5 +1,5 @@
--- The history of CRLs: which ones list a revocation, that they list nothing else, and that a recorded one stays as it
--- was.
+-- The history of CRLs: which ones list a revocation, that they list nothing else, and that a recorded CRL never
+-- changes.
 use Rattle.std.specs.Prelude.{◌≡◌, ℕ, ◌↔◌, ◌≤◌, List, ◌++◌, Result, IsTrue, IfSome}
 use Rattle.std.specs.List.{AllByRecursion}
 use Rattle.reg_core.specs.Crls.{CertList, cert_list, content, last_listing}
@@ -11,7 +11,7 @@ use Rattle.reg_core.specs.declared.refusal.Fault.{Fault}
 use Rattle.reg_core_laws.specs.Headline.{lists, ListsNothingElse}
 use Rattle.reg_core_laws.specs.Run.{Run}
 
--- the CRLs that list a revoked serial number are exactly those from its first to its last, or from its first on while
+-- the CRLs that list a revoked serial number are exactly those from its first to its last, or all from its first on while
 -- there is no last
 abbrev pub ListedFromFirstToLast : Records → Type 0
 ListedFromFirstToLast records =
@@ -21,7 +21,7 @@ ListedFromFirstToLast records =
     ↔ ((revocation.first ≤ n) × IfSome (last_listing records revocation) (λ last. n ≤ last)))
     records.revocations
 
--- a recorded CRL stays as it was, and so do what it lists, what is signed in it and that it is signed
+-- a recorded CRL never changes, nor do the revocations that it lists and the fields that are signed in it, and it stays signed
 pub record CrlsStay (signed : CertList → List ℕ → Type 0) (records after : Records) : Type 0 where
   pub later : List Crl
   pub recorded : after.crls ≡ records.crls ++ later
@@ -33,7 +33,7 @@ pub record CrlsStay (signed : CertList → List ℕ → Type 0) (records after :
       (λ crl. signed (cert_list after crl.number crl.this_update) crl.bytes)
       records.crls
 
--- over every run
+-- all of this holds after every run
 abbrev pub HistoryStands : (CertList → List ℕ → Type 0) → Type 0
 HistoryStands signed =
     (records after : Records)

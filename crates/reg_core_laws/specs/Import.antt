@@ -1,4 +1,4 @@
--- Imports: rows that are registered one after the other at one moment.
+-- Imports: rows that are registered one after another, at one moment.
 use Rattle.std.specs.Prelude.{◌≡◌, ℕ, ◌⊎◌, List, [], ◌∷◌, Option, Some, None, Result, Ok, Err}
 use Rattle.std.specs.List.{AllByRecursion, AllZip}
 use Rattle.reg_core.specs.Crls.{CertList}
@@ -18,7 +18,7 @@ use Rattle.reg_core_laws.specs.Run.{Happens}
 abbrev pub register : CertRow → Command
 register row = Register row.order row.serial row.not_before row.not_after
 
--- what comes of each row at one moment, in order; a row that can't be read is refused as such
+-- the outcome of each row, in order, at one moment; a row that can't be read is refused with `Syntax`
 abbrev pub Imports : (CertList → List ℕ → Type 0) → Records → ℕ → List (Option CertRow) → List (Result Reply Fault) → Records → Type 0
 Imports signed records now [] [] after = after ≡ records
 Imports signed records now [] (outcome ∷ outcomes) after = ⊥
@@ -38,11 +38,11 @@ IsFault (Err Signer) = Unit {0}
 IsFault (Err Read) = Unit {0}
 IsFault (Err Write) = Unit {0}
 
--- a row that was registered, or stood registered, is answered so the second time, or a fault is
+-- a row that was registered the first time, then or before, gets `Same` the second time, or a fault
 abbrev pub AnsweredAgain : Result Reply Fault → Result Reply Fault → Type 0
 AnsweredAgain first second = (first ≡ Ok Registered) ⊎ (first ≡ Ok Same) → (second ≡ Ok Same) ⊎ IsFault second
 
--- an import that comes twice, with nothing between and no fault the first time, adds no certificate the second time
+-- if an import without a fault is repeated at the same moment, with nothing between, the second one adds no certificate
 abbrev pub ImportsTwice : (CertList → List ℕ → Type 0) → Type 0
 ImportsTwice signed =
     (records between after : Records)

@@ -1,4 +1,4 @@
--- Revocations: by which command one comes, and that none comes otherwise.
+-- Revocations: the command that adds one, and that nothing else does.
 use Rattle.std.specs.Prelude.{◌≡◌, ℕ, List, [], ◌∷◌, ◌++◌, Some, Result, Ok}
 use Rattle.reg_core.specs.Crls.{CertList, next_number}
 use Rattle.reg_core.specs.Grounds.{reason_of}
@@ -13,8 +13,8 @@ use Rattle.reg_core.specs.declared.command.Reply.TheVariants.{Revoked}
 use Rattle.reg_core.specs.declared.refusal.Fault.{Fault}
 use Rattle.reg_core_laws.specs.Run.{Happens, Run}
 
--- the revocation that a command at a moment brings: the command revokes by a recorded request, and the revocation is of
--- that request's serial number, at that moment, with the reason of that request's ground, from the next CRL on
+-- the revocation that a command adds: the command revokes by a recorded request, and the revocation has that request's
+-- serial number, the command's moment, the reason of the request's ground, and the next CRL as its first
 pub record IsRevocationBy (before : Records) (now : ℕ) (command : Command) (revocation : RevocationRow) : Type 0 where
   pub request : RequestRow
   pub commanded : command ≡ Revoke request.id
@@ -25,7 +25,7 @@ pub record IsRevocationBy (before : Records) (now : ℕ) (command : Command) (re
   pub with_reason : revocation.reason ≡ reason_of request.ground
   pub from_next : revocation.first ≡ next_number before.crls
 
--- the revocations after a command: one more where it was answered `Revoked`, which it brings, and else the same
+-- the revocations after a command: with the reply `Revoked` there is one more, by this command; else they stay the same
 abbrev pub RevocationsMove : Records → ℕ → Command → Result Reply Fault → Records → Type 0
 RevocationsMove before now command (Ok (Revoked late)) after =
     (revocation : RevocationRow)
@@ -33,7 +33,7 @@ RevocationsMove before now command (Ok (Revoked late)) after =
     × IsRevocationBy before now command revocation
 RevocationsMove before now command outcome after = after.revocations ≡ before.revocations
 
--- at every command of every run the revocations move as the outcome says
+-- at every command of every run, the revocations change as `RevocationsMove` says
 abbrev pub RevocationsMoveExactly : (CertList → List ℕ → Type 0) → Type 0
 RevocationsMoveExactly signed =
     (records before next : Records)

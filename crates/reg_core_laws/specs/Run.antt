@@ -10,8 +10,8 @@ use Rattle.reg_core.specs.declared.command.Reply.{Reply}
 use Rattle.reg_core.specs.declared.refusal.Fault.{Fault}
 use Rattle.reg_core.specs.declared.refusal.Fault.TheVariants.{Refused, Memory, Store, Signer, Read, Write}
 
--- what comes of a command: its step; or, below the clock's end, a fault of memory or of the store; or, of a CRL that
--- is accepted, a fault of the signer. A fault leaves the records as they are.
+-- the outcome of a command: that of its step; or, before the clock's end, a fault of memory or of the store; or, if the
+-- command issues a CRL and is not refused, a fault of the signer. A fault leaves the records as they are.
 abbrev pub Happens : (CertList → List ℕ → Type 0) → Records → ℕ → Command → Result Reply Fault → Records → Type 0
 Happens signed records now command (Ok reply) after = Step signed records now command (Ok reply) after
 Happens signed records now command (Err (Refused refused)) after = Step signed records now command (Err (Refused refused)) after
@@ -22,7 +22,7 @@ Happens signed records now command (Err Signer) after =
 Happens signed records now command (Err Read) after = ⊥
 Happens signed records now command (Err Write) after = ⊥
 
--- one outcome for each command, in order
+-- a run: one outcome for each command, in order
 abbrev pub Run : (CertList → List ℕ → Type 0) → Records → List (ℕ × Command) → List (Result Reply Fault) → Records → Type 0
 Run signed records [] [] after = after ≡ records
 Run signed records [] (outcome ∷ outcomes) after = ⊥

@@ -1,8 +1,8 @@
-//! Worked examples over the definitions, which the check computes: a wrong definition is refused here.
+//! Worked examples over the definitions, which the prover computes: it rejects an example if a definition is wrong.
 
 ghost use Rattle.reg_core_laws.specs.Examples.{ANewRegisterIsEmpty, TheLongestValidity, ASecondRegisterIsTheSame, NotAfterIsTheLastGoodSecond, TimeMovesTheCounts, TheDeadlineIsInTime, ASecondLaterIsLate, EachCrlListsARevocation, TheLastListingIsPastTheEnd, ALateCrlListsOnce, OneRevocationOfASerialNumber, TheNextCrlIsDue, TheNextCrlIsDueByNextUpdate, EachGroundHasItsLimitAndReason, AFullTableTakesNoMore, ADeclinedRequestStaysSo, EachRefusalHasItsCase, TheClockEnds, TheScheduleGoesByNotBefore};
 
-/// Days at the office: what each command comes to, what each query is answered, and which entries a CRL has.
+/// Example days of a register: the outcome of each command, the answer to each query, and the entries of CRLs.
 pub fn worked_examples()
     ensures a_new_register_is_empty { ANewRegisterIsEmpty }
     ensures the_longest_validity { TheLongestValidity }

@@ -1,4 +1,4 @@
-//! Each function here does nothing when it runs: its contract is a law, and the check proves it.
+//! Each function here does nothing when it runs: its contract is a law, which the prover checks.
 
 ghost use Rattle.reg_core_laws.specs.Headline.{CreatedSound, KeepsSound, RunsInParts, StandsInExactlyOne, CountsMoveExactly, ListsRevoked, RefusalsChangeNothing};
 ghost use Rattle.reg_core_laws.specs.History.{HistoryStands};
@@ -7,10 +7,10 @@ ghost use Rattle.reg_core_laws.specs.Revocations.{RevocationsMoveExactly};
 
 use reg_core::SignsCrls;
 
-/// Over every list of commands, from a register as it is created or from sound records: each serial number ever registered stands at any moment reached in
-/// exactly one of good, revoked and expired; the three counts move exactly as accepted commands and passing time
-/// record; every CRL after a revocation lists it up to and including the first issued past its notAfter
-/// (RFC 5280 3.3), and lists nothing else; a refused command changes nothing.
+/// For every list of commands, from a new register or from sound records: at any moment from the last accepted one on, each registered serial
+/// number has exactly one of the statuses good, revoked and expired. Only accepted commands and the passing of time change the three counts.
+/// Every CRL after a revocation lists it, up to and including the first one issued past its certificate's notAfter (RFC 5280 3.3), and lists
+/// nothing else. A command that is refused, or ends in a fault, changes nothing.
 pub fn headline<S: SignsCrls>()
     ensures created { (signer : S) → CreatedSound (S.signed signer) }
     ensures sound { (signer : S) → KeepsSound (S.signed signer) }
@@ -21,20 +21,20 @@ pub fn headline<S: SignsCrls>()
     ensures refused { (signer : S) → RefusalsChangeNothing (S.signed signer) }
 {}
 
-/// The CRLs that list a revoked serial number are exactly those from its first to its last, or from its first on while
-/// there is no last; no CRL lists anything else; a recorded CRL never changes, nor do what it lists, what is signed in it
-/// and that it is signed.
+/// The CRLs that list a revoked serial number are exactly those from its first to its last, or all from its first on while
+/// there is no last. No CRL lists anything else. A recorded CRL never changes, nor do its entries and the fields that are
+/// signed in it, and it stays signed.
 pub fn history<S: SignsCrls>()
     ensures { (signer : S) → HistoryStands (S.signed signer) }
 {}
 
-/// A revocation comes by a command that is answered `Revoked`, of its request's serial number, at its moment, with the
-/// reason of its request's ground; no other command and no fault brings or changes one.
+/// A revocation is added only by a command with the reply `Revoked`: it is of its request's serial number, at the command's moment,
+/// with the reason of its request's ground. No other command and no fault adds or changes one.
 pub fn revocations<S: SignsCrls>()
     ensures { (signer : S) → RevocationsMoveExactly (S.signed signer) }
 {}
 
-/// An import that comes twice, with nothing between, adds no certificate the second time.
+/// If an import without a fault is repeated at the same moment, with nothing between, the second one adds no certificate.
 pub fn import_twice<S: SignsCrls>()
     ensures { (signer : S) → ImportsTwice (S.signed signer) }
 {}

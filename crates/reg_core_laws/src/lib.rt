@@ -1,4 +1,4 @@
-//! The laws of the register, over its definitions alone.
+//! The laws of the register, only over its definitions.
 #![tactic(auto)]
 
 pub mod examples;

@@ -1,4 +1,4 @@
--- Lists by their words, and keys behind which they go on.
+-- Lists by their names, and the keys after which they continue.
 use Rattle.std.specs.Prelude.{ℕ, List, [], ◌∷◌, Option, Some, None, option_map, find, bytes_eq, codes, cond}
 use Rattle.reg_core.specs.Number.{number_of}
 use Rattle.reg_core.specs.Serial.{serial_of}
@@ -8,7 +8,7 @@ use Rattle.reg_core_lists.specs.declared.cursor.Cursor.TheVariants.{Revoked, Cer
 use Rattle.reg_core_lists.specs.declared.fields.Cell.{Cell}
 use Rattle.reg_core_lists.specs.declared.fields.Cell.TheVariants.{Number}
 
--- each list that wants no moment, by its word, from its first row on
+-- each list that takes no moment, by its name, from its first row on
 abbrev pub list_words : List (List ℕ × Cursor)
 list_words =
     (codes "revoked", Revoked None)
@@ -21,12 +21,12 @@ list_words =
     ∷ (codes "crls", Crls 0)
     ∷ []
 
--- the list that a word names, from its first row on: with a moment `ending` alone, and else one of the others
+-- the list with this name, from its first row on: `ending` with a moment, one of the others without
 abbrev pub cursor_named : List ℕ → Option ℕ → Option Cursor
 cursor_named word (Some before) = cond (bytes_eq word (codes "ending")) (Some (Ending before None)) None
 cursor_named word None = option_map (λ row. row.1) (find (λ row. bytes_eq word row.0) list_words)
 
--- the same list behind the row whose key a text writes
+-- the same list, after the row whose key a text writes
 abbrev pub cursor_past : List ℕ → Cursor → Option Cursor
 cursor_past key (Revoked after) = option_map (λ serial. Revoked (Some serial)) (serial_of key)
 cursor_past key (Certificates after) = option_map (λ serial. Certificates (Some serial)) (serial_of key)
@@ -38,7 +38,7 @@ cursor_past key (Subscribers after) = option_map (λ id. Subscribers id) (number
 cursor_past key (Orders after) = option_map (λ id. Orders id) (number_of key)
 cursor_past key (Crls after) = option_map (λ number. Crls number) (number_of key)
 
--- the word of a list
+-- the name of a list
 abbrev pub list_word : Cursor → List ℕ
 list_word (Revoked after) = codes "revoked"
 list_word (Certificates after) = codes "certificates"
@@ -50,7 +50,7 @@ list_word (Subscribers after) = codes "subscribers"
 list_word (Orders after) = codes "orders"
 list_word (Crls after) = codes "crls"
 
--- the key after which a list goes on, as it is given
+-- the key after which a list continues, as a cell
 abbrev pub key_cell : Cursor → Cell
 key_cell (Revoked after) = serial_or_empty after
 key_cell (Certificates after) = serial_or_empty after

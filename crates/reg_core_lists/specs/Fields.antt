@@ -1,4 +1,4 @@
--- The fields of each kind of row: names, and what stands in them.
+-- The fields of each kind of row: their names and values.
 use Rattle.std.specs.Prelude.{ℕ, Bool, true, false, ◌-◌, List, [], ◌∷◌, ◌++◌, Option, Some, None, codes, decimal, cond}
 use Rattle.reg_core.specs.Calendar.{moment_text}
 use Rattle.reg_core.specs.Serial.{serial_text}
@@ -20,11 +20,11 @@ use Rattle.reg_core_lists.specs.declared.rows.RevokedLine.{RevokedLine}
 use Rattle.reg_core_lists.specs.declared.rows.Row.{Row}
 use Rattle.reg_core_lists.specs.declared.rows.Row.TheVariants as kind
 
--- a field: its name, and what stands there
+-- a field: its name and its value
 abbrev pub field_of_text : Field → List ℕ × Cell
 field_of_text field = (field.name.now, field.cell)
 
--- the word of a status
+-- the name of a status
 abbrev pub status_word : Status → List ℕ
 status_word Unknown = codes "unknown"
 status_word Good = codes "good"
@@ -46,11 +46,11 @@ state_word false (Revoked at reason) = status_word (Revoked at reason)
 state_word false Expired = status_word Expired
 state_word false Unknown = status_word Unknown
 
--- the moment at which its certificate was revoked; of a declined one no record holds when that was
+-- the moment at which the request's certificate was revoked; empty for a declined request, because no record has that moment
 abbrev pub decided_cell : Bool → Status → Cell
 decided_cell declined status = cond declined Empty (revoked_at_cell status)
 
--- its reasonCode (RFC 5280 5.3.1)
+-- the reasonCode of a revocation (RFC 5280 5.3.1)
 abbrev pub reason_cell : Status → Cell
 reason_cell (Revoked at reason) = Number reason
 reason_cell Unknown = Empty
@@ -65,7 +65,7 @@ abbrev pub serial_or_empty : Option ℕ → Cell
 serial_or_empty None = Empty
 serial_or_empty (Some serial) = Serial serial
 
--- the first CRL that can list it, and the last one that does, where that was issued
+-- the first CRL that can list a certificate, and the last one that does, if that is issued
 abbrev pub first_listing : Option Listing → Cell
 first_listing None = Empty
 first_listing (Some listing) = Number listing.first
@@ -74,7 +74,7 @@ abbrev pub last_listing_cell : Option Listing → Cell
 last_listing_cell None = Empty
 last_listing_cell (Some listing) = number_or_empty listing.last
 
--- the word of a ground, as it is asked for
+-- the name of a ground, as in a request for revocation
 abbrev pub ground_word : Ground → List ℕ
 ground_word Asked = codes "asked"
 ground_word Unauthorized = codes "unauthorized"
@@ -104,7 +104,7 @@ certificate_fields line =
     ∷ (codes "lastCrl", last_listing_cell line.listing)
     ∷ []
 
--- of a revocation those of its certificate, and behind them those of its request
+-- the fields of a revocation: those of its certificate, and then those of its request
 abbrev pub revoked_fields : RevokedLine → List (List ℕ × Cell)
 revoked_fields line =
     certificate_fields line.certificate
@@ -158,7 +158,7 @@ crl_fields crl =
     ∷ (codes "thisUpdate", At crl.this_update)
     ∷ []
 
--- the same of any row
+-- the fields of any row
 abbrev pub row_fields : Row → List (List ℕ × Cell)
 row_fields (kind.Certificate line) = certificate_fields line
 row_fields (kind.Revoked line) = revoked_fields line
@@ -168,7 +168,7 @@ row_fields (kind.Subscriber subscriber) = subscriber_fields subscriber
 row_fields (kind.Order line) = order_fields line
 row_fields (kind.Crl crl) = crl_fields crl
 
--- what stands in a field, as its bytes
+-- the bytes of a field's value
 unfoldable pub plain_text : Cell → List ℕ
 plain_text Empty = []
 plain_text (Number number) = decimal number
@@ -176,7 +176,7 @@ plain_text (Serial serial) = serial_text serial
 plain_text (At moment) = moment_text moment
 plain_text (Text text) = text
 
--- the same as a value of JSON (RFC 8259 3): nothing is `null`, a number a number, and all else a string (34 is the code of `"`)
+-- a field's value in JSON (RFC 8259 3): `null` if empty, a number, or else a string (34 is the code of `"`)
 unfoldable pub json_text : Cell → List ℕ
 json_text Empty = codes "null"
 json_text (Number number) = plain_text (Number number)

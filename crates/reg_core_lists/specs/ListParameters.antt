@@ -1,4 +1,4 @@
--- What is asked of a list: a page, by the word of the list and its parameters.
+-- The query for a page of a list, by the list's name and its parameters.
 use Rattle.std.specs.Prelude.{ℕ, zero, suc, ◌==◌, ◌&&◌, ◌||◌, List, [], ◌∷◌, length, bytes_eq, codes, cond, min, nat_le, nat_lt, if◌then◌else◌, Option, Some, None, is_some, option_map, option_and_then}
 use Rattle.std.specs.Char.{is_ascii_hexdigit}
 use Rattle.std.specs.List.{before_first, after_first, list_all, position_or_len}
@@ -19,11 +19,11 @@ label_of text = if nat_le 1 (length text) && nat_le (length text) 64 then Some t
 abbrev pub prefix_of : List ℕ → Option (List ℕ)
 prefix_of text = if list_all is_ascii_hexdigit text && nat_le (length text) 40 then label_of text else None
 
--- nothing is given
+-- no parameters
 abbrev pub no_params : Params
 no_params = record { after = None; before = None; limit = None; filter = all_rows }
 
--- a filter with one condition more, which was not given before and can be read
+-- the parameters with one more; `None` if it was given before, or its value can't be read
 abbrev pub with_after : Params → List ℕ → Option Params
 with_after params value = cond (is_some params.after) None (option_map (λ key. record params { after = Some key }) (label_of value))
 
@@ -33,7 +33,7 @@ with_before params value = cond (is_some params.before) None (option_map (λ mom
 abbrev pub with_limit : Params → List ℕ → Option Params
 with_limit params value = cond (is_some params.limit) None (option_map (λ limit. record params { limit = Some limit }) (number_of value))
 
--- the same of a filter
+-- a filter with one more condition; `None` if it was given before, or its value can't be read
 abbrev pub filtered_by_name : Filter → List ℕ → Option Filter
 filtered_by_name filter value =
     cond (is_some filter.subscriber) None (option_map (λ name. record filter { subscriber = Some name }) (label_of value))
@@ -58,7 +58,7 @@ filter_with filter name value =
 abbrev pub with_filter : Params → List ℕ → List ℕ → Option Params
 with_filter params name value = option_map (λ filter. record params { filter = filter }) (filter_with params.filter name value)
 
--- the same by its name
+-- the parameters with one more, by its name
 abbrev pub with_value : Params → List ℕ → List ℕ → Option Params
 with_value params name value =
     if bytes_eq name (codes "after") then with_after params value
@@ -66,13 +66,13 @@ with_value params name value =
     else if bytes_eq name (codes "limit") then with_limit params value
     else with_filter params name value
 
--- the same as a piece `NAME=VALUE` (61 is the code of `=`)
+-- the parameters with one more, as `NAME=VALUE` (61 is the code of `=`)
 abbrev pub with_piece : Params → List ℕ → Option Params
 with_piece params piece =
     cond (position_or_len (λ byte. byte == 61) piece == length piece) None
     (with_value params (before_first (λ byte. byte == 61) piece) (after_first (λ byte. byte == 61) piece))
 
--- so many pieces at most, with `&` between them (38 is its code)
+-- the parameters with those in a text, at most this many, with `&` between them (38 is its code)
 abbrev pub params_from : ℕ → List ℕ → Params → Option Params
 params_from zero text params = None
 params_from (suc n) text params =
@@ -80,26 +80,26 @@ params_from (suc n) text params =
     (λ more. cond (position_or_len (λ byte. byte == 38) text == length text) (Some more) (params_from n (after_first (λ byte. byte == 38) text) more))
     (with_piece params (before_first (λ byte. byte == 38) text))
 
--- the parts of a query: none, or one to seven
+-- the parameters in a text: at most seven
 abbrev pub params_of : List ℕ → Option Params
 params_of [] = Some no_params
 params_of (byte ∷ text) = params_from 7 (byte ∷ text) no_params
 
--- a list after a key, where one is given
+-- the list after the key, if one is given
 abbrev pub cursor_at : Cursor → Option (List ℕ) → Option Cursor
 cursor_at from None = Some from
 cursor_at from (Some key) = cursor_past key from
 
--- how many rows a page looks at: by a limit of 1 to 1,000, and 250 at most
+-- the most rows that a page reads: the limit, of 1 to 1,000, but at most 250
 abbrev pub at_most : Option ℕ → Option ℕ
 at_most None = Some 250
 at_most (Some limit) = if (limit == 0) || nat_lt 1000 limit then None else Some (min limit 250)
 
--- the same where each row of the list passes the filter
+-- the query, if the rows of its list have the fields that its filter needs
 abbrev pub where_fits : PageQuery → Option PageQuery
 where_fits wanted = cond (fits wanted.filter wanted.from) (Some wanted) None
 
--- the page that is asked for: from where on, how many rows it looks at, and which of them are wanted
+-- the query for a page: where it begins, the most rows that it reads, and its filter
 abbrev pub page_query : List ℕ → List ℕ → Option PageQuery
 page_query word told =
     option_and_then

@@ -1,4 +1,4 @@
--- Which rows each list has, and which of them a page has.
+-- The rows of each list, and the rows of each page.
 use Rattle.std.specs.Prelude.{◌≡◌, ℕ, Bool, ◌&&◌, ◌-◌, ◌==◌, cond, nat_lt, List, [], ◌∷◌, length, map, filter, filter_map, take, slice_get, Option, Some, None, option_map, option_and_then, unwrap_or}
 use Rattle.reg_core.specs.Crls.{row_of}
 use Rattle.reg_core.specs.Due.{deadline, is_open}
@@ -22,9 +22,9 @@ use Rattle.reg_core_lists.specs.declared.rows.RevokedLine.{RevokedLine}
 use Rattle.reg_core_lists.specs.declared.rows.Row.{Row}
 use Rattle.reg_core_lists.specs.declared.rows.Row.TheVariants as kind
 
--- ---- the fields of each record; none where the records have no order, subscriber or certificate for it, which sound ones do
+-- ---- the fields of each record; `None` if its order, subscriber or certificate is missing, as never in sound records
 
--- whose order it is
+-- the subscriber of an order
 abbrev pub subscriber_of_order : Records → ℕ → Option SubscriberRow
 subscriber_of_order records order = option_and_then (λ order. subscriber_in records.subscribers order.subscriber) (order_in records.orders order)
 
@@ -53,7 +53,7 @@ request_line records request =
     (subscriber_of_order records certificate.order))
     (certificate_in records.certificates request.serial)
 
--- the reply on a revocation: its certificate, and the request that led to it
+-- the fields of a revocation: its certificate at a moment, and the request that led to it
 abbrev pub revoked_line : Records → ℕ → RevocationRow → Option RevokedLine
 revoked_line records now revocation =
     option_and_then
@@ -62,19 +62,19 @@ revoked_line records now revocation =
     (option_and_then (certificate_line records now) (certificate_in records.certificates revocation.serial)))
     (request_in records.requests revocation.request)
 
--- up to when a request was open that nobody declined: until its certificate was revoked or ended, or up to now
+-- when a request that was not declined stopped being open: its certificate's revocation or notAfter; or now, if it is open
 abbrev pub open_until : ℕ → CertRow → Status → ℕ
 open_until now certificate (state.Revoked at reason) = at
 open_until now certificate state.Expired = certificate.not_after
 open_until now certificate state.Good = now
 open_until now certificate state.Unknown = now
 
--- for how many seconds a request was open behind its deadline; none of a declined one, of which no record holds when that was
+-- how many seconds a request was open after its deadline; `None` if it was declined, because no record has the moment of that
 abbrev pub lateness_of : ℕ → RequestRow → CertRow → Status → Option ℕ
 lateness_of now request certificate standing =
     cond request.declined None (Some (open_until now certificate standing - deadline request))
 
--- what became of a request up to a moment
+-- a request and its state at a moment
 abbrev pub request_history : Records → ℕ → RequestRow → Option RequestHistory
 request_history records now request =
     option_map
@@ -96,9 +96,9 @@ order_line records order =
     })
     (subscriber_in records.subscribers order.subscriber)
 
--- ---- the row of a list that a record is, where the list has it
+-- ---- the row for a record in a list, if the list has it
 
--- a certificate is a row of the list of all
+-- the row for a certificate in the list of all certificates
 abbrev pub certificate_row : Records → ℕ → CertRow → Option Row
 certificate_row records now certificate = option_map (λ line. kind.Certificate line) (certificate_line records now certificate)
 
@@ -113,16 +113,16 @@ abbrev pub expiring_row : Records → ℕ → ℕ → CertRow → Option Row
 expiring_row records now before certificate =
     cond (is_expiring records now before certificate) (certificate_row records now certificate) None
 
--- a request that is neither declined nor settled
+-- the row for a request, if it is open
 abbrev pub open_row : Records → ℕ → RequestRow → Option Row
 open_row records now request =
     cond (is_open records now request) (option_map (λ line. kind.Request line) (request_line records request)) None
 
--- one whose deadline is past, too
+-- the row for a request, if it is open and its deadline is past
 abbrev pub overdue_row : Records → ℕ → RequestRow → Option Row
 overdue_row records now request = cond (nat_lt (deadline request) now) (open_row records now request) None
 
--- any request
+-- the row for any request
 abbrev pub history_row : Records → ℕ → RequestRow → Option Row
 history_row records now request = option_map (λ history. kind.History history) (request_history records now request)
 
@@ -137,7 +137,7 @@ crl_row crl = Some (kind.Crl (row_of crl))
 
 -- ---- pages
 
--- a row put before the first of a greater key
+-- rows with one more, inserted before the first that has a greater key
 abbrev pub put_in : {A : Type 0} → (A → ℕ) → A → List A → List A
 put_in key row [] = row ∷ []
 put_in key row (next ∷ rest) = cond (nat_lt (key row) (key next)) (row ∷ next ∷ rest) (next ∷ put_in key row rest)
@@ -147,31 +147,31 @@ abbrev pub in_order : {A : Type 0} → (A → ℕ) → List A → List A
 in_order key [] = []
 in_order key (row ∷ rest) = put_in key row (in_order key rest)
 
--- the rows past a key, in ascending order of their keys
+-- the rows with keys above this one, in ascending order of their keys
 abbrev pub past : {A : Type 0} → (A → ℕ) → ℕ → List A → List A
 past key after rows = in_order key (filter (λ row. nat_lt after (key row)) rows)
 
--- a page: its rows, and where the next one goes on
+-- a page: its rows, and the cursor of the next page
 pub record ShownPage : Type 0 where
   pub rows : List Row
   pub next : Option Cursor
 
--- where the next page goes on, behind the last of the keys that were looked at; nowhere where fewer were than a page may look at
+-- the cursor of the next page, after the last key that was read; `None` if fewer rows were read than a page may read
 abbrev pub next_behind : (ℕ → Cursor) → ℕ → List ℕ → Option Cursor
 next_behind at most keys = cond (length keys == most) (option_map at (slice_get keys (length keys - 1))) None
 
--- a page looks at the first rows past a key, as many as it may, and has those of them that are rows of the list
+-- a page reads the first `most` rows after a key, and has those of them that are rows of the list
 abbrev pub page_over : {A : Type 0} → (A → ℕ) → (A → Option Row) → (ℕ → Cursor) → ℕ → ℕ → List A → ShownPage
 page_over key row_for at after most rows = record {
   rows = filter_map row_for (take most (past key after rows));
   next = next_behind at most (map key (take most (past key after rows)));
 }
 
--- the key behind which a list by serial numbers goes on: 0, which none has, where that is its first row
+-- the key after which a list by serial numbers continues: 0, which no serial number is, for the first row
 abbrev pub key_of : Option ℕ → ℕ
 key_of after = unwrap_or after 0
 
--- the page of a list from a key on, at a moment
+-- the page of a list from a cursor on, at a moment
 abbrev pub page : Records → ℕ → ℕ → Cursor → ShownPage
 page records now most (Revoked after) =
     page_over (λ row. row.serial) (revoked_row records now) (λ serial. Revoked (Some serial)) (key_of after) most records.revocations
@@ -192,7 +192,7 @@ page records now most (Orders after) =
 page records now most (Crls after) =
     page_over (λ crl. crl.number) crl_row (λ number. Crls number) after most records.crls
 
--- all rows of a list from a key on, at a moment
+-- all rows of a list from a cursor on, at a moment
 abbrev pub rows_from : Records → ℕ → Cursor → List Row
 rows_from records now (Revoked after) = filter_map (revoked_row records now) (past (λ row. row.serial) (key_of after) records.revocations)
 rows_from records now (Certificates after) = filter_map (certificate_row records now) (past (λ row. row.serial) (key_of after) records.certificates)

@@ -1,4 +1,4 @@
--- What an office gives of a list: a page, and all of it page by page.
+-- Pages of a list and whole lists, as an office returns them.
 use Rattle.std.specs.Prelude.{◌≡◌, ℕ, List, [], ◌∷◌, ◌++◌, Option, Some, None, Result, Ok, Err}
 use Rattle.reg_core.specs.Checks.{clock_checks, first_of_all}
 use Rattle.reg_core.specs.Records.{Records}
@@ -14,13 +14,13 @@ use Rattle.reg_core_lists.specs.declared.rows.Page.{Page}
 use Rattle.reg_core_lists.specs.declared.rows.Row.{Row}
 use Rattle.reg_core_lists.specs.declared.texts.Form.{Form}
 
--- this is the page that the records have at a moment
+-- the returned page is that of the records at a moment
 pub record IsPage (records : Records) (now most : ℕ) (from : Cursor) (given : Page) : Type 0 where
   pub rows : given.rows.items ≡ (page records now most from).rows
   pub next : given.next ≡ (page records now most from).next
 
--- what is given for a list from a key on: its page, where the clock lets the moment pass; else the refusal of the clock; or want of
--- memory or a failure of the store
+-- the result for a page of a list: the page, if the checks of the clock pass; else their refusal; or a fault of memory or
+-- of the store
 abbrev pub IsPaged : Records → ℕ → ℕ → Cursor → Result Page Fault → Type 0
 IsPaged records now most from (Ok given) = (first_of_all (clock_checks now records.last) ≡ None) × IsPage records now most from given
 IsPaged records now most from (Err (Refused refusal)) = first_of_all (clock_checks now records.last) ≡ Some refusal
@@ -30,15 +30,15 @@ IsPaged records now most from (Err Signer) = ⊥
 IsPaged records now most from (Err Read) = ⊥
 IsPaged records now most from (Err Write) = ⊥
 
--- the same of records that hold together
+-- the result for a page of a list, over sound rows
 abbrev pub IsPagedSoundly : Records → ℕ → ℕ → Cursor → Result Page Fault → Type 0
 IsPagedSoundly records now most from given = SoundRows records × IsPaged records now most from given
 
--- the same of records that stay
+-- the result for a page of a list, over sound rows, and the records stay the same
 abbrev pub Pages : Records → ℕ → ℕ → Cursor → Result Page Fault → Records → Type 0
 Pages before now most from given after = IsPagedSoundly before now most from given × (after ≡ before)
 
--- the rows of the pages from a key on, one page behind the other up to the last
+-- these are the rows of the pages from a cursor on, one page after another up to the last
 abbrev pub ArePages : Records → ℕ → ℕ → Option Cursor → List Row → List (List Row) → Type 0
 ArePages records now most None rows [] = rows ≡ []
 ArePages records now most None rows (first ∷ rest) = ⊥
@@ -47,7 +47,7 @@ ArePages records now most (Some from) rows (first ∷ rest) =
     (first ≡ (page records now most from).rows)
     × ((others : List Row) × (rows ≡ first ++ others) × ArePages records now most (page records now most from).next others rest)
 
--- what is given for a whole list as a text: all its rows from a key on that are wanted, each once and in order
+-- the result for a whole list as a text: all its rows from a cursor on that pass the filter, each once and in order
 abbrev pub IsWholeList : Records → ℕ → Form → Filter → Cursor → Result (List ℕ) Fault → Type 0
 IsWholeList records now form wanted from (Ok text) =
     (first_of_all (clock_checks now records.last) ≡ None) × (text ≡ list_text form from (wanted_rows wanted (rows_from records now from)))
@@ -58,6 +58,6 @@ IsWholeList records now form wanted from (Err Signer) = ⊥
 IsWholeList records now form wanted from (Err Read) = ⊥
 IsWholeList records now form wanted from (Err Write) = ⊥
 
--- the same of records that stay
+-- the result for a whole list, and the records stay the same
 abbrev pub GivesWholeList : Records → ℕ → Form → Filter → Cursor → Result (List ℕ) Fault → Records → Type 0
 GivesWholeList before now form wanted from given after = IsWholeList before now form wanted from given × (after ≡ before)

@@ -1,5 +1,5 @@
--- Lists as CSV (RFC 4180, each record ended by LF alone) and as JSON (RFC 8259). No field has a byte that either of them would have
--- quoted.
+-- Lists as CSV (RFC 4180, but records end with LF) and as JSON (RFC 8259). No field has a byte that needs quoting or escaping in
+-- either.
 use Rattle.std.specs.Prelude.{ℕ, List, [], ◌∷◌, ◌++◌, Option, Some, None, codes, flat_map}
 use Rattle.reg_core_lists.specs.Cursors.{key_cell, list_word}
 use Rattle.reg_core_lists.specs.Fields.{json_text, plain_text, row_fields}
@@ -23,11 +23,11 @@ header_text (Subscribers after) = codes "subscriber,name\n"
 header_text (Orders after) = codes "order,subscriber,name,days,serial\n"
 header_text (Crls after) = codes "crl,thisUpdate\n"
 
--- a field of a record behind another one (44 is the code of `,`)
+-- a field of a record after another one (44 is the code of `,`)
 abbrev pub record_rest : List ℕ × Cell → List ℕ
 record_rest field = 44 ∷ plain_text field.1
 
--- a record: what stands in its fields, with commas between them
+-- a record: the values of its fields, with commas between them
 unfoldable pub record_text : List (List ℕ × Cell) → List ℕ
 record_text [] = []
 record_text (first ∷ rest) = plain_text first.1 ++ flat_map record_rest rest
@@ -36,7 +36,7 @@ record_text (first ∷ rest) = plain_text first.1 ++ flat_map record_rest rest
 unfoldable pub member_text : List ℕ × Cell → List ℕ
 member_text field = 34 ∷ field.0 ++ codes "\":" ++ json_text field.1
 
--- a member behind another one
+-- a member after another one
 abbrev pub member_rest : List ℕ × Cell → List ℕ
 member_rest field = 44 ∷ member_text field
 
@@ -54,7 +54,7 @@ unfoldable pub row_text : Form → Row → List ℕ
 row_text Csv row = record_text (row_fields row) ++ 10 ∷ []
 row_text Json row = object_text (row_fields row) ++ 10 ∷ []
 
--- what stands before the rows of a list: of CSV the header
+-- the text before the rows of a list: the header in CSV, nothing in JSON
 abbrev pub opening_text : Form → Cursor → List ℕ
 opening_text Csv from = header_text from
 opening_text Json from = []
@@ -63,7 +63,7 @@ opening_text Json from = []
 abbrev pub list_text : Form → Cursor → List Row → List ℕ
 list_text form from rows = opening_text form from ++ flat_map (row_text form) rows
 
--- a row of a page behind another one
+-- a row of a page after another one
 abbrev pub row_rest : Row → List ℕ
 row_rest row = 44 ∷ object_text (row_fields row)
 
@@ -72,12 +72,12 @@ abbrev pub rows_json : List Row → List ℕ
 rows_json [] = []
 rows_json (first ∷ rest) = object_text (row_fields first) ++ flat_map row_rest rest
 
--- the key behind which the next page goes on, as a string; `null` where there is none
+-- the key after which the next page begins, as a string; `null` if there is no next page
 unfoldable pub next_text : Option Cursor → List ℕ
 next_text None = codes "null"
 next_text (Some next) = 34 ∷ plain_text (key_cell next) ++ 34 ∷ []
 
--- a page as an object: the word of its list, the key of the next page, and its rows
+-- a page as an object: the name of its list, the key after which the next page begins, and its rows
 unfoldable pub page_body : Cursor → Option Cursor → List Row → List ℕ
 page_body from next rows =
     codes "{\"list\":\"" ++ list_word from ++ codes "\",\"next\":" ++ next_text next ++ codes ",\"rows\":[" ++ rows_json rows ++ codes "]}"

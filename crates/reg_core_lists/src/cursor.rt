@@ -3,22 +3,22 @@ ghost use Rattle.reg_core_lists.specs.Cursors.{cursor_named, cursor_past, list_w
 
 use reg_core::{Moment, Serial, read_number};
 
-/// A list, and the key behind which it goes on: from its first row on where that is none, or 0. Serial numbers and ids are
-/// above 0.
+/// A list, and the key after which it continues. With `None` or 0 it begins with the first row, because serial numbers and ids
+/// are above 0.
 #[derive(Clone, Copy)]
 pub enum Cursor {
     Revoked(Option<Serial>),
     Certificates(Option<Serial>),
-    /// The good certificates whose notAfter is before a moment, by their serial numbers.
+    /// The good certificates whose notAfter is before a moment, in the order of their serial numbers.
     Ending {
         before: Moment,
         after: Option<Serial>,
     },
-    /// The requests that are neither declined nor settled, by their ids.
+    /// The open requests (not declined, and the certificate neither revoked nor expired), by id.
     OpenRequests(u64),
-    /// The open requests whose deadline is past, by their ids.
+    /// The open requests whose deadline is past, by id.
     Overdue(u64),
-    /// All requests, by their ids.
+    /// All requests, by id.
     Requests(u64),
     Subscribers(u64),
     Orders(u64),
@@ -26,8 +26,8 @@ pub enum Cursor {
 }
 
 impl Cursor {
-    /// The list that a word names, from its first row on. `ending` wants a moment, and no other list takes one; `None` for
-    /// any other word.
+    /// The list with this name, from its first row on. `ending` requires a moment, and no other list takes one. `None` for any
+    /// other name.
     pub fn named(word: &[u8], before: Option<Moment>) -> Option<Cursor>
         ensures { result ≡ cursor_named word.now before }
     {
@@ -37,8 +37,8 @@ impl Cursor {
         }
     }
 
-    /// The same list behind the row with this key: 1 to 40 hexadecimal digits of a serial number, or 1 to 18 decimal digits
-    /// of an id or a number. `None` for any other text.
+    /// The same list, after the row with this key: 1 to 40 hexadecimal digits of a serial number, or 1 to 18 decimal digits
+    /// of an id or a CRL number. `None` for any other text.
     pub fn past(self, key: &[u8]) -> Option<Cursor>
         ensures { result ≡ cursor_past key.now self }
     {

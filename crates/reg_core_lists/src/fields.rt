@@ -1,4 +1,4 @@
-//! The fields of a row: the name of each, and what stands there.
+//! The fields of a row: their names and values.
 
 ghost use Rattle.std.specs.Prelude.{◌≡◌, ◌≤◌, ◌-◌, IfOk, length, map};
 ghost use Rattle.reg_core_lists.specs.Fields.{certificate_fields, crl_fields, decided_cell, first_listing, ground_word, history_fields, last_listing_cell, number_or_empty, order_fields, reason_cell, request_fields, revoked_at_cell, revoked_fields, row_fields, serial_or_empty, state_word, status_word, subscriber_fields, field_of_text};
@@ -13,7 +13,7 @@ pub(crate) enum Cell {
     Number(u64),
     Serial(Serial),
     At(Moment),
-    /// A word, or a subscriber's name.
+    /// The name of a status, a state or a ground, or a subscriber's name.
     Text(Label),
 }
 

@@ -7,22 +7,22 @@ use crate::rows::Row;
 use reg_core::{Label, Moment, Serial};
 use std::alloc::{AllocError, Global};
 
-/// Which of the rows of a list are wanted: all of them where nothing is told.
+/// A filter of a list's rows: a row must satisfy each condition that is given.
 #[derive(Clone, Copy)]
 pub struct Filter {
     /// The name of a subscriber.
     pub subscriber: Option<Label>,
-    /// The first hexadecimal digits of serial numbers, in either case.
+    /// The first hexadecimal digits of the serial number, in either case, with or without its leading zeros.
     pub serial: Option<Label>,
-    /// The first second of a time.
+    /// The first second of a period.
     pub from: Option<Moment>,
-    /// The first second behind that time.
+    /// The first second after that period.
     pub to: Option<Moment>,
 }
 
 impl Filter {
-    /// Whether each row of a list has what is told: a CRL has neither subscriber nor serial number, a subscriber has a name alone,
-    /// and an order has no time.
+    /// Whether the rows of this list have the fields that the filter needs. A CRL has no subscriber and no serial number, a subscriber
+    /// has only a name, and an order has no time.
     pub fn fits(&self, list: Cursor) -> bool
         ensures { result ≡ fits self.now list }
     {
@@ -35,7 +35,7 @@ impl Filter {
         }
     }
 
-    /// The rows that are wanted, in their order.
+    /// The rows that pass the filter, in their order.
     pub fn kept(&self, alloc: Global, rows: &[Row]) -> Result<Vec<Row>, AllocError>
         ensures { IfOk result (λ kept. kept.items ≡ wanted_rows self.now rows.now) }
     {
@@ -59,7 +59,7 @@ impl Filter {
     }
 }
 
-// ---- what of each row a filter looks at
+// ---- the fields of a row that a filter uses
 
 fn name_of_row(row: &Row) -> Option<Label>
     ensures { result ≡ name_of_row row.now }
@@ -88,7 +88,7 @@ fn serial_of_row(row: &Row) -> Option<Serial>
     }
 }
 
-/// The beginning of a certificate, the moment of a revocation, the receipt of a request, the thisUpdate of a CRL.
+/// The notBefore of a certificate, the moment of a revocation, the receipt of a request, the thisUpdate of a CRL.
 fn time_of_row(row: &Row) -> Option<Moment>
     ensures { result ≡ time_of_row row.now }
 {
@@ -102,7 +102,7 @@ fn time_of_row(row: &Row) -> Option<Moment>
     }
 }
 
-// ---- whether that is what is wanted
+// ---- whether a field satisfies a condition
 
 fn is_of(wanted: &Option<Label>, name: Option<Label>) -> bool
     ensures { result ≡ wanted_field bytes_eq wanted.now name }

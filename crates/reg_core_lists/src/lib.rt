@@ -1,4 +1,4 @@
-//! Lists of what a register has: which rows each has, page by page, and their texts as CSV and JSON.
+//! The lists of a register: their rows, page by page, and their texts as CSV and JSON.
 #![tactic(auto)]
 
 mod cursor;

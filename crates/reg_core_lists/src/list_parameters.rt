@@ -1,4 +1,4 @@
-//! The query for a list: a page, by its word and its parameters, `after=KEY&limit=N&before=MOMENT` and a filter,
+//! The query for a page of a list, by the list's name and its parameters: `after=KEY&limit=N&before=MOMENT` and a filter,
 //! `subscriber=NAME&serial=PREFIX&from=MOMENT&to=MOMENT`.
 
 ghost use Rattle.std.specs.Prelude.{◌≡◌, ◌≤◌, ◌<◌, ◌+◌, ◌==◌, drop, length};
@@ -11,10 +11,10 @@ use crate::cursor::Cursor;
 use crate::filter::Filter;
 use reg_core::{Label, Moment, read_number};
 
-/// The most rows that a page may be asked for.
+/// The greatest `limit`.
 const LONGEST_LIMIT: u64 = 1_000;
 
-/// The most rows that a page looks at that is asked for from outside, so that nobody else waits long.
+/// The most rows that a page reads, whatever its `limit`, so that no other client waits long.
 const MOST_ROWS: u64 = 250;
 
 const MOST_PARAMS: usize = 7;
@@ -22,7 +22,7 @@ const MOST_PARAMS: usize = 7;
 /// The most hexadecimal digits of a serial number.
 const MOST_DIGITS: usize = 40;
 
-/// What is told beside the word of a list.
+/// The parameters of a query.
 #[derive(Clone, Copy)]
 struct Params {
     after: Option<Label>,
@@ -31,7 +31,7 @@ struct Params {
     filter: Filter,
 }
 
-/// A page that is asked for: from where on, how many rows it looks at, and which of them are wanted.
+/// A query for a page: where it begins, the most rows that it reads, and which of them it has.
 #[derive(Clone, Copy)]
 pub struct PageQuery {
     pub from: Cursor,
@@ -39,9 +39,9 @@ pub struct PageQuery {
     pub filter: Filter,
 }
 
-/// The page of a list that a word and what is told beside it ask for, which looks at 250 rows at most. `None` where the word
-/// names no list, a name stands twice or is none of the seven, a value can't be read, a limit is not 1 to 1,000, or the rows
-/// of the list have not what the filter tells.
+/// Reads the query for a page, from the list's name and its parameters. The page reads at most 250 rows. `None` if there is no
+/// such list, if a parameter is repeated or is none of the seven, if a value can't be read, if the limit is not 1 to 1,000, or
+/// if the rows of the list don't have the fields that the filter needs.
 pub fn read_page(word: &[u8], told: &[u8]) -> Option<PageQuery>
     ensures { result ≡ page_query word.now told.now }
 {
@@ -139,7 +139,7 @@ fn with_piece(params: Params, piece: &[u8]) -> Option<Params>
     with_value(params, &piece[..end], behind(piece, end))
 }
 
-/// What is told with one value more. `None` where the name stands already, or is none of the seven.
+/// The parameters with one more. `None` if it is given already, is none of the seven, or its value can't be read.
 fn with_value(params: Params, name: &[u8], value: &[u8]) -> Option<Params>
     ensures { result ≡ with_value params name.now value.now }
 {
@@ -181,7 +181,7 @@ fn with_limit(params: Params, value: &[u8]) -> Option<Params>
     Some(Params { limit, ..params })
 }
 
-/// What is told with one value more of a filter. `None` as of [`with_value`].
+/// The parameters with one more of the filter. `None` as for [`with_value`].
 fn with_filter(params: Params, name: &[u8], value: &[u8]) -> Option<Params>
     ensures { result ≡ with_filter params name.now value.now }
 {
@@ -250,7 +250,7 @@ fn read_key(text: &[u8]) -> Option<Label>
     Label::of(text)
 }
 
-/// Reads 1 to 40 hexadecimal digits with which serial numbers begin; `None` for any other text.
+/// Reads the 1 to 40 hexadecimal digits with which a serial number begins; `None` for any other text.
 pub fn read_prefix(text: &[u8]) -> Option<Label>
     ensures { result ≡ prefix_of text.now }
 {

@@ -8,10 +8,10 @@ use reg_core::{
 #[derive(Clone, Copy)]
 pub struct CertificateLine {
     pub certificate: CertRow,
-    /// Whose order it fills.
+    /// The subscriber whose order it fills.
     pub subscriber: SubscriberRow,
     pub status: Status,
-    /// The CRLs that list it, where it is revoked.
+    /// The CRLs that list it, if it is revoked.
     pub listing: Option<Listing>,
 }
 
@@ -22,7 +22,7 @@ pub struct RevokedLine {
     pub revocation: RevocationRow,
     /// The request that led to it.
     pub request: RequestRow,
-    /// Up to when that was to be decided.
+    /// The deadline of that request.
     pub due: Moment,
 }
 
@@ -30,20 +30,20 @@ pub struct RevokedLine {
 #[derive(Clone, Copy)]
 pub struct RequestLine {
     pub request: RequestRow,
-    /// Up to when it is to be decided.
+    /// The deadline of the request.
     pub due: Moment,
     pub certificate: CertRow,
-    /// Whose order the certificate fills.
+    /// The subscriber whose order the certificate fills.
     pub subscriber: SubscriberRow,
 }
 
-/// What became of a request up to a moment.
+/// A request and its state at a moment.
 #[derive(Clone, Copy)]
 pub struct RequestHistory {
     pub request: RequestLine,
     /// The status of its certificate.
     pub status: Status,
-    /// For how many seconds it was open behind its deadline. `None` where it was declined: no record holds when.
+    /// How many seconds it was open after its deadline. `None` if it was declined: no record has the moment of that.
     pub lateness: Option<u64>,
 }
 
@@ -52,7 +52,7 @@ pub struct RequestHistory {
 pub struct OrderLine {
     pub order: OrderRow,
     pub subscriber: SubscriberRow,
-    /// The serial number of the certificate that fills it, where one does.
+    /// The serial number of the certificate that fills it, if there is one.
     pub serial: Option<Serial>,
 }
 
@@ -68,7 +68,7 @@ pub enum Row {
     Crl(CrlRow),
 }
 
-/// A page of a list: its rows in the order of keys, and where the next page goes on, if there may be one.
+/// A page of a list: its rows in the order of keys, and the cursor of the next page, if there may be one.
 #[derive(Drop)]
 pub struct Page {
     pub rows: Vec<Row>,

@@ -1,5 +1,5 @@
-//! Lists as CSV (RFC 4180, each record ended by LF alone) and as JSON (RFC 8259). No field has a byte that either of them would
-//! have quoted: names are of letters, digits, `.`, `-` and `_`.
+//! Lists as CSV (RFC 4180, but records end with LF) and as JSON (RFC 8259). No field has a byte that needs quoting or escaping in
+//! either: names are of letters, digits, `.`, `-` and `_`.
 
 ghost use Rattle.std.specs.Prelude.{◌≡◌, ◌∷◌, ◌++◌, [], IfOk, OnOk, flat_map, map};
 ghost use Rattle.reg_core_lists.specs.Cursors.{key_cell};
@@ -12,12 +12,12 @@ use crate::rows::Row;
 use reg_core::Decimal;
 use std::alloc::{AllocError, Global};
 
-/// How a list is written.
+/// The format of a list.
 #[derive(Clone, Copy, PartialEq, Eq)]
 pub enum Form {
-    /// A record for each row, behind a header.
+    /// A header, and then a record for each row.
     Csv,
-    /// An object for each row, each in a line.
+    /// A JSON object for each row, each on its own line.
     Json,
 }
 
@@ -48,7 +48,7 @@ pub fn header(from: Cursor) -> &'static str
     }
 }
 
-/// Puts rows behind a text, each a line.
+/// Appends rows to a text, each as a line.
 pub fn put_rows(
     alloc: Global,
     out: &mut Vec<u8>,
@@ -168,7 +168,7 @@ fn put_string(out: &mut Vec<u8>, cell: &Cell) -> Result<(), AllocError>
     Ok(())
 }
 
-/// A page as a JSON object: the word of its list, the key behind which the next page goes on, or `null`, and its rows.
+/// A page as a JSON object: the name of its list, the key after which the next page begins or `null`, and its rows.
 #[tactic(auto, unfolding(crate::specs::Texts::page_body))]
 pub fn page_text(
     alloc: Global,

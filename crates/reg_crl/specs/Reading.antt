@@ -43,12 +43,12 @@ crl_extension_at bytes = do
   octets ← whole_at 0x04 critical.1
   Some ((identifier.0, octets), extension.1)
 
--- the contents octets of an INTEGER that is not negative, eight at most, as a number
+-- the value of an INTEGER that is not negative, by its contents octets, of which there are at most eight
 abbrev pub crl_number_of : List ℕ → Option ℕ
 crl_number_of [] = None
 crl_number_of (first ∷ rest) = if nat_lt first 0x80 && nat_le (length (first ∷ rest)) 8 then Some (value (first ∷ rest)) else None
 
--- the number in the first CRL number among Extensions, 2.5.29.20 (RFC 5280 5.2.3), with fuel: each takes an octet at least
+-- the value of the first CRL number extension, 2.5.29.20, in Extensions (RFC 5280 5.2.3). The fuel is their length: each has at least one octet.
 abbrev pub number_among : ℕ → List ℕ → Option ℕ
 number_among fuel [] = None
 number_among zero (first ∷ rest) = None
@@ -56,7 +56,7 @@ number_among (suc fuel) (first ∷ rest) =
     crl_extension_at (first ∷ rest)
     >>= λ x. if bytes_eq x.0.0 (85 ∷ 29 ∷ 20 ∷ []) then (whole_at 0x02 x.0.1 >>= crl_number_of) else number_among fuel x.1
 
--- the CRL number in crlExtensions that nothing follows
+-- the CRL number in crlExtensions, which nothing follows
 unfoldable pub numbered_at : List ℕ → Option ℕ
 numbered_at bytes = whole_at 0xA0 bytes >>= λ tagged. whole_at 0x30 tagged >>= λ extensions. number_among (length extensions) extensions
 
@@ -68,7 +68,7 @@ tbs_cert_list_at bytes = do
   number ← numbered_at revoked.1
   Some (number, unwrap_or revoked.0 [])
 
--- the same of a CertificateList: a TBSCertList, an AlgorithmIdentifier and a BIT STRING, which nothing follows (RFC 5280 5.1.1)
+-- the number, and the contents of revokedCertificates, in a CertificateList: a TBSCertList, an AlgorithmIdentifier and a BIT STRING (RFC 5280 5.1.1)
 unfoldable pub certificate_list_at : List ℕ → Option (ℕ × List ℕ)
 certificate_list_at bytes = do
   list ← whole_at 0x30 bytes
@@ -77,29 +77,29 @@ certificate_list_at bytes = do
   signature ← whole_at 0x03 algorithm.1
   tbs_cert_list_at tbs.0
 
--- the octets of the serial number of an entry of revokedCertificates, and what follows (RFC 5280 5.1.2.6)
+-- the contents octets of the serial number of an entry of revokedCertificates, and what follows the entry (RFC 5280 5.1.2.6)
 unfoldable pub revoked_entry_at : List ℕ → Option (List ℕ × List ℕ)
 revoked_entry_at bytes = do
   entry ← expect_at 0x30 bytes
   serial ← expect_at 0x02 entry.0
   Some (serial.0, entry.1)
 
--- an entry for a serial number, and what follows
+-- the bytes are an entry for this serial number, and then these bytes
 abbrev pub IsEntryAt : List ℕ → ℕ → List ℕ → Type 0
 IsEntryAt bytes serial rest = IsSerial serial × (revoked_entry_at bytes ≡ Some (integer serial, rest))
 
--- the entries for these serial numbers, in this order, and what follows them
+-- the bytes are entries for these serial numbers, in this order, and then these bytes
 abbrev pub AreEntries : List ℕ → List ℕ → List ℕ → Type 0
 AreEntries bytes [] rest = bytes ≡ rest
 AreEntries bytes (serial ∷ serials) rest = (after : List ℕ) × IsEntryAt bytes serial after × AreEntries after serials rest
 
--- a CRL with this number lists these serial numbers, in this order
+-- the bytes are a CRL with this number, whose entries have these serial numbers, in this order
 abbrev pub IsPublished : List ℕ → ℕ → List ℕ → Type 0
 IsPublished bytes number serials = (revoked : List ℕ) × (certificate_list_at bytes ≡ Some (number, revoked)) × AreEntries revoked serials []
 
 -- ---- laws
 
--- a CRL that is written is read back: its number, below 2^63, and the serial numbers that it lists
+-- a CRL that is written is read back: its number, if that is below 2^63, and the serial numbers of its entries
 abbrev pub CrlsAreRead : Type 0
 CrlsAreRead =
     (crl : CertList) (algorithm signature : List ℕ) → IsIssuer crl.issuer → IsAlgorithm algorithm → crl.number < 2 ^ 63
@@ -112,7 +112,7 @@ CrlsHaveOneReading =
     (bytes : List ℕ) (number other_number : ℕ) (serials other_serials : List ℕ) → IsPublished bytes number serials → IsPublished bytes other_number other_serials
     → (number ≡ other_number) × (serials ≡ other_serials)
 
--- no CRL begins another: one that is cut short is refused, and so is one with bytes after it
+-- no CRL is a proper prefix of another: a CRL that is cut short is refused, and so is one with bytes after it
 abbrev pub NoCrlBeginsAnother : Type 0
 NoCrlBeginsAnother =
     (bytes more : List ℕ) (one other : ℕ × List ℕ) → IsBytes bytes → certificate_list_at bytes ≡ Some one → certificate_list_at (bytes ++ more) ≡ Some other

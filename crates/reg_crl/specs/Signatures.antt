@@ -1,12 +1,12 @@
--- What comes of asking a signer for a signature.
+-- The result of asking a signer for a signature.
 use Rattle.std.specs.Prelude.{◌≡◌, ℕ, ◌-◌, ◌^◌, ◌<◌, ◌≤◌, List, length, Result, Vec, IfOk, IsErrOf, OnOk}
 use Rattle.std.specs.Global.{Global}
 use Rattle.reg_crl.specs.Signing.{Identity}
 use Rattle.reg_crl.specs.declared.signer.SignFault.{SignFault}
 use Rattle.reg_crl.specs.declared.signer.SignFault.TheVariants.{Device, Memory}
 
--- A signer, by its identity, its relation of signatures and its count of failures, was asked to sign a message, and is `new` afterwards.
--- The count rises with each failure of the device, and so none is counted at u64::MAX; it stays otherwise.
+-- A signer was asked to sign a message: it was `old` before and is `new` after. It gave a signature of its identity, or a fault. The count of
+-- failures rises if the device failed, and stays otherwise. At u64::MAX it can't rise, so the signer doesn't report a failed device.
 pub record SignsOrFails {S : Type 0} (identity : S → Identity) (signs : Identity → List ℕ → List ℕ → Type 0) (failure_count : S → ℕ)
     (old new : S) (message : List ℕ) (result : Result (Vec ℕ Global) SignFault) : Type 0 where
   pub signed : IfOk result (λ signature. signs (identity old) message signature.items)

@@ -13,7 +13,7 @@ use std::alloc::Global;
 /// The number of version 2 (RFC 5280 5.1.2.1).
 const VERSION_2: u64 = 1;
 
-/// The reason `unspecified`, which is told by no extension (RFC 5280 5.3.1).
+/// The reason `unspecified`: the reason code extension is left out for it (RFC 5280 5.3.1).
 const UNSPECIFIED: u8 = 0;
 
 /// 2.5.29.20, the CRL number (RFC 5280 5.2.3).
@@ -88,7 +88,7 @@ pub fn crl_whole(
     Ok(whole)
 }
 
-/// Appends the revokedCertificates, which are absent where there is no entry.
+/// Appends revokedCertificates; nothing if there are no entries.
 #[tactic(auto, unfolding(crate::specs::Crl::revoked_certificates))]
 fn put_revoked_certificates(
     out: &mut Vec<u8>,
@@ -119,7 +119,7 @@ fn revoked(alloc: Global, entries: &[Entry]) -> Result<Vec<u8>, Memory>
     Ok(out)
 }
 
-/// Appends one entry. Its contents are made in the buffer, whatever that held.
+/// Appends one entry. Its contents are made in `buffer`, which is cleared first.
 #[tactic(auto, unfolding(crate::specs::Crl::revoked_certificate))]
 fn put_revoked_certificate(
     out: &mut Vec<u8>,
@@ -136,7 +136,7 @@ fn put_revoked_certificate(
     put(out, SEQUENCE, buffer)
 }
 
-/// Appends the crlEntryExtensions, which are absent where the reason is unspecified.
+/// Appends crlEntryExtensions; nothing if the reason is `unspecified`.
 #[tactic(auto, unfolding(crate::specs::Crl::crl_entry_extensions, crate::specs::Crl::reason_code, crate::specs::Crl::extension, reg_der::specs::Der::tlv, reg_der::specs::Der::length_octets))]
 fn put_crl_entry_extensions(out: &mut Vec<u8>, reason: u8) -> Result<(), Memory>
     ensures ok { OnOk result (out.new.items ≡ out.old.items ++ crl_entry_extensions reason) }

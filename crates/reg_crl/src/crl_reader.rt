@@ -1,4 +1,4 @@
-//! A CRL read, as far as it is compared with a register (RFC 5280 5.1).
+//! Reads what is compared with a register from a CRL: its number, and the serial numbers of its entries (RFC 5280 5.1).
 
 ghost use Rattle.std.specs.Prelude.{◌≡◌, ◌<◌, ℕ, List, length, IfSome, MatchOption};
 ghost use Rattle.reg_crl.specs.Reading.{IsEntryAt, after_next_update, certificate_list_at, crl_extension_at, header_at, numbered_at, number_among, crl_number_of, revoked_entry_at, tbs_cert_list_at, time_at};
@@ -13,17 +13,17 @@ use reg_der::tags::{
 use reg_der::take;
 use reg_der::values::{expect, number, optional, whole};
 
-/// What a CRL lists, and its number.
+/// The number of a CRL, and its entries.
 #[derive(Clone, Copy)]
 pub struct PublishedCrl<'a> {
     /// The CRL number (RFC 5280 5.2.3).
     pub number: u64,
-    /// The contents of revokedCertificates, of no bytes where it is absent ([`next_entry`]).
+    /// The contents of revokedCertificates, for [`next_entry`]; empty if it is absent.
     pub revoked: &'a [u8],
 }
 
-/// Reads the DER of a CRL. `None` for other bytes, for a CRL without a number, and for a number of 2^63 or more. Its signature is not
-/// verified.
+/// Reads the DER of a CRL, without verifying its signature. `None` for other bytes, for a CRL without a CRL number, and for a number of 2^63
+/// or more.
 #[tactic(auto, unfolding(crate::specs::Reading::certificate_list_at))]
 pub fn read_crl(bytes: &[u8]) -> Option<PublishedCrl<'_>>
     ensures { Gives (λ crl. (crl.number, crl.revoked.now)) result (certificate_list_at bytes.now) }
@@ -34,7 +34,7 @@ pub fn read_crl(bytes: &[u8]) -> Option<PublishedCrl<'_>>
     parts(tbs.contents)
 }
 
-/// The serial number of the entry at the front of revokedCertificates, and the entries behind it. `None` where no entry is there.
+/// The serial number of the first entry, and the entries after it. `None` if there is no entry, or its serial number is invalid ([`Serial`]).
 pub fn next_entry(entries: &[u8]) -> Option<(Serial, &[u8])>
     ensures exact { MatchOption result
         ((serial : ℕ) (rest : List ℕ) → ¬ IsEntryAt entries.now serial rest)
@@ -45,7 +45,7 @@ pub fn next_entry(entries: &[u8]) -> Option<(Serial, &[u8])>
     Some((Serial::from_der(octets)?, rest))
 }
 
-/// The contents octets of that serial number, and the entries behind it.
+/// The contents octets of the first entry's serial number, and the entries after it.
 #[tactic(auto, unfolding(crate::specs::Reading::revoked_entry_at))]
 fn serial_octets(entries: &[u8]) -> Option<(&[u8], &[u8])>
     ensures exact { Gives (λ x. (x.0.now, x.1.now)) result (revoked_entry_at entries.now) }
@@ -102,7 +102,7 @@ fn behind_next_update(bytes: &[u8]) -> Option<&[u8]>
     }
 }
 
-/// The CRL number in crlExtensions that nothing follows.
+/// The CRL number in crlExtensions, which must be the last field.
 #[tactic(auto, unfolding(crate::specs::Reading::numbered_at))]
 fn crl_number(bytes: &[u8]) -> Option<u64>
     ensures { result ≡ numbered_at bytes.now }
@@ -137,7 +137,7 @@ fn next_extension(bytes: &[u8]) -> Option<(&[u8], &[u8], &[u8])>
     Some((identifier.contents, value, rest))
 }
 
-/// The number with the contents octets of an INTEGER that is not negative (X.690 8.3), of eight octets at most.
+/// The number with the contents octets of an INTEGER (X.690 8.3). `None` if it is negative, or has no octets or more than eight.
 fn number_of(octets: &[u8]) -> Option<u64>
     ensures { result ≡ crl_number_of octets.now }
 {

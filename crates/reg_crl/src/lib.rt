@@ -1,4 +1,4 @@
-//! CRLs (RFC 5280 5): their signers, and their DER.
+//! CRLs (RFC 5280 5): their DER, written and read, and the trait of their signers.
 #![tactic(auto)]
 
 mod crl;

@@ -11,7 +11,7 @@ const ALGORITHM: [u8; 11] = [
     0x30, 0x09, 0x06, 0x05, 0x2B, 0x0E, 0x03, 0x02, 0x1A, 0x05, 0x00,
 ];
 
-/// A signer without a key: its seal is the SHA-1 of the message, a checksum that anyone can make. Its failures stay 0.
+/// A signer without a key: in place of a signature it gives the SHA-1 of the message, which anyone can compute. It fails only if out of memory.
 #[derive(Clone, Copy, PartialEq, Eq)]
 pub struct DigestSeal;
 

@@ -4,10 +4,10 @@ ghost use Rattle.reg_crl.specs.declared.signer.SignFault.TheVariants.{Memory};
 use reg_core::{Fault, SignsCrls};
 use std::alloc::{AllocError, Global};
 
-/// Why nothing was signed.
+/// Why there is no signature.
 #[derive(Clone, Copy, PartialEq, Eq)]
 pub enum SignFault {
-    /// The device that holds the key failed, and the signer counted the failure.
+    /// The device that has the key failed, and the signer counted the failure.
     Device,
     Memory,
 }
@@ -34,19 +34,19 @@ impl From<SignFault> for Fault {
     }
 }
 
-/// A signer under one algorithm and one key, for good.
+/// A signer with one algorithm and one key, which no call changes.
 pub trait Signer {
     ghost use Rattle.std.specs.Prelude.{ℕ, List};
     ghost use Rattle.reg_crl.specs.Signing.{Identity, IsAlgorithm};
     ghost use Rattle.reg_crl.specs.Signatures.{SignsOrFails};
 
-    // Under whose algorithm and key it signs: no call changes it.
+    // Its algorithm and public key, which no call changes.
     ghost identity: { Self → Identity };
 
-    // Under this identity the message has this signature.
+    // With this algorithm and key, the message (second) has the signature (third).
     ghost signs: { Identity → List ℕ → List ℕ → Type 0 };
 
-    // How many failures it has counted.
+    // How many failures of the device it has counted.
     ghost failure_count: { Self → ℕ };
 
     /// The AlgorithmIdentifier of the signatures (RFC 5280 4.1.1.2): one value of tag 30h, at most 1,024 bytes.
@@ -54,16 +54,16 @@ pub trait Signer {
         ensures value { result.now ≡ (identity self.now).algorithm }
         ensures within { IsAlgorithm result.now };
 
-    /// The public key, where others can ask the device that holds it for a signature, too; `None` where there is no such device.
+    /// The public key, if the key is in a device that a caller can also ask for a signature; `None` if there is no such device.
     fn public_key(&self) -> Option<&[u8]>
         ensures { IfSome (option_copied result) (λ key. key ≡ (identity self.now).public_key) };
 
-    /// A signature of the message, of at most 65,536 bytes. `Device` where the device failed: the count of failures rises, so
-    /// at `u64::MAX` this no longer comes.
+    /// A signature of the message, of at most 65,536 bytes. `Device` if the device failed: then the count of failures rises. At
+    /// `u64::MAX` it can't rise, and `Device` isn't returned.
     fn sign(&mut self, alloc: Global, message: &[u8]) -> Result<Vec<u8>, SignFault>
         ensures { SignsOrFails identity signs failure_count self.old self.new message.now result };
 
-    /// Resets the back-off: the device is asked at the next signature, also after a timeout.
+    /// Resets the back-off: the device is asked for the next signature, even after a timeout.
     fn reset_backoff(&mut self)
         ensures same_identity { identity self.new ≡ identity self.old }
         ensures same_failures { failure_count self.new ≡ failure_count self.old };
@@ -73,8 +73,8 @@ pub trait Signer {
         ensures { result ≡ failure_count self.now };
 }
 
-/// A signer as the laws of the register see it: for them it relates what is signed in a CRL to the CRL's DER. CRLs with numbers below
-/// `since` are sealed by the digest, as they are where the signer's key followed it.
+/// A signer, with the relation of a CRL's fields to its DER that the register's laws use. CRLs with numbers below `since` have the placeholder
+/// digest, because the register used that before it got a key.
 #[derive(Drop)]
 pub struct CrlSigner<S> {
     pub signer: S,

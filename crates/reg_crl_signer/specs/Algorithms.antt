@@ -1,4 +1,4 @@
--- The algorithms of signatures: their names and their AlgorithmIdentifiers.
+-- Signature algorithms: their names and their AlgorithmIdentifiers.
 use Rattle.std.specs.Prelude.{ℕ, List, [], ◌∷◌, ◌++◌, codes, bytes_eq, Option, Some, None, if◌then◌else◌}
 use Rattle.reg_der.specs.Der.{tlv}
 use Rattle.reg_crl_signer.specs.declared.algorithm.Algorithm.{Algorithm}
@@ -11,7 +11,7 @@ algorithm_name EcdsaSha384 = codes "ecdsa-sha384"
 algorithm_name RsaSha256 = codes "rsa-sha256"
 algorithm_name Ed25519 = codes "ed25519"
 
--- the algorithm of a name
+-- the algorithm with this name
 abbrev pub algorithm_named : List ℕ → Option Algorithm
 algorithm_named name =
     if bytes_eq name (algorithm_name EcdsaSha256) then Some EcdsaSha256
@@ -28,7 +28,7 @@ id_ed25519 = tlv 6 (43 ∷ 101 ∷ 112 ∷ [])
 abbrev pub null_value : List ℕ
 null_value = tlv 5 []
 
--- The AlgorithmIdentifier of an algorithm (RFC 5280 4.1.1.2), without parameters but for RSA: ecdsa-with-SHA256, 1.2.840.10045.4.3.2, and
+-- The AlgorithmIdentifier of an algorithm (RFC 5280 4.1.1.2); only RSA has parameters: ecdsa-with-SHA256, 1.2.840.10045.4.3.2, and
 -- ecdsa-with-SHA384, 1.2.840.10045.4.3.3 (RFC 5758 3.2); sha256WithRSAEncryption, 1.2.840.113549.1.1.11, and NULL (RFC 4055 5)
 abbrev pub identifier_of : Algorithm → List ℕ
 identifier_of EcdsaSha256 = tlv 48 (tlv 6 (42 ∷ 134 ∷ 72 ∷ 206 ∷ 61 ∷ 4 ∷ 3 ∷ 2 ∷ []))

@@ -7,7 +7,7 @@ use Rattle.reg_crl_signer.specs.declared.backoff.BackoffDevice.{BackoffDevice}
 use Rattle.reg_crl_signer.specs.declared.device.Device.{Ghosts}
 use Rattle.reg_crl_signer.specs.declared.device.DeviceFault.{DeviceFault}
 
--- at this time ten seconds have not gone by yet since a signer timed out, if it did
+-- the signer timed out, and less than ten seconds have passed since
 abbrev pub IsBackedOff : Option Duration → Duration → Type 0
 IsBackedOff None now = ⊥
 IsBackedOff (Some since) now = as_nanos now - as_nanos since < 10000000000

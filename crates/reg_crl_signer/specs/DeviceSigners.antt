@@ -1,4 +1,4 @@
--- The signer over a device.
+-- The signer whose key is in a device.
 use Rattle.std.specs.Prelude.{◌≡◌, ◌⊎◌, ℕ, ◌≤◌, List, length, Result, Vec, None, IfOk, IsErrOf}
 use Rattle.std.specs.Global.{Global}
 use Rattle.reg_crl.specs.Signatures.{SignsOrFails}
@@ -11,11 +11,11 @@ use Rattle.reg_crl_signer.specs.declared.device.Device.{Ghosts}
 use Rattle.reg_crl_signer.specs.declared.signer.DeviceSigner.{DeviceSigner}
 
 module _ {D : Type 0} (g : Ghosts D) where
-  -- the algorithm and the key under which a signer signs
+  -- the algorithm and the public key of a signer
   abbrev pub device_identity : DeviceSigner D g → Identity
   device_identity it = identity_of it.algorithm (g.public_key it.device)
 
-  -- a signer over this device, with a key of this algorithm, which has counted no failure, and for which no signature was preset
+  -- a signer with this device and this algorithm, which the device's key fits; it has no failures and no preset signature
   pub record IsNew (device : D) (algorithm : Algorithm) (signer : DeviceSigner D g) : Type 0 where
     pub device_is : signer.device ≡ device
     pub algorithm_is : signer.algorithm ≡ algorithm
@@ -23,22 +23,22 @@ module _ {D : Type 0} (g : Ghosts D) where
     pub preset_signature : signer.preset_signature ≡ None
     pub key : IsKeyOf algorithm (g.public_key device)
 
-  -- under an identity: the device answered the message so, and that has the form of a signature
+  -- a device with the identity's key gave the message this answer, which has the form of a signature
   abbrev pub SignsByDevice : Identity → List ℕ → List ℕ → Type 0
   SignsByDevice identity message signature = g.answers identity.public_key message signature × HasForm identity signature
 
-  -- what comes of asking the signer for a signature
+  -- the result of asking the signer for a signature
   abbrev pub SigningByDevice : DeviceSigner D g → DeviceSigner D g → List ℕ → Result (Vec ℕ Global) SignFault → Type 0
   SigningByDevice = SignsOrFails device_identity SignsByDevice (λ it. it.failures)
 
-  -- the device, asked to sign a message, failed, or its answer has not the form of a signature
+  -- the device, asked to sign a message, failed, or its answer doesn't have the form of a signature
   abbrev pub FailsToSign : DeviceSigner D g → List ℕ → DeviceSigner D g → Type 0
   FailsToSign it message after =
       g.fails it.device message after.device
       ⊎ ((answer : List ℕ) × g.answers (g.public_key it.device) message answer × ¬ (IsSignature it.algorithm (g.public_key it.device) answer))
 
-  -- The device is asked at its place and nowhere else; where a signature was preset, that is taken, and the device is not asked. A signature
-  -- has at most 4,096 bytes. Where the device is asked, a fault of it comes only where it gave none.
+  -- Without a preset, the signature is an answer of the device at its path. With one, it is an answer that another caller got there. It has at most
+  -- 4,096 bytes. Without a preset, `Device` means that the device gave no signature. The path stays the same.
   pub record AsksAtItsPath (old new : DeviceSigner D g) (message : List ℕ) (result : Result (Vec ℕ Global) SignFault) : Type 0 where
     pub device_answered : old.preset_signature ≡ None → IfOk result (λ signature. g.device_answered (g.device_path old.device) message signature.items)
     pub given : ¬ (old.preset_signature ≡ None) → IfOk result (λ signature. ∥ g.signer_answered (g.device_path old.device) message signature.items ∥₁)

@@ -1,4 +1,4 @@
--- The forms of public keys and of signatures: what can be stated without the mathematics.
+-- The forms of public keys and of signatures, without the mathematics of keys.
 use Rattle.std.specs.Prelude.{◌≡◌, ◌⊎◌, ℕ, ◌+◌, ◌*◌, ◌^◌, ◌<◌, ◌≤◌, List, ◌++◌, length, get_or}
 use Rattle.reg_core.specs.Integer.{IsInteger}
 use Rattle.reg_crl.specs.Signing.{Identity}
@@ -22,12 +22,12 @@ pub record IsPair (bytes : List ℕ) (first second : ℕ) : Type 0 where
   pub first_is : IsPositive first_bytes first
   pub second_is : IsPositive second_bytes second
 
--- so many octets are the fewest that hold the number
+-- `size` is the fewest octets that hold the number
 pub record HasOctets (number size : ℕ) : Type 0 where
   pub below : number < 256 ^ size
   pub no_fewer : 256 ^ size ≤ 256 * number
 
--- a SEQUENCE of two INTEGERs, both above 0, of numbers of so many octets each
+-- a SEQUENCE of two INTEGERs, both above 0, whose numbers have these counts of octets
 pub record IsPairOfIntegers (bytes : List ℕ) (first_size second_size : ℕ) : Type 0 where
   pub first : ℕ
   pub second : ℕ
@@ -35,7 +35,7 @@ pub record IsPairOfIntegers (bytes : List ℕ) (first_size second_size : ℕ) : 
   pub first_octets : HasOctets first first_size
   pub second_octets : HasOctets second second_size
 
--- the INTEGER of a number above 0 and of so many octets stands before the rest of the bytes
+-- the bytes are the INTEGER of a number above 0 that has `size` octets, and then the rest
 pub record BeginsPositive (bytes : List ℕ) (size : ℕ) (rest : List ℕ) : Type 0 where
   pub raw : List ℕ
   pub number : ℕ
@@ -43,14 +43,14 @@ pub record BeginsPositive (bytes : List ℕ) (size : ℕ) (rest : List ℕ) : Ty
   pub octets : HasOctets number size
   pub parts : bytes ≡ raw ++ rest
 
--- an RSAPublicKey, the modulus and the public exponent, with a modulus of so many octets (RFC 8017 A.1.1)
+-- an RSAPublicKey: a modulus of `size` octets, and the public exponent (RFC 8017 A.1.1)
 pub record IsRsaKey (key : List ℕ) (size : ℕ) : Type 0 where
   pub modulus : ℕ
   pub exponent : ℕ
   pub pair : IsPair key modulus exponent
   pub modulus_size : HasOctets modulus size
 
--- an ECPoint whose coordinates have so many octets, uncompressed or compressed (RFC 5480 2.2; SEC 1 2.3.3)
+-- an ECPoint whose coordinates have `size` octets, uncompressed or compressed (RFC 5480 2.2; SEC 1 2.3.3)
 abbrev pub IsPoint : ℕ → List ℕ → Type 0
 IsPoint size key =
     ((get_or key 0 0 ≡ 4) × (length key ≡ 1 + 2 * size))
@@ -72,19 +72,19 @@ pub record IsEcdsaValue (bound : ℕ) (signature : List ℕ) : Type 0 where
   pub r_below : r < bound
   pub s_below : s < bound
 
--- The form of a signature of an algorithm under a key: an Ecdsa-Sig-Value of numbers below 2^256 or 2^384, as many octets as the
--- key's modulus has (RFC 8017 8.2.1), or 64 octets (RFC 8032 5.1.6)
+-- The form of a signature of an algorithm under a key. ECDSA: an Ecdsa-Sig-Value of numbers below 2^256 or 2^384. RSA: as many octets
+-- as the key's modulus (RFC 8017 8.2.1). Ed25519: 64 octets (RFC 8032 5.1.6)
 abbrev pub IsSignature : Algorithm → List ℕ → List ℕ → Type 0
 IsSignature EcdsaSha256 key signature = IsEcdsaValue (2 ^ 256) signature
 IsSignature EcdsaSha384 key signature = IsEcdsaValue (2 ^ 384) signature
 IsSignature RsaSha256 key signature = IsRsaKey key (length signature)
 IsSignature Ed25519 key signature = length signature ≡ 64
 
--- a signer under an algorithm and a key
+-- the identity of a signer with this algorithm and this key
 abbrev pub identity_of : Algorithm → List ℕ → Identity
 identity_of algorithm key = record { algorithm = identifier_of algorithm; public_key = key }
 
--- the form of a signature under an identity: that of the algorithm that the identity names, under its key
+-- the signature has the form of one of the identity's algorithm, under its key
 pub record HasForm (identity : Identity) (signature : List ℕ) : Type 0 where
   pub algorithm : Algorithm
   pub named : identity.algorithm ≡ identifier_of algorithm

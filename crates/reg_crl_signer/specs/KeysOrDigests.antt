@@ -1,4 +1,4 @@
--- The signer of a register: its issuer's key, the digest, or nobody.
+-- The signer of a register: its issuer's key, the placeholder digest, or nobody.
 use Rattle.std.specs.Prelude.{◌≡◌, ℕ, List, Option, Some, None, Result, Vec, option_map}
 use Rattle.std.specs.Global.{Global}
 use Rattle.reg_crl.specs.Signatures.{SignsOrFails}
@@ -12,13 +12,13 @@ use Rattle.reg_crl_signer.specs.declared.key_or_digest.KeyOrDigest.TheVariants a
 use Rattle.reg_crl_signer.specs.declared.signer.DeviceSigner.{DeviceSigner}
 
 module _ {D : Type 0} (g : Ghosts D) where
-  -- the signer with the key, if one holds it
+  -- the signer with the key, if there is a key
   abbrev pub key_of : KeyOrDigest D g → Option (DeviceSigner D g)
   key_of (by.Key signer) = Some signer
   key_of (by.Digest seal) = None
   key_of (by.Nobody seal failures) = None
 
-  -- the algorithm and the key under which it signs; where nobody does, those of the digest
+  -- the algorithm and the public key of the signer; for nobody, those of the digest
   abbrev pub either_identity : KeyOrDigest D g → Identity
   either_identity (by.Key signer) = device_identity g signer
   either_identity (by.Digest seal) = digest
@@ -36,15 +36,15 @@ module _ {D : Type 0} (g : Ghosts D) where
   IsNobody (by.Digest seal) = ⊥
   IsNobody (by.Nobody seal failures) = Unit {0}
 
-  -- where the key is asked for
+  -- the path of the device with the key, if there is a key
   abbrev pub either_path : KeyOrDigest D g → Option (List ℕ)
   either_path it = option_map (λ signer. g.device_path signer.device) (key_of it)
 
-  -- what comes of asking it for a signature
+  -- the result of asking it for a signature
   abbrev pub SigningByEither : KeyOrDigest D g → KeyOrDigest D g → List ℕ → Result (Vec ℕ Global) SignFault → Type 0
   SigningByEither = SignsOrFails either_identity (SignsBoth g.answers) either_failures
 
-  -- it signs as before, at the same place, and has counted as many failures
+  -- it has the same algorithm, key and path as before, and has counted as many failures
   pub record SignsAsBefore (old new : KeyOrDigest D g) : Type 0 where
     pub same_identity : either_identity new ≡ either_identity old
     pub same_failures : either_failures new ≡ either_failures old

@@ -1,8 +1,8 @@
--- The algorithm that stands in a CRL.
+-- The signatureAlgorithm of a CRL.
 use Rattle.std.specs.Prelude.{ℕ, List, ◌++◌}
 use Rattle.reg_der.specs.Der.{IsTlv}
 
--- the bytes are a CertificateList: its tbsCertList, this signatureAlgorithm, and what stands behind (RFC 5280 5.1.1)
+-- the bytes are a CertificateList: its tbsCertList, this signatureAlgorithm, and the bytes after that (RFC 5280 5.1.1)
 pub record IsCrlUnder (bytes algorithm : List ℕ) : Type 0 where
   pub tbs : List ℕ
   pub tbs_contents : List ℕ

@@ -1,4 +1,4 @@
-//! The algorithms of signatures.
+//! Signature algorithms.
 
 ghost use Rattle.std.specs.Prelude.{◌≡◌, ◌≢◌, ◌↔◌, IsTrue, MatchOption};
 ghost use Rattle.reg_crl.specs.Signing.{IsAlgorithm};
@@ -29,7 +29,7 @@ const P256: [u8; 21] = [
     0xCE, 0x3D, 0x03, 0x01, 0x07,
 ];
 
-/// The same with the curve secp384r1, 1.3.132.0.34.
+/// id-ecPublicKey with the curve secp384r1, 1.3.132.0.34 (RFC 5480 2.1.1).
 const P384: [u8; 18] = [
     0x30, 0x10, 0x06, 0x07, 0x2A, 0x86, 0x48, 0xCE, 0x3D, 0x02, 0x01, 0x06, 0x05, 0x2B, 0x81, 0x04,
     0x00, 0x22,
@@ -40,12 +40,12 @@ const RSA: [u8; 15] = [
     0x30, 0x0D, 0x06, 0x09, 0x2A, 0x86, 0x48, 0x86, 0xF7, 0x0D, 0x01, 0x01, 0x01, 0x05, 0x00,
 ];
 
-/// An algorithm of signatures.
+/// A signature algorithm.
 #[derive(Clone, Copy, Debug, PartialEq, Eq)]
 pub enum Algorithm {
-    /// ECDSA with SHA-256 (RFC 5758 3.2), under a key of the curve P-256.
+    /// ECDSA with SHA-256 (RFC 5758 3.2) and a P-256 key.
     EcdsaSha256,
-    /// ECDSA with SHA-384 (RFC 5758 3.2), under a key of the curve P-384.
+    /// ECDSA with SHA-384 (RFC 5758 3.2) and a P-384 key.
     EcdsaSha384,
     /// RSASSA-PKCS1-v1_5 with SHA-256 (RFC 4055 5, RFC 8017 8.2).
     RsaSha256,
@@ -105,7 +105,7 @@ impl Algorithm {
         }
     }
 
-    /// The DER of its AlgorithmIdentifier (RFC 5280 4.1.1.2): without parameters, and with RSA the parameters NULL.
+    /// The DER of its AlgorithmIdentifier (RFC 5280 4.1.1.2): the parameters are NULL for RSA, and left out otherwise.
     #[tactic(auto, using(crate::proofs::Identifiers::identifier_is), unfolding(reg_der::specs::Der::tlv, reg_der::specs::Der::length_octets))]
     pub fn identifier(self) -> &'static [u8]
         ensures value { result.now ≡ identifier_of self }

@@ -13,7 +13,7 @@ const REST: u128 = 10_000_000_000;
 /// The back-off from a signer: after a timeout it is not asked again for ten seconds. Times are readings of one clock that never goes back.
 #[derive(Clone, Copy, Debug, PartialEq, Eq)]
 pub struct Backoff {
-    /// When the signer timed out, unless it was asked again since.
+    /// When the last exchange timed out; `None` if it did not.
     since: Option<Duration>,
 }
 
@@ -24,7 +24,7 @@ impl Backoff {
         Backoff { since: None }
     }
 
-    /// The back-off after an exchange that failed: from its end on, where it took as long as the timeout; else none.
+    /// The back-off after a failed exchange: it begins at `ended` if the exchange took at least the timeout; else there is none.
     pub fn after_failure(began: Duration, ended: Duration, timeout: Duration) -> Backoff
         ensures { MatchOption result.since (as_nanos ended - as_nanos began < as_nanos timeout)
             (λ since. (since ≡ ended) × (as_nanos timeout ≤ as_nanos ended - as_nanos began)) }
@@ -47,7 +47,7 @@ impl Backoff {
     }
 }
 
-/// A device with a back-off. An exchange that fails sooner costs nobody much time, and the next one asks the device.
+/// A device with a back-off. After an exchange that fails before the timeout, the next exchange asks the device.
 #[derive(Drop)]
 pub struct BackoffDevice<D: Device, C: Clock> {
     device: D,

@@ -1,4 +1,4 @@
-//! One exchange over a connection, and the device at its other end.
+//! A device at a socket, and one exchange with it over a connection.
 
 ghost use Rattle.std.specs.Prelude.{◌≡◌, ◌<◌, IfOk, length, take};
 ghost use Rattle.reg_crl_signer.specs.Exchange.{ExchangesMessage};
@@ -13,16 +13,16 @@ use std::marker::PhantomData;
 pub trait DeviceConnection: Read + Write {
     ghost use Rattle.std.specs.Prelude.{ℕ, List, IfOk, OnErr, OnOk};
 
-    // This connection was made to what listens at the path.
+    // This connection was made to the listener at the path.
     ghost connected: { List ℕ → Self → Type 0 };
 
-    // No connection could be made to what listens at the path, if anything does.
+    // No connection could be made to the path.
     ghost unconnected: { List ℕ → Type 0 };
 
-    // The sending side was shut down: the connection before and after it.
+    // The sending side was shut down: the connection before, and after.
     ghost finished: { Self → Self → Type 0 };
 
-    // Over another kind of connection, what listens at the path answered this message so.
+    // The listener at the path gave this message this answer, over a connection of another type.
     ghost signer_answered: { List ℕ → List ℕ → List ℕ → Type 0 };
 
     fn connect(rt: &HostRuntime, path: &str) -> io::Result<Self>
@@ -34,8 +34,8 @@ pub trait DeviceConnection: Read + Write {
         ensures { OnOk result (finished self.old self.new) };
 }
 
-/// A device that listens at a path. For each signature it is sent the message over a connection of its own, and sees that
-/// no more comes; its answer is all that it sends until it closes.
+/// A device that listens at a path. Each exchange opens a connection, sends the message and shuts down the sending side. The
+/// answer is all that the device sends until it closes the connection.
 #[derive(Drop)]
 pub struct SocketDevice<L: DeviceConnection> {
     rt: HostRuntime,
@@ -69,7 +69,7 @@ impl<L: DeviceConnection + Drop> Device for SocketDevice<L> {
 
     ghost device_answered = { ExchangesAtPath L.Read.remaining L.Write.contents L.finished L.connected };
 
-    // What listens at some path answered so, over such a connection or another kind.
+    // The listener at some path gave this answer, over a connection of this type or of another.
     ghost answers = { λ key message answer.
         ((path : List ℕ)
         × ExchangesAtPath L.Read.remaining L.Write.contents L.finished L.connected path message answer)

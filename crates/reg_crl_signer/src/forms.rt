@@ -1,4 +1,4 @@
-//! The forms of public keys and of signatures.
+//! Checks the form of public keys and of signatures.
 
 ghost use Rattle.std.specs.Prelude.{◌≡◌, ◌↔◌, ◌<◌, ◌^◌, IsTrue, length};
 ghost use Rattle.std.specs.Bool.{OnTrue};
@@ -7,10 +7,10 @@ ghost use Rattle.reg_crl_signer.specs.Forms.{HasForm, IsEcdsaValue, IsKeyOf, IsP
 use crate::algorithm::Algorithm;
 use crate::numbers::octets_of_pair;
 
-/// The octets of a coordinate of a point of P-256 (RFC 5480 2.1.1.1), and of r and s of a signature under its key.
+/// The octets of a coordinate of a point of P-256 (RFC 5480 2.1.1.1), and the most octets of r and s of a signature.
 const P256_OCTETS: usize = 32;
 
-/// The octets of a coordinate of a point of P-384, and of r and s of a signature under its key.
+/// The octets of a coordinate of a point of P-384, and the most octets of r and s of a signature.
 const P384_OCTETS: usize = 48;
 
 /// The octets of a public key of Ed25519 (RFC 8032 5.1.5).
@@ -20,7 +20,7 @@ const ED25519_KEY: usize = 32;
 const ED25519_SIGNATURE: usize = 64;
 
 impl Algorithm {
-    /// Whether the bytes are a public key of the algorithm by their form, as the bits of a subjectPublicKey (RFC 5280 4.1.2.7).
+    /// Whether `key`, the bits of a subjectPublicKey (RFC 5280 4.1.2.7), has the form of a public key of the algorithm.
     pub fn is_key(self, key: &[u8]) -> bool
         ensures { IsTrue result ↔ IsKeyOf self key.now }
     {
@@ -32,7 +32,7 @@ impl Algorithm {
         }
     }
 
-    /// Whether the bytes are a signature under the key by their form. Whether it verifies is not looked at.
+    /// Whether `signature` has the form of a signature of the algorithm under the key. The signature is not verified.
     pub fn is_signature(self, key: &[u8], signature: &[u8]) -> bool
         ensures { IsTrue result ↔ IsSignature self key.now signature.now }
     {
@@ -45,8 +45,8 @@ impl Algorithm {
     }
 }
 
-/// Whether bytes have the form of a signature of the algorithm that an AlgorithmIdentifier names, under a key. None has where it names
-/// none that is known here.
+/// Whether `signature` has the form of a signature under the key, of the algorithm with this AlgorithmIdentifier. `false` if that is none
+/// of [`Algorithm`].
 pub fn has_form(identifier: &[u8], key: &[u8], signature: &[u8]) -> bool
     ensures { OnTrue result
         (HasForm (record { algorithm = identifier.now; public_key = key.now }) signature.now) }

@@ -1,5 +1,3 @@
-//! The signer of a register.
-
 ghost use Rattle.std.specs.Prelude.{◌≡◌, None};
 ghost use Rattle.std.specs.Option.{ForSome};
 ghost use Rattle.reg_crl_signer.specs.KeysOrDigests.{IsNobody, SignsAsBefore, either_identity, key_of};
@@ -11,18 +9,19 @@ use crate::signer::{DeviceSigner, count_failure};
 use reg_crl::{DigestSeal, SignFault, Signer};
 use std::alloc::Global;
 
+/// The signer of a register: a key, the placeholder digest, or nobody.
 #[derive(Drop)]
 pub enum KeyOrDigest<D: Device> {
     /// The issuer's key.
     Key(DeviceSigner<D>),
-    /// No key: a digest stands in the place of a signature, and is none.
+    /// No key: a placeholder digest instead of a signature.
     Digest(DigestSeal),
-    /// Nobody signs, where the digest would: each time counts as a failure.
+    /// No signer: each request is a failure, and counted here.
     Nobody(DigestSeal, u64),
 }
 
 impl<D: Device + Drop> KeyOrDigest<D> {
-    /// The same, but nobody where the digest would sign.
+    /// This signer, but with nobody in place of the placeholder digest.
     pub fn silent(self) -> KeyOrDigest<D>
         ensures key { key_of D.Device result ≡ key_of D.Device self }
         ensures same_identity { either_identity D.Device result ≡ either_identity D.Device self }
@@ -35,7 +34,7 @@ impl<D: Device + Drop> KeyOrDigest<D> {
         }
     }
 
-    /// Presets the key's next signature, as [`DeviceSigner::set_preset`] does. A digest needs nothing.
+    /// Presets the key's next signature, as [`DeviceSigner::set_preset`] does. Without a key, nothing changes.
     pub fn set_preset(&mut self, preset_signature: Option<PresetSignature>)
         requires { ForSome (key_of D.Device self.old)
             (λ signer. IsPreset (D.signer_answered (D.device_path signer.device)) preset_signature) }

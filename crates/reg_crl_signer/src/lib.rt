@@ -1,4 +1,4 @@
-//! Signers over a device that holds a key, and a device that is behind a Unix socket.
+//! Signers whose key is in a device, and a device that is reached by a Unix socket.
 #![tactic(auto)]
 
 mod algorithm;

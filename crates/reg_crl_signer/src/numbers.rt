@@ -13,8 +13,7 @@ const SEQUENCE: u8 = 0x30;
 /// The first octet of an INTEGER that is not negative is below this (X.690 8.3.3).
 const SIGN_BIT: u8 = 0x80;
 
-/// How many octets the two numbers have whose INTEGERs are all that a SEQUENCE holds. `None` where the bytes are no such
-/// SEQUENCE, or a number is not above 0.
+/// How many octets each of two numbers has. `None` unless the bytes are a SEQUENCE of two INTEGERs above 0, and nothing else.
 pub(crate) fn octets_of_pair(bytes: &[u8]) -> Option<(usize, usize)>
     ensures { MatchOption result ((first second : ℕ) → ¬ IsPair bytes.now first second)
         (λ counts. IsPairOfIntegers bytes.now counts.0 counts.1) }
@@ -31,7 +30,7 @@ pub(crate) fn octets_of_pair(bytes: &[u8]) -> Option<(usize, usize)>
     Some((first, second))
 }
 
-/// How many octets the number has whose INTEGER is at the front, and what follows. `None` where no INTEGER is there, or
+/// How many octets the number in the INTEGER at the front has, and the bytes after it. `None` if there is no INTEGER, or
 /// its number is not above 0.
 fn take_positive(bytes: &[u8]) -> Option<(usize, &[u8])>
     ensures { MatchOption result
@@ -50,7 +49,7 @@ fn octets_of(contents: &[u8]) -> Option<usize>
         (λ count. (number : ℕ) × (0 < number) × IsInteger contents.now number × HasOctets number count) }
 {
     match contents {
-        // A zero leads where the number's own first bit is set, and nowhere else.
+        // DER puts a zero octet first only if the number's first bit is set (X.690 8.3.2).
         [first, second, ..] if *first == 0 && *second >= SIGN_BIT => Some(contents.len() - 1),
         [first, ..] if *first != 0 && *first < SIGN_BIT => Some(contents.len()),
         _ => None,

@@ -1,15 +1,15 @@
-//! A preset signature.
+//! A preset signature, which saves the signer a request to the device.
 
 ghost use Rattle.std.specs.Prelude.{◌≡◌, Some, IfSome};
 
-/// A preset signature: the answer to a message for which others asked the device before the signature is wanted, or that there was none.
+/// The answer that another caller got from the device for `message`, before the signer needs it; `None` if the device gave none.
 #[derive(Drop)]
 pub struct PresetSignature {
     pub message: Vec<u8>,
     pub answer: Option<Vec<u8>>,
 }
 
-/// The answer to this very message, where it came.
+/// The preset's answer, if it is to this message and the device gave one.
 pub(crate) fn answer_to(preset_signature: PresetSignature, message: &[u8]) -> Option<Vec<u8>>
     ensures { IfSome result (λ answer. (preset_signature.answer ≡ Some answer) × (preset_signature.message.items ≡ message.now)) }
 {

@@ -1,4 +1,4 @@
-//! A connection on which a signature is on its way.
+//! A request for a signature, on a non-blocking connection.
 
 ghost use Rattle.std.specs.Prelude.{◌≡◌, ◌≤◌, [], IfOk, IfSome, IsTrue, OnSome, length};
 ghost use Rattle.std.specs.Io.KnownBytes.{Consumes, IsAtEnd};
@@ -15,8 +15,8 @@ use std::io;
 use std::io::{ErrorKind, Read, Write};
 use std::net::Shutdown;
 
-/// A connection to a signer at a path, on which it is asked to sign a message, and which never waits. It keeps both: so an answer on it is
-/// taken only for the same caller, and only for this message.
+/// A non-blocking connection on which the signer at a path is asked to sign a message. It keeps the path and the message, so that its answer is
+/// used only for that signer and that message.
 #[derive(Drop)]
 pub struct SignatureRequest {
     stream: UnixStream,
@@ -25,8 +25,8 @@ pub struct SignatureRequest {
 }
 
 impl SignatureRequest {
-    /// Asks the signer at a path to sign a message. An error is one of [`SignatureRequest::connect`], or `BrokenPipe` where the message is not taken
-    /// at once, as one of some hundred thousand bytes may be.
+    /// Asks the signer at a path to sign a message. Errors: those of [`SignatureRequest::connect`]; out of memory; `BrokenPipe` if the message can't
+    /// be sent at once (the socket's buffer may not hold some hundred thousand bytes); those of the shutdown of the sending side.
     pub fn send_to(rt: &HostRuntime, path: &str, message: &[u8]) -> io::Result<SignatureRequest>
         ensures { IfOk result (IsSignatureRequest path.now message.now) }
     {
@@ -39,7 +39,7 @@ impl SignatureRequest {
         Ok(sent_request)
     }
 
-    /// Whether the signer at this path is asked on it, and to sign this message.
+    /// Whether this request asks the signer at this path to sign this message.
     pub fn is_for(&self, path: &str, message: &[u8]) -> bool
         ensures { IsTrue result → IsSignatureRequest path.now message.now self.now }
     {
@@ -47,8 +47,8 @@ impl SignatureRequest {
     }
 }
 
-/// The answer that a connection gives up to its end. `None` where it fails, has not come to its end, or gives more than 4,096 bytes, and
-/// where memory is out.
+/// Reads the answer up to the end of the connection. `None` if a read fails or would block, if the answer has more than 4,096 bytes, and if out
+/// of memory.
 pub fn read_answer<R: Read>(alloc: Global, reader: &mut R) -> Option<Vec<u8>>
     ensures came { IfSome result (λ answer.
         Consumes (R.remaining reader.old) (R.remaining reader.new) answer.items) }
@@ -67,7 +67,7 @@ impl Read for SignatureRequest {
     }
 }
 
-/// Bytes that are written on it go behind the message.
+/// Bytes that are written are appended to `message`.
 impl Write for SignatureRequest {
     ghost use Rattle.std.specs.Prelude.{Some};
 
@@ -93,7 +93,7 @@ impl Write for SignatureRequest {
     }
 }
 
-/// It is connected with no message yet, and stays as it was where no more is written.
+/// After `connect` the message is empty; `finish` doesn't change it.
 impl DeviceConnection for SignatureRequest {
     ghost use Rattle.std.specs.Prelude.{◌≡◌, []};
     ghost use Rattle.reg_crl_signer.specs.SignatureRequest.{IsSignatureRequest};
@@ -106,7 +106,7 @@ impl DeviceConnection for SignatureRequest {
 
     ghost signer_answered = { λ path message answer. Unit {0} };
 
-    /// Waits for nothing: an error is `WouldBlock` where the socket has no room for one more connection.
+    /// Connects without waiting: `WouldBlock` if the socket's backlog is full.
     fn connect(rt: &HostRuntime, path: &str) -> io::Result<SignatureRequest>
         ensures ok { IfOk result (IsSignatureRequest path.now []) }
         ensures err { Unit {0} }

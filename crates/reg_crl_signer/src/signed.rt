@@ -1,11 +1,11 @@
-//! The algorithm that stands in a CRL.
+//! Reads the signatureAlgorithm of a CRL.
 
 ghost use Rattle.std.specs.Prelude.{◌≡◌, List, ℕ, MatchOption};
 ghost use Rattle.reg_crl_signer.specs.Signed.{IsCrlUnder};
 
 use reg_der::take;
 
-/// The AlgorithmIdentifier before the signature of a CRL (RFC 5280 5.1.1.2). `None` only where the bytes are no CRL.
+/// The signatureAlgorithm of a CRL (RFC 5280 5.1.1.2), an AlgorithmIdentifier. `None` only if the bytes are not a CRL.
 pub fn crl_algorithm(crl: &[u8]) -> Option<&[u8]>
     ensures { MatchOption result ((algorithm : List ℕ) → ¬ IsCrlUnder crl.now algorithm)
         (λ found. (algorithm : List ℕ) → IsCrlUnder crl.now algorithm → found.now ≡ algorithm) }

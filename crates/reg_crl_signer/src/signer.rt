@@ -1,4 +1,4 @@
-//! The signer over a device.
+//! The signer whose key is in a device.
 
 ghost use Rattle.std.specs.Prelude.{◌≡◌, ◌<◌, ◌≤◌, Some, None, IfOk, OnErr, length, vec_len};
 ghost use Rattle.std.specs.Bool.{OnFalse, OnTrue};
@@ -13,14 +13,14 @@ use std::alloc::Global;
 
 pub(crate) const LONGEST_ANSWER: usize = 4_096;
 
-/// The device's key is none of the algorithm.
+/// The device's public key doesn't have the form of a key of the algorithm.
 #[derive(Clone, Copy, Debug, PartialEq, Eq)]
 pub struct KeyFault;
 
-/// Signs with the key of a device under one algorithm, and counts how often the device gave no signature.
+/// Has a device sign with its key, with one algorithm, and counts how often the device gave no signature.
 ///
-/// A signature is what has the form of one under the device's key, and at most 4,096 bytes. Whether it verifies is not
-/// looked at.
+/// An answer of at most 4,096 bytes that has the form of a signature under the device's key is accepted as one. It is not
+/// verified.
 #[derive(Drop)]
 pub struct DeviceSigner<D: Device> {
     device: D,
@@ -33,7 +33,7 @@ pub struct DeviceSigner<D: Device> {
 impl<D: Device + Drop> DeviceSigner<D> {
     ghost use Rattle.reg_crl_signer.specs.DeviceSigners.{AsksAtItsPath, FailsToSign, IsNew, SigningByDevice, SignsByDevice, device_identity};
 
-    /// [`KeyFault`] where the device's public key is none of the algorithm by its form.
+    /// A signer without failures and without a preset. [`KeyFault`] if the device's public key doesn't have the algorithm's form.
     pub fn new(device: D, algorithm: Algorithm) -> Result<DeviceSigner<D>, KeyFault>
         ensures ok { IfOk result (IsNew D.Device device algorithm) }
         ensures err { OnErr result (¬ (IsKeyOf algorithm (D.public_key device))) }
@@ -49,8 +49,8 @@ impl<D: Device + Drop> DeviceSigner<D> {
         })
     }
 
-    /// Presets the next signature, for which the device is not asked then: what the device at its path gave to other callers that asked it to sign
-    /// a message, or that it gave nothing. To sign another message is a failure then. `None` has the device asked again.
+    /// Presets the next signature: the answer that another caller got from the device at the same path for a message, or that it got none. The next
+    /// `sign` then doesn't ask the device, and fails for any other message. `None` removes the preset.
     pub fn set_preset(&mut self, preset_signature: Option<PresetSignature>)
         requires { IsPreset (D.signer_answered (D.device_path self.old.device)) preset_signature }
         ensures preset_signature { self.new.preset_signature ≡ preset_signature }
@@ -61,7 +61,7 @@ impl<D: Device + Drop> DeviceSigner<D> {
         self.preset_signature = preset_signature;
     }
 
-    /// Whether the device gave a signature, which is then all of `answer`.
+    /// Asks the device. `true` if it gave a signature, which is then all of `answer`.
     fn ask_device(&mut self, message: &[u8], answer: &mut Vec<u8>) -> bool
         requires { vec_len answer.old ≤ 4097 }
         ensures signed { OnTrue result
@@ -160,8 +160,8 @@ impl<D: Device + Drop> Signer for DeviceSigner<D> {
     }
 }
 
-/// Counts a failure of a device. At `u64::MAX` the count can't rise, and callers recognise a failed device by a count that rose: the fault is
-/// `Memory` then.
+/// Counts a failure of a device. Callers recognise a failed device by a count that rose. At `u64::MAX` it can't rise, so the fault is `Memory`
+/// there.
 pub(crate) fn count_failure(failures: &mut u64) -> SignFault
     ensures device { result ≡ SignFault.Device → failures.old < failures.new }
     ensures exhausted { failures.old ≡ u64.MAX → result ≡ SignFault.Memory }

@@ -1,4 +1,4 @@
-//! Connections to the machine's Unix sockets that wait, ten seconds in all.
+//! Blocking connections to Unix sockets, with a timeout of ten seconds for the whole exchange.
 
 ghost use Rattle.std.specs.Prelude.{◌≡◌, ◌≤◌, ◌<◌, ◌+◌, ◌-◌, MatchOption};
 ghost use Rattle.std.specs.Duration.{as_nanos};
@@ -15,13 +15,13 @@ use std::{io, thread};
 /// How many seconds an exchange may take in all.
 pub(crate) const PATIENCE: u64 = 10;
 
-/// How many milliseconds pass before a socket is tried again that has no room for one more connection.
+/// The milliseconds between two attempts to connect to a socket whose backlog is full.
 const PAUSE_MILLIS: u64 = 10;
 
-/// The most bytes that one write is handed. The system may wait anew for each part of a longer one.
+/// The most bytes of one write. In a longer one, the kernel may apply the timeout to each part anew.
 const LONGEST_PIECE: usize = 32_768;
 
-/// A connection to a Unix socket, for one exchange of ten seconds in all by the monotonic clock.
+/// A connection to a Unix socket, for one exchange of at most ten seconds by the monotonic clock.
 #[derive(Drop)]
 pub struct UnixConnection {
     rt: HostRuntime,
@@ -29,7 +29,7 @@ pub struct UnixConnection {
     began: Instant,
 }
 
-/// A signal that comes while it waits ends no read, and no write.
+/// A read or a write that a signal interrupts is tried again.
 impl Read for UnixConnection {
     fn read(&mut self, buf: &mut [u8]) -> io::Result<usize> {
         for _ in 0..u64::MAX {
@@ -63,7 +63,7 @@ impl Write for UnixConnection {
     }
 }
 
-/// What listens at a path, and what it answers, no clause can say.
+/// No contract states what listens at a path, or what it answers.
 impl DeviceConnection for UnixConnection {
     ghost connected = { λ path link. Unit {0} };
 
@@ -73,7 +73,7 @@ impl DeviceConnection for UnixConnection {
 
     ghost signer_answered = { λ path message answer. Unit {0} };
 
-    /// Where the socket has no room for one more connection, it is tried again, as long as there is time.
+    /// If the socket's backlog is full, it tries again until the ten seconds are over: then `TimedOut`.
     fn connect(rt: &HostRuntime, path: &str) -> io::Result<UnixConnection>
         ensures ok { Unit {0} }
         ensures err { Unit {0} }
@@ -103,7 +103,7 @@ impl DeviceConnection for UnixConnection {
     }
 }
 
-/// How much is left by the clock of the time of an exchange that began at an instant; `TimedOut` where nothing is.
+/// The time that is left now for an exchange that began at `began`; `TimedOut` if none is left.
 fn time_left_now(rt: &HostRuntime, began: Instant) -> io::Result<Duration> {
     time_left(began, Instant::now(rt)?).ok_or(io::Error::from(ErrorKind::TimedOut))
 }

@@ -1,4 +1,4 @@
--- What names an issuer, and what its CRLs say of its key.
+-- The issuer: its Name, its key, and the key identifiers in its CRLs.
 use Rattle.std.specs.Prelude.{◌≡◌, ℕ, zero, suc, ◌<◌, ◌≤◌, ◌^◌, ◌==◌, nat_le, nat_lt, ◌&&◌, List, [], ◌∷◌, ◌++◌, length, take, drop, Option, Some, None, IsSome, option_map, unwrap_or, if◌then◌else◌}
 use Rattle.std.specs.Int.{bytes_high_first}
 use Rattle.reg_core.specs.Integer.{IsBytes, value}
@@ -9,34 +9,34 @@ use Rattle.reg_der.specs.Der.{IsTlv, tlv}
 use Rattle.reg_der.specs.ValueReading.{Parts, value_at}
 use Rattle.reg_der.specs.declared.identifiers.KeyIdentifier.{KeyIdentifier}
 
--- a Name: one SEQUENCE, and not an empty one (RFC 5280 4.1.2.4), at most 1,024 bytes
+-- a Name: one SEQUENCE that is not empty (RFC 5280 4.1.2.4), of at most 1,024 bytes
 pub record IsIssuerName (name : List ℕ) : Type 0 where
   pub contents : List ℕ
   pub sequence : IsTlv name 48 contents
   pub some : 1 ≤ length contents
   pub short : length name ≤ 1024
 
--- the bits of a subjectPublicKey, as bytes (RFC 5280 4.1.2.7): 1 to 2,048 of them
+-- the bits of a subjectPublicKey (RFC 5280 4.1.2.7): 1 to 2,048 bytes
 pub record IsKey (key : List ℕ) : Type 0 where
   pub each : IsBytes key
   pub some : 1 ≤ length key
   pub short : length key ≤ 2048
 
--- ---- what is kept of a Name: the Name, and behind it the issuer's own key identifiers, the latest first
+-- ---- the stored name: the Name, and after it the key identifiers that were set, the latest first
 
--- the Name, which is the value at the front
+-- the Name: the value at the front
 unfoldable pub name_in : List ℕ → List ℕ
 name_in kept = unwrap_or (option_map (λ x. tlv x.0.tag x.0.contents) (value_at kept)) []
 
--- what stands behind it
+-- the bytes after the Name
 unfoldable pub behind_name : List ℕ → List ℕ
 behind_name kept = unwrap_or (option_map (λ x. x.1) (value_at kept)) []
 
--- a key identifier of 1 to 64 octets (RFC 5280 4.2.1.2) is tagged [0]: the number of the first CRL that has it, in eight octets, and then the identifier
+-- the stored form of a key identifier of 1 to 64 octets (RFC 5280 4.2.1.2): tagged [0], the number of its first CRL in eight octets, then the identifier
 unfoldable pub identifier_value : ℕ → List ℕ → List ℕ
 identifier_value first octets = tlv 128 (bytes_high_first 8 first ++ octets)
 
--- the key identifier at the front, and what follows
+-- the key identifier at the front, and the bytes after it
 unfoldable pub identifier_at : List ℕ → Option (KeyIdentifier × List ℕ)
 identifier_at bytes =
     value_at bytes >>= λ x.
@@ -44,47 +44,47 @@ identifier_at bytes =
     then Some (record { first = value (take 8 x.0.contents); octets = drop 8 x.0.contents }, x.1)
     else None
 
--- as many key identifiers as there are, with fuel: each takes a byte at least
+-- all key identifiers in the bytes. The fuel is the number of bytes: each key identifier has at least one.
 abbrev pub identifiers_by : ℕ → List ℕ → Option (List KeyIdentifier)
 identifiers_by fuel [] = Some []
 identifiers_by zero (first ∷ rest) = None
 identifiers_by (suc fuel) (first ∷ rest) = identifier_at (first ∷ rest) >>= λ x. identifiers_by fuel x.1 >>= λ xs. Some (x.0 ∷ xs)
 
--- the key identifiers that bytes are, and none where they are anything else
+-- all key identifiers in the bytes; `None` if there is anything else in them
 abbrev pub identifiers_at : List ℕ → Option (List KeyIdentifier)
 identifiers_at bytes = identifiers_by (length bytes) bytes
 
--- a Name, and behind it key identifiers and nothing else
+-- a stored name: a Name, and after it key identifiers and nothing else
 pub record IsKept (kept : List ℕ) : Type 0 where
   pub each : IsBytes kept
   pub name : IsIssuerName (name_in kept)
   pub identifiers : IsSome (identifiers_at (behind_name kept))
 
--- what is kept of the Name, and the key, are within their limits
+-- the stored name and the key are valid
 pub record IsIssuer (issuer : core.Issuer) : Type 0 where
   pub name : IsKept issuer.name
   pub key : IsKey issuer.key
 
--- ---- what they say
+-- ---- the parts of an issuer
 
 -- the issuer's Name (RFC 5280 4.1.2.4)
 abbrev pub name_of : core.Issuer → List ℕ
 name_of issuer = name_in issuer.name
 
--- the issuer's own key identifiers, the latest first
+-- the key identifiers that were set, the latest first
 abbrev pub key_identifiers : core.Issuer → List KeyIdentifier
 key_identifiers issuer = unwrap_or (identifiers_at (behind_name issuer.name)) []
 
--- the first of them, and so the latest, that a CRL of this number has
+-- the key identifier of the CRL with this number: the first in the list, and so the latest, whose first CRL is not after it
 abbrev pub identifier_for : List KeyIdentifier → ℕ → Option (List ℕ)
 identifier_for [] number = None
 identifier_for (identifier ∷ rest) number = if nat_le identifier.first number then Some identifier.octets else identifier_for rest number
 
--- the key identifier of its own that the issuer has in the CRL of this number, where it has one (RFC 5280 5.2.1, 4.2.1.2)
+-- the key identifier that was set for the CRL with this number, if one was (RFC 5280 5.2.1, 4.2.1.2)
 abbrev pub key_identifier_at : core.Issuer → ℕ → Option (List ℕ)
 key_identifier_at issuer number = identifier_for (key_identifiers issuer) number
 
--- key identifiers but for the latest, where it begins with the CRL of this number too
+-- the key identifiers, without the latest one if its first CRL is the one with this number
 abbrev pub but_for : ℕ → Option (KeyIdentifier × List ℕ) → List ℕ → List ℕ
 but_for first None bytes = bytes
 but_for first (Some latest) bytes = if latest.0.first == first then latest.1 else bytes
@@ -92,12 +92,12 @@ but_for first (Some latest) bytes = if latest.0.first == first then latest.1 els
 unfoldable pub others_than : ℕ → List ℕ → List ℕ
 others_than first bytes = but_for first (identifier_at bytes) bytes
 
--- the issuer with one key identifier more, which the CRLs have from this number on; it takes the place of one from the same number on
+-- the issuer with one more key identifier, for CRLs from this number on; it replaces the latest one if that has the same first CRL
 abbrev pub with_identifier : core.Issuer → ℕ → List ℕ → core.Issuer
 with_identifier issuer first octets =
     record { name = name_in issuer.name ++ (identifier_value first octets ++ others_than first (behind_name issuer.name)); key = issuer.key }
 
--- it has the Name and the key that it had, the new key identifier from that CRL on, and in earlier CRLs what it had there
+-- after that, the issuer has the same Name and key, the new key identifier from that CRL on, and its former ones in earlier CRLs
 pub record HasIdentifier (issuer : core.Issuer) (first : ℕ) (octets : List ℕ) : Type 0 where
   pub within : IsIssuer (with_identifier issuer first octets)
   pub name : name_of (with_identifier issuer first octets) ≡ name_of issuer
@@ -109,7 +109,7 @@ abbrev pub IdentifiersFollow : Type 0
 IdentifiersFollow =
     (issuer : core.Issuer) (first : ℕ) (octets : List ℕ) → IsIssuer issuer → first < 2 ^ 64 → IsLabel octets → HasIdentifier issuer first octets
 
--- where nothing but the Name is kept, it is the Name, and no CRL has a key identifier of the issuer's own
+-- the stored name is only the Name, and no key identifier was set for any CRL
 pub record IsPlain (issuer : core.Issuer) : Type 0 where
   pub within : IsKept issuer.name
   pub name : name_of issuer ≡ issuer.name

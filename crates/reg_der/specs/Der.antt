@@ -3,20 +3,20 @@ use Rattle.std.specs.Prelude.{◌≡◌, ℕ, ◌+◌, ◌%◌, ◌^◌, ◌<◌
 use Rattle.std.specs.Int.{bytes_high_first}
 use Rattle.reg_core.specs.Integer.{IsBytes, value, without_zeros}
 
--- the fewest octets that spell a number below 2^32
+-- the big-endian octets of a number below 2^32, without leading zeros
 unfoldable pub fewest : ℕ → List ℕ
 fewest number = without_zeros (bytes_high_first 4 number)
 
--- the length octets, as DER wants them: one up to 127, else 80h and their count before the fewest (X.690 8.1.3, 10.1)
+-- the length octets in DER: one octet up to 127; else 80h plus the count of the fewest octets, and then those (X.690 8.1.3, 10.1)
 unfoldable pub length_octets : ℕ → List ℕ
 length_octets size = if nat_lt size 128 then size ∷ [] else ((128 + length (fewest size)) ∷ fewest size)
 
--- a value of the tag octet with the contents: tag, length, contents (X.690 8.1.1.1)
+-- the value with this tag octet and these contents: tag, length, contents (X.690 8.1.1.1)
 unfoldable pub tlv : ℕ → List ℕ → List ℕ
 tlv tag contents = tag ∷ length_octets (length contents) ++ contents
 
--- the bytes are one value of the tag with the contents: a tag of one octet (X.690 8.1.2.4: its low five bits aren't all
--- ones), contents that four octets can count
+-- the bytes are one value with this tag and these contents: a tag of one octet (X.690 8.1.2.4: its low five bits aren't all
+-- ones), and fewer than 2^32 octets of contents
 pub record IsTlv (bytes : List ℕ) (tag : ℕ) (contents : List ℕ) : Type 0 where
   pub one_byte : tag < 256
   pub low_tag : tag % 32 < 31
@@ -24,14 +24,14 @@ pub record IsTlv (bytes : List ℕ) (tag : ℕ) (contents : List ℕ) : Type 0 w
   pub short : length contents < 2 ^ 32
   pub spelled : bytes ≡ tlv tag contents
 
--- no two prefixes of the same bytes are values: two that are, are the same in all parts
+-- bytes have at most one prefix that is a value: two such prefixes are equal in all parts
 abbrev pub NoTwoPrefixes : Type 0
 NoTwoPrefixes =
     (a rest_a contents_a b rest_b contents_b : List ℕ) (tag_a tag_b : ℕ)
     → IsTlv a tag_a contents_a → IsTlv b tag_b contents_b → a ++ rest_a ≡ b ++ rest_b
     → (a ≡ b) × (tag_a ≡ tag_b) × (contents_a ≡ contents_b) × (rest_a ≡ rest_b)
 
--- octets that spell a length in the long form, whatever their number: 81h to FEh, and the digits that it counts (X.690 8.1.3.5)
+-- the octets encode a length in the long form, not only in the fewest octets: 81h to FEh, and as many digits as that counts (X.690 8.1.3.5)
 pub record IsLongForm (octets : List ℕ) (size : ℕ) : Type 0 where
   pub digits : List ℕ
   pub each : IsBytes digits
@@ -40,11 +40,11 @@ pub record IsLongForm (octets : List ℕ) (size : ℕ) : Type 0 where
   pub counted : octets ≡ (128 + length digits) ∷ digits
   pub spelled : value digits ≡ size
 
--- octets that spell a length in the short form or in the long form (X.690 8.1.3.3)
+-- the octets encode a length in the short form or in the long form (X.690 8.1.3.3)
 abbrev pub IsLength : List ℕ → ℕ → Type 0
 IsLength octets size = ((octets ≡ size ∷ []) × (size < 128)) ⊎ IsLongForm octets size
 
--- the length octets spell the size, and all others that do are more (X.690 10.1)
+-- the length octets encode the size, and all other octets that do are more (X.690 10.1)
 pub record HasFewest (size : ℕ) : Type 0 where
   pub spells : IsLength (length_octets size) size
   pub least : (octets : List ℕ) → IsLength octets size → (octets ≡ length_octets size) ⊎ (length (length_octets size) < length octets)
@@ -52,7 +52,7 @@ pub record HasFewest (size : ℕ) : Type 0 where
 abbrev pub LengthIsFewest : Type 0
 LengthIsFewest = (size : ℕ) → size < 2 ^ 32 → HasFewest size
 
--- a value is longer than its contents by 2 to 6 bytes, and by 2 where they are fewer than 128
+-- a value is longer than its contents by 2 to 6 bytes, and by 2 if the contents have fewer than 128
 pub record HasSize (tag : ℕ) (contents : List ℕ) : Type 0 where
   pub least : length contents + 2 ≤ length (tlv tag contents)
   pub most : length (tlv tag contents) ≤ length contents + 6

@@ -1,10 +1,10 @@
--- Reading one value from the front of bytes, as a function on lists. What it means is `IsTlv`.
+-- Reading the value at the front of bytes, as a function on lists. `IsTlv` states what a value is.
 use Rattle.std.specs.Prelude.{◌≡◌, ℕ, ◌-◌, ◌%◌, ◌^◌, ◌<◌, List, [], ◌∷◌, ◌++◌, length, take, drop, get_or, Option, Some, None, nat_lt, ◌==◌, ◌||◌, if◌then◌else◌}
 use Rattle.reg_core.specs.Integer.{IsBytes, value}
 use Rattle.reg_core.specs.Sequence.{◌>>=◌}
 use Rattle.reg_der.specs.Der.{tlv, IsTlv}
 
--- what a function returned, seen by view, is what reading gives
+-- the model (`view`) of what a function returned is what reading gives
 abbrev pub Gives : {X Y : Type 0} → (X → Y) → Option X → Option Y → Type 0
 Gives view (Some x) read = read ≡ Some (view x)
 Gives view None read = read ≡ None
@@ -14,45 +14,45 @@ pub record Parts : Type 0 where
   pub tag : ℕ
   pub contents : List ℕ
 
--- a length in the long form, whose first octet announced count further ones, and what follows
+-- a length in the long form, in the first `count` octets, and the bytes after them
 unfoldable pub long_at : ℕ → List ℕ → Option (ℕ × List ℕ)
 long_at count bytes =
     if (count == 0 || nat_lt 4 count) || nat_lt (length bytes) count then None
     else (if get_or bytes 0 0 == 0 || nat_lt (value (take count bytes)) 128 then None else Some (value (take count bytes), drop count bytes))
 
--- a length, and what follows
+-- a length, and the bytes after it
 unfoldable pub length_at : List ℕ → Option (ℕ × List ℕ)
 length_at [] = None
 length_at (first ∷ rest) = if nat_lt first 128 then Some (first, rest) else long_at (first - 128) rest
 
--- a length, as many bytes, and what follows
+-- the contents whose length is at the front, and the bytes after them
 unfoldable pub counted_at : List ℕ → Option (List ℕ × List ℕ)
 counted_at bytes = do
   size ← length_at bytes
   if nat_lt (length size.1) size.0 then None else Some (take size.0 size.1, drop size.0 size.1)
 
--- a value, and what follows
+-- a value, and the bytes after it
 unfoldable pub value_at : List ℕ → Option (Parts × List ℕ)
 value_at [] = None
 value_at (tag ∷ rest) =
     if tag % 32 == 31 then None
     else (counted_at rest >>= λ counted. Some (record { tag = tag; contents = counted.0 }, counted.1))
 
--- what was taken from the front of bytes: the text, and what follows it, which is bytes
+-- the bytes are this text, and then the rest, which is bytes too
 pub record Takes (bytes text rest : List ℕ) : Type 0 where
   pub parts : bytes ≡ text ++ rest
   pub each : IsBytes rest
 
--- the text that was taken is the value with these parts
+-- the bytes are the value with these parts, and then the rest
 pub record TakesValue (bytes : List ℕ) (parts : Parts) (rest : List ℕ) : Type 0 where
   pub taken : Takes bytes (tlv parts.tag parts.contents) rest
   pub fits : IsTlv (tlv parts.tag parts.contents) parts.tag parts.contents
 
--- what is read of bytes is a value at their front
+-- what is read is a value at the front of the bytes
 abbrev pub ReadsValues : Type 0
 ReadsValues = (bytes : List ℕ) (x : Parts × List ℕ) → IsBytes bytes → value_at bytes ≡ Some x → TakesValue bytes x.0 x.1
 
--- a value at the front of bytes is what is read
+-- a value at the front of the bytes is what is read
 abbrev pub ReadsAgain : Type 0
 ReadsAgain =
     (tag : ℕ) (contents rest : List ℕ) → tag % 32 < 31 → length contents < 2 ^ 32

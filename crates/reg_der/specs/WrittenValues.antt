@@ -8,7 +8,7 @@ use Rattle.reg_der.specs.Der.{tlv}
 abbrev pub integer_value : ℕ → List ℕ
 integer_value number = tlv 2 (integer number)
 
--- the BIT STRING of whole bytes: an octet that says that no bit is unused, and the bytes (X.690 8.6.2)
+-- the BIT STRING of whole bytes: an octet for no unused bits, and the bytes (X.690 8.6.2)
 abbrev pub bits_value : List ℕ → List ℕ
 bits_value bytes = tlv 3 (0 ∷ bytes)
 

@@ -13,7 +13,7 @@ const NUMBER_OCTETS: usize = 8;
 
 const MOST_OCTETS: usize = 72;
 
-/// A key identifier of an issuer's own, and the number of the first CRL that has it.
+/// A key identifier that was set for an issuer, and the number of the first CRL that has it.
 #[derive(Clone, Copy, PartialEq, Eq)]
 pub struct KeyIdentifier {
     pub first: u64,
@@ -40,7 +40,7 @@ fn first_element(bytes: &[u8]) -> Option<(KeyIdentifier, &[u8])>
     Some((identifier, rest))
 }
 
-/// Whether the bytes are key identifiers and nothing else.
+/// Whether the bytes are key identifiers, or none, and nothing else.
 pub(crate) fn are_identifiers(bytes: &[u8]) -> bool
     ensures { IsTrue result ↔ IsSome (authority.identifiers_at bytes.now) }
 {
@@ -54,7 +54,7 @@ pub(crate) fn are_identifiers(bytes: &[u8]) -> bool
     true
 }
 
-/// The key identifiers but for the latest, where that begins with the CRL of this number too.
+/// The key identifiers, without the latest one if its first CRL is the one with this number.
 #[tactic(auto, unfolding(crate::specs::Authority::others_than))]
 pub(crate) fn others_than(bytes: &[u8], first: u64) -> &[u8]
     ensures { result.now ≡ authority.others_than first bytes.now }
@@ -65,7 +65,7 @@ pub(crate) fn others_than(bytes: &[u8], first: u64) -> &[u8]
     }
 }
 
-/// The first of the key identifiers that a CRL of this number has.
+/// The key identifier of the CRL with this number: the first one in the list whose first CRL is not after it.
 pub(crate) fn identifier_for(bytes: &[u8], number: u64) -> Option<Label>
     requires { IsSome (authority.identifiers_at bytes.now) }
     ensures { result ≡ authority.identifier_for (unwrap_or (authority.identifiers_at bytes.now) []) number }

@@ -16,7 +16,7 @@ const LONGEST_NAME: usize = 1_024;
 
 const LONGEST_KEY: usize = 2_048;
 
-/// Why a name and a key make no issuer.
+/// Why there is no [`Issuer`].
 #[derive(Clone, Copy, PartialEq, Eq)]
 pub enum IssuerFault {
     /// The name isn't one DER SEQUENCE with contents, or has more than 1,024 bytes.
@@ -34,11 +34,11 @@ impl From<AllocError> for IssuerFault {
     }
 }
 
-/// The issuer of CRLs and OCSP responses: its Name, its key, and the key identifiers that it has of its own. Contracts see
-/// what is kept of its Name, and its key, as lists of bytes.
+/// The issuer of CRLs and OCSP responses: its Name, its key, and the key identifiers that were set for it. Its model in
+/// contracts has the bytes of `name` and of `key`.
 #[derive(Drop)]
 pub struct Issuer {
-    /// The DER value of the Name, and behind it the issuer's own key identifiers, the latest first.
+    /// The DER value of the Name, and after it the key identifiers that were set, the latest first.
     name: Vec<u8>,
     /// The contents of the subjectPublicKey BIT STRING, without the octet that counts unused bits.
     key: Vec<u8>,
@@ -56,10 +56,10 @@ impl Model for Issuer {
 }
 
 impl Issuer {
-    /// The issuer with this name and key and no key identifier of its own, or the first of the faults that there is.
+    /// The issuer with this Name and key, and the SHA-1 of the key as its key identifier; or the first fault, in the order of [`IssuerFault`].
     ///
-    /// The name is one DER value of tag 30h with contents, of at most 1,024 bytes in all (RFC 5280 4.1.2.4). The key is the
-    /// contents of the subjectPublicKey BIT STRING behind the octet that counts unused bits, 1 to 2,048 bytes (4.1.2.7).
+    /// The Name is one DER value with the tag 30h and with contents, of at most 1,024 bytes in all (RFC 5280 4.1.2.4). The key is
+    /// the contents of the subjectPublicKey BIT STRING after the octet that counts unused bits: 1 to 2,048 bytes (4.1.2.7).
     pub fn new(alloc: Global, name: &[u8], key: &[u8]) -> Result<Issuer, IssuerFault>
         ensures ok { IfOk result (λ issuer. (issuer.name ≡ name.now) × (issuer.key ≡ key.now)) }
         ensures good { OnOk result (IsIssuerName name.now × IsKey key.now) }
@@ -73,8 +73,8 @@ impl Issuer {
         }
     }
 
-    /// The issuer of which this is kept beside its key. `BadName` where it isn't a Name as [`new`](Issuer::new) takes it, and
-    /// behind it key identifiers and nothing else; else `BadKey` as there.
+    /// The issuer with this key and what [`kept`](Issuer::kept) gave. `BadName` if `kept` isn't a Name as for
+    /// [`new`](Issuer::new), and then key identifiers and nothing else; `BadKey` and `Memory` as for `new`.
     pub fn of_kept(alloc: Global, kept: &[u8], key: &[u8]) -> Result<Issuer, IssuerFault>
         ensures ok { IfOk result (λ issuer. (issuer.name ≡ kept.now) × (issuer.key ≡ key.now)) }
         ensures good { OnOk result (IsKept kept.now × IsKey key.now) }
@@ -92,8 +92,8 @@ impl Issuer {
         Ok(Issuer { name, key })
     }
 
-    /// The same issuer with one key identifier more, which its CRLs have from this number on; those with lower numbers have
-    /// what they had (`laws::identifiers_follow`). One from the same number on is replaced.
+    /// This issuer with one more key identifier: CRLs from number `first` on have it, and those with lower numbers keep theirs
+    /// (`laws::identifiers_follow`). It replaces the latest one if that has the same first CRL.
     pub fn with_key_identifier(
         &self,
         alloc: Global,
@@ -116,7 +116,7 @@ impl Issuer {
         parts(&self.name).0
     }
 
-    /// What is kept of the Name: its DER value, and behind it the issuer's own key identifiers, where it has any.
+    /// The bytes that the register stores as the issuer's name: the DER value of the Name, and after it the key identifiers that were set.
     pub fn kept(&self) -> &[u8]
         ensures kept { result.now ≡ self.now.name }
         ensures within { IsKept result.now }
@@ -124,8 +124,8 @@ impl Issuer {
         &self.name
     }
 
-    /// The key identifier of its own that the issuer has in the CRL of this number (RFC 5280 5.2.1), or `None` where it has
-    /// none there: then it is the SHA-1 of the key (RFC 5280 4.2.1.2).
+    /// The key identifier that was set for the CRL with this number (RFC 5280 5.2.1). `None` if none was: then it is the SHA-1
+    /// of the key (RFC 5280 4.2.1.2).
     pub fn key_identifier(&self, number: u64) -> Option<Label>
         ensures identifier { result ≡ key_identifier_at self.now number }
         ensures short { IfSome result (λ octets. length octets ≤ 64) }
@@ -148,8 +148,8 @@ impl Issuer {
         Sha1::digest(self.name())
     }
 
-    /// The SHA-1 of the key, the issuerKeyHash of a CertID (RFC 6960 4.1.1), and the key identifier of an issuer that has none
-    /// of its own (RFC 5280 4.2.1.2).
+    /// The SHA-1 of the key: the issuerKeyHash of a CertID (RFC 6960 4.1.1), and the key identifier if none was set
+    /// (RFC 5280 4.2.1.2).
     pub fn key_sha1(&self) -> [u8; 20]
         ensures { result ≡ sha1 self.now.key }
     {
@@ -157,7 +157,7 @@ impl Issuer {
     }
 }
 
-/// The Name at the front of what is kept, and what stands behind it.
+/// The Name at the front of `kept`, and the bytes after it.
 #[tactic(auto, unfolding(crate::specs::Authority::name_in, crate::specs::Authority::behind_name))]
 fn parts(kept: &[u8]) -> (&[u8], &[u8])
     ensures name { result.0.now ≡ name_in kept.now }

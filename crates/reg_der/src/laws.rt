@@ -1,38 +1,38 @@
-//! Laws of DER values. The functions do nothing: their contracts are the laws. Proofs above cite them by `proofs/PublicLaws.antt`.
+//! Laws of DER values: contracts of functions that do nothing. Proofs in other crates cite them by `proofs/PublicLaws.antt`.
 
 ghost use Rattle.reg_der.specs.Der.{NoTwoPrefixes, LengthIsFewest, ValuesHaveSizes};
 ghost use Rattle.reg_der.specs.ValueReading.{ReadsValues, ReadsAgain};
 ghost use Rattle.reg_der.specs.Authority.{IdentifiersFollow, NamesArePlain};
 
-/// No two prefixes of the same bytes are values, so what `take` gives is the only one.
+/// Bytes have at most one prefix that is a value: the one that `take` gives.
 pub fn no_two_prefixes()
     ensures { NoTwoPrefixes }
 {}
 
-/// The length octets of a value are the fewest that spell its length, in the short form or in the long form.
+/// The length octets of a value are the fewest that encode its length, in the short form or in the long form.
 pub fn length_is_fewest()
     ensures { LengthIsFewest }
 {}
 
-/// How much longer than its contents a value is.
+/// A value is 2 to 6 bytes longer than its contents; 2 if the contents have fewer than 128 bytes.
 pub fn values_have_sizes()
     ensures { ValuesHaveSizes }
 {}
 
-/// The function that `take` computes (`exact`) has one reading: what it reads of bytes is a value at their front, and a value
-/// at their front is what it reads.
+/// `value_at`, the function that `take` computes (`exact`), reads exactly the value at the front of bytes: what it reads is one, and
+/// it reads each one.
 pub fn values_are_read()
     ensures reads { ReadsValues }
     ensures again { ReadsAgain }
 {}
 
-/// An issuer with one key identifier more has its Name and its key as before; its CRLs have the new key identifier from that
-/// number on, and below it what they had.
+/// An issuer with one more key identifier has the same Name and key; its CRLs from that number on have the new key identifier,
+/// and those below it keep theirs.
 pub fn identifiers_follow()
     ensures { IdentifiersFollow }
 {}
 
-/// Where nothing but a Name is kept, it is the issuer's Name, and no CRL has a key identifier of the issuer's own.
+/// If an issuer's stored name is only a Name, it is the issuer's Name, and no key identifier was set.
 pub fn names_are_plain()
     ensures { NamesArePlain }
 {}

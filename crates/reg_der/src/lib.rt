@@ -1,4 +1,4 @@
-//! DER values read and written (X.690), and the issuer.
+//! DER values, read and written (X.690), and the issuer of CRLs and OCSP responses.
 #![tactic(auto)]
 
 mod identifiers;

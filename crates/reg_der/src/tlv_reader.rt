@@ -1,11 +1,11 @@
-//! DER values taken from the front of bytes (X.690 8.1, 10.1).
+//! Reads the DER value at the front of bytes (X.690 8.1, 10.1).
 
 ghost use Rattle.std.specs.Prelude.{◌≡◌, ℕ, List, ◌+◌, ◌++◌, ◌≤◌, length, IfSome, IfNone};
 ghost use Rattle.reg_core.specs.Integer.{value};
 ghost use Rattle.reg_der.specs.Der.{IsTlv};
 ghost use Rattle.reg_der.specs.ValueReading.{Gives, Parts, long_at, length_at, counted_at, value_at};
 
-/// A value as it stands in the bytes that it was taken from.
+/// A DER value, as slices of the bytes that it was read from.
 #[derive(Clone, Copy)]
 pub struct Tlv<'a> {
     pub tag: u8,
@@ -14,10 +14,10 @@ pub struct Tlv<'a> {
     pub raw: &'a [u8],
 }
 
-/// The tags whose number stands in further octets have these bits set (X.690 8.1.2.4).
+/// Tags of more than one octet have all of these bits set in the first (X.690 8.1.2.4).
 const HIGH_TAG: u8 = 0x1F;
 
-/// The first octet of a length above 127 is this and the count of the octets that follow (X.690 8.1.3.5).
+/// The first octet of a length above 127 is this plus the count of the octets that follow (X.690 8.1.3.5).
 const LONG_FORM: u8 = 0x80;
 
 fn number(digits: &[u8]) -> usize
@@ -31,7 +31,7 @@ fn number(digits: &[u8]) -> usize
     number
 }
 
-/// The length in the `count` octets at the front, which the octet before them announced, and what follows.
+/// The length in the first `count` octets, and the bytes after them. The octet before them gave `count`.
 #[tactic(auto, unfolding(crate::specs::ValueReading::long_at))]
 fn long_length(count: usize, bytes: &[u8]) -> Option<(usize, &[u8])>
     ensures exact { Gives (λ x. (x.0, x.1.now)) result (long_at count bytes.now) }
@@ -42,14 +42,14 @@ fn long_length(count: usize, bytes: &[u8]) -> Option<(usize, &[u8])>
     }
     let (digits, rest) = bytes.split_at(count);
     let length = number(digits);
-    // A leading zero, or a length that one octet holds, isn't the shortest form (X.690 10.1).
+    // With a leading zero, or a length below 128, it isn't the shortest form (X.690 10.1).
     if digits[0] == 0 || length < 128 {
         return None;
     }
     Some((length, rest))
 }
 
-/// The length at the front, and what follows.
+/// The length at the front, and the bytes after it.
 #[tactic(auto, unfolding(crate::specs::ValueReading::length_at))]
 fn length(bytes: &[u8]) -> Option<(usize, &[u8])>
     ensures exact { Gives (λ x. (x.0, x.1.now)) result (length_at bytes.now) }
@@ -67,7 +67,7 @@ fn length(bytes: &[u8]) -> Option<(usize, &[u8])>
     }
 }
 
-/// The contents that the length at the front counts, and what follows.
+/// The contents whose length is at the front, and the bytes after them.
 #[tactic(auto, unfolding(crate::specs::ValueReading::counted_at))]
 fn counted(bytes: &[u8]) -> Option<(&[u8], &[u8])>
     ensures exact { Gives (λ x. (x.0.now, x.1.now)) result (counted_at bytes.now) }
@@ -93,16 +93,16 @@ fn first_element(bytes: &[u8]) -> Option<(u8, &[u8], &[u8])>
     Some((*tag, contents, rest))
 }
 
-/// The value at the front, and what follows: a tag of one octet, the length in the fewest octets, at most five, and the
-/// contents. `None` where no prefix of the bytes is a value. No two prefixes are (`laws::no_two_prefixes`).
+/// The value at the front, and the bytes after it. A value is a tag of one octet, the length in the fewest octets, at most five, and the
+/// contents. `None` if no prefix of the bytes is a value. At most one prefix is one (`laws::no_two_prefixes`).
 pub fn take(bytes: &[u8]) -> Option<(Tlv<'_>, &[u8])>
-    // What is taken is a value, the whole of it, and what follows it.
+    // The result is a whole value, and the bytes after it.
     ensures found { IfSome result (λ x. IsTlv x.0.raw.now x.0.tag x.0.contents.now × (bytes.now ≡ x.0.raw.now ++ x.1.now)) }
 
-    // Nothing is taken only where no prefix is a value.
+    // `None` only if no prefix is a value.
     ensures none { IfNone result ((raw rest contents : List ℕ) (tag : ℕ) → IsTlv raw tag contents → bytes.now ≡ raw ++ rest → ⊥) }
 
-    // The same by the function that reads, for readers above.
+    // The result by the function `value_at`, for readers in other crates.
     ensures exact { Gives (λ x. (record { tag = x.0.tag; contents = x.0.contents.now }, x.1.now)) result (value_at bytes.now) }
     ensures shorter { IfSome result (λ x. length x.0.raw.now + length x.1.now ≡ length bytes.now) }
 {

@@ -1,5 +1,5 @@
-//! DER values appended to bytes. Each call appends exactly one value, or leaves the bytes as they were. It asks for memory
-//! once, for the whole value, and only where the bytes haven't the capacity for it.
+//! Appends DER values to a vector. Each call appends exactly one value ([`put_raw`]: the bytes), or leaves the vector as it was.
+//! It allocates at most once, for the whole value, and only if the vector hasn't the capacity for it.
 
 ghost use Rattle.std.specs.Prelude.{◌≡◌, ℕ, List, ◌∷◌, ◌++◌, ◌+◌, ◌≤◌, ◌<◌, ◌%◌, ◌^◌, length, IfOk, OnOk, OnErr, vec_capacity};
 ghost use Rattle.reg_core.specs.Integer.{IsInteger, integer, without_zeros, with_clear_bit};
@@ -12,14 +12,14 @@ use crate::times::{general_text, utc_text};
 use reg_core::{Memory, Moment, Serial};
 use std::alloc::Global;
 
-/// A length below this is one octet. A greater one is its digits, and before them this and their count (X.690 8.1.3).
+/// A length below this is one octet. Others are one octet with this plus the count of the digits, and then the digits (X.690 8.1.3).
 const LONG_FORM: u8 = 128;
 
 /// The last year that is written as a UTCTime (RFC 5280 4.1.2.5).
 const LAST_UTC_YEAR: u16 = 2049;
 
-/// Appends the value of the tag, one octet whose low five bits aren't all ones, with contents of fewer than 2^32 bytes.
-/// `Memory` only where `out` has no capacity for the value; it leaves `out` unchanged.
+/// Appends the value with this tag, one octet whose low five bits aren't all ones, and contents of fewer than 2^32 bytes.
+/// `Memory` only if `out` hasn't the capacity for the value; then `out` is unchanged.
 #[tactic(auto, unfolding(crate::specs::Der::tlv))]
 pub fn put(out: &mut Vec<u8>, tag: u8, contents: &[u8]) -> Result<(), Memory>
     requires low_tag { tag % 32 < 31 }
@@ -45,14 +45,14 @@ pub fn put_raw(out: &mut Vec<u8>, bytes: &[u8]) -> Result<(), Memory>
     out.extend_from_slice(bytes).map_err(|_| Memory)
 }
 
-/// A copy of bytes.
+/// A copy of bytes, or `Memory`.
 pub fn copy_of(alloc: Global, bytes: &[u8]) -> Result<Vec<u8>, Memory>
     ensures { IfOk result (λ copy. copy.items ≡ bytes.now) }
 {
     Vec::from_slice(alloc, bytes).map_err(|_| Memory)
 }
 
-/// Appends the INTEGER of the number; `Memory` as [`put`].
+/// Appends the INTEGER of the number; `Memory` as for [`put`].
 pub fn put_number(out: &mut Vec<u8>, number: u64) -> Result<(), Memory>
     ensures ok { OnOk result (out.new.items ≡ out.old.items ++ integer_value number) }
     ensures value { IsTlv (integer_value number) 2 (integer number) }
@@ -65,7 +65,7 @@ pub fn put_number(out: &mut Vec<u8>, number: u64) -> Result<(), Memory>
     put_integer(out, &number.to_be_bytes())
 }
 
-/// Appends the INTEGER of the serial number (RFC 5280 4.1.2.2); `Memory` as [`put`].
+/// Appends the INTEGER of the serial number (RFC 5280 4.1.2.2); `Memory` as for [`put`].
 pub fn put_serial(out: &mut Vec<u8>, serial: Serial) -> Result<(), Memory>
     ensures ok { OnOk result (out.new.items ≡ out.old.items ++ integer_value serial) }
     ensures value { IsTlv (integer_value serial) 2 (integer serial) }
@@ -78,7 +78,7 @@ pub fn put_serial(out: &mut Vec<u8>, serial: Serial) -> Result<(), Memory>
     put_integer(out, &serial.bytes20())
 }
 
-/// Appends the BIT STRING of fewer than 2^32 - 1 bytes, all of whose bits are used (X.690 8.6.2.2); `Memory` as [`put`].
+/// Appends a BIT STRING of fewer than 2^32 - 1 bytes, without unused bits (X.690 8.6.2.2); `Memory` as for [`put`].
 pub fn put_bits(out: &mut Vec<u8>, bytes: &[u8]) -> Result<(), Memory>
     requires { length bytes.now + 1 < 2 ^ 32 }
     ensures ok { OnOk result (out.new.items ≡ out.old.items ++ bits_value bytes.now) }
@@ -91,8 +91,8 @@ pub fn put_bits(out: &mut Vec<u8>, bytes: &[u8]) -> Result<(), Memory>
     put_behind_zero(out, BIT_STRING, bytes)
 }
 
-/// Appends the moment as RFC 5280 wants its times (4.1.2.5, 5.1.2.4), in UTC: a UTCTime through the year 2049, a
-/// GeneralizedTime from 2050 on; `Memory` as [`put`].
+/// Appends the Time of the moment (RFC 5280 4.1.2.5, 5.1.2.4), in UTC: a UTCTime through the year 2049, a GeneralizedTime from
+/// 2050 on; `Memory` as for [`put`].
 #[tactic(auto, unfolding(crate::specs::WrittenValues::time_value, reg_core::specs::Calendar::utc_text, reg_core::specs::Calendar::general_text))]
 pub fn put_utc_or_general(out: &mut Vec<u8>, moment: Moment) -> Result<(), Memory>
     ensures ok { OnOk result (out.new.items ≡ out.old.items ++ time_value moment) }
@@ -110,7 +110,7 @@ pub fn put_utc_or_general(out: &mut Vec<u8>, moment: Moment) -> Result<(), Memor
     }
 }
 
-/// Appends the GeneralizedTime of the moment (RFC 5280 4.1.2.5.2), to the second and in UTC; `Memory` as [`put`].
+/// Appends the GeneralizedTime of the moment (RFC 5280 4.1.2.5.2), to the second and in UTC; `Memory` as for [`put`].
 #[tactic(auto, unfolding(reg_core::specs::Calendar::general_text))]
 pub fn put_general(out: &mut Vec<u8>, moment: Moment) -> Result<(), Memory>
     ensures ok { OnOk result (out.new.items ≡ out.old.items ++ general_value moment) }
@@ -135,12 +135,12 @@ fn put_integer(out: &mut Vec<u8>, octets: &[u8]) -> Result<(), Memory>
     let digits = trim_zeros(octets);
     match digits {
         [first, ..] if *first < 128 => put(out, INTEGER, digits),
-        // One octet more keeps the first bit, the sign, clear; it is the whole of the number 0 (X.690 8.3.3).
+        // One more octet, a zero, keeps the sign bit clear. For the number 0 it is the only octet (X.690 8.3.3).
         _ => put_behind_zero(out, INTEGER, digits),
     }
 }
 
-/// Appends the value of the tag whose contents are a zero and the bytes.
+/// Appends the value with this tag whose contents are a zero octet and the bytes.
 #[tactic(auto, unfolding(crate::specs::Der::tlv))]
 fn put_behind_zero(out: &mut Vec<u8>, tag: u8, bytes: &[u8]) -> Result<(), Memory>
     requires { length bytes.now + 1 < 2 ^ 32 }
@@ -157,7 +157,7 @@ fn put_behind_zero(out: &mut Vec<u8>, tag: u8, bytes: &[u8]) -> Result<(), Memor
     Ok(())
 }
 
-/// Appends the tag and the length octets of a value (X.690 10.1), and makes room for the contents that are to follow.
+/// Appends the tag and the length octets of a value (X.690 10.1), and reserves capacity for the contents.
 #[tactic(auto, unfolding(crate::specs::Der::length_octets, crate::specs::Der::fewest))]
 fn start_value(out: &mut Vec<u8>, tag: u8, size: usize) -> Result<(), Memory>
     requires { size < 2 ^ 32 }
@@ -191,7 +191,7 @@ fn reserve(out: &mut Vec<u8>, more: usize) -> Result<(), Memory>
     out.reserve(more).map_err(|_| Memory)
 }
 
-/// Appends bytes for which there is room. It takes no memory.
+/// Appends bytes for which `out` has the capacity, without an allocation.
 fn append(out: &mut Vec<u8>, bytes: &[u8])
     requires { length out.old.items + length bytes.now ≤ vec_capacity out.old }
     ensures items { out.new.items ≡ out.old.items ++ bytes.now }

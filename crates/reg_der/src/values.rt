@@ -1,4 +1,4 @@
-//! Values of a known tag, taken from the front of bytes.
+//! Reads values with an expected tag.
 
 ghost use Rattle.std.specs.Prelude.{◌≡◌, ◌<◌, ◌≤◌, length, IfSome, option_copied};
 ghost use Rattle.reg_core.specs.Integer.{value as number_written};
@@ -8,7 +8,7 @@ ghost use Rattle.reg_der.specs.TaggedValues.{expect_at, last_at, optional_at, wh
 
 use crate::tlv_reader::{Tlv, take};
 
-/// The value of the tag at the front, and what follows.
+/// The value at the front, and the bytes after it. `None` if no value is there, or it has another tag.
 #[tactic(auto, using(crate::proofs::ValueLemmas::tlv_some), unfolding(crate::specs::TaggedValues::expect_at))]
 pub fn expect(tag: u8, bytes: &[u8]) -> Option<(Tlv<'_>, &[u8])>
     ensures exact { Gives (λ x. (x.0.contents.now, x.1.now)) result (expect_at tag bytes.now) }
@@ -23,7 +23,7 @@ pub fn expect(tag: u8, bytes: &[u8]) -> Option<(Tlv<'_>, &[u8])>
     }
 }
 
-/// The contents of the value of the tag that all the bytes are.
+/// The contents of the value with this tag, which is all of the bytes; else `None`.
 #[tactic(auto, unfolding(crate::specs::TaggedValues::whole_at))]
 pub fn whole(tag: u8, bytes: &[u8]) -> Option<&[u8]>
     ensures exact { Gives (λ x. x.now) result (whole_at tag bytes.now) }
@@ -36,7 +36,7 @@ pub fn whole(tag: u8, bytes: &[u8]) -> Option<&[u8]>
     }
 }
 
-/// The contents of the value of the tag, if one is at the front, and what follows.
+/// The contents of the value at the front if the first byte is this tag, and the bytes after it. `None` if the tag begins no value.
 #[tactic(auto, unfolding(crate::specs::TaggedValues::optional_at))]
 pub fn optional(tag: u8, bytes: &[u8]) -> Option<(Option<&[u8]>, &[u8])>
     ensures exact { Gives (λ x. (option_copied x.0, x.1.now)) result (optional_at tag bytes.now) }
@@ -50,7 +50,7 @@ pub fn optional(tag: u8, bytes: &[u8]) -> Option<(Option<&[u8]>, &[u8])>
     }
 }
 
-/// The contents of the value of the tag that all the bytes are, if there are bytes.
+/// The contents of the value with this tag, which is all of the bytes; `Some(None)` if there are no bytes; else `None`.
 #[tactic(auto, unfolding(crate::specs::TaggedValues::last_at))]
 pub fn last(tag: u8, bytes: &[u8]) -> Option<Option<&[u8]>>
     ensures exact { Gives (λ x. option_copied x) result (last_at tag bytes.now) }
@@ -61,7 +61,7 @@ pub fn last(tag: u8, bytes: &[u8]) -> Option<Option<&[u8]>>
     Some(Some(whole(tag, bytes)?))
 }
 
-/// The number that octets write, the highest first, of which there are eight at most.
+/// The number in big-endian octets, of which there are at most eight.
 pub fn number(octets: &[u8]) -> u64
     requires { length octets.now ≤ 8 }
     ensures { result ≡ number_written octets.now }

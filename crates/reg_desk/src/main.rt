@@ -1,4 +1,4 @@
-//! The program `desk`: the register and status desk of one certification authority.
+//! The program `desk`: the register and status service of one certification authority.
 #![tactic(auto)]
 
 use reg_desk_cli::{Usage, no_text, read_words};
@@ -7,10 +7,10 @@ use std::io::ErrorKind;
 use std::process::ExitCode;
 use std::{env, io};
 
-/// Reads the words, does the job that they say, and reports by the exit status how it ended: 0 done, or help or the version was asked for; 1 a
-/// fault, with its line on standard error, and the line of its cause if that is asked for and known; 2 words that can't be read, with the
-/// usage on standard error; 3 a reply that was a refusal or a fault, or a last line without its end, at a control socket or in a strict
-/// script or import.
+/// Reads the command line, does its job, and returns the exit status: 0 if the job is done, or for help or the version; 1 after a fault, with its
+/// line on standard error, and the line of its cause if that is asked for and known; 2 if the command line can't be read, with the usage on
+/// standard error; 3 if a reply at a control socket, or in a strict script or import, was a refusal or a fault, or if the last line there has no
+/// line end.
 fn main(rt: HostRuntime) -> io::Result<ExitCode> {
     let status = match words_of(&rt) {
         Ok(words) => match read_words(rt.alloc(), words.as_slice()) {
@@ -30,7 +30,7 @@ fn words_of(rt: &HostRuntime) -> Result<Vec<String>, Usage> {
     }
 }
 
-/// Prints help or the version, or why there is no invocation.
+/// Prints help or the version, or why the command line can't be read. Returns the exit status.
 fn print_usage(rt: &HostRuntime, usage: &Usage) -> io::Result<u8> {
     match usage {
         Usage::Help(text) | Usage::Version(text) => print!(rt; "{text}")?,

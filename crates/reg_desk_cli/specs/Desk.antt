@@ -1,14 +1,14 @@
--- The command line of the program in clap's own terms: its commands, and the words and options of each. `--why` stands before a command or behind it.
+-- The command line of the program in the terms of the crate `clap`: its commands, with their arguments and options. `--why` may come before a command too.
 use Rattle.std.specs.Prelude.{ℕ, Some, true, List, [], ◌∷◌, codes}
 use Rattle.clap.specs.Lexer.{usize_max}
 use Rattle.clap.specs.Words.{App, Rule, Text, new_app, new_rule, with_rule, with_subcommand}
 use Rattle.clap.specs.declared.builder.action.ArgAction.TheVariants.{SetTrue}
 
--- a word that must be given
+-- an argument that must be given
 abbrev pub must : Text → Rule
 must id = record (new_rule id) { required = true; value_names = 1 }
 
--- a word that may be left out
+-- an argument that may be left out
 abbrev pub may : Text → Rule
 may id = record (new_rule id) { value_names = 1 }
 
@@ -16,7 +16,7 @@ may id = record (new_rule id) { value_names = 1 }
 abbrev pub needs : Text → Rule
 needs id = record (new_rule id) { long = Some id; required = true; value_names = 1 }
 
--- the same, which is also given as `--older VALUE`
+-- the same, with an older name `--older VALUE`
 abbrev pub renamed : Text → Text → Rule
 renamed id older = record (needs id) { aliases = older ∷ [] }
 
@@ -24,19 +24,19 @@ renamed id older = record (needs id) { aliases = older ∷ [] }
 abbrev pub takes_value : Text → Rule
 takes_value id = record (new_rule id) { long = Some id; value_names = 1 }
 
--- an option of so many values that may be left out
+-- an option with this many values that may be left out
 abbrev pub takes_several : Text → ℕ → Rule
 takes_several id count = record (new_rule id) { long = Some id; value_names = count }
 
--- an option `--id` that is given or left out, and takes no value
+-- an option `--id` without a value, which may be left out
 abbrev pub flag : Text → Rule
 flag id = record (new_rule id) { long = Some id; action = Some SetTrue }
 
--- one word or more, all that are left
+-- one or more arguments: all that are left
 abbrev pub some : Text → Rule
 some id = record (new_rule id) { required = true; value_names = 1; range = Some (record { start_inclusive = 1; end_inclusive = usize_max }) }
 
--- a command with words and options
+-- a command with arguments and options
 abbrev pub with_rules : App → List Rule → App
 with_rules app [] = app
 with_rules app (rule ∷ rest) = with_rules (with_rule app rule) rest
@@ -52,7 +52,7 @@ abbrev pub script_app : App
 script_app = with_rules (new_app (codes "script"))
     (may (codes "file") ∷ takes_value (codes "signer") ∷ takes_value (codes "algorithm") ∷ flag (codes "clock") ∷ flag (codes "accept-clock") ∷ flag (codes "strict") ∷ flag (codes "why") ∷ [])
 
--- `import FILE [--now MOMENT] [--clock] [--accept-clock] [--strict] [--why]`; that one of `--now` and `--clock` is given says `Jobs.one_moment`
+-- `import FILE [--now MOMENT] [--clock] [--accept-clock] [--strict] [--why]`; `Jobs.one_moment` states that one of `--now` and `--clock` is given
 abbrev pub import_app : App
 import_app = with_rules (new_app (codes "import")) (must (codes "file") ∷ takes_value (codes "now") ∷ flag (codes "clock") ∷ flag (codes "accept-clock") ∷ flag (codes "strict") ∷ flag (codes "why") ∷ [])
 
@@ -71,7 +71,7 @@ serve_app = with_rules (new_app (codes "serve"))
 
 -- `open FILE --port N [--listen ADDRESS] --control SOCKET [--signer SOCKET --algorithm NAME] [--unsigned]
 -- [--responder CERT --responder-signer SOCKET --responder-algorithm NAME | --embed CERT] [--published CRL] [--log] [--log-file PATH] [--why]`;
--- `--counter` is an older name of `--control`; whether `--signer` or `--unsigned` must be given says `Jobs.holder_chosen`
+-- `--counter` is an older name of `--control`; `Jobs.holder_chosen` states whether `--signer` or `--unsigned` must be given
 abbrev pub open_app : App
 open_app = with_rules (new_app (codes "open"))
     (must (codes "file") ∷ needs (codes "port") ∷ takes_value (codes "listen") ∷ renamed (codes "control") (codes "counter")
@@ -110,7 +110,7 @@ copy_app = with_rules (new_app (codes "copy")) (must (codes "file") ∷ must (co
 abbrev pub audit_app : App
 audit_app = with_rules (new_app (codes "audit")) (must (codes "file") ∷ flag (codes "why") ∷ [])
 
--- one of the commands is wanted, there is a version, and help is `--help` alone
+-- a command must be given, there is a version, and help is only `--help`
 abbrev pub bare_app : App
 bare_app = record (new_app (codes "desk")) {
   top = record ((new_app (codes "desk")).top) { has_version = true; subcommand_required = true; disable_help_subcommand = true };
@@ -120,12 +120,12 @@ bare_app = record (new_app (codes "desk")) {
 abbrev pub begun_app : App
 begun_app = with_rules bare_app (flag (codes "why") ∷ [])
 
--- a command line with commands, each behind those before it
+-- a command line with these commands added in order
 abbrev pub with_commands : App → List App → App
 with_commands app [] = app
 with_commands app (command ∷ rest) = with_commands (with_subcommand app command.top) rest
 
--- the commands that make, run and serve a register, and those that speak to an open desk, or set, list, copy and audit what a register has
+-- the commands that make, run and serve a register; then those that send lines to an open desk, or set, list, copy and audit what a register has
 abbrev pub running_apps : List App
 running_apps = init_app ∷ script_app ∷ import_app ∷ crl_app ∷ serve_app ∷ open_app ∷ []
 

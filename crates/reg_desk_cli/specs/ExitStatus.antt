@@ -1,4 +1,4 @@
--- How a job of the program ends.
+-- The end of a job of the program.
 use Rattle.std.specs.Prelude.{ℕ, List, codes, Result, Ok, Err}
 use Rattle.reg_core.specs.Lines.{fault_line}
 use Rattle.reg_desk_cli.specs.declared.failure.Failure.{Failure}
@@ -7,7 +7,7 @@ use Rattle.reg_store_tables.specs.declared.fault.StoreFault.{StoreFault}
 use Rattle.reg_store_tables.specs.declared.fault.StoreFault.TheVariants as stored
 use Rattle.reg_core.specs.declared.refusal.Fault.TheVariants as fault
 
--- the line of standard error for a failure, without its LF; where two things are reported, the lines of both with an LF between them
+-- the line of standard error for a failure, without its LF; for `RefusedNoLineEnd`, two lines with an LF between them
 unfoldable pub failure_line : Failure → List ℕ
 failure_line (failure.Fault fault) = fault_line fault
 failure_line failure.NotEmpty = codes "not-empty"
@@ -27,7 +27,7 @@ failure_line failure.NotACrl = codes "not-a-crl"
 failure_line failure.LacksPublished = codes "behind-crl"
 
 -- the exit status: 0 if the job is done; 3 if a reply at a control socket, in a strict script or in a strict import was a refusal or a
--- fault, or the last line there has no end; 1 if the job is not done
+-- fault, or if the last line there has no line end; 1 if the job is not done
 abbrev pub exit_status : {T : Type 0} → Result T Failure → ℕ
 exit_status (Ok done) = 0
 exit_status (Err failure.Refused) = 3
@@ -47,7 +47,7 @@ exit_status (Err failure.Broken) = 1
 exit_status (Err failure.NotACrl) = 1
 exit_status (Err failure.LacksPublished) = 1
 
--- a register that can't be made, opened or changed, as the end of a job
+-- the end of a job whose register can't be created, opened or changed
 abbrev pub store_failure : StoreFault → Failure
 store_failure stored.Memory = failure.Fault fault.Memory
 store_failure stored.Store = failure.Fault fault.Store

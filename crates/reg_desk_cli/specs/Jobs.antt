@@ -1,4 +1,4 @@
--- What the words of a command line say.
+-- The meaning of the words of a command line.
 use Rattle.std.specs.Prelude.{◌≡◌, ◌≢◌, ◌⊎◌, ◌||◌, ℕ, Bool, true, false, List, [], codes, bytes_eq, if◌then◌else◌, Option, Some, None, option_map, option_and_then}
 use Rattle.std.specs.Option.{option_map_or}
 use Rattle.clap.specs.Words.{IsAmong, Row, Text, all_of, fault_of, first_of, matches_of, subcommand_of}
@@ -32,7 +32,7 @@ use Rattle.reg_desk_cli.specs.declared.job.Usage.{Usage}
 use Rattle.reg_desk_cli.specs.declared.job.Way.{Way}
 use Rattle.reg_desk_cli.specs.declared.job.Usage.TheVariants.{Help, Version, Bad, Memory}
 
--- the number of an option, or the usual one where the option is left out
+-- the number of an option, or the default if the option is not given
 abbrev pub value_or_usual : ℕ → Text → List Row → Option ℕ
 value_or_usual usual id rows = option_map_or number_of (first_of id rows) (Some usual)
 
@@ -44,7 +44,7 @@ given id rows = option_map_or (λ text. option_map (λ n. Some n) (number_of tex
 abbrev pub number_in : ℕ → ℕ → Text → List Row → Option ℕ
 number_in least most id rows = option_and_then (within least most) (option_and_then number_of (first_of id rows))
 
--- the signer, by the words of both options or neither; one alone says nothing, and nor does another name of an algorithm
+-- the signer, with both options or neither; one option alone is an error, and so is an unknown name of an algorithm
 abbrev pub key_holder_of : Option Text → Option Text → Option (Option KeyHolder)
 key_holder_of (Some socket) (Some name) =
     option_map (λ algorithm. Some (record { socket = socket; algorithm = algorithm })) (algorithm_named name)
@@ -52,7 +52,7 @@ key_holder_of (Some socket) None = None
 key_holder_of None (Some name) = None
 key_holder_of None None = Some None
 
--- the same by the ids of the two options
+-- the same for the ids of the two options
 abbrev pub holder_by_options : Text → Text → List Row → Option (Option KeyHolder)
 holder_by_options socket algorithm rows = key_holder_of (first_of socket rows) (first_of algorithm rows)
 
@@ -60,8 +60,8 @@ holder_by_options socket algorithm rows = key_holder_of (first_of socket rows) (
 abbrev pub holder_in : List Row → Option (Option KeyHolder)
 holder_in rows = holder_by_options (codes "signer") (codes "algorithm") rows
 
--- the responder to OCSP requests, by the file of a responder's certificate, its signer, and the file of a certificate that is put into the
--- issuer's own answers: a responder has both of its own, or there is none, and then the issuer's certificate may be given
+-- the responder to OCSP requests, from the path of a responder's certificate, its signer, and the path of a certificate to embed in responses
+-- of the issuer: both of the first two are given and not the third, or neither, and then the third may be given
 abbrev pub answerer_by : Option Text → Option KeyHolder → Option Text → Option Answerer
 answerer_by (Some certificate) (Some holder) None = Some (Delegate certificate holder)
 answerer_by (Some certificate) (Some holder) (Some embedded) = None
@@ -69,13 +69,13 @@ answerer_by (Some certificate) None embedded = None
 answerer_by None (Some holder) embedded = None
 answerer_by None None embedded = Some (Issuer embedded)
 
--- the responder to OCSP requests, by the words of these options
+-- the responder to OCSP requests, from the words of these options
 unfoldable pub answerer_in : List Row → Option Answerer
 answerer_in rows = do
   holder ← holder_by_options (codes "responder-signer") (codes "responder-algorithm") rows
   answerer_by (first_of (codes "responder") rows) holder (first_of (codes "embed") rows)
 
--- whether an option is given that takes no value
+-- whether an option without a value is given
 abbrev pub has_flag : Text → List Row → Bool
 has_flag id rows = option_map_or (λ text. bytes_eq text (codes "true")) (first_of id rows) false
 
@@ -84,8 +84,8 @@ abbrev pub has_own_key : Answerer → Bool
 has_own_key (Issuer certificate) = false
 has_own_key (Delegate certificate holder) = true
 
--- the signer of CRLs where one is to be chosen: a signer, or `--unsigned`; neither and both say nothing. Beside a responder it is a signer,
--- or neither.
+-- the signer of CRLs for a job that must choose one: a signer, or `--unsigned`; neither and both are errors. With a responder that has a key of
+-- its own, it is a signer, or neither
 abbrev pub chosen : Option KeyHolder → Bool → Bool → Option (Option KeyHolder)
 chosen (Some holder) false own = Some (Some holder)
 chosen (Some holder) true own = None
@@ -94,11 +94,11 @@ chosen None true false = Some None
 chosen None false true = Some None
 chosen None true true = None
 
--- the signer of CRLs, by `--signer` with `--algorithm`, or none by `--unsigned`, or by neither beside a responder
+-- the signer of CRLs, from `--signer` with `--algorithm`; none with `--unsigned`, or with neither and a responder
 abbrev pub holder_chosen : Answerer → List Row → Option (Option KeyHolder)
 holder_chosen answerer rows = option_and_then (λ signer. chosen signer (has_flag (codes "unsigned") rows) (has_own_key answerer)) (holder_in rows)
 
--- how the lines of a script are run
+-- how a script runs
 abbrev pub way_in : List Row → Way
 way_in rows = record {
   is_clocked = has_flag (codes "clock") rows;
@@ -106,19 +106,19 @@ way_in rows = record {
   is_strict = has_flag (codes "strict") rows;
 }
 
--- a script by its words; only one over a register at a path is run line by line
+-- the job of `script`; only a script over a register at a path can run line by line
 abbrev pub script_by : Option Text → Option KeyHolder → Way → Option Job
 script_by None signer way = if way.is_clocked || way.is_strict then None else Some (Script None signer)
 script_by (Some file) signer way = if way.is_clocked || way.is_strict then Some (Lines (record { file = file; signer = signer; way = way })) else Some (Script (Some file) signer)
 
--- the address that `--listen` names, which is of the loopback interface
+-- the address of `--listen`, which is one of the loopback interface
 abbrev pub loopback_named : Text → Option Loopback
 loopback_named text =
     if bytes_eq text (codes "127.0.0.1") then Some V4
     else if bytes_eq text (codes "[::1]") then Some V6
     else None
 
--- the same, or 127.0.0.1 where it is left out
+-- the same, or 127.0.0.1 if it is not given
 abbrev pub loopback_in : List Row → Option Loopback
 loopback_in rows = option_map_or loopback_named (first_of (codes "listen") rows) (Some V4)
 
@@ -129,7 +129,7 @@ endpoint_in rows = do
   port ← number_in 1 65535 (codes "port") rows
   Some (record { address = address; port = port })
 
--- each command by its words and options; the terms of a policy that are left out are the usual ones
+-- the job of each command, from its arguments and options; the default policy has the terms that are not given
 unfoldable pub init_of : List Row → Option Job
 init_of rows = do
   file ← first_of (codes "file") rows
@@ -159,7 +159,7 @@ script_of rows = do
 abbrev pub moment_given : Text → List Row → Option (Option ℕ)
 moment_given id rows = option_map_or (λ text. option_map (λ moment. Some moment) (moment_of text)) (first_of id rows) (Some None)
 
--- the moment of an import, or none if it is that of the machine's clock: exactly one of `--now` and `--clock` is given
+-- the moment of an import, or `None` for that of the machine's clock: exactly one of `--now` and `--clock` is given
 abbrev pub one_moment : Option ℕ → Bool → Option (Option ℕ)
 one_moment (Some now) false = Some (Some now)
 one_moment None true = Some None
@@ -224,7 +224,7 @@ open_of rows = do
 abbrev pub order_terms_given : List Row → Option (Option OrderTerms)
 order_terms_given rows = option_map_or (λ texts. option_map (λ terms. Some terms) (order_terms_of texts)) (all_of (codes "orders") rows) (Some None)
 
--- lines, or the rows of a file that are imported, or revoked: not both; only to an import belong orders
+-- lines; or the rows of a file that are to be registered, or revoked, but not both; `--orders` only with rows to be registered
 abbrev pub at_by : Text → Option Text → Option Text → Option OrderTerms → Option Job
 at_by control_path imported None None = Some (At control_path imported)
 at_by control_path (Some rows) None (Some terms) = Some (EachRow control_path rows (Register terms))
@@ -257,7 +257,7 @@ key_id_of rows = do
   key_id ← first_of (codes "key-id") rows
   Some (KeyId file key_id)
 
--- how a list is written
+-- the form of a list
 abbrev pub form_in : List Row → Form
 form_in rows = if has_flag (codes "json") rows then Json else Csv
 
@@ -268,7 +268,7 @@ label_given id rows = option_map_or (λ text. option_map (λ label. Some label) 
 abbrev pub prefix_given : Text → List Row → Option (Option Text)
 prefix_given id rows = option_map_or (λ text. option_map (λ digits. Some digits) (prefix_of text)) (first_of id rows) (Some None)
 
--- the filter that the four options give, each its own part; none where the value of one can't be read
+-- the filter from the four options; none if the value of one can't be read
 unfoldable pub filter_in : List Row → Option Filter
 filter_in rows = do
   subscriber ← label_given (codes "subscriber") rows
@@ -277,7 +277,7 @@ filter_in rows = do
   to ← moment_given (codes "to") rows
   Some (record { subscriber = subscriber; serial = serial; from = from; to = to })
 
--- the same, where the rows of the list have each field that it selects by
+-- the same, if the rows of the list have each field by which it selects
 unfoldable pub filter_for : Cursor → List Row → Option Filter
 filter_for list rows = do
   filter ← filter_in rows
@@ -304,7 +304,7 @@ audit_of rows = do
   file ← first_of (codes "file") rows
   Some (Audit file)
 
--- the job of a command, by its name and what was found for its words and options
+-- the job of a command, from its name and what clap found for its arguments and options
 unfoldable pub keeping_job_in : Text → List Row → Option Job
 keeping_job_in name rows =
     if bytes_eq name (codes "schedule") then schedule_of rows
@@ -330,19 +330,19 @@ job_in name rows =
     else if bytes_eq name (codes "crl") then crl_job rows
     else serving_job_in name rows
 
--- the job of the command that was named, by its name and rows
+-- the job of the given command, from its name and rows
 abbrev pub job_found : Option (Text × List Row) → Option Job
 job_found found = option_and_then (λ found. job_in found.0 found.1) found
 
--- whether an option that takes no value is given behind the command
+-- whether an option without a value is given after the command
 abbrev pub has_flag_behind : Text → Option (Text × List Row) → Bool
 has_flag_behind id found = option_map_or (λ found. has_flag id found.1) found false
 
--- the word of an option that is given behind the command
+-- the value of an option that is given after the command
 abbrev pub value_behind : Text → Option (Text × List Row) → Option Text
 value_behind id found = option_and_then (λ found. first_of id found.1) found
 
--- the job that words say which clap accepts
+-- the job of words that clap accepts
 abbrev pub job_of : List Text → Option Job
 job_of words = job_found (subcommand_of desk_app words)
 
@@ -350,26 +350,26 @@ job_of words = job_found (subcommand_of desk_app words)
 abbrev pub ClapAccepts : List Text → Type 0
 ClapAccepts words = fault_of desk_app words ≡ []
 
--- what was found before the command and behind it says the job, and what is told beside it: whether the cause of a fault is asked for,
--- by `--why` before or behind, and a log, by `--log` and `--log-file` behind
+-- the invocation from what clap found before and after the command: the job; whether the cause of a fault is asked for, by `--why` before or
+-- after it; and the log, by `--log` and `--log-file` after it
 abbrev pub IsInvocationIn : List Row → Option (Text × List Row) → Invocation → Type 0
 IsInvocationIn before found invocation = (job_found found ≡ Some invocation.job)
     × (invocation.is_explained ≡ (has_flag (codes "why") before || has_flag_behind (codes "why") found)) × (invocation.has_log ≡ has_flag_behind (codes "log") found)
     × (invocation.log_file ≡ value_behind (codes "log-file") found)
 
--- clap accepts the words, and they say so
+-- clap accepts the words, and this is their invocation
 abbrev pub IsInvocationOf : List Text → Invocation → Type 0
 IsInvocationOf words invocation = ClapAccepts words × IsInvocationIn (matches_of desk_app words) (subcommand_of desk_app words) invocation
 
--- what is answered for an error of a kind: help for help, the version for the version, and bad words for the rest, unless memory runs out
+-- the usage for an error of a kind: help, the version, or bad words for any other kind; or out of memory
 abbrev pub PrintsUsage : ErrorKind → Usage → Type 0
 PrintsUsage kind (Help text) = kind ≡ DisplayHelp
 PrintsUsage kind (Version text) = kind ≡ DisplayVersion
 PrintsUsage kind (Bad text) = (kind ≢ DisplayHelp) × (kind ≢ DisplayVersion) × (kind ≢ OutOfMemory)
 PrintsUsage kind Memory = Unit {0}
 
--- help or the version, where clap answers it; bad words, where clap finds another fault or a value is out of its form or range;
--- memory may run out at any words
+-- help or the version, if clap answers with that; bad words, if clap finds an error, or a value has another form or is out of range;
+-- out of memory, for any words
 abbrev pub IsUsageOf : List Text → Usage → Type 0
 IsUsageOf words (Help text) = IsAmong DisplayHelp (fault_of desk_app words)
 IsUsageOf words (Version text) = IsAmong DisplayVersion (fault_of desk_app words)
@@ -378,7 +378,7 @@ IsUsageOf words (Bad text) =
     ⊎ (ClapAccepts words × (job_of words ≡ None))
 IsUsageOf words Memory = Unit {0}
 
--- what is answered where clap takes the words and they say no invocation
+-- the usage if clap accepts the words and they are no invocation
 abbrev pub IsNoInvocation : Option (Text × List Row) → Usage → Type 0
 IsNoInvocation found (Help text) = ⊥
 IsNoInvocation found (Version text) = ⊥

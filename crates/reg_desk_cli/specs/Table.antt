@@ -1,4 +1,4 @@
--- What the rows of the table say, in clap's own terms.
+-- The meaning of the rows of the table, in the terms of the crate `clap`.
 use Rattle.std.specs.Prelude.{◌≡◌, false, List, [], ◌∷◌, length, map}
 use Rattle.clap.specs.Words.{App, Rule, app_of, new_app, with_subcommand}
 use Rattle.clap.specs.declared.builder.command.Command.{Command}
@@ -8,7 +8,7 @@ use Rattle.reg_desk_cli.specs.declared.table.CommandEntry.{CommandEntry}
 use Rattle.reg_desk_cli.specs.declared.table.Part.{Part}
 use Rattle.reg_desk_cli.specs.declared.table.Part.TheVariants.{Must, May, Rest, Needs, Renamed, Takes, Several, Flag}
 
--- a word or an option
+-- an argument or an option
 abbrev pub rule_of_part : Part → Rule
 rule_of_part (Must id name help) = must id.now
 rule_of_part (May id name help) = may id.now
@@ -23,12 +23,12 @@ rule_of_part (Flag id help) = flag id.now
 abbrev pub app_of_entry : CommandEntry → App
 app_of_entry entry = with_rules (new_app entry.name.now) (map rule_of_part entry.parts.now)
 
--- the command line with commands that were made, each behind those before it
+-- the command line with the commands that were made, added in order
 abbrev pub with_made : App → List Command → App
 with_made app [] = app
 with_made app (command ∷ rest) = with_made (with_subcommand app (app_of command).top) rest
 
--- no command has an option that those below it have too
+-- no command has an option that its subcommands have too
 abbrev pub AreLocal : List Command → Type 0
 AreLocal [] = Unit {0}
 AreLocal (command ∷ rest) = ((fields_of command).has_globals ≡ false) × AreLocal rest

@@ -1,15 +1,15 @@
--- The values that a word of the command line may write.
+-- The values that a word of the command line can have.
 use Rattle.std.specs.Prelude.{ℕ, ◌==◌, ◌&&◌, List, [], ◌∷◌, nat_le, if◌then◌else◌, Option, Some, None, option_map, option_and_then}
 use Rattle.std.specs.List.{before_first, after_first}
 use Rattle.reg_core.specs.Calendar.{moment_of}
 use Rattle.reg_core.specs.Number.{number_of}
 use Rattle.reg_desk_cli.specs.declared.job.OrderTerms.{OrderTerms}
 
--- the number, where it is within the bounds
+-- the number, if it is within the bounds
 abbrev pub within : ℕ → ℕ → ℕ → Option ℕ
 within least most n = if nat_le least n && nat_le n most then Some n else None
 
--- the step of a moment and of days, where both are
+-- the step with a moment and days, if the texts are these
 abbrev pub step_from : List ℕ → List ℕ → Option (ℕ × ℕ)
 step_from from days = option_and_then (λ days. option_map (λ from. (from, days)) (moment_of from)) (number_of days)
 
@@ -17,7 +17,7 @@ step_from from days = option_and_then (λ days. option_map (λ from. (from, days
 unfoldable pub step_of : List ℕ → Option (ℕ × ℕ)
 step_of text = step_from (before_first (λ b. b == 61) text) (after_first (λ b. b == 61) text)
 
--- the subscriber's number and the days of an order, where the texts are these two
+-- the terms of an order, if the texts are the subscriber's number and the days
 abbrev pub order_terms_of : List (List ℕ) → Option OrderTerms
 order_terms_of (subscriber ∷ days ∷ []) =
     option_and_then (λ subscriber. option_map (λ days. record { subscriber = subscriber; days = days }) (number_of days)) (number_of subscriber)

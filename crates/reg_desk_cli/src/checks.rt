@@ -1,4 +1,4 @@
-//! What is checked before a register is opened.
+//! Checks options before a register is opened.
 
 ghost use Rattle.std.specs.Prelude.{◌≡◌, ◌⊎◌, IfErr, IfOk, IsErr, Ok};
 ghost use Rattle.reg_core.specs.Schedule.{IsSchedule};
@@ -15,8 +15,8 @@ use std::alloc::Global;
 
 const FIRST_CRL: u64 = 1;
 
-/// The issuer whose Name and key the two words write in hexadecimal. `BadIssuer` where a word is no hexadecimal
-/// text, or the Name or the key is not what an issuer has (RFC 5280 4.1.2.4, 4.1.2.7); else only out of memory.
+/// The issuer whose Name and key the two words have in hexadecimal. `BadIssuer` if a word is not hexadecimal, or if the
+/// Name or the key is invalid (RFC 5280 4.1.2.4, 4.1.2.7); otherwise the only failure is out of memory.
 pub fn issuer_of(alloc: Global, name: &Word<'_>, key: &Word<'_>) -> Result<Issuer, Failure>
     ensures ok { IfOk result (WritesIssuer name.now key.now) }
     ensures err { IfErr result (IsNoIssuer name.now key.now) }
@@ -31,8 +31,8 @@ pub fn issuer_of(alloc: Global, name: &Word<'_>, key: &Word<'_>) -> Result<Issue
     }
 }
 
-/// The key identifier that the word writes in hexadecimal. `BadIssuer` where it is no hexadecimal text of 1 to 64 bytes; else
-/// only out of memory.
+/// The key identifier that the word has in hexadecimal. `BadIssuer` if that is not 1 to 64 bytes in hexadecimal; otherwise the only
+/// failure is out of memory.
 pub fn key_identifier_of(alloc: Global, key_id: &Word<'_>) -> Result<Label, Failure>
     ensures ok { IfOk result (WritesIdentifier key_id.now) }
     ensures err { IfErr result (IsNoIdentifier key_id.now) }
@@ -44,8 +44,8 @@ pub fn key_identifier_of(alloc: Global, key_id: &Word<'_>) -> Result<Label, Fail
     }
 }
 
-/// The issuer whose Name and key the two words write, with the key identifier that a third one writes, where there is one,
-/// in each of its CRLs. `BadIssuer` as for the Name and the key, and then for the key identifier.
+/// The issuer with this Name and key, and, if `key_id` is given, with this key identifier in each of its CRLs. `BadIssuer` as for
+/// the Name and the key, and then as for the key identifier.
 pub fn identified_issuer_of(
     alloc: Global,
     name: &Word<'_>,
@@ -80,8 +80,8 @@ fn bytes_of(alloc: Global, word: &Word<'_>) -> Result<Vec<u8>, Failure>
     }
 }
 
-/// The policy of one longest validity in days, of the lives of CRLs and OCSP answers in seconds, and of the most rows
-/// of a table; `BadPolicy` where it is none.
+/// The policy with one longest validity in days, the lives of CRLs and of OCSP responses in seconds, and the most rows of
+/// a table; `BadPolicy` if these make no policy.
 pub fn policy_of(days: u64, crl_life: u64, ocsp_life: u64, cap: u64) -> Result<Policy, Failure>
     ensures ok { IfOk result (λ policy. (policy ≡ terms_of_days days crl_life ocsp_life cap) × IsPolicy policy) }
     ensures err { IfErr result (IsNoPolicy (terms_of_days days crl_life ocsp_life cap)) }
@@ -92,8 +92,8 @@ pub fn policy_of(days: u64, crl_life: u64, ocsp_life: u64, cap: u64) -> Result<P
     }
 }
 
-/// The issuer and the policy of a new register. The issuer is looked at first: `BadPolicy` comes only where the words
-/// write an issuer.
+/// The issuer and the policy of a new register. The issuer is checked first: `BadPolicy` only if the words have a valid
+/// issuer.
 pub fn office_of(
     alloc: Global,
     name: &Word<'_>,
@@ -113,7 +113,7 @@ pub fn office_of(
     Ok((issuer, policy))
 }
 
-/// The schedule of these steps; `BadPolicy` where they are none.
+/// The schedule with these steps; `BadPolicy` if they are no schedule.
 pub fn schedule_of(steps: &Steps) -> Result<Schedule, Failure>
     ensures ok { IfOk result (λ schedule. (schedule ≡ steps.now) × IsSchedule schedule) }
     ensures err { IfErr result (IsNoSchedule steps.now) }

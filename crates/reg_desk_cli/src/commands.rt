@@ -1,4 +1,4 @@
-//! The job of each command, by its words and options.
+//! Makes the job of each command from its arguments and options.
 
 ghost use Rattle.std.specs.Prelude.{◌≡◌, codes, IfOk};
 ghost use Rattle.reg_desk_cli.specs.Jobs.{endpoint_in, import_moment, one_moment};
@@ -20,16 +20,16 @@ use reg_core::Moment;
 use reg_core_lists::{Cursor, Filter, Form};
 use std::alloc::{AllocError, Global};
 
-/// The most days of validity of the usual policy.
+/// The longest validity in days of the default policy.
 const USUAL_DAYS: u64 = 398;
 
-/// The seconds from thisUpdate to nextUpdate of a CRL by the usual policy: eight days.
+/// The seconds from thisUpdate to nextUpdate of a CRL in the default policy: eight days.
 const USUAL_CRL_LIFE: u64 = 691_200;
 
-/// The seconds from thisUpdate to nextUpdate of an OCSP answer by the usual policy: four days.
+/// The seconds from thisUpdate to nextUpdate of an OCSP response in the default policy: four days.
 const USUAL_OCSP_LIFE: u64 = 345_600;
 
-/// The most rows of a table of the usual policy.
+/// The most rows of a table in the default policy.
 const USUAL_CAP: u64 = 1_000_000;
 
 #[tactic(auto, unfolding(crate::specs::Jobs::job_in))]
@@ -53,7 +53,7 @@ pub(crate) fn read_command<'a>(
     }
 }
 
-/// The same of a command that serves, or one behind those.
+/// As `read_command`, for `serve` and the commands after it.
 #[tactic(auto, unfolding(crate::specs::Jobs::serving_job_in))]
 fn read_serving<'a>(
     alloc: Global,
@@ -75,7 +75,7 @@ fn read_serving<'a>(
     }
 }
 
-/// The same of a command that looks after a register.
+/// As `read_command`, for the commands that set, list, copy and audit what a register has.
 #[tactic(auto, unfolding(crate::specs::Jobs::keeping_job_in))]
 fn read_keeping<'a>(
     alloc: Global,
@@ -123,7 +123,7 @@ fn read_script<'a>(given: &ArgMatches<'a>) -> Option<Job<'a>>
     script_job(word_of(given, "file"), signer, way_of(given))
 }
 
-/// A script by its words; only one over FILE is run line by line.
+/// The job of `script`; only a script over FILE can run line by line.
 fn script_job<'a>(
     file: Option<Word<'a>>,
     signer: Option<KeyHolder<'a>>,
@@ -151,7 +151,7 @@ fn read_import<'a>(given: &ArgMatches<'a>) -> Option<Job<'a>>
     }))
 }
 
-/// The moment of `--now`, or none by `--clock`; `None` where neither is given, or both.
+/// The moment of `--now`, or `Some(None)` for `--clock`; `None` if neither is given, or both.
 #[tactic(auto, unfolding(crate::specs::Jobs::import_moment))]
 fn import_moment(given: &ArgMatches<'_>) -> Option<Option<Moment>>
     ensures { result ≡ import_moment (rows_of (found_of given.now)) }
@@ -315,7 +315,7 @@ fn read_list<'a>(given: &ArgMatches<'a>) -> Option<Job<'a>>
     }))
 }
 
-/// The filter of a list; `None` where its rows lack a field that an option selects by.
+/// The filter of a list; `None` if the rows of the list lack a field that an option selects by.
 #[tactic(auto, unfolding(crate::specs::Jobs::filter_for))]
 fn filter_for(given: &ArgMatches<'_>, list: &Cursor) -> Option<Filter>
     ensures { result ≡ filter_for list.now (rows_of (found_of given.now)) }

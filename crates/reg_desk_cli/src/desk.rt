@@ -1,4 +1,4 @@
-//! The command line as clap reads it, made of the table.
+//! Makes the command line for the crate `clap` from the table.
 
 ghost use Rattle.std.specs.Prelude.{◌≡◌, IfOk, OnOk, [], false, map};
 ghost use Rattle.clap.specs.Words.{App, app_of, rule_of, with_subcommand};
@@ -10,7 +10,7 @@ use crate::table::{BEFORE, CommandEntry, KEEPING, Part, RUNNING};
 use clap::{Arg, ArgAction, Command};
 use std::alloc::{AllocError, Global};
 
-/// The program's version, as `--version` tells it.
+/// The program's version, as `--version` prints it.
 pub const VERSION: &str = "0.2.0";
 
 /// The program's command line: `desk COMMAND ..`.

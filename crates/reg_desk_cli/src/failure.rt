@@ -13,33 +13,33 @@ pub enum Failure {
     NotEmpty,
     NotARegister,
     NewVersion,
-    /// The register that is to be audited is of an older version.
+    /// The register to be audited has an older version.
     OldVersion,
-    /// The Name or the key is not what an issuer has.
+    /// The Name, the key or the key identifier is invalid.
     BadIssuer,
     BadPolicy,
     /// The clock is more than 30 days past the last accepted moment.
     BadClock,
-    /// The latest CRL was signed under another algorithm, or the issuer's key is none of the algorithm.
+    /// The latest CRL was signed with another algorithm, or the issuer's key does not fit the algorithm.
     BadSigner,
-    /// A certificate that is to stand with OCSP answers is none, or is of another key than it is given for.
+    /// A certificate for OCSP responses can't be read, or has another key than that for which it is given.
     BadResponder,
     /// A reply at a control socket, in a strict script or in a strict import was a refusal or a fault.
     Refused,
-    /// The last line of standard input has no end, and was not run.
+    /// The last line of standard input has no line end, and did not run.
     NoLineEnd,
-    /// Both: a reply was a refusal or a fault, and the last line has no end.
+    /// Both: a reply was a refusal or a fault, and the last line has no line end.
     RefusedNoLineEnd,
-    /// An audit reported what is not sound.
+    /// An audit found a broken row.
     Broken,
     /// The file of a published CRL has no CRL with a number.
     NotACrl,
-    /// The register lacks something of a published CRL.
+    /// The register lacks an item of a published CRL.
     LacksPublished,
 }
 
 impl Failure {
-    /// The line of standard error that tells it, without LF; where two things are told, the lines of both with an LF between them.
+    /// The line for standard error, without its LF; for `RefusedNoLineEnd`, two lines with an LF between them.
     #[tactic(auto, unfolding(crate::specs::ExitStatus::failure_line))]
     pub fn line(&self) -> Label
         ensures { result ≡ failure_line self.now }
@@ -105,7 +105,7 @@ impl From<DatabaseFault> for Failure {
 }
 
 /// The exit status of a job: 0 if it is done; 3 if a reply at a control socket, in a strict script or in a strict import was a refusal or a
-/// fault, or the last line there has no end; 1 if it is not done.
+/// fault, or if the last line there has no line end; 1 if the job is not done.
 pub fn status_of(ending: &Result<(), Failure>) -> u8
     ensures { result ≡ exit_status ending.now }
 {

@@ -1,4 +1,4 @@
-//! What the program is asked to do.
+//! The jobs of the program, with their options.
 
 ghost use Rattle.std.specs.Prelude.{◌≡◌};
 ghost use Rattle.reg_desk_cli.specs.Statuses.{usage_status};
@@ -15,32 +15,32 @@ pub struct KeyHolder<'a> {
     pub algorithm: Algorithm,
 }
 
-/// The responder to OCSP requests where a register is served (RFC 6960 2.2).
+/// The responder to OCSP requests for a register that is served (RFC 6960 2.2).
 #[derive(Drop)]
 pub enum Answerer<'a> {
-    /// The signer of its CRLs. A certificate is put into each answer if the path of its file is given.
+    /// The signer of its CRLs. If the path of a certificate is given, this is embedded in each response.
     Issuer {
         certificate: Option<Word<'a>>,
     },
-    /// A responder with its own key and signer, and the path of its certificate, which is put into each answer (RFC 6960 4.2.2.2).
+    /// A responder with its own key and signer, and the path of its certificate, which is embedded in each response (RFC 6960 4.2.2.2).
     Delegate {
         certificate: Word<'a>,
         holder: KeyHolder<'a>,
     },
 }
 
-/// How the lines of a script are run that is run line by line.
+/// How a script runs that runs line by line.
 #[derive(Clone, Copy, PartialEq, Eq)]
 pub struct Way {
-    /// A line has no moment: the machine's clock gives it.
+    /// The lines have no moments: they run at the moments of the machine's clock.
     pub is_clocked: bool,
     /// The lines run even if the clock is more than 30 days past the last accepted moment.
     pub accepts_clock: bool,
-    /// The script ends at the first refusal or fault, and runs no last line without its end.
+    /// The script ends at the first refusal or fault, and does not run a last line without its line end.
     pub is_strict: bool,
 }
 
-/// A register that is to be made.
+/// A register to be created.
 #[derive(Drop)]
 pub struct NewRegister<'a> {
     pub file: Word<'a>,
@@ -48,17 +48,17 @@ pub struct NewRegister<'a> {
     pub name: Word<'a>,
     /// The bytes of the issuer's public key, in hexadecimal.
     pub key: Word<'a>,
-    /// The key identifier of the issuer's certificate, in hexadecimal, where it is told.
+    /// The key identifier of the issuer's certificate, in hexadecimal, if it is given.
     pub key_id: Option<Word<'a>>,
     pub days: u64,
     /// The seconds from thisUpdate to nextUpdate of a CRL.
     pub crl_life: u64,
-    /// The same of an OCSP answer.
+    /// The seconds from thisUpdate to nextUpdate of an OCSP response.
     pub ocsp_life: u64,
     pub cap: u64,
 }
 
-/// A script that is run line by line over a register.
+/// A script that runs line by line over a register.
 #[derive(Drop)]
 pub struct LinedScript<'a> {
     pub file: Word<'a>,
@@ -67,13 +67,13 @@ pub struct LinedScript<'a> {
     pub way: Way,
 }
 
-/// Rows that are to be registered.
+/// Rows to be registered.
 #[derive(Drop)]
 pub struct RowsToImport<'a> {
     pub file: Word<'a>,
-    /// The moment of the import, or none if it is the machine's clock's as the import begins.
+    /// The moment of the import; `None` for that of the machine's clock when the import begins.
     pub moment: Option<Moment>,
-    /// As of [`Way`].
+    /// As in [`Way`].
     pub accepts_clock: bool,
     /// The import ends at the first refusal or fault, and registers no last row without its line end.
     pub is_strict: bool,
@@ -96,7 +96,7 @@ pub struct Endpoint {
     pub port: u16,
 }
 
-/// A register that is served to so many peers.
+/// A register that is served for a number of requests.
 #[derive(Drop)]
 pub struct Serving<'a> {
     pub file: Word<'a>,
@@ -104,7 +104,7 @@ pub struct Serving<'a> {
     pub requests: u32,
     pub signer: Option<KeyHolder<'a>>,
     pub answerer: Answerer<'a>,
-    /// The path of a published CRL that the register may not be behind.
+    /// The path of a published CRL, all of which the register must have.
     pub published: Option<Word<'a>>,
 }
 
@@ -117,72 +117,72 @@ pub struct KeptOpen<'a> {
     pub control: Word<'a>,
     pub signer: Option<KeyHolder<'a>>,
     pub answerer: Answerer<'a>,
-    /// As of [`Serving`].
+    /// As in [`Serving`].
     pub published: Option<Word<'a>>,
 }
 
-/// A list of a register that is to be written.
+/// A list of a register to be written.
 #[derive(Drop)]
 pub struct ListToWrite<'a> {
     pub file: Word<'a>,
     pub from: Cursor,
-    /// The moment of which it is told, where it is not that of the machine's clock.
+    /// The moment for which the list is written; `None` for that of the machine's clock.
     pub moment: Option<Moment>,
     pub filter: Filter,
     pub form: Form,
 }
 
-/// The order that is made for a certificate: the number of its subscriber, and its days.
+/// The order that is entered for each certificate: the number of its subscriber, and its days.
 #[derive(Clone, Copy, PartialEq, Eq)]
 pub struct OrderTerms {
     pub subscriber: u64,
     pub days: u64,
 }
 
-/// What is done with the certificate of each row of a file.
+/// The task for the certificate of each row of a file.
 #[derive(Clone, Copy, PartialEq, Eq)]
 pub enum RowTask {
     /// It is registered under a new order.
     Register(OrderTerms),
-    /// It is requested and revoked.
+    /// Its revocation is requested, and then it is revoked.
     Revoke,
 }
 
-/// A job of the program, with all that the command line says of it. FILE is the path of a register.
+/// A job of the program, with its arguments and options. FILE is the path of a register.
 #[derive(Drop)]
 pub enum Job<'a> {
     Init(NewRegister<'a>),
-    /// Runs the script of standard input, without FILE over a register in memory. Without a signer a placeholder digest stands instead.
+    /// Runs the script of standard input, without FILE over a register in memory. Without a signer, a placeholder digest replaces each signature.
     Script {
         file: Option<Word<'a>>,
         signer: Option<KeyHolder<'a>>,
     },
-    /// The same line by line.
+    /// Runs the script of standard input over FILE, line by line.
     Lines(LinedScript<'a>),
     /// Registers the rows of standard input, all at one moment.
     Import(RowsToImport<'a>),
-    /// Writes a CRL, the latest where no number is given.
+    /// Writes a CRL; the latest one if no number is given.
     Crl {
         file: Word<'a>,
         number: Option<u64>,
     },
-    /// Answers so many requests over HTTP at a port. Without a signer a placeholder digest stands instead.
+    /// Answers a number of requests over HTTP at a port. Without a signer, a placeholder digest replaces each signature.
     Serve(Serving<'a>),
-    /// Keeps a register open until the program is ended: answers requests over HTTP at a port, and lines at a control socket. The signer signs;
-    /// a placeholder digest stands instead only with `--unsigned`. With a responder and no signer, no CRL is signed.
+    /// Keeps a register open until the program ends: answers requests over HTTP at a port, and lines at a control socket. The signer signs; only
+    /// with `--unsigned` a placeholder digest replaces each signature. With a responder and no signer, no CRL is signed.
     Open(KeptOpen<'a>),
     /// Sends the lines of standard input to the control socket at a path; or the rows of a file.
     At {
         control_path: Word<'a>,
         rows: Option<Word<'a>>,
     },
-    /// Does the task with the certificate of each row of the file at a path, at the control socket at a path.
+    /// Does a task with the certificate of each row of a file, at the control socket at a path.
     EachRow {
         control_path: Word<'a>,
         rows: Word<'a>,
         task: RowTask,
     },
-    /// Sends the accepted commands of the log at a path to the control socket at a path once more.
+    /// Sends the accepted commands of the log at a path to the control socket at a path again.
     Replay {
         control_path: Word<'a>,
         log: Word<'a>,
@@ -191,14 +191,14 @@ pub enum Job<'a> {
         file: Word<'a>,
         steps: Steps,
     },
-    /// Gives the issuer a key identifier of its own, in hexadecimal, for the CRLs from the next one on.
+    /// Sets the issuer's key identifier, in hexadecimal, for CRLs from the next one on (RFC 5280 5.2.1).
     KeyId {
         file: Word<'a>,
         key_id: Word<'a>,
     },
-    /// Writes a list of the register, as CSV with a header or as an object of JSON a line, at a moment or at the machine's clock.
+    /// Writes a list of the register, as CSV with a header or as one JSON object for each line, at a moment or at the machine's clock.
     Listing(ListToWrite<'a>),
-    /// Copies the register, which no program has open, to a path at which nothing lies.
+    /// Copies the register, which no program has open, to a path that has no file.
     Copy {
         file: Word<'a>,
         path: Word<'a>,
@@ -208,33 +208,33 @@ pub enum Job<'a> {
     },
 }
 
-/// A job, and the options beside it.
+/// A job, and the options that are not part of it.
 #[derive(Drop)]
 pub struct Invocation<'a> {
     pub job: Job<'a>,
-    /// The cause of a fault is told, where it is known.
+    /// Whether the cause of a fault is reported, if it is known.
     pub is_explained: bool,
-    /// Each exchange is logged on standard error, where the job serves.
+    /// Whether a job that serves logs each exchange on standard error.
     pub has_log: bool,
-    /// The path of the file in which each exchange is told, where the job serves.
+    /// The path of the file in which a job that serves logs each exchange.
     pub log_file: Option<Word<'a>>,
 }
 
 /// Why there is no invocation.
 #[derive(Drop)]
 pub enum Usage {
-    /// Help was asked for: its text, for standard output.
+    /// The text of help, for standard output.
     Help(String),
-    /// The version was asked for: its text, for standard output.
+    /// The text of the version, for standard output.
     Version(String),
-    /// The words can't be read: what is wrong, for standard error.
+    /// What is wrong with the command line, for standard error.
     Bad(String),
-    /// Memory could not be had.
+    /// Out of memory.
     Memory,
 }
 
 impl Usage {
-    /// The exit status: 0 where help or the version was asked for, 2 where the words can't be read, 1 where memory runs out.
+    /// The exit status: 0 for help and the version, 2 if the command line can't be read, 1 if out of memory.
     pub fn status(&self) -> u8
         ensures { result ≡ usage_status self.now }
     {

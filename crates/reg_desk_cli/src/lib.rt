@@ -1,4 +1,4 @@
-//! The command line of the program `desk`: what its words say.
+//! Parses the command line of the program `desk`.
 #![tactic(auto)]
 
 mod checks;

@@ -1,4 +1,4 @@
-//! The values that the words of a command give.
+//! Reads the values of the arguments and options of a command.
 
 ghost use Rattle.std.specs.Prelude.{◌≡◌, ◌≤◌, ◌==◌, IfOk, IfSome, List, ℕ, map, option_and_then, option_map, position};
 ghost use Rattle.reg_core.specs.Calendar.{moment_of};
@@ -33,7 +33,7 @@ fn texts_of<'m, 'a>(matches: &'m ArgMatches<'a>, id: &str) -> Option<&'m [&'a st
     matches.get_strs(id)
 }
 
-/// The number of an option, or the usual one where the option is left out; `None` where it is no number.
+/// The number of an option, or the default if the option is not given; `None` if its value is no number.
 pub(crate) fn number_or(matches: &ArgMatches<'_>, id: &str, usual: u64) -> Option<u64>
     ensures { result ≡ value_or_usual usual id.now (rows_of (found_of matches.now)) }
 {
@@ -43,7 +43,7 @@ pub(crate) fn number_or(matches: &ArgMatches<'_>, id: &str, usual: u64) -> Optio
     }
 }
 
-/// The number of an option, if it is given; `None` where it is given and no number.
+/// The number of an option, if it is given; `None` if its value is no number.
 pub(crate) fn number_option(matches: &ArgMatches<'_>, id: &str) -> Option<Option<u64>>
     ensures { result ≡ given id.now (rows_of (found_of matches.now)) }
 {
@@ -53,7 +53,7 @@ pub(crate) fn number_option(matches: &ArgMatches<'_>, id: &str) -> Option<Option
     }
 }
 
-/// The number of an option, where it is one and within bounds.
+/// The number of an option; `None` if it is not given, no number, or out of bounds.
 pub(crate) fn number_within(
     matches: &ArgMatches<'_>,
     id: &str,
@@ -83,7 +83,7 @@ pub(crate) fn moment(matches: &ArgMatches<'_>, id: &str) -> Option<Moment>
     read_moment(text_of(matches, id)?.as_bytes())
 }
 
-/// The moment of an option, if it is given; `None` where it is given and none.
+/// The moment of an option, if it is given; `None` if its value is no moment.
 pub(crate) fn moment_option(matches: &ArgMatches<'_>, id: &str) -> Option<Option<Moment>>
     ensures { result ≡ moment_given id.now (rows_of (found_of matches.now)) }
 {
@@ -93,7 +93,7 @@ pub(crate) fn moment_option(matches: &ArgMatches<'_>, id: &str) -> Option<Option
     }
 }
 
-/// The address of `--listen`, or 127.0.0.1 where it is left out; `None` where it is none of the loopback interface.
+/// The address of `--listen`, or 127.0.0.1 if it is not given; `None` if it is no address of the loopback interface.
 pub(crate) fn loopback(matches: &ArgMatches<'_>) -> Option<Loopback>
     ensures { result ≡ loopback_in (rows_of (found_of matches.now)) }
 {
@@ -115,7 +115,7 @@ fn read_loopback(text: &str) -> Option<Loopback>
     }
 }
 
-/// The filter that the four options of `list` give; `None` where the value of one can't be read.
+/// The filter from the four options of `list`; `None` if the value of one can't be read.
 #[tactic(auto, unfolding(crate::specs::Jobs::filter_in))]
 pub(crate) fn filter_option(matches: &ArgMatches<'_>) -> Option<Filter>
     ensures { result ≡ filter_in (rows_of (found_of matches.now)) }
@@ -128,7 +128,7 @@ pub(crate) fn filter_option(matches: &ArgMatches<'_>) -> Option<Filter>
     })
 }
 
-/// The text of an option, if it is given; `None` where it is given and not of 1 to 64 bytes.
+/// The text of an option, if it is given; `None` if it does not have 1 to 64 bytes.
 pub(crate) fn label_option(matches: &ArgMatches<'_>, id: &str) -> Option<Option<Label>>
     ensures { result ≡ label_given id.now (rows_of (found_of matches.now)) }
 {
@@ -144,7 +144,7 @@ fn read_label(text: &[u8]) -> Option<Label>
     Label::of(text)
 }
 
-/// The hexadecimal digits of an option, if it is given; `None` where it is given and not of 1 to 40 of them.
+/// The hexadecimal digits of an option, if it is given; `None` if it is not 1 to 40 of them.
 pub(crate) fn prefix_option(matches: &ArgMatches<'_>, id: &str) -> Option<Option<Label>>
     ensures { result ≡ prefix_given id.now (rows_of (found_of matches.now)) }
 {
@@ -154,15 +154,15 @@ pub(crate) fn prefix_option(matches: &ArgMatches<'_>, id: &str) -> Option<Option
     }
 }
 
-/// The signer, if one is given; `None` where one of its two options is given alone, or no algorithm has the name.
+/// The signer, if one is given; `None` if only one of its two options is given, or if no algorithm has the name.
 pub(crate) fn key_holder<'a>(matches: &ArgMatches<'a>) -> Option<Option<KeyHolder<'a>>>
     ensures { result ≡ holder_in (rows_of (found_of matches.now)) }
 {
     holder_by(matches, "signer", "algorithm")
 }
 
-/// The responder to OCSP requests; `None` where an option of a responder is given without the others, no algorithm has the name, or
-/// `--embed` is given beside them.
+/// The responder to OCSP requests; `None` if an option of a responder is given without the others, if no algorithm has the name, or if
+/// `--embed` is given too.
 #[tactic(auto, unfolding(crate::specs::Jobs::answerer_in))]
 pub(crate) fn answerer<'a>(matches: &ArgMatches<'a>) -> Option<Answerer<'a>>
     ensures { result ≡ answerer_in (rows_of (found_of matches.now)) }
@@ -214,7 +214,7 @@ fn holder_by<'a>(
     }
 }
 
-/// The signer of CRLs where one is to be chosen: a signer, or `--unsigned`, or neither beside a responder; `None` for any other choice.
+/// The signer of CRLs for a job that must choose one: a signer, or `--unsigned`, or neither with a responder; `None` for any other choice.
 pub(crate) fn chosen_holder<'a>(
     matches: &ArgMatches<'a>,
     answerer: &Answerer<'_>,
@@ -249,7 +249,7 @@ fn choose<'a>(
     }
 }
 
-/// How the lines of a script are run.
+/// How a script runs.
 pub(crate) fn way_of(matches: &ArgMatches<'_>) -> Way
     ensures { result ≡ way_in (rows_of (found_of matches.now)) }
 {
@@ -260,7 +260,7 @@ pub(crate) fn way_of(matches: &ArgMatches<'_>) -> Way
     }
 }
 
-/// Whether an option is given that takes no value.
+/// Whether an option without a value is given.
 pub(crate) fn is_set(matches: &ArgMatches<'_>, id: &str) -> bool
     ensures { result ≡ has_flag id.now (rows_of (found_of matches.now)) }
 {
@@ -270,7 +270,7 @@ pub(crate) fn is_set(matches: &ArgMatches<'_>, id: &str) -> bool
     }
 }
 
-/// The terms of `--orders`, if it is given; `None` where it is given and they are not two numbers.
+/// The terms of `--orders`, if it is given; `None` if they are not two numbers.
 pub(crate) fn order_terms_option(matches: &ArgMatches<'_>) -> Option<Option<OrderTerms>>
     ensures { result ≡ order_terms_given (rows_of (found_of matches.now)) }
 {
@@ -292,7 +292,7 @@ fn read_order_terms(texts: &[&str]) -> Option<OrderTerms>
     })
 }
 
-/// The steps of a schedule; `None` where there are none, or one has another form than MOMENT=DAYS.
+/// The steps of a schedule; `None` if there are none, or if one has another form than MOMENT=DAYS.
 pub(crate) fn steps(
     alloc: Global,
     matches: &ArgMatches<'_>,
@@ -319,7 +319,7 @@ fn read_steps(alloc: Global, texts: &[&str]) -> Result<Option<Steps>, AllocError
     Ok(Some(Steps::of(steps)))
 }
 
-/// Reads `MOMENT=DAYS`, a step of a schedule; `None` where the text has another form.
+/// Reads `MOMENT=DAYS`, a step of a schedule; `None` if the text has another form.
 pub fn read_step(text: &[u8]) -> Option<(Moment, u64)>
     ensures { result ≡ step_of text.now }
 {

@@ -1,4 +1,4 @@
-//! What the words of a command line say.
+//! Reads the words of a command line as an invocation.
 
 ghost use Rattle.std.specs.Prelude.{◌≡◌, IfErr, IfOk, map};
 ghost use Rattle.clap.specs.Words.{app_of, found_of, rows_of, subcommand_rows_of, kind_of};
@@ -18,9 +18,9 @@ use std::convert::AsStr;
 
 const TEXT_WANTED: &str = "a word is not UTF-8 text: the name of a FILE must be UTF-8";
 
-/// Reads the words of a command line, of which the first is the program's name; options that are left out are as in the
-/// usual policy. `Help` and `Version` come where clap answers them, `Bad` where clap finds another fault, a value is out of
-/// its form or range, or `open` has neither a signer nor `--unsigned`, or has both.
+/// Reads the words of a command line, of which the first is the program's name. Options that are not given have the values of the
+/// default policy. `Help` and `Version` if clap answers with them; `Bad` if clap finds an error, a value has another form or
+/// is out of range, or `open` has neither a signer nor `--unsigned`, or has both.
 pub fn read_words<'a, S: AsStr>(alloc: Global, words: &'a [S]) -> Result<Invocation<'a>, Usage>
     ensures invocation { IfOk result (IsInvocationOf (map S.text words.entry.now)) }
     ensures usage { IfErr result (IsUsageOf (map S.text words.entry.now)) }
@@ -46,7 +46,7 @@ fn read_by<'a, S: AsStr>(
     }
 }
 
-/// The invocation that the words say which clap took.
+/// The invocation from the words that clap accepted.
 fn read_invocation<'a>(
     alloc: Global,
     desk: &mut Command<'_>,
@@ -85,7 +85,7 @@ fn word_behind<'a>(matches: &ArgMatches<'a>, id: &str) -> Option<Word<'a>>
     }
 }
 
-/// The job of the command that was named; `None` where a value of it is out of its form or range.
+/// The job of the given command; `None` if one of its values has another form or is out of range.
 fn read_job<'a>(alloc: Global, matches: &ArgMatches<'a>) -> Result<Option<Job<'a>>, AllocError>
     ensures { IfOk result (λ job. job ≡ job_found (subcommand_rows_of matches.now)) }
 {
@@ -95,7 +95,7 @@ fn read_job<'a>(alloc: Global, matches: &ArgMatches<'a>) -> Result<Option<Job<'a
     }
 }
 
-/// What is answered where a word of the command line is no text.
+/// The usage error for a word of the command line that is not UTF-8.
 pub fn no_text(alloc: Global) -> Usage
     ensures { PrintsUsage ErrorKind.InvalidValue result }
 {
@@ -111,7 +111,7 @@ fn text_wanted(alloc: Global, desk: &mut Command<'_>) -> Usage
     clap_error(alloc, desk, ErrorKind::InvalidValue, TEXT_WANTED)
 }
 
-/// What is answered where clap took the words, and a value is out of its form or range: the option and its value are named.
+/// The usage error for a value that clap accepted but that has another form or is out of range. It names the option and the value.
 fn bad_value(alloc: Global, desk: &mut Command<'_>, matches: &ArgMatches<'_>) -> Usage
     ensures { PrintsUsage ErrorKind.ValueValidation result }
 {
@@ -121,7 +121,7 @@ fn bad_value(alloc: Global, desk: &mut Command<'_>, matches: &ArgMatches<'_>) ->
     }
 }
 
-/// An error of our own, in the form of clap's.
+/// A usage error of the desk, in the form of clap's.
 fn clap_error(alloc: Global, desk: &mut Command<'_>, kind: ErrorKind, text: &str) -> Usage
     ensures { PrintsUsage kind result }
 {

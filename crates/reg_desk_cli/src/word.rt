@@ -1,4 +1,4 @@
-//! The arguments of a job: words as they were typed, and the steps of a schedule.
+//! The arguments of a job: words, and the steps of a schedule.
 
 ghost use Rattle.std.specs.Prelude.{◌≡◌};
 
@@ -20,14 +20,14 @@ impl<'a> Model for Word<'a> {
 }
 
 impl<'a> Word<'a> {
-    /// The word of this text.
+    /// The word with this text.
     pub fn of(text: &'a str) -> Word<'a>
         ensures { result ≡ text.entry.now }
     {
         Word { text }
     }
 
-    /// Its text.
+    /// The text of the word.
     pub fn as_str(&self) -> &'a str
         ensures { result.now ≡ self.now }
     {
@@ -35,7 +35,7 @@ impl<'a> Word<'a> {
     }
 }
 
-/// The steps of a schedule as they were given: each a moment and the days of the longest validity from it on.
+/// The steps of a schedule, in the given order. Each is a moment, and the days of the longest validity from then on.
 /// Contracts see the list of them.
 #[derive(Drop)]
 pub struct Steps {
@@ -51,7 +51,7 @@ impl Model for Steps {
 }
 
 impl Steps {
-    /// These steps.
+    /// Makes the steps from a vector.
     pub fn of(steps: Vec<(Moment, u64)>) -> Steps
         ensures { result ≡ steps.items }
     {

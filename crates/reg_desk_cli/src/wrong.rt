@@ -1,4 +1,4 @@
-//! The messages about a value that is out of its form or range.
+//! The messages for a value that has another form or is out of range.
 
 use crate::option_values::{
     answerer, key_holder, label_option, loopback, moment, number_within, prefix_option, read_step,
@@ -72,7 +72,7 @@ const ROWS_WANTED: &str = "at takes --import or --revoke, and not both; --orders
 const CHOICE_WANTED: &str =
     "open needs --signer SOCKET with --algorithm NAME, or --unsigned for a placeholder digest instead of signatures, and not both; with --responder the first, or neither";
 
-/// A value that is out of its form or range, the option that it was given for, and what is wanted in its place.
+/// A value that has another form or is out of range, its option, and the form that is wanted.
 #[derive(Clone, Copy)]
 struct Wrong<'a> {
     option: &'static str,
@@ -90,7 +90,7 @@ impl<'a> Wrong<'a> {
     }
 }
 
-/// The message about the first value that is out of its form or range; `None` if out of memory.
+/// The message for the first value that has another form or is out of range; `None` if out of memory.
 pub(crate) fn wrong_text(alloc: Global, matches: &ArgMatches<'_>) -> Option<String> {
     let Some(wrong) = first_wrong(matches) else {
         return String::from_str(alloc, combination_wanted(matches)).ok();
@@ -109,7 +109,7 @@ fn combination_wanted(matches: &ArgMatches<'_>) -> &'static str {
     }
 }
 
-/// The first value of the command that was named that is out of its form or range.
+/// The first value of the given command that has another form or is out of range.
 fn first_wrong<'a>(matches: &ArgMatches<'a>) -> Option<Wrong<'a>> {
     let (_, given) = matches.subcommand()?;
     if let Some(wrong) = wrong_number(given) {

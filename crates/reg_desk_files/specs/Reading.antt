@@ -1,4 +1,4 @@
--- Why files are not opened to be read.
+-- Why files can't be opened for reading.
 use Rattle.std.specs.Prelude.{◌≡◌, ◌⊎◌}
 use Rattle.reg_core.specs.declared.refusal.Fault.TheVariants.{Memory, Store}
 use Rattle.reg_desk_files.specs.declared.file_fault.FileFault.{FileFault}
@@ -9,7 +9,7 @@ use Rattle.reg_desk_files.specs.declared.read_only.Unread.TheVariants as unread
 abbrev pub IsFileFault : FileFault → Type 0
 IsFileFault why = (why.fault ≡ Memory) ⊎ (why.fault ≡ Store)
 
--- no database was begun in them, or a fault
+-- there is no database yet in them, or a fault
 abbrev pub IsUnread : Unread → Type 0
 IsUnread unread.Nothing = Unit {0}
 IsUnread (unread.Fault why) = IsFileFault why

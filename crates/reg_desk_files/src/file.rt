@@ -1,4 +1,4 @@
-//! Files that hold databases.
+//! Opens, creates and removes the files of a database.
 
 ghost use Rattle.std.specs.Prelude.{◌≡◌, ◌≢◌, ◌≤◌, false, IfOk, IfErr};
 ghost use Rattle.sqlite.specs.Files.{file_state, IsOpened};
@@ -21,17 +21,17 @@ use std::os::unix::fs::OpenOptionsExt;
 
 const PAGE: u64 = 4096;
 
-/// The fewest pages that are kept in memory: 8 MB.
+/// The fewest pages of the page cache: 8 MB.
 const FEWEST_PAGES: usize = 2_000;
 
-/// The most pages that are kept in memory: 512 MiB.
+/// The most pages of the page cache: 512 MiB.
 const MOST_PAGES: usize = 131_072;
 
 const OWNER_ALONE: u32 = 0o600;
 
-/// Opens the file at a path as a database, or makes it, with its checks for damage. `start` stands for what the file and its log hold. Twice
-/// the pages of the file are kept in memory, so that a look-up in a large register seldom waits for the operating system, and a page that
-/// changes often is written to the log once. Errors: `Memory`; `Store` where the file can't be opened or is no database, with its cause.
+/// Opens the file at a path as a database, with its checks for damage, or creates it. `start` has what the file and its log hold. The page cache has
+/// room for twice the pages of the file, so that a look-up in a large register seldom waits for the operating system, and a page that changes
+/// often is written to the log once. Errors: `Memory`; `Store` if the file can't be opened or is no database, with its cause.
 pub fn open_file<S: Start>(
     rt: &HostRuntime,
     path: &str,
@@ -43,7 +43,7 @@ pub fn open_file<S: Start>(
     ensures idle { IfOk result (λ connection. connection.in_transaction ≡ false) }
     ensures faults { IfErr result IsFileFault }
 {
-    // A path that SQLite reads as another thing than a file's name is refused.
+    // A path that SQLite does not read as the name of a file is refused.
     if path == ":memory:" || path.starts_with("file:") {
         return Err(with_cause(Fault::Store, None));
     }
@@ -87,12 +87,12 @@ fn pages_for(rt: &HostRuntime, path: &str) -> usize
 pub enum ClaimFault {
     /// Out of memory.
     Memory,
-    /// Something lies there, or may, or the system refused it, with the cause if it is known.
+    /// A file is there, or may be, or the system refused it; with the cause if it is known.
     Taken(Option<Cause>),
 }
 
-/// Creates an empty file that its owner alone may read and write at a path where nothing lies, in one step, so that of two programs that do
-/// so at once one has it. A link that leads nowhere lies there too, and so does a log without a register: it may be all that is left of one.
+/// Creates an empty file at a path with mode 0600. It fails if there is a file, so that of two programs at once only one succeeds. A dangling symbolic
+/// link counts as a file, and so does a log without a register: it may be all that is left of one.
 pub fn claim_file(rt: &HostRuntime, path: &str) -> Result<(), ClaimFault> {
     let Ok(log) = log_of(rt, path) else {
         return Err(ClaimFault::Memory);
@@ -123,8 +123,8 @@ fn claim_fault_of(kind: ErrorKind) -> ClaimFault
     }
 }
 
-/// Removes a database's file and its log. It locks them meanwhile, so that files that another program has open stay. Nothing is written
-/// before, so a failing disk does not keep it from that.
+/// Removes a database's file and its log, if no other program has them open: it locks them meanwhile. It writes nothing before, so that a failing
+/// disk does not prevent the removal.
 pub fn remove_file(rt: &HostRuntime, path: &str) {
     let Some(held) = locked_alone(rt, path) else {
         return;

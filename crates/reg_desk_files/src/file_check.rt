@@ -1,4 +1,4 @@
-//! What files hold before a database is opened in them.
+//! Finds out what files hold before a database is opened in them.
 
 ghost use Rattle.std.specs.Prelude.{◌≡◌, ◌≢◌, ◌↔◌, false, IfErr, IfOk, IsTrue};
 ghost use Rattle.sqlite.specs.Files.{HoldsDatabase, IsBlankAs, IsNothing, image_of};
@@ -17,18 +17,18 @@ use std::alloc::Global;
 
 const NEW_PAGE: usize = 4096;
 
-/// What files hold.
+/// The content of files.
 #[derive(Clone, Copy, PartialEq, Eq)]
 pub enum Found {
-    /// No database yet: the file is empty, or what a stopped opening left of a first page. An opening makes one.
+    /// No database yet: the file is empty, or has a part of a first page from an interrupted creation. Opening creates a database.
     Nothing,
-    /// No database, and something else.
+    /// No database, but something else.
     Other,
-    /// The beginning of a database. An opening finds whether it is one.
+    /// The beginning of a database. Opening finds out whether it is one.
     Begun,
 }
 
-/// What an opening would find in files, which are only read. Errors: `Memory`; `Store` where a call failed, or the log is none of a database.
+/// What opening would find in files, which are only read. Errors: `Memory`; `Store` if a call failed, or the log is not that of a database.
 pub fn look<D: Disk>(alloc: Global, files: &mut Files<D>) -> Result<Found, FileFault>
     requires log { IsTrue (D.Disk.is_usable files.old.log) }
     requires db { IsTrue (D.Disk.is_usable files.old.db) }
@@ -92,7 +92,7 @@ fn begins<D: Disk>(alloc: Global, files: &mut Files<D>) -> Result<bool, Error>
     }
 }
 
-/// Whether the first page begins with the S of SQLite, as that of a database does (SQLite's file format, 1.3.1).
+/// Whether the first page begins with the S of SQLite, as that of each database does (SQLite's file format, 1.3.1).
 fn begins_with<D: Disk>(alloc: Global, files: &mut Files<D>, size: PageSize) -> Result<bool, Error>
     requires log { IsTrue (D.Disk.is_usable files.old.log) }
     requires db { IsTrue (D.Disk.is_usable files.old.db) }

@@ -1,4 +1,4 @@
-//! A new file for the pages of a database: under another name until it is whole and on the disk.
+//! Writes the pages of a database to a new file, which has another name until it is complete and synced.
 
 ghost use Rattle.std.specs.Prelude.{IfErr};
 ghost use Rattle.reg_desk_files.specs.Reading.{IsFileFault};
@@ -16,11 +16,11 @@ use std::{fs, io};
 
 const OWNER_ALONE: u32 = 0o600;
 
-/// What the name ends with under which a copy is written.
+/// The suffix of a copy's name while it is written.
 const UNDER_WAY: &str = ".part";
 
-/// Writes all pages as a new file at a path at which nothing lies, nor what would be taken for its log. The file is written under a name of its
-/// own and synced, and only then gets its name, in one step that replaces nothing. Where that fails, it is removed.
+/// Writes all pages to a new file at a path that has no file, nor a file that would be taken for its log. The file is written under another
+/// name and synced. Only then it gets its name, in one step that replaces nothing. If that fails, the file is removed.
 pub(crate) fn write_copy<D: Disk>(
     rt: &HostRuntime,
     pager: &mut Pager<D>,
@@ -51,7 +51,7 @@ fn look_all_free(rt: &HostRuntime, to: &str) -> Result<(), FileFault>
     look_free(rt, to, "-journal")
 }
 
-/// Looks that nothing lies at a path with this end, nor a link that leads nowhere.
+/// Checks that a path with this suffix has no file and no symbolic link, not even a dangling one.
 fn look_free(rt: &HostRuntime, to: &str, end: &str) -> Result<(), FileFault>
     ensures { IfErr result IsFileFault }
 {
@@ -89,7 +89,7 @@ fn fill_and_name<D: Disk>(
     Ok(bytes)
 }
 
-/// Gives a file that is whole its name where nothing lies, and takes its first one. Where that fails, it loses its name again.
+/// Gives a complete file its name, if the name is free, and removes its former one. If that fails, it removes the new name again.
 fn name(rt: &HostRuntime, part: &str, to: &str) -> Result<(), FileFault>
     ensures { IfErr result IsFileFault }
 {
@@ -103,7 +103,7 @@ fn name(rt: &HostRuntime, part: &str, to: &str) -> Result<(), FileFault>
     }
 }
 
-/// Takes a file's first name, and syncs its folder.
+/// Removes a file's former name, and syncs its folder.
 fn settle(rt: &HostRuntime, part: &str) -> io::Result<()> {
     let mut folder = fs::canonicalize(rt, part)?;
     folder.pop();

@@ -1,4 +1,4 @@
-//! Why a file is not opened.
+//! Why a file can't be opened or created.
 
 ghost use Rattle.std.specs.Prelude.{◌≡◌};
 ghost use Rattle.reg_desk_files.specs.Reading.{IsFileFault};
@@ -10,12 +10,12 @@ use std::alloc::AllocError;
 use std::io;
 use std::io::ErrorKind;
 
-/// Why a file is not opened: the fault, and its cause if that is known.
+/// Why a file can't be opened or created: the fault, and its cause if it is known.
 #[derive(Clone, Copy, PartialEq, Eq)]
 pub struct FileFault {
     /// The fault.
     pub fault: Fault,
-    /// The cause that the failing call told.
+    /// The cause of the call that failed.
     pub cause: Option<Cause>,
 }
 
@@ -82,7 +82,7 @@ impl From<AllocError> for FileFault {
     }
 }
 
-/// Why a file is not created where a call of the system failed.
+/// Why a file can't be created, by the kind of error of the system call that failed.
 pub(crate) fn create_fault_of(kind: ErrorKind) -> FileFault
     ensures { IsFileFault result }
 {

@@ -1,4 +1,4 @@
-//! Files that are locked, so that no other program opens them meanwhile, and what lies beside them.
+//! Locks files, so that no other program opens them meanwhile, and finds the files beside them.
 
 ghost use Rattle.std.specs.Prelude.{◌≡◌, ◌++◌, codes, string_bytes, IfErr, IfOk};
 ghost use Rattle.reg_desk_files.specs.Reading.{IsFileFault};
@@ -12,12 +12,12 @@ use std::io::ErrorKind;
 use std::os::fd::AsRawFd;
 use std::{fs, io};
 
-/// Where SQLite's locks lie in a database file: its pending, reserved and shared ones.
+/// The offset of SQLite's locks in a database file: the pending, reserved and shared ones.
 const LOCKS: u64 = 1_073_741_824;
 
 const LOCKS_LENGTH: u64 = 512;
 
-/// Takes the locks of a database's file, as SQLite does. They end with the file.
+/// Locks a database's file as SQLite does. The lock ends when the file is closed.
 pub(crate) fn lock(file: &fs::File, kind: RangeLock) -> Result<(), FileFault>
     ensures { IfErr result IsFileFault }
 {
@@ -31,8 +31,8 @@ pub(crate) fn lock(file: &fs::File, kind: RangeLock) -> Result<(), FileFault>
     }
 }
 
-/// Looks that a database's file is locked to be written, as this program locks what it has open. Where nobody locks it, what this program
-/// opened at its path lies there no more.
+/// Checks that a database's file is locked for writing, as this program locks a file that it has open. If it is not, the file at the path
+/// is no longer the one that this program opened.
 pub(crate) fn look_at_locked(file: &fs::File) -> Result<(), FileFault>
     ensures { IfErr result IsFileFault }
 {

@@ -1,4 +1,4 @@
-//! A register's file, opened as a database with room in memory for its pages, or for reading alone; and copied.
+//! A register's file: opened as a database with a page cache, opened read-only, or copied.
 #![tactic(auto)]
 
 mod file;

@@ -1,4 +1,4 @@
-//! A file as a database meets it, of which nothing is ever written.
+//! A database's view of a file, through which nothing is written to disk.
 
 ghost use Rattle.std.specs.Prelude.{◌≡◌, ◌+◌, ◌≤◌, ◌<◌, Some, None, true, false, refl, length, is_ok, IfOk, IsErr, IsTrue, OnOk};
 ghost use Rattle.sqlite_disk.specs.Disk.{CountsFault, Cut, Holds, Torn};
@@ -12,21 +12,21 @@ use std::alloc::{AllocError, Global};
 use std::io;
 use std::io::ErrorKind;
 
-/// A file as a database meets it, which writes: bytes in memory, or a file that is only read, of which each write is refused.
+/// The file that a database gets: bytes in memory, which it may write; or a file that is only read, to which each write is refused.
 #[derive(Drop)]
 pub struct Overlay<F: Source> {
-    /// The file that is read, where it is one.
+    /// The file that is read, if there is one.
     below: Option<F>,
-    /// The bytes in memory, where it is none.
+    /// The bytes in memory, if there is no file.
     kept: Vec<u8>,
-    /// The key of digests.
+    /// The key of the page digests.
     key: u64,
     faults: u64,
     caught: u64,
 }
 
 impl<F: Source> Overlay<F> {
-    /// Bytes in memory, with the key of digests.
+    /// Bytes in memory, with the key of the page digests.
     pub fn copied(bytes: Vec<u8>, key: u64) -> Overlay<F>
         ensures bytes { bytes_of F.Source.bytes result ≡ bytes.items }
         ensures alone { file_below result ≡ None }
@@ -40,7 +40,7 @@ impl<F: Source> Overlay<F> {
         }
     }
 
-    /// A file that is read alone, with the key of digests.
+    /// A file that is only read, with the key of the page digests.
     pub fn over(alloc: Global, file: F, key: u64) -> Overlay<F>
         ensures bytes { bytes_of F.Source.bytes result ≡ F.Source.bytes file }
         ensures below { file_below result ≡ Some file }
@@ -75,7 +75,7 @@ impl<F: Source> Overlay<F> {
     }
 }
 
-/// A log that was copied into memory, and a database file that is read alone, as a database meets them.
+/// The files that a database gets: a log that was copied into memory, and a database file that is only read.
 pub fn overlaid<F: Source>(alloc: Global, log: Vec<u8>, db: F, key: u64) -> Files<Overlay<F>>
     ensures image { seen_image ⟦<Overlay<F> as Disk>⟧ result.log result.db ≡ image log.items (F.Source.bytes db) }
     ensures below { file_below result.db ≡ Some db }
@@ -173,7 +173,7 @@ impl<F: Source> Disk for Overlay<F> {
         }
     }
 
-    // What lies below is as it was, and memory is not kept.
+    // The file below did not change, and memory can't be synced.
     fn sync(&mut self) -> io::Result<()> {
         Ok(())
     }

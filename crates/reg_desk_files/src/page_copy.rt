@@ -1,4 +1,4 @@
-//! A copy of a register's files: one new file, which has each page as an opening finds it, also what only the log has.
+//! Copies a register's files to one new file, which has each page as opening finds it, also those that are only in the log.
 
 ghost use Rattle.std.specs.Prelude.{◌≡◌, ◌*◌, min, IfErr, IfOk, IsTrue, OnOk};
 ghost use Rattle.std.specs.Io.KnownBytes.{Appends};
@@ -23,16 +23,16 @@ use sqlite_wal::{PageSize, probe_page_size};
 use std::alloc::Global;
 use std::io::Write;
 
-/// Copies a database that no program has open to a path at which nothing lies, and gives how many bytes the copy has. The copy, which its
-/// owner alone may read and write, has that name once it is whole and synced. Errors: `Nothing` where no database was begun; `Memory`; `Store`
-/// where the files can't be read, something lies at the other path or beside it, or the copy can't be written. No copy is left then.
+/// Copies a database that no program has open to a path that has no file, and returns how many bytes the copy has. The copy, with mode 0600, gets
+/// that name once it is complete and synced. Errors: `Nothing` if there is no database yet; `Memory`; `Store` if the files can't be read, if there
+/// is a file at the other path or beside it, or if the copy can't be written. Then no copy is left.
 pub fn copy_closed(rt: &HostRuntime, path: &str, to: &str) -> Result<u64, Unread>
     ensures { IfErr result IsUnread }
 {
     copy_locked(rt, path, Holder::Nobody, to)
 }
 
-/// The same of a database that this program has open, as it is between two transactions: else `Store`.
+/// As [`copy_closed`], for a database that this program has open, between two transactions; `Store` if it does not have it open.
 pub fn copy_open(rt: &HostRuntime, path: &str, to: &str) -> Result<u64, Unread>
     ensures { IfErr result IsUnread }
 {
@@ -71,7 +71,7 @@ fn copy_files<D: Disk + Drop>(
     Ok(write_copy(rt, &mut pager, to)?)
 }
 
-/// The pages that an opening finds in files. Errors: `Nothing` where no database was begun; `Memory`; `Store` where they hold none or a call
+/// The pages that opening finds in files. Errors: `Nothing` if there is no database yet; `Memory`; `Store` if they hold something else or a call
 /// failed.
 pub fn recovered<D: Disk + Drop>(
     alloc: Global,
@@ -122,7 +122,7 @@ fn recovered_by<D: Disk + Drop>(
     }
 }
 
-/// Writes all pages in order, and gives how many bytes those are. Errors: `Memory`; `Store` where a page can't be read or written.
+/// Writes all pages in order, and returns how many bytes those are. Errors: `Memory`; `Store` if a page can't be read or written.
 pub fn put_pages<D: Disk, W: Write>(pager: &mut Pager<D>, writer: &mut W) -> Result<u64, FileFault>
     ensures whole { IfOk result (λ bytes. IsTrue (state pager.new).is_clean
         → Appends (W.contents writer.old) (W.contents writer.new) (pages_in_order (visible pager.old) (page_count pager.old))) }

@@ -1,4 +1,4 @@
-//! Files of the machine, opened for reading alone.
+//! Opens files of the machine read-only.
 
 ghost use Rattle.std.specs.Prelude.{◌≡◌, [], false, IfErr};
 ghost use Rattle.std.specs.Fs.{asks_append, asks_create, asks_create_new, asks_truncate, asks_write};
@@ -14,7 +14,7 @@ use std::io::ErrorKind;
 use std::os::unix::fs::{FileExt, MetadataExt};
 use std::{fs, io};
 
-/// A file of the machine, opened for reading alone: the system refuses each write through it. No contract can say what the machine answers.
+/// A file of the machine, opened read-only: the system refuses each write through it. No contract can state what the machine returns.
 #[derive(Drop)]
 pub struct ReadFile {
     file: fs::File,
@@ -34,12 +34,12 @@ impl Source for ReadFile {
     }
 }
 
-/// Which program has a database open whose files are read.
+/// Who has the database open whose files are read.
 #[derive(Clone, Copy)]
 pub(crate) enum Holder {
-    /// None that writes: the file is locked until it was read.
+    /// No program that writes: the file is locked until it was read.
     Nobody,
-    /// This program, which writes nothing meanwhile.
+    /// This program, which does not write meanwhile.
     Us,
 }
 
@@ -49,8 +49,8 @@ pub(crate) struct LockedFiles {
     pub(crate) db: ReadFile,
 }
 
-/// Opens the files of a database for reading alone, where a link leads, and locks them until they are dropped. Errors: `Memory`; `Store` also
-/// where another program has the file open to write, or this one should and has not; or where SQLite left a rollback journal beside it,
+/// Opens the files of a database read-only, also through a symbolic link, and locks them until they are dropped. Errors: `Memory`; `Store`, also
+/// if another program has the file open for writing, if `holder` is this program and it has not, or if SQLite left a rollback journal beside it,
 /// which only SQLite can play back.
 pub(crate) fn lock_files(
     rt: &HostRuntime,
@@ -59,7 +59,7 @@ pub(crate) fn lock_files(
 ) -> Result<LockedFiles, FileFault>
     ensures { IfErr result IsFileFault }
 {
-    // A path that SQLite reads as another thing than a file's name is refused.
+    // A path that SQLite does not read as the name of a file is refused.
     if path == ":memory:" || path.starts_with("file:") {
         return Err(with_cause(Fault::Store, None));
     }
@@ -88,7 +88,7 @@ fn log_at(rt: &HostRuntime, path: &str) -> Result<Option<ReadFile>, FileFault>
     }
 }
 
-/// Whether SQLite has to play back a rollback journal at a path: one that is empty or begins with a zero has nothing.
+/// Whether there is a rollback journal at a path that SQLite has to play back: not one that is empty or begins with a zero.
 fn has_hot_journal(rt: &HostRuntime, path: &str) -> io::Result<bool> {
     match open_plain(rt, path) {
         Ok(journal) => begins_hot(&journal),
@@ -107,9 +107,9 @@ fn begins_hot(journal: &ReadFile) -> io::Result<bool> {
     Ok(first[0] != 0)
 }
 
-/// Opens a regular file for reading alone. It has no second name, beside which another log could lie, and is no link.
+/// Opens a regular file read-only. It must have only this name, since another log could be beside a second one, and be no symbolic link.
 fn open_plain(rt: &HostRuntime, path: &str) -> io::Result<ReadFile> {
-    // What waits for a writer, as a pipe does, is not opened.
+    // Not opened: a file like a pipe, where opening would wait for a writer.
     if !fs::symlink_metadata(rt, path)?.is_file() {
         return Err(ErrorKind::Unsupported.into());
     }

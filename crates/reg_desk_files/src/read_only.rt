@@ -1,4 +1,4 @@
-//! A register's files, opened as a database that is read alone.
+//! Opens a register's files as a database that is only read.
 
 ghost use Rattle.std.specs.Prelude.{◌≡◌, false, length, IfErr, IfOk, IsTrue, OnOk};
 ghost use Rattle.sqlite.specs.Files.{file_state, image_of, IsNothing, IsOpened};
@@ -21,15 +21,15 @@ use sqlite_disk::{Disk, Files};
 use std::alloc::{AllocError, Global};
 use std::hash::{BuildHasher, RandomState};
 
-/// More bytes than an opening writes behind those of a log.
+/// More bytes than opening appends to a log.
 const ROOM: usize = 64;
 
 /// Why files can't be read.
 #[derive(Clone, Copy, PartialEq, Eq)]
 pub enum Unread {
-    /// There is no database yet: an opening to write would make one.
+    /// There is no database yet: opening for writing would create one.
     Nothing,
-    /// They can't be opened.
+    /// They can't be opened, because of this fault.
     Fault(FileFault),
 }
 
@@ -43,28 +43,28 @@ impl From<FileFault> for Unread {
     }
 }
 
-/// The files of a database, which are only read, and how it is to be opened.
+/// The files of a database, which are only read, with the options to open it.
 #[derive(Drop)]
 pub struct Sources<F: Source> {
     /// The bytes of the log.
     pub log: Vec<u8>,
     /// The database's file.
     pub db: F,
-    /// The key of digests.
+    /// The key of the page digests.
     pub key: u64,
-    /// How much is kept in memory.
+    /// The options, such as the size of the page cache.
     pub options: Options,
 }
 
-/// Opens the files at a path for reading alone, where a link leads. None is made, and the log is copied into memory. Until they are dropped
-/// no program may open them to write. Errors: `Memory`; `Store` where the files can't be opened, with the cause.
+/// Opens the files at a path read-only, also through a symbolic link. It creates no file, and copies the log into memory. Until they are dropped,
+/// no program can open them for writing. Errors: `Memory`; `Store` if the files can't be opened, with the cause.
 pub fn read_at(rt: &HostRuntime, path: &str) -> Result<Sources<ReadFile>, FileFault>
     ensures { IfErr result IsFileFault }
 {
     sources_at(rt, path, Holder::Nobody)
 }
 
-/// The same of files that this program may have open.
+/// As [`read_at`], for files that this program may have open.
 pub(crate) fn sources_at(
     rt: &HostRuntime,
     path: &str,
@@ -87,8 +87,8 @@ pub(crate) fn sources_at(
     })
 }
 
-/// Looks whether a database was begun in the files at a path, which are only read. Errors: `Nothing` where none was begun; `Memory`; `Store`
-/// where the files can't be opened or hold something else, with the cause.
+/// Checks that the files at a path, which are only read, have the beginning of a database. Errors: `Nothing` if there is no database yet; `Memory`;
+/// `Store` if the files can't be opened or hold something else, with the cause.
 pub fn look_at(rt: &HostRuntime, path: &str) -> Result<(), Unread>
     ensures { IfErr result IsUnread }
 {
@@ -102,8 +102,8 @@ fn look_into<F: Source + Drop>(alloc: Global, sources: Sources<F>) -> Result<(),
     is_begun(alloc, &mut files)
 }
 
-/// Opens a database over files that have no call that writes, so no use of the connection changes them: an opening writes into the copy of the
-/// log. Errors as of [`open_begun`].
+/// Opens a database over files that have no call that writes, so no use of the connection changes them: opening writes into the copy of the
+/// log. Errors are those of [`open_begun`].
 pub fn open_sources<F: Source + Drop>(
     alloc: Global,
     sources: Sources<F>,
@@ -121,7 +121,7 @@ pub fn open_sources<F: Source + Drop>(
     open_begun(alloc, files, options)
 }
 
-/// Opens files in which a database was begun. Errors: `Nothing` where none was; `Memory`; `Store` where they hold none or a call failed.
+/// Opens files with the beginning of a database. Errors: `Nothing` if there is none; `Memory`; `Store` if they hold something else or a call failed.
 pub fn open_begun<D: Disk + Drop>(
     alloc: Global,
     mut files: Files<D>,
@@ -158,7 +158,7 @@ pub(crate) fn is_begun<D: Disk>(alloc: Global, files: &mut Files<D>) -> Result<(
     }
 }
 
-/// A copy of all bytes of a file, with room for what an opening writes behind them. Errors: `Memory`; `Store` where a call failed.
+/// A copy of all bytes of a file, with capacity for those that opening appends. Errors: `Memory`; `Store` if a call failed.
 pub fn copy_of<F: Source>(alloc: Global, file: &F) -> Result<Vec<u8>, FileFault>
     ensures bytes { IfOk result (λ copy. IsTrue (F.Source.is_honest file.now) → copy.items ≡ F.Source.bytes file.now) }
     ensures faults { IfErr result IsFileFault }

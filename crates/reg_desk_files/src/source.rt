@@ -1,8 +1,8 @@
-//! Files that can be read, and not written.
+//! Files that can be read, but not written.
 
 use std::io;
 
-/// A file that can be read at any place. No call of it writes, so a function that gets only such files changes none of them.
+/// A file that can be read at any offset. It has no call that writes, so a function that gets only such files changes none of them.
 pub trait Source {
     ghost use Rattle.std.specs.Prelude.{◌≡◌, ◌<◌, ℕ, Bool, List, length, IfOk, IsTrue, OnOk};
     ghost use Rattle.sqlite_disk.specs.Disk.{Holds};
@@ -10,14 +10,14 @@ pub trait Source {
     /// The bytes of the file.
     ghost bytes: { Self → List ℕ };
 
-    /// Each call answers by these bytes. Of a file of the machine no contract can say so.
+    /// Whether each call returns these bytes. For a file of the machine no contract can state this.
     ghost is_honest: { Self → Bool };
 
     /// How many bytes the file has. Errors: the call of the system failed.
     fn size(&self) -> io::Result<usize>
         ensures { IfOk result (λ size. IsTrue (is_honest self.now) → size ≡ length (bytes self.now)) };
 
-    /// Fills a buffer with the bytes from a place on. Errors: the file ends before that, or the call of the system failed.
+    /// Fills a buffer with the bytes from an offset on. Errors: the file ends before that, or the call of the system failed.
     fn fill(&self, at: usize, buf: &mut [u8]) -> io::Result<()>
         ensures { OnOk result (IsTrue (is_honest self.now) → 0 < length buf.old → Holds (bytes self.now) at buf.new) };
 }

@@ -30,11 +30,11 @@ abbrev pub is_recent : ℕ → Option ℕ → Bool
 is_recent now (Some at) = nat_le at now && nat_lt (now - at) 60
 is_recent now None = false
 
--- a hundred requests came within the minute up to a moment: the oldest of the last hundred did
+-- a hundred requests came within the minute up to a moment: the oldest of the last hundred came within it
 abbrev pub is_rate_reached : ℕ → RecentRequests → Bool
 is_rate_reached now recent = is_recent now (slice_index_or recent.moments (recent.next % 100) None)
 
--- one request more, in the place of the oldest
+-- one more request, which replaces the oldest
 abbrev pub after_one_more : ℕ → RecentRequests → RecentRequests
 after_one_more now recent = record { moments = slice_set recent.moments (recent.next % 100) (Some now); next = recent.next % 100 + 1 }
 
@@ -59,7 +59,7 @@ limit_by intake ahead =
     else if nat_le 3 intake.waiting then Some 429
     else None
 
--- the status that refuses a request for a serial number at a moment: 429 if a hundred came within the minute, or by the records
+-- the status that refuses a request for a serial number at a moment: 429 if a hundred came within the minute; else by the records
 abbrev pub limit_at : Admission → Records → ℕ → ℕ → Option ℕ
 limit_at admission records now serial =
     if is_rate_reached now admission.recent then Some 429
@@ -70,7 +70,7 @@ abbrev pub IsWithin : Admission → Records → ℕ → Option ℕ → Type 0
 IsWithin admission records now None = Unit {0}
 IsWithin admission records now (Some serial) = limit_at admission records now serial ≡ None
 
--- a request for a serial number is refused: with the status of a limit, or with the fault of the store that could not be read
+-- a request for a serial number is refused: with the status of a limit, or with the fault of a store that could not be read
 abbrev pub RefusesSerial : Admission → Records → ℕ → ℕ → AnswerEffects → Type 0
 RefusesSerial admission records now serial it =
     ((status : ℕ) × (limit_at admission records now serial ≡ Some status) × (it ≡ plain (http_refusal status)))
@@ -89,13 +89,13 @@ abbrev pub IsRefusedBy : ℕ → Option Answered → Type 0
 IsRefusedBy status (Some answered) = answer_effects answered ≡ plain (http_refusal status)
 IsRefusedBy status None = ⊥
 
--- the register answers a request within the limits; any other is refused, and the records stay
+-- the register answers a request within the limits; any other is refused, and no record changes
 abbrev pub AnswersAdmitted : Admission → Signs → ℕ → Signatory → Records → RoutedRequest → AnswerEffects → Records → Type 0
 AnswersAdmitted admission signs now signatory before what it after =
     (IsWithin admission before now (requested_serial what) × Answers (Runs signs signatory) Asks (Replies signs signatory) Crls now before what it after)
     ⊎ (RefusesAtLimit admission before now (requested_serial what) it × (after ≡ before))
 
--- the same as it is begun
+-- the same when the answer is begun, and may be left to be signed
 abbrev pub BeginsAdmitted : Admission → Signs → ℕ → Signatory → Records → RoutedRequest → Result (Begun Answered Drafted) Memory → Records → Type 0
 BeginsAdmitted admission signs now signatory before what (Ok (Ready answered)) after =
     AnswersAdmitted admission signs now signatory before what (answer_effects answered) after × AddsARequestAtMost now before after
@@ -103,6 +103,6 @@ BeginsAdmitted admission signs now signatory before what (Ok (Unsigned draft)) a
     BeginsTo (Runs signs signatory) Asks (Replies signs signatory) Crls (Drafts signatory) now before what (Unsigned draft) after
 BeginsAdmitted admission signs now signatory before what (Err memory) after = after ≡ before
 
--- by whatever the desk admits requests
+-- the same for some state of the limits
 abbrev pub AnswersLimited : Signs → ℕ → Signatory → Records → RoutedRequest → AnswerEffects → Records → Type 0
 AnswersLimited signs now signatory before what it after = (admission : Admission) × AnswersAdmitted admission signs now signatory before what it after

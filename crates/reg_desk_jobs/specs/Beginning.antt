@@ -1,4 +1,4 @@
--- What a request comes to at a desk, where an OCSP response may be left to be signed.
+-- The outcome of a request at a desk that may leave an OCSP response to be signed.
 use Rattle.std.specs.Prelude.{◌≡◌, ℕ, Bool, List, Result, Ok, Err}
 use Rattle.reg_office_api.specs.CallSteps.{Signs}
 use Rattle.reg_office_api.specs.Drafts.{Drafts}
@@ -26,13 +26,13 @@ abbrev pub ready_of : Result Answered Memory → Result (Begun Answered Drafted)
 ready_of (Ok answered) = Ok (Ready answered)
 ready_of (Err memory) = Err memory
 
--- the register alone leaves a response to be signed, also behind the limits of an open desk
+-- only the register leaves a response to be signed, also behind the limits of an open desk
 abbrev pub MayLeave : Dispatch → Type 0
 MayLeave ToRegister = Unit {0}
 MayLeave ToLimits = Unit {0}
 MayLeave other = ⊥
 
--- the outcome of a request that was read: the answer; or what is left to be signed for it, by the register alone; or out of memory
+-- the outcome of a request that was read: an answer; or, only by the register, a response to be signed; or out of memory
 abbrev pub BeginsAt
     : Bool → Signs → ℕ → Signatory → Records → List ℕ → List ℕ → List ℕ → Result (Begun Answered Drafted) Memory → Records → Type 0
 BeginsAt is_open signs now signatory before method target body (Ok (Ready answered)) after =
@@ -42,8 +42,8 @@ BeginsAt is_open signs now signatory before method target body (Ok (Unsigned dra
     × ((request : List ℕ) × (asks_for method target body ≡ ocsp_of request) × Drafts signatory before now request draft after)
 BeginsAt is_open signs now signatory before method target body (Err memory) after = after ≡ before
 
--- what the bytes that came are answered: an exchange that is ready; or what is left to be signed, and whatever text finishes that is one's. The
--- records gain one request for revocation at most.
+-- the answer to the bytes that came: an exchange that is ready; or a response to be signed, such that any text that finishes it is that of an
+-- exchange. The records gain at most one request for revocation.
 abbrev pub AnswersBegun
     : (List ℕ → List ℕ → Type 0) → Bool → Signs → ℕ → Signatory → Records → List ℕ → Begun Exchange UnsignedResponse → Records → Type 0
 AnswersBegun signer_answered is_open signs now signatory before request (Ready exchange) after =
@@ -51,7 +51,7 @@ AnswersBegun signer_answered is_open signs now signatory before request (Ready e
 AnswersBegun signer_answered is_open signs now signatory before request (Unsigned left) after =
     ((text : List ℕ) → FinishesAt signer_answered left.draft now text → AnswersAt is_open signs now signatory before request text after) × AddsARequestAtMost now before after
 
--- the route under which it is counted
+-- the route under which the exchange is counted
 abbrev pub IsBegunRoute : List ℕ → Begun Exchange UnsignedResponse → Type 0
 IsBegunRoute request (Ready exchange) = IsRouteOf request exchange.route
 IsBegunRoute request (Unsigned left) = IsRouteOf request left.route

@@ -1,4 +1,4 @@
--- The outcome of a line at the control socket, its reply, and what is counted of it.
+-- The result of a line at the control socket, its reply, and what is counted for it.
 use Rattle.std.specs.Prelude.{◌≡◌, ◌⊎◌, ◌<◌, ◌==◌, ℕ, Bool, true, false, List, [], ◌∷◌, ◌++◌, codes, cond, length, Ok, Err}
 use Rattle.hex.specs.Hex.{encode_lower}
 use Rattle.reg_office_api.specs.declared.effects.LineEffects.{LineEffects}
@@ -22,7 +22,7 @@ use Rattle.reg_lines.specs.declared.answered.LineKind.TheVariants.{Command, Ocsp
 use Rattle.reg_desk_jobs.specs.declared.control_reply.LineOutcome.{LineOutcome}
 use Rattle.reg_desk_jobs.specs.declared.control_reply.LineOutcome.TheVariants.{CameTo, Response, Done, Failed, Silent, Uncopied}
 
--- the reply is these bytes, or nothing where there was no memory for them
+-- the reply is these bytes, or empty if there was no memory for them
 abbrev pub IsReplyText : List ℕ → List ℕ → Type 0
 IsReplyText bytes text = (text ≡ bytes) ⊎ (text ≡ [])
 
@@ -30,12 +30,12 @@ IsReplyText bytes text = (text ≡ bytes) ⊎ (text ≡ [])
 abbrev pub ReportsFault : Fault → List ℕ → Type 0
 ReportsFault why text = IsReplyText (fault_line why ++ 10 ∷ []) text
 
--- what a command line came to
+-- the result of a command line
 abbrev pub line_outcome_of : Answered → LineOutcome
 line_outcome_of (answered.CameTo what outcome) = CameTo what outcome
 line_outcome_of (answered.Response reply) = Response reply.is_refusal
 
--- the reply shows the outcome of a line; an OCSP response refuses where it has five bytes: a status and nothing else (RFC 6960 4.2.1)
+-- the reply shows the result of a line; an OCSP response that has only a status has five bytes (RFC 6960 4.2.1)
 abbrev pub ReportsLineOutcome : LineOutcome → List ℕ → Type 0
 ReportsLineOutcome (CameTo what outcome) text = text ≡ with_lf (outcome_line outcome)
 ReportsLineOutcome (Response refuses) text =
@@ -45,18 +45,18 @@ ReportsLineOutcome (Failed why) text = text ≡ failure_line why ++ 10 ∷ []
 ReportsLineOutcome (Uncopied why) text = text ≡ fault_line why ++ 10 ∷ []
 ReportsLineOutcome Silent text = text ≡ []
 
--- the reply to a word that came to this is these bytes; or there was no memory for it
+-- the reply is these bytes, with the result `came`; or there was no memory for it
 abbrev pub IsOf : List ℕ → LineOutcome → List ℕ → LineOutcome → Type 0
 IsOf bytes came text told = ((text ≡ bytes) × (told ≡ came)) ⊎ ((text ≡ []) × (told ≡ Silent))
 
 -- ---- what is counted
 
--- how a line was answered that came to a refusal or a fault
+-- the kind of reply to a line that was refused, or that ended in a fault
 abbrev pub kind_of_fault : Fault → LineReply
 kind_of_fault (fault.Refused refusal) = kind.Refused
 kind_of_fault other = kind.Fault
 
--- how a line was answered
+-- the kind of reply to a line
 abbrev pub kind_of : LineOutcome → LineReply
 kind_of (CameTo what (Ok reply)) = kind.Accepted
 kind_of (CameTo what (Err why)) = kind_of_fault why
@@ -66,11 +66,11 @@ kind_of (Uncopied why) = kind_of_fault why
 kind_of Silent = kind.Fault
 kind_of other = kind.Accepted
 
--- a signature that did not come failed, or was not asked for
+-- without a signature, it failed or was not requested
 abbrev pub failed_if : Bool → SignatureFate
 failed_if is_unsigned = cond is_unsigned fate.Failed fate.NotAsked
 
--- the signature of a CRL, by whether one failed at the line
+-- the signature of a CRL, by whether a signature failed during the line
 abbrev pub crl_fate : Bool → LineOutcome → SignatureFate
 crl_fate is_unsigned (CameTo (Command Crl) (Ok reply)) = fate.Made
 crl_fate is_unsigned (CameTo (Command Crl) (Err why)) = failed_if is_unsigned
@@ -83,14 +83,14 @@ ocsp_fate is_unsigned (Response true) = failed_if is_unsigned
 ocsp_fate is_unsigned (Response false) = cond is_unsigned fate.Failed fate.Made
 ocsp_fate is_unsigned other = fate.NotAsked
 
--- what the line says of the store: a command that was accepted was written
+-- what the line shows about the store: an accepted command was written
 abbrev pub store_effect : LineOutcome → StoreEffect
 store_effect (CameTo (Command command) (Ok reply)) = effect.Written
 store_effect (CameTo what (Err fault.Store)) = effect.Failed
 store_effect (Failed (failure.Fault fault.Store)) = effect.Failed
 store_effect other = effect.Unwritten
 
--- what is counted of a line, at which a signature failed or did not
+-- what is counted for a line, by whether a signature failed during it
 abbrev pub effects_of : Bool → LineOutcome → LineEffects
 effects_of is_unsigned came = record {
   reply = kind_of came;

@@ -1,4 +1,4 @@
--- What a line at the control socket says: a word of its own, or a command line.
+-- The meaning of a line at the control socket: one of its own words, or a command line.
 use Rattle.std.specs.Prelude.{◌≡◌, ◌⊎◌, ℕ, List, [], ◌∷◌, ◌++◌, codes, bytes_eq, if◌then◌else◌, IsFalse, IsTrue, MatchOption, Option, Some, None, option_map}
 use Rattle.std.specs.Option.{option_map_or}
 use Rattle.reg_core.specs.Calendar.{moment_of}
@@ -33,8 +33,8 @@ use Rattle.reg_desk_jobs.specs.declared.words.SerialDecision.{SerialDecision}
 use Rattle.reg_desk_jobs.specs.declared.words.Shown.{Shown}
 use Rattle.reg_desk_jobs.specs.declared.words.Shown.TheVariants.{Request, Certificate, Subscriber}
 
--- the words of the control socket: its words, why the last refused line was refused, a copy, a row that is shown, a decision of a request that is
--- for a serial number, a clock that the operator accepts, a schedule of steps; any other line is a command line
+-- the meanings of a line: list the words; why the last refused line was refused; copy the register; show a row; decide a request given by number
+-- and serial number; accept the clock; set a schedule with steps; else it is a command line
 pub data Saying : Type 0 where
   helps : Saying
   why : Saying
@@ -45,7 +45,7 @@ pub data Saying : Type 0 where
   schedules : List (ℕ × ℕ) → Saying
   commands : Saying
 
--- what fields ask to be shown: `SERIAL`, `request N` or `subscriber NAME`
+-- the row that fields ask for: `SERIAL`, `request N` or `subscriber NAME`
 abbrev pub shown_by : List (List ℕ) → Option Shown
 shown_by [] = None
 shown_by (serial ∷ []) = option_map Certificate (serial_of serial)
@@ -55,7 +55,7 @@ shown_by (kind ∷ named ∷ []) =
     else None
 shown_by (kind ∷ named ∷ more ∷ rest) = None
 
--- the same behind the word `show`
+-- the same after the word `show`
 abbrev pub shown_in : List (List ℕ) → Option Shown
 shown_in [] = None
 shown_in (word ∷ rest) = if bytes_eq word (codes "show") then shown_by rest else None
@@ -75,7 +75,7 @@ serial_decision_in (word ∷ request ∷ serial ∷ []) = do
   serial_decision_by word request serial
 serial_decision_in other = None
 
--- the moment behind the word `accept-clock`
+-- the moment after the word `accept-clock`
 abbrev pub accepted_by_word : List ℕ → List ℕ → Option ℕ
 accepted_by_word word moment = if bytes_eq word (codes "accept-clock") then moment_of moment else None
 
@@ -84,19 +84,19 @@ abbrev pub accepted_in : List (List ℕ) → Option ℕ
 accepted_in (word ∷ moment ∷ []) = accepted_by_word word moment
 accepted_in other = None
 
--- the steps of a schedule that fields set: one at least, each `MOMENT=DAYS`, behind the word
+-- the steps of a schedule, after the word: at least one, each `MOMENT=DAYS`
 abbrev pub steps_set : List (List ℕ) → Option (List (ℕ × ℕ))
 steps_set [] = None
 steps_set (word ∷ []) = None
 steps_set (word ∷ step ∷ rest) = if bytes_eq word (codes "schedule") then steps_of (step ∷ rest) else None
 
--- what the fields of a line say
+-- the meaning of the fields of a line
 abbrev pub said_by_fields : List (List ℕ) → Saying
 said_by_fields fields =
     option_map_or shows (shown_in fields) (option_map_or settles (serial_decision_in fields)
     (option_map_or accepts (accepted_in fields) (option_map_or schedules (steps_set fields) commands)))
 
--- what a line says
+-- the meaning of a line
 abbrev pub said_in : List ℕ → Saying
 said_in line =
     if bytes_eq (line_of line) (codes "help") then helps
@@ -104,7 +104,7 @@ said_in line =
     else if is_copy_line line then copies
     else said_by_fields (fields_of (line_of line))
 
--- a line is this word; a command line has no end, and is none where it has too many bytes
+-- a line has this meaning; a command line is given without its line end, and is `None` if it has too many bytes
 abbrev pub IsWord : List ℕ → ControlWord → Type 0
 IsWord line Help = said_in line ≡ helps
 IsWord line Why = said_in line ≡ why
@@ -121,7 +121,7 @@ abbrev pub CommandAt : Signs → ℕ → Signatory → Records → List ℕ → 
 CommandAt signs now identity before line text after =
     Replied (ComesTo (Lines signs identity) now) before line text after ⊎ (ReportsFault fault.Memory text × (after ≡ before))
 
--- a command is refused, as the clock is too far ahead of the last accepted moment and the moment that the operator accepted
+-- a command is refused, because the clock is too far past both the last accepted moment and the moment that the operator accepted
 abbrev pub RefusesClock : Option ℕ → ℕ → Records → List ℕ → Type 0
 RefusesClock accepted now before text =
     IsTrue (is_ahead now before.last accepted) × IsReplyText (codes "bad-clock\n") text
@@ -142,24 +142,24 @@ abbrev pub MeetsClock : Option ℕ → ℕ → Records → Option ControlReply �
 MeetsClock accepted now before None = IsFalse (is_ahead now before.last accepted)
 MeetsClock accepted now before (Some reply) = RefusesClock accepted now before reply.text.items ⊎ RepliesStoreFault reply.text.items
 
--- a line has a command, and no query
+-- a line has a command, not a query
 abbrev pub HasCommand : List ℕ → Type 0
 HasCommand line = (command : Command) × LineMeans line (means_command command)
 
--- a command line without its end: a command at the clock; any other line runs at any moment of the clock
+-- a command line without its line end: a command is checked against the clock; a query is not
 abbrev pub LineAt : Option ℕ → Signs → ℕ → Signatory → Records → List ℕ → List ℕ → Records → Type 0
 LineAt accepted signs now identity before line text after =
     (HasCommand line × AtClock accepted now before (CommandAt signs now identity before line text after) text after)
     ⊎ ((¬ HasCommand line) × CommandAt signs now identity before line text after)
 
--- a command line with its end; or it has too many bytes, and nothing ran
+-- a command line with its line end; or it has too many bytes, and nothing ran
 abbrev pub EntryAt : Option ℕ → Signs → ℕ → Signatory → Records → List ℕ → List ℕ → Records → Type 0
 EntryAt accepted signs now identity before line text after =
     (IsShortCommand line × LineAt accepted signs now identity before (line_of line) text after)
     ⊎ ((¬ IsShortCommand line) × ReportsFault fault.Read text × (after ≡ before))
 
--- the reply to each word: the words, why a line was refused, of a copy, a row, and that the clock is accepted, and the records stay; of a decision;
--- of a schedule that is set; and a command line's reply
+-- the reply to each word: for `help`, `why`, `copy`, `show` and `accept-clock`, and no record changes; to a decision; to a schedule
+-- that is set; and to a command line
 abbrev pub AnswersWord : Option ℕ → Signs → ℕ → Signatory → Records → List ℕ → Saying → List ℕ → Records → Type 0
 AnswersWord accepted signs now identity before line helps text after = IsReplyText (help_text ++ 10 ∷ []) text × (after ≡ before)
 AnswersWord accepted signs now identity before line why text after = after ≡ before
@@ -171,7 +171,7 @@ AnswersWord accepted signs now identity before line (accepts moment) text after 
 AnswersWord accepted signs now identity before line (schedules steps) text after = SetAt steps before text after
 AnswersWord accepted signs now identity before line commands text after = EntryAt accepted signs now identity before line text after
 
--- the moment that the operator accepted, after a line; it stays if there was no memory to read the line
+-- the moment that the operator has accepted after a line; it stays if there was no memory to read the line
 abbrev pub accepted_by : Saying → Option ℕ → Option ℕ
 accepted_by (accepts moment) accepted = Some moment
 accepted_by other accepted = accepted
@@ -179,11 +179,11 @@ accepted_by other accepted = accepted
 abbrev pub IsAcceptedAfter : List ℕ → Option ℕ → Option ℕ → Type 0
 IsAcceptedAfter line accepted accepted' = (accepted' ≡ accepted_by (said_in line) accepted) ⊎ (accepted' ≡ accepted)
 
--- a line of an open register at a moment; or there was no memory to read it, which is replied, and the records stay
+-- a line of an open register at a moment; or there was no memory to read it: the reply says so, and no record changes
 abbrev pub WordAt : Option ℕ → Signs → ℕ → Signatory → Records → List ℕ → List ℕ → Records → Type 0
 WordAt accepted signs now identity before line text after =
     AnswersWord accepted signs now identity before line (said_in line) text after ⊎ (ReportsFault fault.Memory text × (after ≡ before))
 
--- the same at a moment of a clock, whatever moment the operator accepted, if any
+-- the same at a moment of the clock, with any accepted moment or none
 abbrev pub Word : Signs → (ℕ → Type 0) → Signatory → Records → List ℕ → List ℕ → Records → Type 0
 Word signs clock_reached identity before line text after = (accepted : Option ℕ) × (now : ℕ) × clock_reached now × WordAt accepted signs now identity before line text after

@@ -1,4 +1,4 @@
--- Lines sent to a control socket, or rows as lines, and its replies.
+-- Lines, or rows as lines, that are sent to a control socket, and its replies.
 use Rattle.std.specs.Prelude.{◌≡◌, ◌↔◌, ◌⊎◌, ◌<◌, ℕ, List, [], ◌∷◌, ◌++◌, length, IsTrue, IfSome, Option, Some, Result, Ok, Err}
 use Rattle.std.specs.Io.KnownBytes.{Appends, Consumes}
 use Rattle.std.specs.List.{AllByRecursion, concat}
@@ -19,31 +19,31 @@ abbrev pub AreWhole : List (List ℕ) → Type 0
 AreWhole [] = Unit {0}
 AreWhole (line ∷ rest) = IsWholeLine line × AreWhole rest
 
--- a last line without its end
+-- a last line without its line end
 abbrev pub IsCutOff : List ℕ → Type 0
 IsCutOff line = HasNoLf line × (0 < length line)
 
--- an input has these bytes and no others, where they are known
+-- if the bytes of an input are known, they are exactly these
 abbrev pub IsInput : Option (List ℕ) → List ℕ → Type 0
 IsInput input bytes = IfSome input (λ all. all ≡ bytes)
 
--- what ends a conversation early: a reading or a writing that fails, or out of memory
+-- the failures that end a conversation early: a read or a write failed, or out of memory
 abbrev pub IsOfTalk : Failure → Type 0
 IsOfTalk why = (why ≡ failure.Fault fault.Read) ⊎ ((why ≡ failure.Fault fault.Write) ⊎ (why ≡ failure.Fault fault.Memory))
 
--- what bytes are that were read up to and with the first LF, or to the end
+-- what bytes are that were read up to and including the first LF, or to the end
 abbrev pub IsReadAs : List ℕ → Next → Type 0
 IsReadAs bytes (next.Line line) = (line.items ≡ bytes) × IsWholeLine bytes
 IsReadAs bytes next.Cut = IsCutOff bytes
 IsReadAs bytes next.End = bytes ≡ []
 
--- what an input has next, before and after it was read: a line, or nothing but a last line without its end, or nothing
+-- what comes next in an input, before and after it was read: a line, a last line without its line end, or nothing
 abbrev pub NextIs : Option (List ℕ) → Option (List ℕ) → Next → Type 0
 NextIs input input' (next.Line line) = IsWholeLine line.items × Consumes input input' line.items
 NextIs input input' next.Cut = (left : List ℕ) × IsCutOff left × IsInput input left
 NextIs input input' next.End = IsInput input []
 
--- these lines were sent, one after the other; to each one reply was received, and that was written
+-- these lines were sent, one after the other; for each, one reply was received and written
 pub record Talked (sent sent' incoming incoming' out out' : Option (List ℕ)) (lines replies : List (List ℕ)) : Type 0 where
   pub whole : AreWhole lines
   pub told : Appends sent sent' (concat lines)
@@ -51,21 +51,21 @@ pub record Talked (sent sent' incoming incoming' out out' : Option (List ℕ)) (
   pub said : Appends out out' (concat replies)
   pub each : length replies ≡ length lines
 
--- why a talk ends that was not done, by its replies and what is left of the input: a reply was none of these, a last line has no end and was not
--- told, or both
+-- why a conversation fails at its end, by its replies and what is left of the input: a reply is not good, a last line has no line end and was not
+-- sent, or both
 abbrev pub IsWhyBy : (List ℕ → Type 0) → List (List ℕ) → List ℕ → Failure → Type 0
 IsWhyBy IsGood replies left why =
     ((why ≡ failure.Refused) × (left ≡ []) × (¬ AllByRecursion IsGood replies))
     ⊎ (((why ≡ failure.NoLineEnd) × IsCutOff left × AllByRecursion IsGood replies)
     ⊎ ((why ≡ failure.RefusedNoLineEnd) × IsCutOff left × (¬ AllByRecursion IsGood replies)))
 
--- What went out to the control socket, what came from it, and what was written: before and after.
+-- What was sent to the control socket, received from it, and written to the output: before and after.
 module _ (sent sent' incoming incoming' out out' : Option (List ℕ)) where
   -- a line was sent, and its reply received and written
   abbrev pub TalksLine : List ℕ → List ℕ → Type 0
   TalksLine line reply = Appends sent sent' line × Consumes incoming incoming' reply × Appends out out' reply
 
-  -- one line of an input: it was sent, and its reply was accepted or not; or nothing was sent, since it has no end, or none is left
+  -- one line of an input: it was sent, and its reply was accepted or not; or nothing was sent, because it has no line end, or there is none
   abbrev pub TalksOnce : Option (List ℕ) → Option (List ℕ) → Result Step Failure → Type 0
   TalksOnce input input' (Ok (step.Replied accepted)) =
       (line reply : List ℕ) × IsWholeLine line × Consumes input input' line × TalksLine line reply
@@ -74,8 +74,8 @@ module _ (sent sent' incoming incoming' out out' : Option (List ℕ)) where
   TalksOnce input input' (Ok step.End) = IsInput input [] × (sent' ≡ sent) × (incoming' ≡ incoming) × (out' ≡ out)
   TalksOnce input input' (Err why) = IsOfTalk why
 
-  -- all lines of an input: each reply was accepted; or one was not, or a last line without its end is left, which was not sent; where a talk
-  -- ended early, how far it came is not said
+  -- all lines of an input: each reply was accepted; or one was not, or a last line without its line end was not sent. If the conversation
+  -- ended early, nothing is stated about how far it got
   abbrev pub Talks : Option (List ℕ) → Result (Unit {0}) Failure → Type 0
   Talks input (Ok done) =
       (lines replies : List (List ℕ)) × Talked sent sent' incoming incoming' out out' lines replies × IsInput input (concat lines) × AllByRecursion IsAccepted replies
@@ -83,19 +83,19 @@ module _ (sent sent' incoming incoming' out out' : Option (List ℕ)) where
       ⊎ ((lines replies : List (List ℕ)) × (left : List ℕ) × Talked sent sent' incoming incoming' out out' lines replies
       × IsInput input (concat lines ++ left) × IsWhyBy IsAccepted replies left why)
 
--- a talk over a connection, of which nothing more is known: it ended early with nothing written, or as it says
+-- a conversation over a connection about which nothing else is known: it ended early with nothing written, or as `Talks` states
 abbrev pub TalksOver : Option (List ℕ) → Option (List ℕ) → Option (List ℕ) → Result (Unit {0}) Failure → Type 0
 TalksOver input out out' result =
     ((why : Failure) × (result ≡ Err why) × IsOfTalk why × (out' ≡ out))
     ⊎ ((sent sent' incoming incoming' : Option (List ℕ)) × Talks sent sent' incoming incoming' out out' input result)
 
--- lines at the control socket at a path: no program listened there, or the one that did was talked with
+-- lines at the control socket at a path: no program listened there, or the lines were sent to it
 abbrev pub AtControlSocket : Type 0 → Option (List ℕ) → Option (List ℕ) → Option (List ℕ) → Result (Unit {0}) Failure → Type 0
 AtControlSocket met input out out' result =
     ((result ≡ Err (failure.Fault fault.Read)) × (out' ≡ out))
     ⊎ (met × TalksOver input out out' result)
 
--- rows at the control socket at a path: the input was not read whole, and nothing is sent; or it was, and the lines of its rows are sent there
+-- rows at the control socket at a path: the input could not be read to its end, and nothing is sent; or the lines of its rows are sent there
 abbrev pub RowsAtControlSocket : Type 0 → Option (List ℕ) → Option (List ℕ) → Option (List ℕ) → Option (List ℕ) → Result (Unit {0}) Failure → Type 0
 RowsAtControlSocket met input input' out out' result =
     ((why : Fault) × (result ≡ Err (failure.Fault why)) × ListingEnds input input' (Err why) × (out' ≡ out))

@@ -1,4 +1,4 @@
--- That an open register counts each exchange once, where its text is made.
+-- An open register counts each exchange once, when its text is made.
 use Rattle.std.specs.Prelude.{◌≡◌, ◌⊎◌, ◌↔◌, ◌<◌, ℕ, Bool, IsTrue, List}
 use Rattle.reg_http.specs.declared.exchange.Exchange.{Exchange}
 use Rattle.reg_http.specs.declared.exchange.UnsignedResponse.{UnsignedResponse}
@@ -13,8 +13,8 @@ use Rattle.reg_desk_metrics.specs.declared.tally.Tally.{Tally}
 use Rattle.reg_io.specs.declared.begun.Begun.{Begun}
 use Rattle.reg_io.specs.declared.begun.Begun.TheVariants as begun
 
--- What came of a request of this moment, whose exchange was begun so: where it is ready its text is said, and it is counted, whatever time it took. What
--- is left to be signed is not counted yet, and has the moment and the route by which it will be.
+-- The outcome of a request at this moment. An exchange that is ready has its text, and is counted, with any duration. A response
+-- that is to be signed is not counted yet; it keeps the moment and the route under which it will be counted.
 abbrev pub CountsBegun : ℕ → List ℕ → Begun Exchange UnsignedResponse → Outcome Unsigned → Tally → Tally → Type 0
 CountsBegun now request (begun.Ready exchange) (said text) tally tally' =
     (text ≡ exchange.text.items) × IsRouteOf request exchange.route × ((micros : ℕ) × (tally' ≡ with_exchange now exchange micros tally))
@@ -22,17 +22,17 @@ CountsBegun now request (begun.Unsigned left) (pending unsigned) tally tally' =
     (unsigned.draft ≡ left.draft) × (unsigned.moment ≡ now) × (unsigned.route ≡ left.route) × IsRouteOf request left.route × (tally' ≡ tally)
 CountsBegun now request begun outcome tally tally' = ⊥
 
--- what finishes an exchange that was left, and that it is counted by its moment and its route
+-- the text that finishes a response, which is counted by its moment and its route
 abbrev pub CountsFinished : (List ℕ → List ℕ → Type 0) → Unsigned → List ℕ → Tally → Tally → Type 0
 CountsFinished signer_answered unsigned text tally tally' =
     (it : FinishesUnsigned signer_answered unsigned text) × (it.exchange.route ≡ unsigned.route)
     × ((micros : ℕ) × (tally' ≡ with_exchange unsigned.moment it.exchange micros tally))
 
--- whether a signature failed between two states of an office, by its counts of those: of CRLs, and of OCSP answers
+-- whether a signature failed between two states of an office, by its counts of failed ones: of CRLs, and of OCSP responses
 abbrev pub SignatureFailed : {S : Type 0} → (S → ℕ) → (S → ℕ) → S → S → Type 0
 SignatureFailed crls answers before after = (crls before < crls after) ⊎ (answers before < answers after)
 
--- a line is counted, by its outcome, which its reply shows
+-- a line is counted by its result, which its reply shows
 abbrev pub CountsLine : Type 0 → ℕ → List ℕ → Tally → Tally → Type 0
 CountsLine failed now reply tally tally' =
     (micros : ℕ) × (came : LineOutcome) × (is_unsigned : Bool) × ReportsLineOutcome came reply × (IsTrue is_unsigned ↔ failed)

@@ -1,4 +1,4 @@
--- What is known of the signature that a line at the control socket wants.
+-- The signature that a line at the control socket needs.
 use Rattle.std.specs.Prelude.{ℕ, List, Option, IfSome}
 use Rattle.reg_desk_cli.specs.declared.job.Answerer.{Answerer}
 use Rattle.reg_desk_cli.specs.declared.job.KeyHolder.{KeyHolder}
@@ -7,12 +7,12 @@ use Rattle.reg_desk_jobs.specs.declared.deferred_commands.Known.{Known}
 use Rattle.reg_desk_jobs.specs.declared.deferred_commands.Wanted.{Wanted}
 use Rattle.reg_desk_jobs.specs.declared.deferred_commands.Wanted.TheVariants.{Crl, Answer}
 
--- the path of the signer, if there is one
+-- the path of the signer's socket, if there is a signer
 abbrev pub socket_for : Option KeyHolder → Answerer → Wanted → Option (List ℕ)
 socket_for signer answerer Crl = crl_socket signer
 socket_for signer answerer Answer = answer_socket signer answerer
 
--- the line is answered at a moment of the clock, with the signature of the message, by this relation, or with none
+-- the line is answered at a moment of the clock, with a signature of the message that the signer gave, or with none
 pub record IsKnown (signer_answered : List ℕ → List ℕ → Type 0) (clock_reached : ℕ → Type 0) (known : Known) : Type 0 where
   pub told_at : clock_reached known.moment
   pub came : IfSome known.preset_signature.answer (λ answer. signer_answered known.preset_signature.message.items answer.items)

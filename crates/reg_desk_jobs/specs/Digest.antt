@@ -5,7 +5,7 @@ use Rattle.reg_crl.specs.Signing.{Identity}
 use Rattle.reg_office_api.specs.Signatories.{Signatory, signs_both}
 use Rattle.reg_crl_signer.specs.Both.{digest}
 
--- the digest stands for both signatures: of CRLs and of OCSP answers
+-- the digest is used for both signatures: of CRLs and of OCSP responses
 abbrev pub digest_alone : Signatory
 digest_alone = signs_both digest
 

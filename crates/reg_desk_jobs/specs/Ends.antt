@@ -59,7 +59,7 @@ use Rattle.reg_desk_jobs.specs.RegisterUses.{UsesRegister, NotMade, NotOpened, M
 use Rattle.reg_desk_jobs.specs.declared.unsigned_responses.Unsigned.{Unsigned}
 use Rattle.reg_desk_jobs.specs.declared.machine.Machine.{Ghosts as Machine}
 
--- a text is written and the job is done; or a prefix of it, where the writer fails
+-- a text is written and the job is done; or a prefix of it, if the writer fails
 abbrev pub PrintsText : List ℕ → Option (List ℕ) → Option (List ℕ) → Result (Unit {0}) Failure → Type 0
 PrintsText text out out' (Ok done) = Appends out out' text
 PrintsText text out out' (Err why) = (why ≡ failure.Fault fault.Write) × AppendsPrefix out out' text
@@ -69,7 +69,7 @@ abbrev pub PrintsResult : {W : Type 0} → (W → Option (List ℕ)) → W → W
 PrintsResult contents writer writer' (Ok text) result = PrintsText text (contents writer) (contents writer') result
 PrintsResult contents writer writer' (Err why) result = (result ≡ Err (failure.Fault why)) × (writer' ≡ writer)
 
--- a text confirms that something was set, or the fault ends the job
+-- a text is written after something was set; or a fault ends the job
 abbrev pub PrintsSetResult : {W : Type 0} → List ℕ → (W → Option (List ℕ)) → W → W → Result (Unit {0}) Fault → Result (Unit {0}) Failure → Type 0
 PrintsSetResult text contents writer writer' (Ok done) result = PrintsText text (contents writer) (contents writer') result
 PrintsSetResult text contents writer writer' (Err why) result = (result ≡ Err (failure.Fault why)) × IsOfStore why × (writer' ≡ writer)
@@ -79,8 +79,8 @@ abbrev pub PrintsLine : {W : Type 0} → List ℕ → (W → Option (List ℕ)) 
 PrintsLine text contents writer writer' result =
     PrintsText text (contents writer) (contents writer') result ⊎ ((result ≡ Err (failure.Fault fault.Memory)) × (writer' ≡ writer))
 
--- the text of an audit that found a broken row is written, and the job has failed; or a prefix of it, where the writer fails; or there was
--- no memory for it
+-- the text of an audit that found a broken row is written, and the job fails; or a prefix of it, if the writer fails; or there was no
+-- memory for it
 abbrev pub PrintsBroken : {W : Type 0} → List ℕ → (W → Option (List ℕ)) → W → W → Result (Unit {0}) Failure → Type 0
 PrintsBroken text contents writer writer' result =
     ((result ≡ Err failure.Broken) × Appends (contents writer) (contents writer') text)
@@ -94,37 +94,37 @@ ReportsAuditResult contents writer writer' (audit_result.Broken broken) result =
 ReportsAuditResult contents writer writer' audit_result.OtherSchema result = PrintsBroken OTHER_SCHEMA.now contents writer writer' result
 ReportsAuditResult contents writer writer' audit_result.Older result = (result ≡ Err failure.OldVersion) × (writer' ≡ writer)
 
--- the moment that is given, or else one of the clock
+-- the given moment, or else one of the clock
 abbrev pub IsMomentOf : (ℕ → Type 0) → Option ℕ → ℕ → Type 0
 IsMomentOf clock (Some told) now = now ≡ told
 IsMomentOf clock None now = clock now
 
--- the terms of the policy of a register that is to be made
+-- the terms of the policy of a register that is to be created
 abbrev pub terms_of_new : NewRegister → Terms
 terms_of_new new = terms_of_days new.days new.crl_life new.ocsp_life new.cap
 
 -- A job over a machine that writes: the machine before the job and after it, and the writer.
 module _ {M O D S R W : Type 0} (machines : Machine M O D S R) (offices : Office O) (contents : W → Option (List ℕ))
     (machine machine' : M) (writer writer' : W) where
-  -- a new register at a path, which begins with no records
+  -- a new register at a path, which has no records
   abbrev pub MakesAt : List ℕ → Issuer → Terms → Result (Unit {0}) Failure → Type 0
   MakesAt path issuer terms result =
       (NotMade machines machine machine' path result × (writer' ≡ writer))
       ⊎ (Makes machines offices machine machine' path (no_records issuer terms)
       × PrintsText (codes "created\n") (contents writer) (contents writer') result)
 
-  -- over the register at a path: it could not be opened, and nothing was written; or this
+  -- over the register at a path: it could not be opened, and nothing was written; or `Done`
   abbrev pub Over : List ℕ → Signing → Result (Unit {0}) Failure → Type 0 → Type 0
   Over path signing result Done = (NotOpened machines machine machine' path signing result × (writer' ≡ writer)) ⊎ Done
 
-  -- the bytes of a CRL of the register at a path (RFC 5280 5), of which no record changes
+  -- the bytes of a CRL of the register at a path (RFC 5280 5); no record changes
   abbrev pub CrlAt : List ℕ → Option ℕ → Result (Unit {0}) Failure → Type 0
   CrlAt path number result = Over path unsigned result ((given : Result (List ℕ) Fault)
       × UsesRegister machines offices machine machine' path unsigned (λ identity before after. Crls before number given after)
       × PrintsResult contents writer writer' given result)
 
-  -- a list of the register at a path, of which no record changes, at a moment: all of its rows that are wanted are said, each once and in order, or
-  -- none; a clock that can't be read is the end before the path is looked at
+  -- a list of the register at a path, at a moment: all rows that are wanted are written, each once and in order, or none; no record changes. If the
+  -- clock can't be read, the job ends before it opens the path
   abbrev pub ListAt : ListToWrite → Result (Unit {0}) Failure → Type 0
   ListAt it result =
       ((result ≡ Err (failure.Fault fault.Read)) × (writer' ≡ writer) × (machine' ≡ machine))
@@ -140,15 +140,15 @@ module _ {M O D S R W : Type 0} (machines : Machine M O D S R) (offices : Office
       × (((why : Failure) × (result ≡ Err why) × Unaudited machines machine path why × IsOpening why × (writer' ≡ writer))
       ⊎ ((found : AuditResult) × Audits machines machine path found × ReportsAuditResult contents writer writer' found result))
 
-  -- a copy of the register at a path, under another that nothing had: none was created; or one of so many bytes was, and the reply says so, with
-  -- how many milliseconds it took
+  -- a copy of the register at a path, to a path that had no file: none was created; or one was, and the reply has its bytes and how many
+  -- milliseconds it took
   abbrev pub CopyAt : List ℕ → List ℕ → Result (Unit {0}) Failure → Type 0
   CopyAt path to result =
       ((why : Failure) × (result ≡ Err why) × machines.uncopied machine path to why machine' × IsFileFailure why × (writer' ≡ writer))
       ⊎ ((bytes millis : ℕ) × machines.copied machine path to bytes machine'
       × PrintsLine (copied_text bytes millis) contents writer writer' result)
 
-  -- another schedule for the register at a path: its steps are looked at before the path is
+  -- another schedule for the register at a path: its steps are checked before the path is opened
   abbrev pub ScheduleAt : List ℕ → List (ℕ × ℕ) → Result (Unit {0}) Failure → Type 0
   ScheduleAt path steps result =
       ((why : Failure) × (result ≡ Err why) × IsNoSchedule steps why × (writer' ≡ writer) × (machine' ≡ machine))
@@ -156,7 +156,7 @@ module _ {M O D S R W : Type 0} (machines : Machine M O D S R) (offices : Office
       × UsesRegister machines offices machine machine' path unsigned (λ identity. Reschedules steps set)
       × PrintsSetResult (codes "schedule set\n") contents writer writer' set result))
 
-  -- a key identifier of its own for the issuer of the register at a path: the word is looked at before the path is
+  -- a key identifier for the issuer of the register at a path (RFC 5280 5.2.1): the word is checked before the path is opened
   abbrev pub KeyIdAt : List ℕ → List ℕ → Result (Unit {0}) Failure → Type 0
   KeyIdAt path key_id result =
       ((why : Failure) × (result ≡ Err why) × IsNoIdentifier key_id why × (writer' ≡ writer) × (machine' ≡ machine))
@@ -167,19 +167,19 @@ module _ {M O D S R W : Type 0} (machines : Machine M O D S R) (offices : Office
 -- A new register at a path.
 module _ {M O D S R W : Type 0} (machines : Machine M O D S R) (offices : Office O) (contents : W → Option (List ℕ))
     (machine machine' : M) (writer writer' : W) where
-  -- a path at which nothing lay was claimed, and the machine after that; or something lay there, and the machine is as it was
+  -- a path with no file was claimed, with the machine after that; or there was a file, and the machine did not change
   abbrev pub Claims : List ℕ → M → Type 0
   Claims path start = machines.claimed machine path start ⊎ (machines.lies machine path × (start ≡ machine))
 
-  -- what is left at a path where a register was to be made, from the machine after that on: all stays where the job is done, where
-  -- somebody else made a register there meanwhile, and where something lay there before; else what was created there is removed
+  -- what is left at the path of a new register: all stays if the job is done, if another program created a register there meanwhile, and if there
+  -- was a file before; else what was created there is removed
   abbrev pub Leaves : List ℕ → M → M → Result (Unit {0}) Failure → Type 0
   Leaves path start between (Ok done) = machine' ≡ between
   Leaves path start between (Err why) =
       (((why ≡ failure.NotEmpty) ⊎ (machines.lies machine path × (start ≡ machine))) × (machine' ≡ between))
       ⊎ (machines.claimed machine path start × (why ≢ failure.NotEmpty) × machines.removed between path machine')
 
-  -- a new register at a path, of the issuer and the policy that are written, which are looked at before the path is
+  -- a new register at a path, with the given issuer and policy, which are checked before the path is used
   abbrev pub InitAt : NewRegister → Result (Unit {0}) Failure → Type 0
   InitAt new result =
       ((why : Failure) × (result ≡ Err why) × IsNoOffice new.name new.key new.key_id (terms_of_new new) why
@@ -189,7 +189,7 @@ module _ {M O D S R W : Type 0} (machines : Machine M O D S R) (offices : Office
       × MakesAt machines offices contents start between writer writer' new.file issuer (terms_of_new new) result
       × Leaves new.file start between result))
 
--- a script without FILE: no register could be made, or it ran over a new one in memory
+-- a script without FILE: no register could be created in memory, or the script ran over it
 abbrev pub ScriptInMemory
     : {E W : Type 0} → (E → Option (List ℕ)) → (W → Option (List ℕ)) → E → E → W → W → Result (Unit {0}) Failure → Type 0
 ScriptInMemory remaining contents reader reader' writer writer' result =
@@ -197,7 +197,7 @@ ScriptInMemory remaining contents reader reader' writer writer' result =
     ⊎ ((ran : Result (Unit {0}) Fault) × (result ≡ exit_of ran) × ((after : Records)
     × ScriptEnds (Lines digests digest_alone) remaining contents sample_records after reader reader' writer writer' ran))
 
--- lines run at the machine's clock, which is too far ahead and which the operator does not accept
+-- lines run at the machine's clock, which is too far ahead, and the operator does not accept that
 abbrev pub IsClockRefused : Way → (ℕ → Type 0) → Records → Type 0
 IsClockRefused way clock_reached records =
     IsTrue way.is_clocked × IsFalse way.accepts_clock × ((now : ℕ) × clock_reached now × IsTrue (is_ahead now records.last None))
@@ -206,7 +206,7 @@ IsClockRefused way clock_reached records =
 module _ {M O D S R E W : Type 0} (machines : Machine M O D S R) (offices : Office O)
     (remaining : E → Option (List ℕ)) (contents : W → Option (List ℕ))
     (machine machine' : M) (reader reader' : E) (writer writer' : W) where
-  -- a run over the register at a path, and how the job ends: it could not be opened, or the run led from its records to those after it
+  -- a run over the register at a path, and how the job ends: it could not be opened, or the run led from its records to others
   abbrev pub RunsAt : {A : Type 0} → (A → Result (Unit {0}) Failure) → List ℕ → Signing → (A → Signatory → Records → Records → Type 0)
       → Result (Unit {0}) Failure → Type 0
   RunsAt {A = A} ending path signing Ran result = (NotOpened machines machine machine' path signing result × (reader' ≡ reader) × (writer' ≡ writer))
@@ -217,7 +217,7 @@ module _ {M O D S R E W : Type 0} (machines : Machine M O D S R) (offices : Offi
   ScriptAt path signer = RunsAt exit_of path (signing_with signer by_itself) (λ ran identity before after.
       ScriptEnds (Lines offices.signs identity) remaining contents before after reader reader' writer writer' ran)
 
-  -- no line of a script runs, as the clock is too far ahead
+  -- no line of a script runs, because the clock is too far ahead
   abbrev pub ClockRefusedAt : LinedScript → Result (Unit {0}) Failure → Type 0
   ClockRefusedAt it result =
       (result ≡ Err failure.BadClock) × (reader' ≡ reader) × (writer' ≡ writer)
@@ -234,7 +234,7 @@ module _ {M O D S R E W : Type 0} (machines : Machine M O D S R) (offices : Offi
   abbrev pub LinesAt : LinedScript → Result (Unit {0}) Failure → Type 0
   LinesAt it result = ClockRefusedAt it result ⊎ LinesRunAt it result
 
-  -- the rows of an import ran at a moment; it is strict or is not
+  -- the rows of an import ran at a moment; the import is strict or not
   abbrev pub ImportRan : Bool → List ℕ → ℕ → Result (Unit {0}) Failure → Type 0
   ImportRan false path now result = (ran : Result (Unit {0}) Fault) × (result ≡ exit_of ran)
       × UsesRegister machines offices machine machine' path unsigned (λ identity before after.
@@ -243,22 +243,22 @@ module _ {M O D S R E W : Type 0} (machines : Machine M O D S R) (offices : Offi
       × UsesRegister machines offices machine machine' path unsigned (λ identity before after.
       StrictEnds (Lines offices.signs identity) remaining contents now before after reader reader' writer writer' ran)
 
-  -- an import into the register at a path, which could not be opened, or whose rows ran
+  -- an import into the register at a path: it could not be opened, or the rows ran
   abbrev pub ImportAt : Bool → List ℕ → ℕ → Result (Unit {0}) Failure → Type 0
   ImportAt is_strict path now result =
       (NotOpened machines machine machine' path unsigned result × (reader' ≡ reader) × (writer' ≡ writer)) ⊎ ImportRan is_strict path now result
 
-  -- no row is imported at a moment, as that is too far ahead
+  -- no row is imported at a moment, because that is too far ahead
   abbrev pub ImportRefusedAt : List ℕ → ℕ → Result (Unit {0}) Failure → Type 0
   ImportRefusedAt path now result =
       (result ≡ Err failure.BadClock) × (reader' ≡ reader) × (writer' ≡ writer)
       × UsesRegister machines offices machine machine' path unsigned (λ identity before after. IsTrue (is_ahead now before.last None) × (after ≡ before))
 
-  -- an import at a moment, which is refused for that only if it is checked
+  -- an import at a moment; only a moment that is checked can be refused
   abbrev pub ImportChecked : Bool → Bool → List ℕ → ℕ → Result (Unit {0}) Failure → Type 0
   ImportChecked is_checked is_strict path now result = (IsTrue is_checked × ImportRefusedAt path now result) ⊎ ImportAt is_strict path now result
 
-  -- the same at the moment that is given; or else at one of the clock as it began, and nothing is done where the clock can't be read
+  -- the same at the given moment, or else at one of the clock at the start; if the clock can't be read, nothing is done
   abbrev pub ImportAtMoment : Option ℕ → Bool → Bool → List ℕ → Result (Unit {0}) Failure → Type 0
   ImportAtMoment (Some now) accepts is_strict path result = ImportAt is_strict path now result
   ImportAtMoment None accepts is_strict path result =
@@ -268,10 +268,10 @@ module _ {M O D S R E W : Type 0} (machines : Machine M O D S R) (offices : Offi
   abbrev pub ImportByClock : RowsToImport → Result (Unit {0}) Failure → Type 0
   ImportByClock it = ImportAtMoment it.moment it.accepts_clock it.is_strict it.file
 
-  -- HTTP requests over the register at a path (RFC 9112), which is opened before the port is bound, and lines where there is a control socket.
-  -- A published CRL that is given can stop it: it could not be compared, or the register lacks something of it, and nothing is served. Else the
-  -- register has all of it, and this is what came on each connection and what came of that, in this order. A signature that was waited for is one
-  -- that the signer at the path of the responder gave. Nothing is read where no published CRL is told.
+  -- HTTP requests over the register at a path (RFC 9112), which is opened before the port is bound, and lines if there is a control socket. If a
+  -- published CRL is given and can't be compared, or the register lacks any of it, nothing is served. Else the register has all of it, and `inputs`
+  -- and their outcomes are in this order. A signature that was awaited came from the signer at the responder's path. Without a published CRL, no
+  -- input is read.
   abbrev pub AtPort : List ℕ → Option KeyHolder → Answerer → Option (List ℕ) → Endpoint → Option (List ℕ) → ℕ → Result (Unit {0}) Failure → Type 0
   AtPort path signer answerer published endpoint control requests result =
       let UsesThatRegister = UsesRegister machines offices machine machine' path (signing_with signer answerer) in
@@ -283,20 +283,20 @@ module _ {M O D S R E W : Type 0} (machines : Machine M O D S R) (offices : Offi
       × Serves (is_some control) offices.signs (AnsweredAtPath machines.signer_answered (answer_socket signer answerer)) machines.clock_reached inputs outcomes identity before after)
       × ServedAt contents writer writer' (IsBound machines.bound machines.socket_created machines.has_mode endpoint control) endpoint.port requests inputs result))
 
-  -- so many requests
+  -- that many requests
   abbrev pub ServeAt : Serving → Result (Unit {0}) Failure → Type 0
   ServeAt it = AtPort it.file it.signer it.answerer it.published it.endpoint None it.requests
 
-  -- requests and lines, as many as can be counted: the program is ended before
+  -- requests and lines, up to the greatest count: the program ends before
   abbrev pub OpenAt : KeptOpen → Result (Unit {0}) Failure → Type 0
   OpenAt it = AtPort it.file it.signer it.answerer it.published it.endpoint (Some it.control) 18446744073709551615
 
-  -- a job that reads nothing
+  -- a job that reads no input
   abbrev pub Writes : (Result (Unit {0}) Failure → Type 0) → Result (Unit {0}) Failure → Type 0
   Writes Done result = (reader' ≡ reader) × Done result
 
-  -- the end of a job: what it read, what it did at its machine to the register at its path and nothing else, and what it wrote; nothing
-  -- holds the key of the sample issuer in memory
+  -- the end of a job: what it read, what it did on its machine to the register at its path and to nothing else, and what it wrote. No signer has
+  -- the key of the sample issuer in memory
   abbrev pub Ends : Job → Result (Unit {0}) Failure → Type 0
   Ends (job.Init it) = Writes (InitAt machines offices contents machine machine' writer writer' it)
   Ends (job.Script (Some file) signer) = ScriptAt file signer
@@ -322,7 +322,7 @@ module _ {M O D S R E W : Type 0} (machines : Machine M O D S R) (offices : Offi
   Ends (job.Replay control_path log) = λ result.
       (machine' ≡ machine) × ReplaysAt (machines.socket_connected control_path) (remaining reader) (contents writer) (contents writer') result
 
-  -- A job and its report: how it ended, its exit status, and what standard error got of that, with the cause where it is asked for.
+  -- A job and its report: how it ended, its exit status, and what it wrote to standard error, with the cause if that is asked for.
   pub record Performs (job : Job) (is_why_asked : Bool) (errors errors' : Option (List ℕ)) (status : ℕ) : Type 0 where
     pub ending : Result (Unit {0}) Failure
     pub ends : Ends job ending

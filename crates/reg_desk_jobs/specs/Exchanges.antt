@@ -1,4 +1,4 @@
--- What a register is asked from outside: requests of clients, and lines at the control socket.
+-- What clients ask a register: HTTP requests, and lines at the control socket.
 use Rattle.std.specs.Prelude.{◌≡◌, ◌⊎◌, ℕ, Bool, true, false, List}
 use Rattle.reg_core.specs.Records.{Records}
 use Rattle.reg_office_api.specs.Signatories.{Signatory}
@@ -24,8 +24,8 @@ use Rattle.reg_desk_jobs.specs.declared.http_exchanges.Dispatch.TheVariants.{ToR
 
 -- ---- requests
 
--- what answers a request: the register; or an open desk, which refuses requests for revocation beyond its limits, or gives a page of a list, its health
--- or its metrics
+-- which part answers a request: the register; or an open desk, which refuses requests for revocation beyond its limits, and answers with a page of a
+-- list, its health or its metrics
 abbrev pub dispatch : Bool → Route → Dispatch
 dispatch true Requests = ToLimits
 dispatch true ListOf = ToList
@@ -34,9 +34,9 @@ dispatch true Metrics = ToMetrics
 dispatch true _ = ToRegister
 dispatch false _ = ToRegister
 
--- The answer to a request that was read. The register is asked at most once, and then the records gain one request for revocation at most.
+-- The answer to a request that was read. The register is asked at most once, and the records gain at most one request for revocation.
 module _ (signs : Signs) (now : ℕ) (signatory : Signatory) (before : Records) (it : AnswerEffects) (after : Records) where
-  -- by what answers it
+  -- by the part that answers
   abbrev pub AnswersAtRoute : Dispatch → List ℕ → List ℕ → List ℕ → Type 0
   AnswersAtRoute ToRegister method target body = Answers (Runs signs signatory) Asks (Replies signs signatory) Crls now before (asks_for method target body) it after
   AnswersAtRoute ToLimits method target body = AnswersLimited signs now signatory before (asks_for method target body) it after
@@ -44,7 +44,7 @@ module _ (signs : Signs) (now : ℕ) (signatory : Signatory) (before : Records) 
   AnswersAtRoute ToHealth method target body = ByGet method (AnswersHealth now before) it × (after ≡ before)
   AnswersAtRoute ToMetrics method target body = ByGet method (AnswersMetrics now before) it × (after ≡ before)
 
-  -- by a desk that is open, or is not
+  -- by a desk that is open or not
   abbrev pub Says : Bool → Part → Type 0
   Says is_open (refused status) = (it ≡ plain (http_refusal status)) × (after ≡ before)
   Says is_open (asked method target body) = AnswersAtRoute (dispatch is_open (route_at (path_of target))) method target body
@@ -55,14 +55,14 @@ IsRouteOf request route =
     (route ≡ named_route request)
     ⊎ ((method target body : List ℕ) × ∥ HoldsRequest request (asked method target body) ∥₁ × (route ≡ route_at (path_of target)))
 
--- One HTTP exchange (RFC 9112) of a desk at a moment, over the bytes that came on a connection: they begin with a whole request, and this was
--- told to it; or they do not, and nothing was; or there was no memory for it, and the records are as they were.
+-- One HTTP exchange (RFC 9112) of a desk at a moment, over the bytes that came on a connection. Either they begin with a whole request, which the desk
+-- answered; or they do not, and it got none; or there was no memory for the exchange, and no record changed.
 abbrev pub IsExchange : Bool → Signs → ℕ → Signatory → Records → List ℕ → HttpExchange → Records → Type 0
 IsExchange is_open signs now signatory before request exchange after =
     ((part : Part) × (it : AnswerEffects) × ∥ HoldsRequest request part ∥₁ × Says signs now signatory before it after is_open part × HasEffects now it exchange)
     ⊎ (HasNoEffects exchange × ((∥ IsUnfinished request ∥₁ × IsEmpty exchange) ⊎ IsMemoryAnswer exchange) × (after ≡ before))
 
--- the same by its text alone; the records gain one request for revocation at most, and no count changes
+-- the same for the text alone; the records gain at most one request for revocation, and no count changes
 pub record AnswersAt (is_open : Bool) (signs : Signs) (now : ℕ) (signatory : Signatory) (before : Records) (request text : List ℕ) (after : Records) : Type 0 where
   pub exchange : HttpExchange
   pub is_exchange : IsExchange is_open signs now signatory before request exchange after
@@ -75,6 +75,6 @@ AnswersBy is_open signs clock_reached signatory before request text after = (now
 
 -- ---- lines
 
--- a line that is only looked at changes no record
+-- a line whose message is made, and that is answered later, changes no record yet
 abbrev pub Unmoved : Records → List ℕ → Records → Type 0
 Unmoved before line after = after ≡ before

@@ -1,4 +1,4 @@
--- What standard error gets at the end of a job.
+-- What a job writes to standard error at its end.
 use Rattle.std.specs.Prelude.{◌≡◌, ◌⊎◌, ℕ, List, [], ◌∷◌, ◌++◌, Result, Ok, Err}
 use Rattle.std.specs.Prelude.{Bool, IsTrue, codes}
 use Rattle.std.specs.declared.option.Option.{Option}
@@ -11,7 +11,7 @@ use Rattle.reg_desk_jobs.specs.Reasons.{reason_text}
 use Rattle.reg_desk_jobs.specs.declared.reasons.Reason.{Reason}
 use Rattle.reg_io.specs.Put.{AppendsPrefix}
 
--- the bytes were written, or only a prefix of them, where the device failed
+-- the bytes were written, or, if the device failed, only a prefix of them
 abbrev pub IsWritten : Option (List ℕ) → Option (List ℕ) → List ℕ → Type 0
 IsWritten old new bytes = Appends old new bytes ⊎ AppendsPrefix old new bytes
 
@@ -19,7 +19,7 @@ IsWritten old new bytes = Appends old new bytes ⊎ AppendsPrefix old new bytes
 abbrev pub IsReportedLine : Option (List ℕ) → Option (List ℕ) → List ℕ → Type 0
 IsReportedLine old new line = IsWritten old new (line ++ 10 ∷ [])
 
--- what standard error gets: nothing where the job is done, else the failure's line
+-- what standard error gets: nothing if the job is done, else the failure's line
 abbrev pub ReportsExit : Result (Unit {0}) Failure → Option (List ℕ) → Option (List ℕ) → Type 0
 ReportsExit (Ok done) old new = new ≡ old
 ReportsExit (Err why) old new = IsReportedLine old new (failure_line why)
@@ -28,13 +28,13 @@ ReportsExit (Err why) old new = IsReportedLine old new (failure_line why)
 abbrev pub ReportsReason : Option (List ℕ) → Option (List ℕ) → Type 0
 ReportsReason old new = (new ≡ old) ⊎ ((reason : Reason) × IsReportedLine old new (codes "  " ++ reason_text reason))
 
--- nothing more is written; or, where that is asked for, a cause where the exit status is 1, and why a registration was refused where it is 3
+-- nothing more is written; or, if that is asked for, a cause for exit status 1, or why a registration was refused for exit status 3
 abbrev pub Adds : Bool → ℕ → Option (List ℕ) → Option (List ℕ) → Type 0
 Adds is_asked exit_status old new =
     (new ≡ old)
     ⊎ (IsTrue is_asked × (((exit_status ≡ 1) × ((cause : Cause) × IsReportedLine old new (cause_line cause))) ⊎ ((exit_status ≡ 3) × ReportsReason old new)))
 
--- what standard error gets of an ending where more is asked for or not: what it gets without that, and then perhaps one line more
+-- what standard error gets at the end of a job, by whether more is asked for: the failure's line, and then perhaps one more line
 abbrev pub Explains : Bool → Result (Unit {0}) Failure → Option (List ℕ) → Option (List ℕ) → Type 0
 Explains is_asked ending old new =
     (between : Option (List ℕ)) × ReportsExit ending old between × Adds is_asked (exit_status ending) between new

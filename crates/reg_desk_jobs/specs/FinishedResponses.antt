@@ -1,4 +1,4 @@
--- An OCSP response that is left to be signed, and what finishes it.
+-- An OCSP response that is to be signed, and the text that finishes it.
 use Rattle.std.specs.Prelude.{◌≡◌, ℕ, List, Option, Some, None, Result, IfOk}
 use Rattle.reg_office_api.specs.declared.effects.SignatureFate.{SignatureFate}
 use Rattle.reg_office_api.specs.declared.effects.SignatureFate.TheVariants.{Made, Failed}
@@ -12,18 +12,18 @@ use Rattle.reg_ocsp.specs.Drafts.{Drafted, drafted_response}
 use Rattle.reg_crl_signer.specs.Forms.{HasForm}
 use Rattle.reg_desk_jobs.specs.declared.unsigned_responses.Unsigned.{Unsigned}
 
--- this was given for what is to be signed, and it has the form of a signature by the signer; or there is none
+-- the signer gave this for the message, and it has the form of a signature by that signer; or there is none
 abbrev pub IsSignatureOf : (List ℕ → List ℕ → Type 0) → Drafted → Option (List ℕ) → Type 0
 IsSignatureOf signer_answered draft (Some signature) =
     signer_answered draft.message signature × HasForm (record { algorithm = draft.algorithm; public_key = draft.key }) signature
 IsSignatureOf signer_answered draft None = Unit {0}
 
--- whether one was made
+-- whether a signature was made
 abbrev pub fate_of : Option (List ℕ) → SignatureFate
 fate_of (Some signature) = Made
 fate_of None = Failed
 
--- this exchange of a moment has the response with this signature, or internalError without one; or there was no memory for that
+-- this exchange at a moment has the response with this signature, or internalError without one; or there was no memory for it
 pub record IsFinished (draft : Drafted) (moment : ℕ) (signature : Option (List ℕ)) (exchange : Exchange) : Type 0 where
   pub given : Result (List ℕ) Memory
   pub made : IfOk given (λ bytes. bytes ≡ drafted_response draft signature)
@@ -31,7 +31,7 @@ pub record IsFinished (draft : Drafted) (moment : ℕ) (signature : Option (List
   pub fate : exchange.signature ≡ fate_of signature
   pub store : exchange.store ≡ Unwritten
 
--- this text finishes a response of a moment: with a signature that was given, or without one
+-- this text finishes a response of a moment: with a signature that the signer gave, or without one
 pub record FinishesAt (signer_answered : List ℕ → List ℕ → Type 0) (draft : Drafted) (moment : ℕ) (text : List ℕ) : Type 0 where
   pub signature : Option (List ℕ)
   pub signed : IsSignatureOf signer_answered draft signature
@@ -42,7 +42,7 @@ pub record FinishesAt (signer_answered : List ℕ → List ℕ → Type 0) (draf
 abbrev pub FinishesUnsigned : (List ℕ → List ℕ → Type 0) → Unsigned → List ℕ → Type 0
 FinishesUnsigned signer_answered unsigned text = FinishesAt signer_answered unsigned.draft unsigned.moment text
 
--- what came of a request meets what is wanted of its text: a text does; or whatever text finishes what was left does
+-- the outcome of a request is a text that meets `wanted`; or a response to be signed, such that any text that finishes it does
 abbrev pub Meets : {T : Type 0} → (T → List ℕ → Type 0) → (List ℕ → Type 0) → Outcome T → Type 0
 Meets finishes wanted (said text) = wanted text
 Meets finishes wanted (pending ticket) = (text : List ℕ) → finishes ticket text → wanted text

@@ -1,4 +1,4 @@
--- The lines of the log: one line an exchange, whatever came.
+-- The lines of the log: one line for each exchange, whatever bytes came.
 use Rattle.std.specs.Prelude.{ℕ, Bool, cond, not, ◌||◌, ◌&&◌, List, [], ◌∷◌, ◌++◌, ◌+◌, ◌/◌, ◌%◌, ◌==◌, nat_le, nat_lt, take, length, codes, decimal, Option, Some, None}
 use Rattle.std.specs.List.{flat_map, position}
 use Rattle.std.specs.Option.{option_map_or}
@@ -7,7 +7,7 @@ use Rattle.reg_core.specs.Serial.{serial_text}
 use Rattle.reg_http.specs.declared.answered.NamedRequest.{NamedRequest}
 use Rattle.reg_http.specs.RouteNames.{before}
 
--- whether a byte is logged as it is: ASCII from the space to the tilde (RFC 20 2), but the quotation mark and the backslash
+-- whether a byte is logged as it is: ASCII from the space to the tilde (RFC 20 2), except the quotation mark and the backslash
 abbrev pub is_plain : ℕ → Bool
 is_plain byte = not (byte == 34) && (not (byte == 92) && (nat_le 32 byte && nat_lt byte 127))
 
@@ -31,22 +31,22 @@ first_line text = before (position ends_line text) text
 abbrev pub quoted_text : List ℕ → List ℕ
 quoted_text text = 34 ∷ flat_map quoted_byte (take 256 (first_line text)) ++ (34 ∷ [])
 
--- what the line of an exchange ends with where a signature was asked for and did not come
+-- the end of the line of an exchange whose signature failed
 abbrev pub unsigned_end : Bool → List ℕ
 unsigned_end is_unsigned = cond is_unsigned (codes " signer") []
 
--- what the line of an exchange names of a request that was entered or decided: its number and serial number; and its ground, where it was entered
+-- what the line of an exchange names of a request that was entered or decided: its number and serial number; and its ground, if it was entered
 abbrev pub named_end : Option NamedRequest → List ℕ
 named_end None = []
 named_end (Some named) = codes " request" ++ (32 ∷ decimal named.id) ++ (32 ∷ serial_text named.serial) ++ option_map_or (λ word. 32 ∷ word) named.ground []
 
--- the line of an exchange, without LF: the moment, the client, the request and the answer, how many bytes the answer has, in how many
--- microseconds it was made, the request that it entered or decided, and whether a signature did not come
+-- the line of an exchange, without its LF: the moment, the client, the request and the answer, the bytes of the answer, the microseconds that it
+-- took, the request for revocation that it entered or decided, and whether a signature failed
 abbrev pub exchange_line : ℕ → List ℕ → List ℕ → List ℕ → ℕ → Option NamedRequest → Bool → List ℕ
 exchange_line now signatory asked answered micros named is_unsigned =
     moment_text now ++ (32 ∷ signatory) ++ (32 ∷ quoted_text asked) ++ (32 ∷ quoted_text answered) ++ (32 ∷ decimal (length answered)) ++ (32 ∷ decimal micros)
     ++ named_end named ++ unsigned_end is_unsigned
 
--- the line of a connection that ended by a fault, without LF
+-- the line of a connection that ended by a fault, without its LF
 abbrev pub lost_line : ℕ → List ℕ → List ℕ → List ℕ
 lost_line now signatory why = moment_text now ++ (32 ∷ signatory) ++ codes " lost " ++ why

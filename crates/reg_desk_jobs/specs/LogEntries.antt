@@ -1,4 +1,4 @@
--- What a line of the log says: an exchange, and what is to be sent once more for it.
+-- The meaning of a line of the log: an exchange, and the command to send again.
 use Rattle.std.specs.Prelude.{◌≡◌, ◌⊎◌, ℕ, ◌+◌, ◌==◌, Bool, false, ◌&&◌, ◌||◌, not, nat_lt, List, [], ◌∷◌, length, take, drop, get_or, codes, bytes_eq, if◌then◌else◌, IsFalse, IsTrue, Option, Some, None, option_map, unwrap_or}
 use Rattle.std.specs.List.{list_any, position}
 use Rattle.std.specs.Option.{option_map_or}
@@ -14,18 +14,18 @@ use Rattle.reg_desk_jobs.specs.declared.log_entries.Logged.{Logged}
 use Rattle.reg_desk_jobs.specs.declared.log_entries.Logged.TheVariants.{Nothing, Unknown, Command}
 use Rattle.reg_desk_jobs.specs.declared.log_entries.ExchangeText.{ExchangeText}
 
--- a quotation mark, of which the log puts none into a text
+-- a quotation mark; the log escapes those in a text
 abbrev pub is_mark : ℕ → Bool
 is_mark byte = byte == 34
 
 abbrev pub has_mark : List ℕ → Bool
 has_mark text = list_any is_mark text
 
--- a text before its first quotation mark, and behind it
+-- the text before the first quotation mark, and the text after it
 unfoldable pub parted : List ℕ → Option (List ℕ × List ℕ)
 parted text = option_map (λ mark. (take mark text, drop (mark + 1) text)) (position is_mark text)
 
--- an exchange, as the log has it: the moment and the client, what was asked and answered, and what stands behind
+-- an exchange, as the log has it: the moment and the client, the request, the answer, and the fields after them
 pub record LoggedExchange : Type 0 where
   pub client : List ℕ
   pub asked : List ℕ
@@ -35,7 +35,7 @@ pub record LoggedExchange : Type 0 where
 abbrev pub exchange_of : ExchangeText → LoggedExchange
 exchange_of logged_exchange = record { client = logged_exchange.client.now; asked = logged_exchange.asked.now; answered = logged_exchange.answered.now; behind = logged_exchange.behind.now }
 
--- the exchange of a line of the log: what was asked and answered stands in quotation marks
+-- the exchange of a line of the log: the request and the answer stand in quotation marks
 unfoldable pub exchange_in : List ℕ → Option LoggedExchange
 exchange_in line = do
   client ← parted line
@@ -44,7 +44,7 @@ exchange_in line = do
   answered ← parted between.1
   Some (record { client = client.0; asked = asked.0; answered = answered.0; behind = answered.1 })
 
--- the first two words of a text, which spaces part
+-- the first and the second word of a text; spaces separate words
 abbrev pub first_word : List ℕ → List ℕ
 first_word text = get_or (fields_of text) 0 []
 
@@ -58,7 +58,7 @@ decision_by number digits = do
   serial ← serial_of digits
   Some (Decision id serial)
 
--- the same of one that was entered, with its ground
+-- the same for one that was entered, with its ground
 unfoldable pub request_by : List ℕ → List ℕ → List ℕ → Option Entry
 request_by number digits word = do
   id ← number_of number
@@ -74,7 +74,7 @@ request_named (number ∷ digits ∷ []) = decision_by number digits
 request_named (number ∷ digits ∷ word ∷ []) = request_by number digits word
 request_named (number ∷ digits ∷ word ∷ more ∷ rest) = None
 
--- what the request says that is named behind the bytes of the answer and the microseconds
+-- what follows from the request that is named after the bytes of the answer and the microseconds
 unfoldable pub named_in : List (List ℕ) → Option Logged
 named_in [] = None
 named_in (front ∷ []) = None
@@ -83,7 +83,7 @@ named_in (front ∷ bytes ∷ micros ∷ []) = None
 named_in (front ∷ bytes ∷ micros ∷ word ∷ rest) =
     if bytes_eq word (codes "request") then Some (option_map_or Command (request_named rest) Unknown) else None
 
--- the words of lines that change the register: those that the log names a request of, and the others
+-- the words of lines that change the register: those whose request the log names, and the others
 abbrev pub is_of_request : List ℕ → Bool
 is_of_request word = bytes_eq word (codes "request") || bytes_eq word (codes "revoke") || bytes_eq word (codes "decline")
 
@@ -92,16 +92,16 @@ enters word =
     bytes_eq word (codes "subscriber") || bytes_eq word (codes "order") || bytes_eq word (codes "register") || bytes_eq word (codes "crl")
     || bytes_eq word (codes "schedule")
 
--- the log tells all bytes of a text as they are: it cuts none off (it tells 256 at most), and none is told by its number, behind a backslash
+-- the log has all bytes of a text unchanged: it was not cut off (it keeps 256 bytes), and no byte was escaped with a backslash
 abbrev pub is_whole : List ℕ → Bool
 is_whole text = nat_lt (length text) 256 && not (list_any (λ byte. byte == 92) text)
 
--- a reply was accepted: it begins neither with E or F, as a refusal or a fault, nor with b, as that steps are no schedule
+-- a reply was accepted: it begins neither with E or F, like a refusal or a fault, nor with b, like `bad-policy` and `bad-clock`
 abbrev pub accepted : List ℕ → Bool
 accepted [] = false
 accepted (first ∷ rest) = not (first == 69) && (not (first == 70) && not (first == 98))
 
--- the log's names of the control socket: older desks write the second
+-- the log's names of the control socket: older desks wrote the second one
 abbrev pub is_control : List ℕ → Bool
 is_control client = bytes_eq client (codes "control") || bytes_eq client (codes "counter")
 
@@ -109,7 +109,7 @@ is_control client = bytes_eq client (codes "control") || bytes_eq client (codes 
 abbrev pub was_accepted : LoggedExchange → Bool
 was_accepted logged_exchange = is_control (second_word logged_exchange.client) && accepted logged_exchange.answered
 
--- what an exchange says that names no request: it counts at the control socket alone
+-- what follows from an exchange that names no request: it counts only at the control socket
 unfoldable pub unnamed : LoggedExchange → Logged
 unnamed logged_exchange =
     if not (was_accepted logged_exchange) then Nothing
@@ -118,11 +118,11 @@ unnamed logged_exchange =
     else if is_whole logged_exchange.asked then Command Line
     else Unknown
 
--- the parts of a logged exchange; one with another quotation mark is of two lines, of which the first was not written whole
+-- the meaning of a logged exchange; one with another quotation mark is made of two lines, of which the first was not written whole
 unfoldable pub logged_of : LoggedExchange → Logged
 logged_of logged_exchange = if has_mark logged_exchange.behind then Unknown else unwrap_or (named_in (fields_of logged_exchange.behind)) (unnamed logged_exchange)
 
--- what a line of the log has: no accepted command; or one that it does not tell whole; or one, by an exchange
+-- what a line of the log has: no accepted command; or one of which it has only a part; or one, with its exchange
 abbrev pub LogsNothing : List ℕ → Type 0
 LogsNothing line = ((exchange_in (line_of line) ≡ None) × IsFalse (has_mark (line_of line)))
     ⊎ ((logged_exchange : LoggedExchange) × (exchange_in (line_of line) ≡ Some logged_exchange) × (logged_of logged_exchange ≡ Nothing))

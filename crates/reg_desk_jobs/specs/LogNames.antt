@@ -14,21 +14,21 @@ use Rattle.reg_desk_jobs.specs.ControlWords.{serial_decision_in}
 use Rattle.reg_desk_jobs.specs.declared.control_reply.LineOutcome.{LineOutcome}
 use Rattle.reg_desk_jobs.specs.declared.control_reply.LineOutcome.TheVariants.{CameTo}
 
--- a line decides the request of a number: with a serial number, or by the number alone
+-- a line decides the request with a number: by number and serial number, or by number alone
 abbrev pub Decides : List ℕ → ℕ → Type 0
 Decides line id =
     IsSomeAnd (serial_decision_in (fields_of (line_of line))) (λ serial_decision. serial_decision.request ≡ id)
     ⊎ (LineMeans (line_of line) (means_command (Revoke id)) ⊎ LineMeans (line_of line) (means_command (Decline id)))
 
--- what is named of the request that a line decides: its number, and the serial number that the records have for it
+-- what is named of the request that a line decides: its number, and its serial number in the records
 abbrev pub NamesDecided : Records → List ℕ → NamedRequest → Type 0
 NamesDecided records line named =
     Decides line named.id
     × IsSomeAnd (request_in records.requests named.id) (λ request. request.serial ≡ named.serial)
     × (named.ground ≡ None)
 
--- what is named of a command that was accepted: of a request that was entered, its number, serial number and ground; of one that was decided, what
--- was known of it before; of no other
+-- what is named of an accepted command: of a request that was entered, its number, serial number and ground; of one that was decided, what was
+-- looked up before; of other commands, nothing
 abbrev pub NamesAccepted : Command → Reply → Option NamedRequest → Option NamedRequest → Type 0
 NamesAccepted (Request serial word) (replied.Request id due) before named =
     IsSomeAnd named (λ it. (it.id ≡ id) × (it.serial ≡ serial) × (it.ground ≡ Some word))
@@ -36,7 +36,7 @@ NamesAccepted (Revoke request) reply before named = named ≡ before
 NamesAccepted (Decline request) reply before named = named ≡ before
 NamesAccepted other reply before named = named ≡ None
 
--- what is named of what a line came to
+-- what is named by the result of a line
 abbrev pub NamesRequest : LineOutcome → Option NamedRequest → Option NamedRequest → Type 0
 NamesRequest (CameTo (asked.Command command) (Ok reply)) before named = NamesAccepted command reply before named
 NamesRequest other before named = named ≡ None

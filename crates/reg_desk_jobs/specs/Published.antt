@@ -14,16 +14,16 @@ use Rattle.reg_desk_cli.specs.declared.failure.Failure.TheVariants as failure
 use Rattle.reg_desk_jobs.specs.Conversations.{IsInput}
 use Rattle.reg_io.specs.Put.{AppendsPrefix}
 
--- the number of the latest CRL, 0 before the first
+-- the number of the latest CRL; 0 if there is none
 abbrev pub latest_number : Option CrlRow → ℕ
 latest_number None = 0
 latest_number (Some crl) = crl.number
 
--- the line of a published CRL with a higher number
+-- the line for a published CRL with a higher number
 abbrev pub missing_crl : Option CrlRow → ℕ → List ℕ
 missing_crl latest number = cond (nat_lt (latest_number latest) number) (codes "missing crl " ++ decimal number ++ 10 ∷ []) []
 
--- the line of a listed serial number that is not revoked
+-- the line for a listed serial number that is not revoked
 abbrev pub missing_revocation : Bool → ℕ → List ℕ
 missing_revocation is_revoked serial = cond is_revoked [] (codes "missing revocation " ++ serial_text serial ++ 10 ∷ [])
 
@@ -36,13 +36,13 @@ abbrev pub missing_text : Records → ℕ → List ℕ → List ℕ
 missing_text records number serials =
     missing_crl (option_map row_of (latest records.crls)) number ++ flat_map (missing_at records records.last) serials
 
--- nothing is found, as this is no CRL, or as there was a fault
+-- nothing is found, because this is no CRL, or because of a fault
 abbrev pub FindsNothing : Type 0 → Failure → Type 0
 FindsNothing NoCrl failure.NotACrl = NoCrl
 FindsNothing NoCrl (failure.Fault why) = Unit {0}
 FindsNothing NoCrl other = ⊥
 
--- the lines of the serial numbers of entries were added to others
+-- the lines for the serial numbers of entries were added
 abbrev pub AppendsMissing : Records → ℕ → List ℕ → List ℕ → List ℕ → Result (Unit {0}) Failure → Type 0
 AppendsMissing records moment entries old new (Ok done) =
     (serials : List ℕ) × AreEntries entries serials [] × (new ≡ old ++ flat_map (missing_at records moment) serials)
@@ -54,7 +54,7 @@ FindsMissing records bytes (Ok lines) =
     (number : ℕ) × (serials : List ℕ) × IsPublished bytes number serials × (lines ≡ missing_text records number serials)
 FindsMissing records bytes (Err why) = FindsNothing ((number : ℕ) → (serials : List ℕ) → ¬ IsPublished bytes number serials) why
 
--- the same of the bytes of an input
+-- the same for the bytes of an input
 abbrev pub FindsIn : Records → Option (List ℕ) → Result (List ℕ) Failure → Type 0
 FindsIn records input found = (bytes : List ℕ) × IsInput input bytes × FindsMissing records bytes found
 
@@ -65,7 +65,7 @@ HasAll records input =
     × (number ≤ latest_number (option_map row_of (latest records.crls)))
     × AllByRecursion (λ serial. IsTrue (is_revoked (status records serial records.last))) serials
 
--- nothing is missing, and nothing is written; or what is missing is written, and the register is behind the CRL; or a front of it, where the
+-- nothing is missing, and nothing is written; or what is missing is written, and the job fails with `LacksPublished`; or a prefix of that, if the
 -- writer fails; or nothing was found
 abbrev pub ReportsMissing : Option (List ℕ) → Option (List ℕ) → Result (List ℕ) Failure → Result (Unit {0}) Failure → Type 0
 ReportsMissing out out' (Ok []) result = (result ≡ Ok tt) × (out' ≡ out)

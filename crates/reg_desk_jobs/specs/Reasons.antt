@@ -1,4 +1,4 @@
--- Why a command was refused, as the reply gives it.
+-- Why a command was refused, as the reply to `why` has it.
 use Rattle.std.specs.Prelude.{◌≡◌, ℕ, ◌+◌, ◌-◌, ◌*◌, List, [], ◌∷◌, ◌++◌, codes, decimal, Option, Some, None}
 use Rattle.reg_core.specs.Calendar.{moment_text}
 use Rattle.reg_core.specs.Serial.{serial_text}
@@ -6,32 +6,32 @@ use Rattle.reg_desk_jobs.specs.declared.reasons.Reason.{Reason}
 use Rattle.reg_desk_jobs.specs.declared.reasons.Reason.TheVariants.{NoOrder, Filled, Latest, OtherSerial, ClockAhead, Unsigned, Wrong}
 use Rattle.reg_desk_jobs.specs.Syntax.{wrong_text}
 
--- the reply: the kept reason, or none
+-- the reply to `why`: the kept reason, or that there is none
 unfoldable pub kept_reason_text : List ℕ → List ℕ
 kept_reason_text [] = codes "why nothing\n"
 kept_reason_text (first ∷ rest) = codes "why " ++ first ∷ rest
 
--- the last second of so many days from a moment on, both ends counted (RFC 5280 4.1.2.5)
+-- the last second of that many days from a moment on, with both ends counted (RFC 5280 4.1.2.5)
 abbrev pub last_second : ℕ → ℕ → ℕ
 last_second not_before days = not_before + (days * 86400 - 1)
 
--- the reply where a validity is too long: the latest notAfter
+-- the reason if a validity is too long: the latest notAfter
 unfoldable pub latest_text : ℕ → List ℕ
 latest_text at = codes "notAfter at most " ++ moment_text at
 
--- the reply where the clock is too far ahead: the last accepted moment
+-- the reason if the clock is too far ahead: the last accepted moment
 unfoldable pub ahead_text : ℕ → List ℕ
 ahead_text last = codes "the clock is more than 30 days past " ++ moment_text last
 
--- the fields of an order
+-- a reason with the number of an order
 abbrev pub order_text : List ℕ → ℕ → List ℕ → List ℕ
 order_text prefix order end = prefix ++ decimal order ++ end
 
--- the reply where a request is for another serial number
+-- the reason if a request is for another serial number
 abbrev pub other_text : ℕ → ℕ → List ℕ
 other_text request serial = codes "request " ++ decimal request ++ codes " is for " ++ serial_text serial
 
--- the words of a reason
+-- the text of a reason
 abbrev pub reason_text : Reason → List ℕ
 reason_text (NoOrder order) = order_text (codes "no order ") order []
 reason_text (Filled order) = order_text (codes "order ") order (codes " has its certificate")
@@ -41,7 +41,7 @@ reason_text (ClockAhead last) = ahead_text last
 reason_text (Wrong wrong) = wrong_text wrong
 reason_text (Unsigned number) = order_text (codes "CRL ") number (codes " has a placeholder digest: the next one is due at once")
 
--- the line of a reason, with an LF, behind what stands before it
+-- a prefix, the text of a reason, and an LF
 abbrev pub IsReasonLine : List ℕ → Option Reason → List ℕ → Type 0
 IsReasonLine prefix (Some reason) line = line ≡ prefix ++ reason_text reason ++ 10 ∷ []
 IsReasonLine prefix None line = ⊥

@@ -1,15 +1,15 @@
--- Which failures a register may come to.
+-- The failures to create and to open a register.
 use Rattle.reg_office_api.specs.LookUps.{IsOfStore}
 use Rattle.reg_desk_cli.specs.declared.failure.Failure.{Failure}
 use Rattle.reg_desk_cli.specs.declared.failure.Failure.TheVariants as failure
 
--- of one that is made: out of memory, a failure of the store, or a file that has tables already
+-- to create one: out of memory, a failure of the store, or a file that has tables already
 abbrev pub IsMaking : Failure → Type 0
 IsMaking (failure.Fault fault) = IsOfStore fault
 IsMaking failure.NotEmpty = Unit {0}
 IsMaking other = ⊥
 
--- of one that is opened: such a fault, a file that holds no register of a version up to this program's, `bad-signer` or `bad-responder`
+-- to open one: such a fault, a file that holds no register of a version up to this program's, `bad-signer` or `bad-responder`
 abbrev pub IsOpening : Failure → Type 0
 IsOpening (failure.Fault fault) = IsOfStore fault
 IsOpening failure.NotARegister = Unit {0}

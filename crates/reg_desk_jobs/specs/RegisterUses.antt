@@ -14,22 +14,22 @@ use Rattle.reg_desk_jobs.specs.Registers.{Made, Opened, Unmade, Unopened}
 use Rattle.reg_desk_jobs.specs.Signers.{Signing}
 use Rattle.reg_desk_jobs.specs.declared.machine.Machine.{Ghosts as Machine}
 
--- how a job ends whose run of a register ended so
+-- the end of a job, by the result of its run over a register
 abbrev pub exit_of : Result (Unit {0}) Fault → Result (Unit {0}) Failure
 exit_of (Ok done) = Ok done
 exit_of (Err fault) = Err (failure.Fault fault)
 
--- how a job ends whose run of lines or rows ended so
+-- the end of a job, by the result of its run of lines or rows
 abbrev pub exit_of_run : Result Ended Fault → Result (Unit {0}) Failure
 exit_of_run (Ok ended.Whole) = Ok tt
 exit_of_run (Ok (ended.Refused refused)) = Err failure.Refused
 exit_of_run (Ok ended.NoLineEnd) = Err failure.NoLineEnd
 exit_of_run (Err fault) = Err (failure.Fault fault)
 
--- What calls of a machine did: the machine before them and after them. No other call that may change it lies between.
+-- What calls to a machine did: the machine before and after them. No other call that may change it lies between.
 module _ {M O D S R : Type 0} (machines : Machine M O D S R) (offices : Office O) (machine machine' : M) where
-  -- The register at a path was opened for these signatures, and then closed. The step leads from the records that stood in it, whatever they
-  -- were, to those that stand there afterwards, where the medium has returned all that was written.
+  -- The register at a path was opened for these signatures, and then closed. `step` relates any records that stood in it to those that stand
+  -- in it afterwards, if the disk returned all that was written.
   pub record UsesRegister (path : List ℕ) (signing : Signing) (step : Signatory → Records → Records → Type 0) : Type 0 where
     pub first : O
     pub last : O
@@ -38,7 +38,7 @@ module _ {M O D S R : Type 0} (machines : Machine M O D S R) (offices : Office O
     pub moves : Leads offices.is_clean offices.stands step first last
     pub closed : machines.closed between path last machine'
 
-  -- a register was made at a path, in which these records stood, and then it was closed
+  -- a register was created at a path with these records, and then closed
   pub record Makes (path : List ℕ) (records : Records) : Type 0 where
     pub register : O
     pub identity : Signatory
@@ -53,6 +53,6 @@ module _ {M O D S R : Type 0} (machines : Machine M O D S R) (machine machine' :
   NotOpened path signing result =
       (why : Failure) × (result ≡ Err why) × Unopened machines machine path signing why machine' × IsOpening why
 
-  -- no register could be made at a path, and that is how the job ends
+  -- no register could be created at a path, and that is how the job ends
   abbrev pub NotMade : List ℕ → Result (Unit {0}) Failure → Type 0
   NotMade path result = (why : Failure) × (result ≡ Err why) × Unmade machines machine path why machine' × IsMaking why

@@ -1,4 +1,4 @@
--- A log that is sent to a control socket once more.
+-- A log whose commands are sent to a control socket again.
 use Rattle.std.specs.Prelude.{◌≡◌, ◌⊎◌, ℕ, ◌==◌, Bool, ◌&&◌, List, [], ◌∷◌, ◌++◌, codes, decimal, bytes_eq, if◌then◌else◌, IsFalse, IsTrue, Option, Result, Ok, Err}
 use Rattle.std.specs.Io.KnownBytes.{Appends}
 use Rattle.std.specs.List.{concat, fold}
@@ -15,13 +15,13 @@ use Rattle.reg_desk_jobs.specs.declared.log_entries.Entry.{Entry}
 use Rattle.reg_desk_jobs.specs.declared.log_entries.Entry.TheVariants.{Line, Request, Decision}
 use Rattle.reg_desk_jobs.specs.declared.replay_job.Renumbered.{Renumbered}
 
--- ---- what is sent for it, and which reply is the same
+-- ---- what is sent for an entry, and which reply agrees
 
--- the number that a request has now: the one that a reply gave it last, or that of the log
+-- the number that a request has now: the last one that a reply gave it, or that of the log
 abbrev pub number_now : List Renumbered → ℕ → ℕ
 number_now numbers logged = fold (λ number one. if one.logged == logged then one.given else number) logged numbers
 
--- what is sent: the line that was asked; a request by its serial number and ground; a decision by its word, the number that the request has now, and
+-- what is sent: the logged line; a request with its serial number and ground; a decision with its word, the number that the request has now, and
 -- its serial number
 abbrev pub text_to_send : List Renumbered → LoggedExchange → Entry → List ℕ
 text_to_send numbers logged_exchange Line = logged_exchange.asked
@@ -31,8 +31,8 @@ text_to_send numbers logged_exchange (Decision id serial) = first_word logged_ex
 abbrev pub line_to_send : List Renumbered → LoggedExchange → Entry → List ℕ
 line_to_send numbers logged_exchange entry = text_to_send numbers logged_exchange entry ++ 10 ∷ []
 
--- whether a reply is that of the log: in its first two words; in the first one of a decision, which may be late now; of a request, which may have
--- been entered over HTTP, it says that it was entered
+-- whether a reply agrees with that of the log: in its first two words; for a decision, which may be late now, in the first one; for a request, which
+-- may have come over HTTP, it must say that it was entered
 abbrev pub agrees : LoggedExchange → Entry → List ℕ → Bool
 agrees logged_exchange Line reply = bytes_eq (first_word reply) (first_word logged_exchange.answered) && bytes_eq (second_word reply) (second_word logged_exchange.answered)
 agrees logged_exchange (Request id serial label) reply = bytes_eq (first_word reply) (codes "request")
@@ -47,12 +47,12 @@ renumbered (Decision id serial) reply = []
 
 -- ---- a replay
 
--- the line of the log is written at which a replay stops
+-- the line of the log at which a replay stops is written
 abbrev pub StopsWith : Option (List ℕ) → List ℕ → Option (List ℕ) → Result (Unit {0}) Failure → Type 0
 StopsWith out line out' (Ok done) = ⊥
 StopsWith out line out' (Err why) = IsOfTalk why ⊎ ((why ≡ failure.Refused) × Appends out out' line)
 
--- how far a replay is: what was sent, what is left of the replies, what was written, and the numbers that requests were given
+-- the state of a replay: what was sent, the replies that are left, what was written, and the numbers that requests were given
 pub record ReplayState : Type 0 where
   pub sent : Option (List ℕ)
   pub incoming : Option (List ℕ)
@@ -62,13 +62,13 @@ pub record ReplayState : Type 0 where
 abbrev pub state_of : Option (List ℕ) → Option (List ℕ) → Option (List ℕ) → List Renumbered → ReplayState
 state_of sent incoming out numbers = record { sent = sent; incoming = incoming; out = out; numbers = numbers }
 
--- the command of an entry is sent; its reply is the log's, and the number that it gives is kept
+-- the command of an entry is sent; its reply agrees, and the number that it gives is kept
 abbrev pub ReplyAgrees : ReplayState → LoggedExchange → Entry → ReplayState → Type 0
 ReplyAgrees s logged_exchange entry t = (reply : List ℕ)
     × TalksLine s.sent t.sent s.incoming t.incoming s.out t.out (line_to_send s.numbers logged_exchange entry) reply
     × IsTrue (agrees logged_exchange entry (line_of reply)) × (t.numbers ≡ s.numbers ++ renumbered entry (line_of reply))
 
--- the command of an entry is sent; its reply is another one, and the line of the log is written behind it
+-- the command of an entry is sent; its reply differs, and the line of the log is written after it
 abbrev pub ReplyDiffers : ReplayState → LoggedExchange → Entry → List ℕ → ReplayState → Type 0
 ReplyDiffers s logged_exchange entry line t = (reply : List ℕ) × (out : Option (List ℕ))
     × TalksLine s.sent t.sent s.incoming t.incoming s.out out (line_to_send s.numbers logged_exchange entry) reply
@@ -79,17 +79,17 @@ abbrev pub EntryEnds : ReplayState → LoggedExchange → Entry → List ℕ →
 EntryEnds s logged_exchange entry line t (Ok done) = ReplyAgrees s logged_exchange entry t
 EntryEnds s logged_exchange entry line t (Err why) = IsOfTalk why ⊎ ((why ≡ failure.Refused) × ReplyDiffers s logged_exchange entry line t)
 
--- a line of the log is replayed: it has no accepted command, or one whose reply is the log's
+-- a line of the log is replayed: it has no accepted command, or one whose reply agrees
 abbrev pub LineReplayed : ReplayState → List ℕ → ReplayState → Type 0
 LineReplayed s line t = (LogsNothing line × (t ≡ s)) ⊎ ((logged_exchange : LoggedExchange) × (entry : Entry) × LogsEntry line logged_exchange entry × ReplyAgrees s logged_exchange entry t)
 
--- a replay stops at a line of the log, which is written: it does not have a command whole, and nothing is sent; or the reply differs
+-- a replay stops at a line of the log, which is written: it has only a part of a command, and nothing is sent; or the reply differs
 abbrev pub LineStops : ReplayState → List ℕ → ReplayState → Type 0
 LineStops s line t =
     (LogsPart line × (t.sent ≡ s.sent) × (t.incoming ≡ s.incoming) × Appends s.out t.out line)
     ⊎ ((logged_exchange : LoggedExchange) × (entry : Entry) × LogsEntry line logged_exchange entry × ReplyDiffers s logged_exchange entry line t)
 
--- how a line of the log ends
+-- how the replay of a line of the log ends
 abbrev pub LineEnds : ReplayState → List ℕ → ReplayState → Result (Unit {0}) Failure → Type 0
 LineEnds s line t (Ok done) = LineReplayed s line t
 LineEnds s line t (Err why) = IsOfTalk why ⊎ ((why ≡ failure.Refused) × LineStops s line t)
@@ -99,25 +99,25 @@ abbrev pub Replayed : ReplayState → List (List ℕ) → ReplayState → Type 0
 Replayed s [] t = t ≡ s
 Replayed s (line ∷ log) t = (m : ReplayState) × LineReplayed s line m × Replayed m log t
 
--- why a replay stops before the end of the log, with these bytes of it left: at the next line, or as the last one has no end
+-- why a replay stops before the end of the log, with these bytes left: at the next line, or because the last one has no line end
 abbrev pub Stops : ReplayState → List ℕ → ReplayState → Failure → Type 0
 Stops s left t why =
     ((why ≡ failure.Refused) × (line rest : List ℕ) × (left ≡ line ++ rest) × IsWholeLine line × LineStops s line t)
     ⊎ ((why ≡ failure.NoLineEnd) × IsCutOff left × (t ≡ s))
 
--- a log is replayed: each of its lines; or those before the one at which it stops; where it ends by a fault, how far it came is not said
+-- a log is replayed: each of its lines; or those before the one at which it stops. After a fault, nothing is stated about how far it got
 abbrev pub ReplaysLog : Option (List ℕ) → ReplayState → ReplayState → Result (Unit {0}) Failure → Type 0
 ReplaysLog input s t (Ok done) = (log : List (List ℕ)) × AreWhole log × IsInput input (concat log) × Replayed s log t
 ReplaysLog input s t (Err why) = IsOfTalk why
     ⊎ ((log : List (List ℕ)) × (m : ReplayState) × (left : List ℕ) × AreWhole log × Replayed s log m × IsInput input (concat log ++ left) × Stops m left t why)
 
--- the same, with no number given before
+-- the same, with no numbers at the start
 abbrev pub Replays : Option (List ℕ) → Option (List ℕ) → Option (List ℕ) → Option (List ℕ) → Option (List ℕ) → Option (List ℕ) → Option (List ℕ)
     → Result (Unit {0}) Failure → Type 0
 Replays input sent sent' incoming incoming' out out' result =
     (numbers : List Renumbered) × ReplaysLog input (state_of sent incoming out []) (state_of sent' incoming' out' numbers) result
 
--- over a connection, of which nothing more is known: it ended early with nothing written, or as it says
+-- over a connection about which nothing else is known: it ended early with nothing written, or as `Replays` states
 abbrev pub ReplaysOver : Option (List ℕ) → Option (List ℕ) → Option (List ℕ) → Result (Unit {0}) Failure → Type 0
 ReplaysOver input out out' result =
     ((why : Failure) × (result ≡ Err why) × IsOfTalk why × (out' ≡ out))

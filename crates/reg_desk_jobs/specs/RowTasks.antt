@@ -1,4 +1,4 @@
--- The rows of a file, of which each has a task done with its certificate at a control socket.
+-- The rows of a file. For each, a task is done with its certificate at a control socket.
 use Rattle.std.specs.Prelude.{◌≡◌, ◌⊎◌, ◌↔◌, ℕ, ◌+◌, ◌==◌, Bool, ◌||◌, List, [], ◌∷◌, ◌++◌, take, drop, codes, bytes_eq, decimal, option_map, position, IsFalse, IsTrue, Option, Some, None, Result, Ok, Err}
 use Rattle.std.specs.Io.KnownBytes.{Appends, Consumes}
 use Rattle.std.specs.List.{AllByRecursion, concat}
@@ -26,11 +26,11 @@ abbrev pub header_of : RowTask → List ℕ
 header_of (Register terms) = codes "serial,notBefore,notAfter"
 header_of Revoke = codes "serial,ground"
 
--- no row: an empty line, and the header
+-- a line that is no row: an empty line, or the header
 abbrev pub is_passed_over : RowTask → List ℕ → Bool
 is_passed_over task text = bytes_eq text [] || bytes_eq text (header_of task)
 
--- a text up to its first comma, and behind it
+-- the text before the first comma, and the text after it
 unfoldable pub parted_by_comma : List ℕ → Option (List ℕ × List ℕ)
 parted_by_comma text = option_map (λ comma. (take comma text, drop (comma + 1) text)) (position (λ byte. byte == 44) text)
 
@@ -54,14 +54,14 @@ registration_row_in text = do
 
 -- ---- what is sent for a row
 
--- the request of a row, and its revocation under the number that a reply gives to the request
+-- the request of a row, and its revocation with the request's number from the reply
 abbrev pub row_request : RevocationRow → List ℕ
 row_request row = codes "request" ++ (32 ∷ serial_text row.serial) ++ (32 ∷ row.word) ++ 10 ∷ []
 
 abbrev pub row_revocation : RevocationRow → List ℕ → List ℕ
 row_revocation row reply = codes "revoke" ++ (32 ∷ second_word (line_of reply)) ++ (32 ∷ serial_text row.serial) ++ 10 ∷ []
 
--- the query of a row's status, its order, and its registration under the number that a reply gives to the order
+-- the query of a row's status, its order, and its registration with the order's number from the reply
 abbrev pub row_status : RegistrationRow → List ℕ
 row_status row = codes "status" ++ (32 ∷ serial_text row.serial) ++ 10 ∷ []
 
@@ -73,7 +73,7 @@ row_registration row reply =
     codes "register" ++ (32 ∷ second_word (line_of reply)) ++ (32 ∷ serial_text row.serial) ++ (32 ∷ moment_text row.not_before)
     ++ (32 ∷ moment_text row.not_after) ++ 10 ∷ []
 
--- a connection to the control socket: what was sent, and what is left of the replies
+-- a connection to the control socket: what was sent, and the replies that are left
 pub record Link : Type 0 where
   pub sent : Option (List ℕ)
   pub incoming : Option (List ℕ)
@@ -81,7 +81,7 @@ pub record Link : Type 0 where
 abbrev pub link_of : Option (List ℕ) → Option (List ℕ) → Link
 link_of sent incoming = record { sent = sent; incoming = incoming }
 
--- what is sent from one state of the connection to another, and the reply that the row has
+-- what is sent between two states of the connection, and the last reply
 abbrev pub Exchange : Type 1
 Exchange = Link → Link → List ℕ → Type 0
 
@@ -104,7 +104,7 @@ abbrev pub RevokesRow : Option RevocationRow → Exchange
 RevokesRow None = Sends (codes "request\n")
 RevokesRow (Some row) = SendsThen (row_request row) (codes "request") (λ entered. Sends (row_revocation row entered))
 
--- a row's order, and its registration if the order is made
+-- a row's order, and its registration if the order is entered
 abbrev pub OrdersRow : OrderTerms → RegistrationRow → Exchange
 OrdersRow terms row = SendsThen (row_order terms) (codes "order") (λ ordered. Sends (row_registration row ordered))
 
@@ -117,15 +117,15 @@ abbrev pub AnswersRow : RowTask → List ℕ → Exchange
 AnswersRow (Register terms) text = RegistersRow terms (registration_row_in text)
 AnswersRow Revoke text = RevokesRow (revocation_row_in text)
 
--- the reply to a row that is done: no refusal and no fault, or the certificate was revoked before
+-- the reply to a row that is done: no refusal and no fault, or E19: the certificate is already revoked
 abbrev pub IsRowDone : List ℕ → Type 0
 IsRowDone reply = IsAccepted reply ⊎ (first_word (line_of reply) ≡ codes "E19")
 
 -- ---- the rows of a file
 
--- The task of each row.
+-- The task for each row.
 module _ (task : RowTask) where
-  -- the reply to a line of the file, which has none where it is passed over
+  -- the reply to a line of the file; a line that is skipped has none
   abbrev pub LineAnswered : Link → Link → List ℕ → List ℕ → Type 0
   LineAnswered s t line reply = (IsTrue (is_passed_over task (line_of line)) × (reply ≡ []) × (t ≡ s))
       ⊎ (IsFalse (is_passed_over task (line_of line)) × AnswersRow task (line_of line) s t reply)
@@ -147,8 +147,8 @@ module _ (task : RowTask) where
     pub answered : LinesAnswered s t lines replies
     pub wrote : Appends out out' (concat replies)
 
-  -- the rows of an input: each is done; or one is not, or a last line without its end is left, for which nothing was sent; where the connection, the
-  -- input or the output failed, how far it came is not said
+  -- the rows of an input: each is done; or one is not, or a last line without its line end is left, for which nothing was sent. If the connection,
+  -- the input or the output failed, nothing is stated about how far it got
   abbrev pub SendsRows : Option (List ℕ) → Link → Link → Option (List ℕ) → Option (List ℕ) → Result (Unit {0}) Failure → Type 0
   SendsRows input s t out out' (Ok done) =
       (lines replies : List (List ℕ)) × RepliesWritten s t out out' lines replies × IsInput input (concat lines) × AllByRecursion IsRowDone replies
@@ -156,7 +156,7 @@ module _ (task : RowTask) where
       ⊎ ((lines replies : List (List ℕ)) × (left : List ℕ) × RepliesWritten s t out out' lines replies
       × IsInput input (concat lines ++ left) × IsWhyBy IsRowDone replies left why)
 
-  -- over a connection, of which nothing more is known: it ended early with nothing written, or as it says
+  -- over a connection about which nothing else is known: it ended early with nothing written, or as `SendsRows` states
   abbrev pub SendsRowsOver : Option (List ℕ) → Option (List ℕ) → Option (List ℕ) → Result (Unit {0}) Failure → Type 0
   SendsRowsOver input out out' result =
       ((why : Failure) × (result ≡ Err why) × IsOfTalk why × (out' ≡ out))

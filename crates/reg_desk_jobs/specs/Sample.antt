@@ -1,4 +1,4 @@
--- The register in memory that a script without FILE runs over.
+-- The register in memory for a script without FILE.
 use Rattle.std.specs.Prelude.{[], ◌∷◌}
 use Rattle.reg_core.specs.Issuer.{Issuer}
 use Rattle.reg_core.specs.Policy.{Terms}
@@ -12,10 +12,10 @@ sample_issuer = record {
   key = 97 ∷ 98 ∷ 99 ∷ [];
 }
 
--- its policy: 398 days, eight days for CRLs, four days for OCSP answers, 1,000,000 rows a table
+-- its policy: validities up to 398 days, CRLs valid for eight days, OCSP responses for four days, 1,000,000 rows in each table
 abbrev pub usual_policy : Terms
 usual_policy = record { schedule = one_step 398; crl_life = 691200; ocsp_life = 345600; cap = 1000000 }
 
--- its records as it begins
+-- its records at the start
 abbrev pub sample_records : Records
 sample_records = no_records sample_issuer usual_policy

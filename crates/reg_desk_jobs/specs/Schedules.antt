@@ -1,4 +1,4 @@
--- A schedule that is set.
+-- Setting a schedule.
 use Rattle.std.specs.Prelude.{◌≡◌, ◌⊎◌, ℕ, List, [], ◌∷◌, ◌++◌, codes, Result, Ok, Err}
 use Rattle.reg_core.specs.Records.{Records}
 use Rattle.reg_core.specs.Schedule.{IsSchedule}
@@ -9,7 +9,7 @@ use Rattle.reg_core.specs.declared.refusal.Fault.{Fault}
 use Rattle.reg_office_api.specs.Settings.{Reschedules}
 use Rattle.reg_desk_jobs.specs.RegisterUses.{exit_of}
 
--- steps are set as the schedule; those that are none are refused, and the records stay
+-- steps are set as the schedule; if they are no schedule, they are refused, and no record changes
 abbrev pub SetsSteps : List (ℕ × ℕ) → Result (Unit {0}) Failure → Records → Records → Type 0
 SetsSteps steps result before after =
     ((why : Failure) × (result ≡ Err why) × IsNoSchedule steps why × (after ≡ before))
@@ -20,7 +20,7 @@ abbrev pub set_line : Result (Unit {0}) Failure → List ℕ
 set_line (Ok done) = codes "schedule set"
 set_line (Err why) = failure_line why
 
--- that is told, or nothing where there was no memory for it
+-- the reply has that line, or is empty if there was no memory for it
 abbrev pub RepliesSetting : Result (Unit {0}) Failure → List ℕ → Type 0
 RepliesSetting set text = (text ≡ set_line set ++ 10 ∷ []) ⊎ (text ≡ [])
 

@@ -1,14 +1,14 @@
--- The first CRL of a register, where a digest seals it.
+-- The first CRL of a register, if it has a placeholder digest.
 use Rattle.std.specs.Prelude.{◌≡◌, ℕ, List, codes, Ok}
 use Rattle.reg_core.specs.declared.command.Reply.TheVariants as reply
 use Rattle.reg_lines.specs.declared.answered.Answered.{Answered}
 use Rattle.reg_lines.specs.declared.answered.Answered.TheVariants.{CameTo}
 use Rattle.reg_lines.specs.declared.answered.LineKind.{LineKind}
 
--- a line came to the first CRL of its register: CRLs are numbered from 1 on
+-- a line issued the first CRL of its register: CRLs are numbered from 1 on
 abbrev pub IsFirstCrl : Answered → Type 0
 IsFirstCrl answered = (what : LineKind) × (entries : ℕ) × (answered ≡ CameTo what (Ok (reply.Crl 1 entries)))
 
--- the line that says that this is no signature, with its LF
+-- the warning that CRL 1 has no signature, with its LF
 unfoldable pub sealed_line : List ℕ
 sealed_line = codes "warning: CRL 1 has a placeholder digest instead of a signature; to sign: --signer SOCKET --algorithm NAME\n"

@@ -1,4 +1,4 @@
--- A request that is revoked or declined by its number, and by the serial number that it is for.
+-- A request that is revoked or declined by its number and its serial number.
 use Rattle.std.specs.Prelude.{◌≡◌, ◌≢◌, ◌⊎◌, ℕ, List, Option, Some, None, IsSomeAnd}
 use Rattle.reg_core.specs.Records.{Records, request_in}
 use Rattle.reg_core.specs.declared.command.Command.{Command}
@@ -23,7 +23,7 @@ abbrev pub request_of_row : Option Row → Option RequestRow
 request_of_row (Some (kind.History history)) = Some history.request.request
 request_of_row other = None
 
--- the request of a number is for another serial number
+-- the request with the number is for another serial number
 abbrev pub IsForOther : Records → SerialDecision → Type 0
 IsForOther records serial_decision = IsSomeAnd (request_in records.requests serial_decision.request) (λ request. request.serial ≢ serial_decision.serial)
 
@@ -33,7 +33,7 @@ RunsAt signs now identity before command text after =
     ((answered : Answered) × OfficeAnswers (Lines signs identity) now before (means_command command) answered after × (text ≡ reply_of answered))
     ⊎ (ReportsFault Memory text × (after ≡ before))
 
--- a decision and its reply: that there is no such request, where it is for another serial number; else the command's; or why the look-up failed
+-- a decision and its reply: that there is no such request, if it is for another serial number; else that of the command; or why the look-up failed
 abbrev pub SettlesAt : Signs → ℕ → Signatory → Records → SerialDecision → List ℕ → Records → Type 0
 SettlesAt signs now identity before serial_decision text after =
     (IsForOther before serial_decision × ReportsFault (Refused NoRequest) text × (after ≡ before))

@@ -1,4 +1,4 @@
--- Requests served over a register.
+-- Requests that are served over a register.
 use Rattle.std.specs.Prelude.{◌≡◌, ◌≢◌, ◌⊎◌, ℕ, Bool, IsTrue, List, ◌∷◌, [], ◌++◌, codes, decimal, Option, Some, None, Result, Ok, Err}
 use Rattle.std.specs.Io.KnownBytes.{Appends}
 use Rattle.reg_core.specs.Records.{Records}
@@ -18,47 +18,47 @@ use Rattle.reg_desk_jobs.specs.declared.unsigned_responses.Unsigned.{Unsigned}
 use Rattle.reg_io.specs.Put.{AppendsPrefix}
 use Rattle.reg_io.specs.RunsOfAnswers.{Answered}
 
--- What came of a request at a desk that is open or is not: its text is that of an exchange; or its answer was left to be signed, and whatever text
--- finishes that is of one. In both the exchange is one over the records as they are where it stands among the others: so each answer is what they say at one moment
--- between its request and its sending, and a revocation that was answered before is in it. A signature that finishes it was given (`signer_answered`) for
--- exactly what is signed in it.
+-- The outcome of a request at a desk that is open or not: the text of an exchange; or a response to be signed, such that any text that finishes it is
+-- that of an exchange. In both cases the exchange is over the records at its place among the other inputs. So each answer tells the state at a time
+-- between its request and its sending, and includes each revocation that was answered before. A signature that finishes it was given by the signer
+-- (`signer_answered`) for exactly the message that is signed.
 abbrev pub Exchanging
     : Bool → Signs → (List ℕ → List ℕ → Type 0) → (ℕ → Type 0) → Signatory → Records → List ℕ → Outcome Unsigned → Records → Type 0
 Exchanging is_open signs signer_answered clock_reached identity before request outcome after =
     Meets (FinishesUnsigned signer_answered) (λ text. AnswersBy is_open signs clock_reached identity before request text after) outcome
 
--- a line at the control socket, which an open desk alone has
+-- a line at the control socket, which only an open desk has
 abbrev pub OpenWord : Bool → Signs → (ℕ → Type 0) → Signatory → Records → List ℕ → List ℕ → Records → Type 0
 OpenWord is_open signs clock_reached identity before line text after = IsTrue is_open × Word signs clock_reached identity before line text after
 
--- what requests, and lines at an open desk, made of the records: one after the other, and nothing else
+-- what requests, and lines at an open desk, did to the records: one after the other, and nothing else changed them
 abbrev pub Serves
     : Bool → Signs → (List ℕ → List ℕ → Type 0) → (ℕ → Type 0) → List Input → List (Outcome Unsigned) → Signatory → Records → Records → Type 0
 Serves is_open signs signer_answered clock_reached inputs outcomes identity before after =
     Answered (Handles (Exchanging is_open signs signer_answered clock_reached identity) (OpenWord is_open signs clock_reached identity) Unmoved) before inputs outcomes after
 
--- this machine alone: an address of the loopback interface (RFC 1122 3.2.1.3, RFC 4291 2.5.3)
+-- an address of the loopback interface (RFC 1122 3.2.1.3, RFC 4291 2.5.3)
 abbrev pub loopback : Loopback → List ℕ
 loopback V4 = 127 ∷ 0 ∷ 0 ∷ 1 ∷ []
 loopback V6 = 0 ∷ 0 ∷ 0 ∷ 0 ∷ 0 ∷ 0 ∷ 0 ∷ 0 ∷ 0 ∷ 0 ∷ 0 ∷ 0 ∷ 0 ∷ 0 ∷ 0 ∷ 1 ∷ []
 
--- the line with the port
+-- the output line with the port
 abbrev pub listening : ℕ → List ℕ
 listening port = codes "listening " ++ (decimal port ++ 10 ∷ [])
 
--- nobody was answered: the port could not be bound, its connections not be polled, or there was no memory for them
+-- nothing was answered: the port could not be bound, its connections could not be polled, or there was no memory for them
 abbrev pub Unbound : List Input → Result (Unit {0}) Failure → Type 0
 Unbound inputs result = (inputs ≡ []) × ((result ≡ Err (failure.Fault fault.Read)) ⊎ (result ≡ Err (failure.Fault fault.Memory)))
 
--- Serving ended after these were answered: done after all that were asked for. A fault of reading is a clock that could not be read, or
--- sockets that failed; of writing, a line that was not told whole.
+-- Serving ended after these inputs were answered: it is done after all requests. `Read` means that the clock could not be read, or that
+-- the sockets failed; `Write`, that the line with the port was not written whole.
 abbrev pub Served : ℕ → ℕ → List Input → Option (List ℕ) → Option (List ℕ) → Result (Unit {0}) Failure → Type 0
 Served port requests inputs out out' (Ok done) = (requests_in inputs ≡ requests) × Appends out out' (listening port)
 Served port requests inputs out out' (Err (failure.Fault fault.Read)) = (requests_in inputs ≢ requests) × Appends out out' (listening port)
 Served port requests inputs out out' (Err (failure.Fault fault.Write)) = (inputs ≡ []) × AppendsPrefix out out' (listening port)
 Served port requests inputs out out' (Err other) = ⊥
 
--- nothing was bound and nothing was written; or this was, and that was served there
+-- nothing was bound and nothing was written; or this was bound, and these inputs were served
 abbrev pub ServedAt : {W : Type 0} → (W → Option (List ℕ)) → W → W → Type 0 → ℕ → ℕ → List Input → Result (Unit {0}) Failure → Type 0
 ServedAt contents writer writer' Bound port requests inputs result =
     (Unbound inputs result × (writer' ≡ writer)) ⊎ (Bound × Served port requests inputs (contents writer) (contents writer') result)
@@ -67,7 +67,7 @@ ServedAt contents writer writer' Bound port requests inputs result =
 abbrev pub IsControlSocket : (List ℕ → Type 0) → (List ℕ → ℕ → Type 0) → List ℕ → Type 0
 IsControlSocket socket_created has_mode path = socket_created path × has_mode path 384
 
--- a port of the loopback interface was bound, and a control socket was created where one is given
+-- a port of the loopback interface was bound, and a control socket was created if one is given
 abbrev pub IsBound : (List ℕ → ℕ → Type 0) → (List ℕ → Type 0) → (List ℕ → ℕ → Type 0) → Endpoint → Option (List ℕ) → Type 0
 IsBound bound socket_created has_mode at None = bound (loopback at.address) at.port
 IsBound bound socket_created has_mode at (Some control) = bound (loopback at.address) at.port × IsControlSocket socket_created has_mode control

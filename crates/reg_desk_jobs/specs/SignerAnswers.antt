@@ -1,14 +1,14 @@
--- What a signer at a path was asked, and what it gave.
+-- The messages that a signer at a path was asked to sign, and its answers.
 use Rattle.std.specs.Prelude.{◌≡◌, ℕ, List, Option, Some}
 
--- there is a path, and this holds of it
+-- there is a path, and `Holds` is true of it
 abbrev pub AtGivenPath : Option (List ℕ) → (List ℕ → Type 0) → Type 0
 AtGivenPath given_path Holds = (path : List ℕ) × (given_path ≡ Some path) × Holds path
 
--- a signer at some path answered this message so
+-- a signer at some path gave this answer for this message
 abbrev pub AnsweredAtSomePath : (List ℕ → List ℕ → List ℕ → Type 0) → List ℕ → List ℕ → Type 0
 AnsweredAtSomePath signer_answered message answer = (path : List ℕ) × signer_answered path message answer
 
--- the signer at the given path did
+-- the signer at the given path gave it
 abbrev pub AnsweredAtPath : (List ℕ → List ℕ → List ℕ → Type 0) → Option (List ℕ) → List ℕ → List ℕ → Type 0
 AnsweredAtPath signer_answered given_path message answer = AtGivenPath given_path (λ path. signer_answered path message answer)

@@ -1,4 +1,4 @@
--- The signers of a register that is opened.
+-- The signers with which a register is opened.
 use Rattle.std.specs.Prelude.{◌≡◌, ◌⊎◌, ℕ, List, Option, Some, None, IfSome, MatchOption, option_map}
 use Rattle.reg_office_api.specs.Signatories.{Responder, Signatory, signs_both}
 use Rattle.reg_core.specs.Crls.{latest}
@@ -15,29 +15,29 @@ use Rattle.reg_desk_cli.specs.declared.job.Answerer.{Answerer}
 use Rattle.reg_desk_cli.specs.declared.job.Answerer.TheVariants.{Issuer, Delegate}
 use Rattle.reg_desk_cli.specs.declared.job.KeyHolder.{KeyHolder}
 
--- the signer of CRLs, as the command line names it; or else a placeholder digest, or nobody beside a responder
+-- the signer of CRLs that the command line names. Without one, a placeholder digest; but no signer if the OCSP responder has a key of its own
 abbrev pub signs_crls : Option KeyHolder → Answerer → CrlSigner
 signs_crls (Some holder) answerer = Holder holder
 signs_crls None (Issuer certificate) = Digest
 signs_crls None (Delegate certificate holder) = Nobody
 
--- for which signatures a register is opened: the signer of its CRLs, and the one of OCSP answers
+-- the signers with which a register is opened: that of its CRLs, and that of OCSP responses
 abbrev pub Signing : Type 0
 Signing = CrlSigner × Answerer
 
--- the same by the options
+-- the same, from the options
 abbrev pub signing_with : Option KeyHolder → Answerer → Signing
 signing_with signer answerer = (signs_crls signer answerer, answerer)
 
--- the signer of CRLs signs answers too, and no certificate is put into an answer
+-- the signer of CRLs signs OCSP responses too, without a certificate in them
 abbrev pub by_itself : Answerer
 by_itself = Issuer None
 
--- nothing will be signed
+-- the signers for a job that signs nothing
 abbrev pub unsigned : Signing
 unsigned = (Nobody, by_itself)
 
--- a certificate is given for the answers
+-- a certificate for OCSP responses is given
 abbrev pub HasCertificate : Answerer → Type 0
 HasCertificate (Issuer None) = ⊥
 HasCertificate (Issuer (Some path)) = Unit {0}
@@ -47,50 +47,50 @@ HasCertificate (Delegate path holder) = Unit {0}
 abbrev pub crl_socket : Option KeyHolder → Option (List ℕ)
 crl_socket signer = option_map (λ holder. holder.socket) signer
 
--- the path of the signer of OCSP answers, if there is one: the responder's, or that of the signer of CRLs
+-- the path of the signer of OCSP responses, if there is one: the responder's, or that of the signer of CRLs
 abbrev pub answer_socket : Option KeyHolder → Answerer → Option (List ℕ)
 answer_socket signer (Issuer certificate) = crl_socket signer
 answer_socket signer (Delegate certificate holder) = Some holder.socket
 
--- a signature over an issuer's key (RFC 5280 4.1.2.7): the signer's, under its algorithm, or the placeholder digest
+-- the signer of an issuer's key (RFC 5280 4.1.2.7): with its algorithm, or the placeholder digest
 abbrev pub identity_of_holder : Option KeyHolder → List ℕ → Identity
 identity_of_holder None key = digest
 identity_of_holder (Some holder) key = identity_of holder.algorithm key
 
--- the signer of CRLs of a register that is opened: the given one; and where nothing will be signed, any that could be given
+-- the signer of CRLs of an open register: the given one; if nothing is to be signed, any that could be given
 abbrev pub IsSigning : CrlSigner → List ℕ → Identity → Type 0
 IsSigning Nobody key identity = (signer : Option KeyHolder) × (identity ≡ identity_of_holder signer key)
 IsSigning Digest key identity = identity ≡ identity_of_holder None key
 IsSigning (Holder holder) key identity = identity ≡ identity_of_holder (Some holder) key
 
--- a responder by a certificate of its own (RFC 6960 4.2.2.2): under the key of that certificate, which is one of the algorithm, and named
--- by it; the certificate stands with each answer
+-- a responder with a certificate of its own (RFC 6960 4.2.2.2): it signs with the key of that certificate, which fits the algorithm, and is
+-- identified by that key; the certificate is in each response
 pub record IsDelegate (holder : KeyHolder) (responder : Responder) : Type 0 where
   pub certificate : List ℕ
   pub key : List ℕ
   pub certified : IsCertificateOf certificate (key_identifier_of holder.algorithm) key
   pub is : responder ≡ record { identity = identity_of holder.algorithm key; own_key = Some key; certificate = Some certificate }
 
--- the responder that was given, beside the signer of CRLs: the same, also with a certificate; or a responder
+-- the given responder, besides the signer of CRLs: it is that signer, perhaps with a certificate; or a delegated responder
 abbrev pub IsAnswering : Answerer → Signatory → Type 0
 IsAnswering (Issuer None) signatory = signatory ≡ signs_both signatory.crls
 IsAnswering (Issuer (Some path)) signatory =
     (certificate : List ℕ) × (signatory.answers ≡ record { identity = signatory.crls; own_key = None; certificate = Some certificate })
 IsAnswering (Delegate path holder) signatory = IsDelegate holder signatory.answers
 
--- a certificate that stands with answers by the issuer's key is of that key
+-- a certificate in OCSP responses that the issuer's key signs has that key
 abbrev pub EmbedsOwn : List ℕ → Responder → Type 0
 EmbedsOwn key responder =
     MatchOption responder.own_key
     (IfSome responder.certificate (λ certificate. (algorithm : List ℕ) × IsCertificateOf certificate algorithm key))
     (λ own. Unit {0})
 
--- what is signed under an algorithm may stand behind a CRL under this one: it is the same, or that of the digest, which any key may follow
--- (RFC 5280 5.1.1.2)
+-- a CRL with an algorithm may follow one with an earlier algorithm: they are equal, or the earlier one is the placeholder digest, which a
+-- signature may replace (RFC 5280 5.1.1.2)
 abbrev pub MayFollow : List ℕ → List ℕ → Type 0
 MayFollow algorithm earlier = (earlier ≡ algorithm) ⊎ (earlier ≡ digest.algorithm)
 
--- no CRL was issued yet, or what is signed under this algorithm may stand behind the latest one
+-- there is no CRL yet, or a CRL with this algorithm may follow the latest one
 abbrev pub Follows : Records → List ℕ → Type 0
 Follows records algorithm =
     (crl : Crl) → latest records.crls ≡ Some crl → (other : List ℕ) → IsCrlUnder crl.bytes other → MayFollow algorithm other

@@ -9,7 +9,7 @@ use Rattle.reg_desk_jobs.specs.declared.syntax.Field.TheVariants.{Name, Subscrib
 use Rattle.reg_desk_jobs.specs.declared.syntax.WrongField.{WrongField}
 use Rattle.reg_desk_jobs.specs.declared.syntax.WrongField.TheVariants.{Form, Missing, TooMany}
 
--- the fields of a command, by its word; `revoke` and `decline` may have the serial number or not
+-- the fields of a command, by its word; in `revoke` and `decline` the serial number is optional
 abbrev pub fields_wanted : List ℕ → Option (List Field)
 fields_wanted word =
     if bytes_eq word (codes "subscriber") then Some (Name ∷ [])
@@ -32,7 +32,7 @@ is_written Serial text = is_some (serial_of text)
 is_written NotBefore text = is_some (moment_of text)
 is_written NotAfter text = is_some (moment_of text)
 
--- the first field that is missing or has another form, or that stands after the last one
+-- the first field that is missing, has another form, or comes after the last one
 abbrev pub first_wrong : List Field → List (List ℕ) → Option WrongField
 first_wrong [] [] = None
 first_wrong [] (text ∷ rest) = Some TooMany
@@ -43,7 +43,7 @@ abbrev pub wrong_in : List (List ℕ) → Option WrongField
 wrong_in [] = None
 wrong_in (word ∷ fields) = option_and_then (λ wanted. first_wrong wanted fields) (fields_wanted word)
 
--- how it is written
+-- the name of a field
 abbrev pub name_text : Field → List ℕ
 name_text Name = codes "NAME"
 name_text Subscriber = codes "SUBSCRIBER"

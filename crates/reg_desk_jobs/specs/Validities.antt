@@ -4,7 +4,7 @@ use Rattle.reg_core.specs.Sequence.{◌>>=◌}
 use Rattle.reg_der.specs.TaggedValues.{expect_at, optional_at, whole_at}
 use Rattle.reg_der.specs.ValueReading.{value_at}
 
--- the digits of a time behind its century, and its Z: `YYYY-MM-DDTHH:MM:SSZ`
+-- a time as `YYYY-MM-DDTHH:MM:SSZ`, from its century and the digits after that
 abbrev pub dated : ℕ × ℕ → List ℕ → List ℕ
 dated century digits =
     century.0 ∷ century.1 ∷ get_or digits 0 0 ∷ get_or digits 1 0 ∷ 45 ∷ get_or digits 2 0 ∷ get_or digits 3 0 ∷ 45 ∷ get_or digits 4 0 ∷ get_or digits 5 0
@@ -25,7 +25,7 @@ generalized_text digits = if length digits == 15 then Some (dated (get_or digits
 abbrev pub validity_time_at : ℕ → List ℕ → Option (List ℕ)
 validity_time_at tag digits = if tag == 0x17 then utc_time_text digits else if tag == 0x18 then generalized_text digits else None
 
--- the contents of validity in those of a TBSCertificate: behind version, serialNumber, signature and issuer (RFC 5280 4.1)
+-- the contents of validity in those of a TBSCertificate: after version, serialNumber, signature and issuer (RFC 5280 4.1)
 unfoldable pub validity_at : List ℕ → Option (List ℕ)
 validity_at bytes = do
   version ← optional_at 0xA0 bytes

@@ -1,4 +1,4 @@
--- What an open register reports of itself, at two routes of its own: `/health` and `/metrics`.
+-- What an open register reports on itself, on the routes `/health` and `/metrics`.
 use Rattle.std.specs.Prelude.{◌≡◌, ◌⊎◌, ◌↔◌, ℕ, Bool, true, false, cond, List, codes, bytes_eq, Some, None, Result, Ok, Err, IsTrue, MatchBool, option_map}
 use Rattle.std.specs.declared.option.Option.{Option}
 use Rattle.reg_core.specs.Crls.{latest}
@@ -34,9 +34,9 @@ use Rattle.reg_desk_jobs.specs.declared.reasons.Reason.{Reason}
 use Rattle.reg_desk_jobs.specs.declared.reasons.Reason.TheVariants.{Unsigned}
 use Rattle.reg_desk_metrics.specs.declared.tally.Tally.{Tally}
 
--- ---- what is found in a register
+-- ---- what is read from a register
 
--- a query is answered by a reply of this kind, or refused; or there was a fault, as where the reply is of another kind, which no office gives
+-- a query is answered with a reply of this kind, or refused; or there was a fault, also for a reply of another kind, which no office gives
 abbrev pub Has : {A : Type 0} → Query → (A → Reply) → Records → ℕ → Result A Fault → Type 0
 Has query kind records now (Ok it) = answer records now query ≡ Ok (kind it)
 Has query kind records now (Err (Refused refusal)) = answer records now query ≡ Err refusal
@@ -51,13 +51,13 @@ abbrev pub HasOverdue : Records → ℕ → Result ℕ Fault → Type 0
 HasOverdue records now (Ok count) = (overdue : Option Overdue) × (answer records now AskOverdue ≡ Ok (OverdueAre overdue)) × (count ≡ many_in overdue)
 HasOverdue records now (Err fault) = Unit {0}
 
--- the signer of the CRLs, as it is counted
+-- how CRLs are signed, as the tally has it
 abbrev pub signing_by : CrlSigner → CrlSigning
 signing_by (signer.Holder holder) = signing.Key
 signing_by signer.Digest = signing.Digest
 signing_by signer.Nobody = signing.Nobody
 
--- whether a placeholder digest stands in place of a CRL's signature, by its signatureAlgorithm (RFC 5280 5.1.1.2)
+-- whether a CRL has a placeholder digest instead of a signature, by its signatureAlgorithm (RFC 5280 5.1.1.2)
 abbrev pub IsUnsigned : List ℕ → Bool → Type 0
 IsUnsigned crl is_unsigned = (algorithm : List ℕ) → IsCrlUnder crl algorithm → (IsTrue is_unsigned ↔ (algorithm ≡ sha1_algorithm))
 
@@ -69,13 +69,13 @@ IsReadIn crl read = (read.number ≡ crl.number) × IsUnsigned crl.bytes read.is
 abbrev pub IsReadAt : Records → ℕ → ReadCrl → Type 0
 IsReadAt records number read = (crl : Crl) → latest records.crls ≡ Some crl → number ≡ crl.number → IsReadIn crl read
 
--- what is known of the latest CRL: what was read in it now, or before in the one with its number; nothing where no key signs the next, and before the first
+-- what was read in the latest CRL, now or before in the CRL with its number; nothing if no signer has the key for the next one, or there is no CRL
 abbrev pub IsLatestRead : Tally → Records → Option ReadCrl → Type 0
 IsLatestRead tally records (Some read) = (has_crl_key tally ≡ true)
     × ((crl : Crl) × (latest records.crls ≡ Some crl) × ((read_of crl.number tally ≡ Some read) ⊎ IsReadIn crl read))
 IsLatestRead tally records None = (has_crl_key tally ≡ false) ⊎ (latest records.crls ≡ None)
 
--- at once behind a CRL without a signature, else as the query has it
+-- at once after a CRL without a signature, else as the query gives it
 abbrev pub due_after : ReadCrl → Option ℕ → Option ℕ
 due_after read asked = cond read.is_unsigned None asked
 
@@ -83,24 +83,24 @@ abbrev pub due_behind : Option ReadCrl → Option ℕ → Option ℕ
 due_behind None asked = asked
 due_behind (Some read) asked = due_after read asked
 
--- when the next CRL is due at a moment: as the query has it, or at once where a key signs it and the latest one has no signature
+-- when the next CRL is due at a moment: as the query gives it, or at once if a signer has the key and the latest CRL has no signature
 abbrev pub HasDue : Tally → Records → ℕ → Result (Option ℕ) Fault → Type 0
 HasDue tally records now (Ok due) = (asked : Option ℕ) × (read : Option ReadCrl)
     × Has AskNextCrl NextCrlIs records now (Ok asked) × IsLatestRead tally records read × (due ≡ due_behind read asked)
 HasDue tally records now (Err (Refused refusal)) = answer records now AskNextCrl ≡ Err refusal
 HasDue tally records now (Err other) = Unit {0}
 
--- what was read in the latest CRL is kept, or nothing is
+-- what was read in the latest CRL is kept, or the tally does not change
 abbrev pub KeepsRead : Tally → Records → Tally → Type 0
 KeepsRead tally records tally' = (tally' ≡ tally) ⊎ ((read : ReadCrl) × IsLatestRead tally records (Some read) × (tally' ≡ with_read read tally))
 
--- why the next CRL is due at once: the latest has no signature
+-- why the next CRL is due at once: the latest one has no signature
 abbrev pub IsDueUnsigned : Tally → Records → Option Reason → Type 0
 IsDueUnsigned tally records (Some (Unsigned number)) = (read : ReadCrl) × IsLatestRead tally records (Some read) × IsTrue read.is_unsigned × (number ≡ read.number)
 IsDueUnsigned tally records (Some other) = ⊥
 IsDueUnsigned tally records None = (read : Option ReadCrl) × IsLatestRead tally records read × ((asked : Option ℕ) → due_behind read asked ≡ asked)
 
--- what a register has at a moment: its counts as the query has them, when its next CRL is due, and what stands there; or why it tells nothing
+-- the numbers of a register at a moment: its counts, when its next CRL is due, and its standing; or why they can't be read
 abbrev pub HasFound : Tally → Records → ℕ → Result Numbers Fault → Type 0
 HasFound tally records now (Ok numbers) =
     Has AskCounts CountsAre records now (Ok numbers.counts) × HasDue tally records now (Ok numbers.due) × IsStanding records numbers.standing
@@ -113,12 +113,12 @@ HasRequests records now (Ok requests) =
     (requests.at ≡ now) × HasOpen records now (Ok requests.waiting) × HasOverdue records now (Ok requests.overdue)
 HasRequests records now (Err fault) = Unit {0}
 
--- requests for revocation were counted anew, or what was counted stays
+-- the requests for revocation were counted anew, or the old count stays
 abbrev pub Recounts : Records → ℕ → Tally → Tally → Type 0
 Recounts records now tally tally' =
     (tally' ≡ tally) ⊎ ((requests : Requests) × HasRequests records now (Ok requests) × (tally' ≡ with_counted requests tally))
 
--- requests for revocation were counted anew, and a CRL was read, or not: all else stays
+-- the requests for revocation were counted anew, and a CRL was read, or not: the rest of the tally stays
 abbrev pub IsCounted : Tally → Tally → Type 0
 IsCounted tally tally' = (tally' ≡ tally) ⊎ ((requests : Requests) × (tally' ≡ with_counted requests tally))
 
@@ -128,13 +128,13 @@ IsCrlRead tally tally' = (tally' ≡ tally) ⊎ ((read : ReadCrl) × (tally' ≡
 abbrev pub IsRecounted : Tally → Tally → Type 0
 IsRecounted tally tally' = (tally' ≡ tally) ⊎ ((counted : Tally) × IsCounted tally counted × IsCrlRead counted tally')
 
--- ---- what it tells
+-- ---- the answers
 
--- 200 where all is well, else 503 (RFC 9110 15.6.4)
+-- 200 if all is well, else 503 (RFC 9110 15.6.4)
 abbrev pub health_status : Bool → ℕ
 health_status is_well = cond is_well 200 503
 
--- whether all is well, with what is not in the body
+-- the answer with the health: the body names what is not well
 abbrev pub health_response : HealthOf → Response
 health_response health = json (health_status (is_well health)) (health_text health)
 
@@ -142,16 +142,16 @@ health_response health = json (health_status (is_well health)) (health_text heal
 abbrev pub metrics_response : List ℕ → Response
 metrics_response text = record { status = 200; kind = codes "text/plain; version=0.0.4; charset=utf-8"; allow = None; body = text }
 
--- these routes have GET alone (RFC 9110 15.5.6)
+-- these routes allow only GET (RFC 9110 15.5.6)
 abbrev pub ByGet : List ℕ → (AnswerEffects → Type 0) → AnswerEffects → Type 0
 ByGet method Says it = MatchBool (bytes_eq method (codes "GET")) (Says it) (it ≡ plain (only (codes "GET")))
 
--- its health: by what was found at a moment, with what was counted, and the moment that the operator accepted
+-- the health: from the register's numbers at a moment, the tally, and the moment that the operator accepted
 abbrev pub AnswersHealth : ℕ → Records → AnswerEffects → Type 0
 AnswersHealth now records it = (tally : Tally) × (found : Result Numbers Fault) × HasFound tally records now found
     × ((tally' : Tally) × (accepted : Option ℕ) × (it ≡ plain (health_response (health_of now found tally' accepted))))
 
--- its metrics: by what was found at a moment, with what was counted, and the totals of connections
+-- the metrics: from the register's numbers at a moment, the tally, and the totals of connections
 abbrev pub AnswersMetrics : ℕ → Records → AnswerEffects → Type 0
 AnswersMetrics now records it = (tally : Tally) × (found : Result Numbers Fault) × HasFound tally records now found
     × ((tally' : Tally) × (connection_totals : ConnectionTotals) × (it ≡ plain (metrics_response (metrics_text VERSION.now now found tally' connection_totals))))

@@ -52,11 +52,11 @@ impl RecentRequests {
     }
 }
 
-/// By what an open desk admits a request for revocation, beside the records.
+/// What decides whether an open desk admits a request for revocation, besides the records.
 #[derive(Clone, Copy)]
 pub(crate) struct Admission {
     pub(crate) recent: RecentRequests,
-    /// The moment that the operator accepted by `accept-clock`.
+    /// The moment that the operator accepted with `accept-clock`.
     pub(crate) accepted: Option<Moment>,
 }
 
@@ -72,8 +72,8 @@ impl Admission {
     }
 }
 
-/// Answers a request at the route of requests for revocation, or leaves what is to be signed for it. A request beyond the limits is refused
-/// with 429 or 503, and the register does not decide it.
+/// Answers a request at the route of requests for revocation, or leaves a response to be signed. A request beyond the limits is refused with 429
+/// or 503, and not entered.
 pub(crate) fn begin_admitted<M: Machine>(
     alloc: Global,
     office: &mut M::Office,

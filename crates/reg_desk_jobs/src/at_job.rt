@@ -15,29 +15,29 @@ use std::alloc::Global;
 use std::io::{BufRead, BufReader, Read, Write};
 use std::os::unix::net::UnixStream;
 
-/// What an input has next.
+/// What comes next in an input.
 #[derive(Drop)]
 pub(crate) enum Next {
     /// A line, with its LF.
     Line(Vec<u8>),
-    /// A last line without its end.
+    /// A last line without its line end.
     Cut,
-    /// Nothing.
+    /// No line: the input is at its end.
     End,
 }
 
-/// What the next line of a talk came to.
+/// The result of the next line of a conversation with a control socket.
 #[derive(Clone, Copy)]
 enum Step {
-    /// It was sent, and its reply was accepted or was not.
+    /// It was sent. Has whether its reply was accepted.
     Replied(bool),
-    /// It has no end, and was not sent.
+    /// It has no line end, and was not sent.
     Cut,
-    /// There is none.
+    /// There is no line left.
     End,
 }
 
-/// Sends each line of standard input to the control socket at a path, and writes its replies. A last line without its end is not sent.
+/// Sends each line of standard input to the control socket at a path, and writes its reply. A last line without its line end is not sent.
 pub fn at<M: Machine, R: Read, W: Write>(
     alloc: Global,
     machine: &M,
@@ -53,7 +53,7 @@ pub fn at<M: Machine, R: Read, W: Write>(
     }
 }
 
-/// Sends each row of a CSV file in the same way, as the line of a registration. Nothing is sent where the file can't be read whole.
+/// Sends each row of a CSV file in the same way, as a `register` line. Nothing is sent if the file can't be read to its end.
 pub fn at_rows<M: Machine, R: Read, W: Write>(
     alloc: Global,
     machine: &M,
@@ -87,10 +87,10 @@ fn talk_over<R: Read, W: Write>(
     }
 }
 
-/// Sends each line of the input to a control socket, each once the reply to the one before it came, and writes each reply. A last line without
-/// its end is not sent. Errors: once all lines are sent, `Refused` where a reply was a refusal or a fault, `NoLineEnd` where a last line
-/// without its end is left, and `RefusedNoLineEnd` for both. `Read` where the input fails, or the connection fails or ends before a reply is
-/// whole; `Write` where no line can be sent, or a reply can't be written; `Memory`.
+/// Sends each line of the input to a control socket, once the reply to the line before has arrived, and writes each reply. A last line without
+/// its line end is not sent. Errors: after all lines were sent, `Refused` if a reply was a refusal or a fault, `NoLineEnd` if a last line
+/// without its line end is left, and `RefusedNoLineEnd` for both. `Read` if the input fails, or the connection fails or ends within a
+/// reply; `Write` if a line can't be sent, or a reply can't be written; `Memory`.
 pub fn talk<R: BufRead, W: Write, C: BufRead, S: Write>(
     alloc: Global,
     input: &mut R,

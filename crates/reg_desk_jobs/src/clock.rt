@@ -1,4 +1,4 @@
-//! The moment of a clock.
+//! Converts the seconds of a clock to a moment.
 
 ghost use Rattle.std.specs.Prelude.{◌≡◌};
 ghost use Rattle.reg_desk_jobs.specs.Clocks.{IsMomentOfSeconds};
@@ -8,7 +8,7 @@ use reg_core::Moment;
 /// The last moment, 9999-12-31T23:59:59Z.
 const LAST_SECOND: u64 = 253_402_300_799;
 
-/// The moment so many seconds after 1970 began, or the last one.
+/// The moment that many seconds after the start of 1970, or the last moment if it is later.
 pub(crate) fn moment_at(seconds: u64) -> Moment
     ensures { IsMomentOfSeconds seconds result }
 {

@@ -1,4 +1,4 @@
-//! A reply at the control socket, and what is counted of its line.
+//! A reply at the control socket, and what is counted for its line.
 
 ghost use Rattle.std.specs.Prelude.{◌≡◌, ◌≤◌, ◌++◌, ◌∷◌, [], ℕ, List, IfOk, vec_capacity};
 ghost use Rattle.reg_core.specs.Lines.{fault_line};
@@ -11,20 +11,20 @@ use reg_lines::{Answered, LineKind};
 use reg_office_api::{LineEffects, LineReply, SignatureFate, StoreEffect};
 use std::alloc::{AllocError, Global};
 
-/// What a line at the control socket came to.
+/// The result of a line at the control socket.
 #[derive(Clone, Copy)]
 pub(crate) enum LineOutcome {
-    /// A command line: what it asked, and what that came to.
+    /// A command line: its kind, and its outcome.
     CameTo(LineKind, Outcome),
-    /// A command line: an OCSP response, and whether it refuses.
+    /// An OCSP request that got a response. Has whether that has only a status (RFC 6960 4.2.1).
     Response(bool),
-    /// Another word was done.
+    /// Another word, which succeeded.
     Done,
-    /// It was not done.
+    /// Another word, which failed.
     Failed(Failure),
-    /// No copy was created, for this fault, which says nothing of the register's own file.
+    /// No copy was created, because of this fault. The fault tells nothing about the register's own file.
     Uncopied(Fault),
-    /// There was no memory for its reply.
+    /// There was no memory for the reply.
     Silent,
 }
 
@@ -38,7 +38,7 @@ impl LineOutcome {
         }
     }
 
-    /// What is counted of the line, at which a signature failed or did not.
+    /// What is counted for the line. `is_unsigned` is whether a signature failed during it.
     pub(crate) fn effects(&self, is_unsigned: bool) -> LineEffects
         ensures { result ≡ effects_of is_unsigned self.now }
     {
@@ -118,16 +118,16 @@ fn failed_if(is_unsigned: bool) -> SignatureFate
     }
 }
 
-/// A reply at the control socket, and what its line came to.
+/// A reply at the control socket, and the result of its line.
 #[derive(Drop)]
 pub(crate) struct ControlReply {
-    /// The reply with its LF; nothing where there was no memory for it.
+    /// The reply with its LF; empty if there was no memory for it.
     pub(crate) text: Vec<u8>,
     pub(crate) came: LineOutcome,
 }
 
 impl ControlReply {
-    /// The reply to a command line, in a room that is empty. It takes no memory.
+    /// The reply to a command line. It is written into `room`, which is empty, without an allocation.
     pub(crate) fn of(answered: Answered, room: Vec<u8>) -> ControlReply
         requires empty { room.items ≡ [] }
         requires room { 84 ≤ vec_capacity room }
@@ -141,7 +141,7 @@ impl ControlReply {
         }
     }
 
-    /// A line as the reply, to a word that came to this; nothing where there is no memory for it.
+    /// A reply of one line, with the result `came`; empty if there is no memory for it.
     pub(crate) fn line(alloc: Global, line: &[u8], came: LineOutcome) -> ControlReply
         ensures { IsOf (line.now ++ 10 ∷ []) came result.text.items result.came }
     {
@@ -159,7 +159,7 @@ impl ControlReply {
         )
     }
 
-    /// The line of the fault for which no copy was created.
+    /// The reply for a fault because of which no copy was created.
     pub(crate) fn uncopied(alloc: Global, fault: Fault) -> ControlReply
         ensures { IsOf (fault_line fault ++ 10 ∷ []) (LineOutcome.Uncopied fault) result.text.items result.came }
     {
@@ -167,7 +167,7 @@ impl ControlReply {
         ControlReply::line(alloc, line.as_bytes(), LineOutcome::Uncopied(fault))
     }
 
-    /// The reply to a word that came to this, where there was memory for its text.
+    /// The reply with this text and the result `came`; empty if there was no memory for the text.
     pub(crate) fn made(
         alloc: Global,
         text: Result<Vec<u8>, AllocError>,

@@ -1,4 +1,4 @@
-//! The control socket: a Unix socket that only its owner may connect to.
+//! Creates the control socket: a Unix socket to which only its owner may connect.
 
 ghost use Rattle.std.specs.Prelude.{OnOk};
 ghost use Rattle.reg_desk_jobs.specs.Serving.{IsControlSocket};
@@ -11,11 +11,11 @@ use std::io::ErrorKind;
 
 const OWNER_ALONE: u32 = 0o600;
 
-/// The most connections that can wait before the mode is set.
+/// The most connections that can be waiting when the mode is set.
 const MOST_WAITING: usize = 4_096;
 
-/// Creates a socket at a path, which only its owner may connect to, and listens there without waiting. A socket at which no program listens
-/// any more is taken over. Errors: `AddrInUse` where a program listens there, `AlreadyExists` where something else than a socket lies there.
+/// Creates a Unix socket at a path to which only its owner may connect, and listens on it without blocking. A stale socket, on which no program
+/// listens, is replaced. Errors: `AddrInUse` if a program listens there, `AlreadyExists` if the path is not a socket.
 pub(crate) fn create_control_socket<M: Machine>(machine: &M, path: &str) -> io::Result<UnixListener>
     ensures { OnOk result (IsControlSocket M.socket_created M.has_mode path.now) }
 {
@@ -60,7 +60,7 @@ fn remove_stale<M: Machine>(machine: &M, path: &str) -> io::Result<()> {
     machine.unlink(path)
 }
 
-/// Closes the connections that were made before the mode was set.
+/// Closes the connections that clients opened before the mode was set.
 fn drop_waiting(listener: &UnixListener) {
     for _ in 0..MOST_WAITING {
         if listener.accept().is_err() {

@@ -1,4 +1,4 @@
-//! A copy of a register: the job `copy`, and the word at the control socket by which the register that is open is copied.
+//! Copies a register: the job `copy`, and the word `copy` at the control socket, which copies the open register.
 
 ghost use Rattle.std.specs.Prelude.{◌≡◌, ◌++◌, ◌∷◌, [], IfErr, IfOk};
 ghost use Rattle.reg_core.specs.Lines.{fault_line};
@@ -16,12 +16,12 @@ use reg_desk_cli::Failure;
 use std::alloc::{AllocError, Global};
 use std::io::Write;
 
-/// Why no copy was created: the fault, and its cause where that is known.
+/// Why no copy was created: the fault, and its cause if it is known.
 #[derive(Clone, Copy, PartialEq, Eq)]
 pub struct Uncopied {
     /// The fault.
     pub fault: Fault,
-    /// The cause that the call told which failed.
+    /// The cause of the call that failed.
     pub cause: Option<Cause>,
 }
 
@@ -31,8 +31,8 @@ pub(crate) fn is_copy_line(line: &[u8]) -> bool
     line.starts_with(b"copy ")
 }
 
-/// Copies the register that is open, whose file lies at a path, to another path, and replies that; other clients wait meanwhile. Where none is
-/// created, why is noted for the connection. No record changes.
+/// Copies the open register, whose file is `file`, to another path, and replies. Other clients wait meanwhile. If no copy is created, keeps the
+/// reason for `why`. No record changes.
 pub(crate) fn answer_copy<M: Machine>(
     alloc: Global,
     machine: &M,
@@ -64,7 +64,7 @@ fn copy_to<M: Machine>(machine: &M, file: &str, path: Option<&str>) -> Result<u6
     }
 }
 
-/// The path behind the word of a line: all that is left of it, without its end. `None` where that is no text of UTF-8.
+/// The path after the word `copy`: the rest of the line without its line end. `None` if that is not UTF-8.
 pub(crate) fn path_in(line: &[u8]) -> Option<&str> {
     let path = line.strip_prefix(b"copy ")?;
     let path = path.strip_suffix(b"\n").unwrap_or(path);
@@ -107,7 +107,7 @@ fn cause_text(alloc: Global, cause: Option<Cause>) -> Option<Vec<u8>> {
     prefix_and_end(alloc, b"", line.as_bytes().strip_prefix(b"  ")?).ok()
 }
 
-/// Copies the register at a path, which no program has open, to another path, and reports it. It only reads the files at the first.
+/// Copies the register at a path, which no other program has open, to another path, and reports it. It only reads the register's files.
 pub fn copy<M: Machine, W: Write>(
     alloc: Global,
     machine: &mut M,

@@ -1,4 +1,4 @@
-//! Requests that are revoked or declined by number, with the serial number that each is for, and what the log names of them.
+//! Revokes and declines requests by number and serial number, and finds what the log names of requests.
 
 ghost use Rattle.std.specs.Prelude.{◌≡◌, IfSome};
 ghost use Rattle.reg_core.specs.Records.{request_in};
@@ -23,7 +23,7 @@ use reg_lines::{
 use reg_office_api::Office;
 use std::alloc::Global;
 
-/// Revokes or declines a request, which is refused as [`Refusal::NoRequest`] where it is for another serial number.
+/// Revokes or declines a request. If it is for another serial number, it is refused as [`Refusal::NoRequest`].
 pub(crate) fn answer_serial_decision<M: Machine>(
     alloc: Global,
     office: &mut M::Office,
@@ -67,7 +67,7 @@ fn answer_run<M: Machine>(
     answer_command::<M>(alloc, office, answered, room, last_reason)
 }
 
-/// Refuses a request that is for another serial number, which `why` gives.
+/// Refuses a request for another serial number, and keeps that serial number for `why`.
 fn answer_other(alloc: Global, request: RequestRow, last_reason: &mut Vec<u8>) -> ControlReply
     ensures told { ReportsFault (Fault.Refused Refusal.NoRequest) result.text.items }
     ensures came { ReportsLineOutcome result.came result.text.items }
@@ -82,7 +82,7 @@ fn answer_other(alloc: Global, request: RequestRow, last_reason: &mut Vec<u8>) -
     reply
 }
 
-/// The request of a number. Errors: those of [`Office::page`].
+/// The request with a number. Errors: those of [`Office::page`].
 fn find_request<O: Office>(
     alloc: Global,
     office: &mut O,
@@ -106,7 +106,7 @@ fn request_of_row(found: Option<Row>) -> Option<RequestRow>
     }
 }
 
-/// What the log will name of a request that a line is to decide, where there is a log.
+/// What the log will name of the request that a line is to decide; `None` if there is no log.
 pub(crate) fn named_before<M: Machine>(
     alloc: Global,
     office: &mut M::Office,
@@ -146,7 +146,7 @@ fn decided_by(line: &[u8]) -> Option<u64>
     }
 }
 
-/// What the log names of the request that a line entered or decided: of one that it decided, what was looked up before.
+/// What the log names of the request that a line entered or decided. `before` is what was looked up before a decision.
 pub(crate) fn named_by(came: &LineOutcome, before: Option<NamedRequest>) -> Option<NamedRequest>
     ensures { NamesRequest came.now before result }
 {

@@ -1,4 +1,4 @@
-//! A line at the control socket for which something is to be signed: it is looked at, what is to be signed goes out, and then the line is run, once.
+//! Lines at the control socket that need a signature: the desk makes the message, has it signed, and then runs the line, once.
 
 ghost use Rattle.std.specs.Prelude.{◌≡◌, IfOk, IfSome, OnErr, option_copied};
 ghost use Rattle.reg_office_api.specs.Leads.{Leads};
@@ -23,33 +23,33 @@ use reg_office_api::{OcspResponse, Office};
 use std::alloc::Global;
 use std::time::Duration;
 
-/// For what a line wants a signature.
+/// What is to be signed for a line: a CRL, or an OCSP response.
 #[derive(Clone, Copy, PartialEq, Eq)]
 pub enum Wanted {
     Crl,
     Answer,
 }
 
-/// What is kept of a line until what is to be signed for it is signed.
+/// What the desk keeps of a line while its signature is made.
 #[derive(Clone, Copy)]
 pub struct Looked {
     pub(crate) wanted: Wanted,
-    /// The moment at which it was looked at.
+    /// The moment for which the message was made.
     pub(crate) moment: Moment,
-    /// The microseconds at which it was.
+    /// The microseconds of the clock at which the desk began.
     pub(crate) began: u64,
-    /// Whether the signer is not asked, by its back-off.
+    /// Whether the signer is not asked, because of its back-off.
     pub(crate) is_backed_off: bool,
 }
 
-/// What is known of the signature for a line, and the moment at which the line is told.
+/// The signature for a line, if there is one, and the moment at which the line is to run.
 #[derive(Drop)]
 pub(crate) struct Known {
     pub(crate) moment: Moment,
     pub(crate) preset_signature: PresetSignature,
 }
 
-/// How many milliseconds after a line was looked at its signer has timed out: its ten seconds began a little before.
+/// After how many milliseconds since the desk began the signer counts as timed out. Its own timeout of ten seconds begins a little later.
 const TIMEOUT: u64 = 9_500;
 
 fn wanted_by(said: &CommandLine<'_>) -> Option<Wanted> {
@@ -92,7 +92,7 @@ fn look_at_request<O: Office>(
     deferred_for(alloc, begun, looked)
 }
 
-/// What is to be signed for an answer that was begun, where something is and there is memory for it.
+/// The message of a response that was begun; `None` if nothing is to be signed, or if there is no memory.
 fn deferred_for(
     alloc: Global,
     begun: Result<Begun<OcspResponse, Draft>, Memory>,
@@ -105,7 +105,7 @@ fn deferred_for(
     Some(Deferred { message, ticket })
 }
 
-/// The socket of the signer, if there is one: for OCSP answers the responder's, or else that of CRLs.
+/// The path of the signer's socket, if there is a signer: for OCSP responses the responder's, or else that of the signer of CRLs.
 pub(crate) fn socket_of<'w>(
     signer: &Option<KeyHolder<'w>>,
     answerer: &Answerer<'w>,
@@ -128,9 +128,9 @@ fn crls_at<'w>(signer: &Option<KeyHolder<'w>>) -> Option<&'w str>
     Some(signer.as_ref()?.socket.as_str())
 }
 
-/// What is known of the signature for a line that was looked at, and the moment at which the line is told: with what came for what was to be
-/// signed, the moment at which it was looked at; without a signature, that of the clock, or [`EventLoopFault`] where it can't be read. `None` where
-/// the register's clock is past that moment: what is to be signed is another message then.
+/// The signature for a line, and the moment at which the line is to run. If the signer answered, that is the moment for which the message was
+/// made; else it is that of the clock, or [`EventLoopFault`] if the clock can't be read. `None` if a later command was accepted meanwhile, so
+/// that the message would be another one, or if the clock is now behind that moment.
 pub(crate) fn known_of<M: Machine>(
     alloc: Global,
     office: &mut M::Office,
@@ -163,7 +163,7 @@ pub(crate) fn known_of<M: Machine>(
     ))
 }
 
-/// What came for what was to be signed, at the moment at which the line was looked at, unless the register's clock is past it.
+/// The signer's answer, with the moment for which the message was made; `None` if a later command was accepted, or the clock is now behind it.
 fn recalled<M: Machine>(
     alloc: Global,
     office: &mut M::Office,
@@ -189,7 +189,7 @@ fn recalled<M: Machine>(
     })
 }
 
-/// Whether the register's clock is past a moment: something was accepted at a later one. Where it can't be read, it is not.
+/// Whether a command was accepted at a later moment than this; `false` if the register can't be read.
 fn is_past<O: Office>(office: &mut O, moment: Moment) -> bool
     ensures { Leads O.is_clean O.stands (λ identity before after. after ≡ before) office.old office.new }
 {
@@ -200,7 +200,7 @@ fn is_past<O: Office>(office: &mut O, moment: Moment) -> bool
 }
 
 impl<'a, 'w, M: Machine> Desk<'a, 'w, M> {
-    /// Looks at what a line says: what is to be signed before it is answered, where its signer has a key.
+    /// What is to be signed before a line can be answered; `None` if nothing is, or if there is no signer for it.
     pub(crate) fn look_for(&mut self, said: &CommandLine<'_>) -> Option<Deferred<Looked>>
         ensures open { self.new.is_open ≡ self.old.is_open }
         ensures moves { Leads M.Office.is_clean M.Office.stands (λ identity before after. after ≡ before)
@@ -210,7 +210,7 @@ impl<'a, 'w, M: Machine> Desk<'a, 'w, M> {
         socket_of(self.signer, self.answerer, wanted)?;
         let began = self.machine.micros();
         if wanted == Wanted::Answer && self.backoff.is_active(Duration::from_micros(began)) {
-            // It is not signed: its signer is backed off.
+            // The response stays unsigned, because its signer is backed off.
             let ticket = Looked {
                 wanted,
                 moment: Moment::EPOCH,
@@ -224,7 +224,7 @@ impl<'a, 'w, M: Machine> Desk<'a, 'w, M> {
         }
         let moment = self.machine.moment().ok()?;
         if wanted == Wanted::Crl && self.is_ahead(moment) {
-            // The command is refused, so nothing is signed for it.
+            // The command will be refused, so nothing is signed for it.
             return None;
         }
         let looked = Looked {
@@ -236,7 +236,7 @@ impl<'a, 'w, M: Machine> Desk<'a, 'w, M> {
         look_at::<M>(self.alloc, &mut self.office, looked, said)
     }
 
-    /// Whether commands are refused at a moment, as the clock is too far ahead.
+    /// Whether commands are refused at a moment, because the clock is too far ahead.
     fn is_ahead(&mut self, moment: Moment) -> bool
         ensures open { self.new.is_open ≡ self.old.is_open }
         ensures moves { Leads M.Office.is_clean M.Office.stands (λ identity before after. after ≡ before)
@@ -248,7 +248,7 @@ impl<'a, 'w, M: Machine> Desk<'a, 'w, M> {
         }
     }
 
-    /// The back-off of lines from the signer of OCSP answers, once it was asked for one, or for a CRL, and has answered or not.
+    /// The back-off of the OCSP signer after this line: cleared if it answered or failed at once, set if it timed out, unchanged if it was not asked.
     pub(crate) fn backoff_after(&self, looked: Looked, has_come: bool) -> Backoff {
         let answers = socket_of(self.signer, self.answerer, Wanted::Answer);
         let asked = socket_of(self.signer, self.answerer, looked.wanted);
@@ -265,7 +265,7 @@ impl<'a, 'w, M: Machine> Desk<'a, 'w, M> {
         )
     }
 
-    /// Answers a line with the signature that came for it, or none; the signer is not asked again. It is counted as any line is.
+    /// Answers a line with this signature, or without one; the signer is not asked again. The line is counted like any other.
     pub(crate) fn answer_known(
         &mut self,
         line: &[u8],

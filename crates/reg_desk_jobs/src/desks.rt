@@ -22,8 +22,8 @@ use std::io;
 use std::io::ErrorKind;
 use std::net::SocketAddr;
 
-/// A desk that answers HTTP requests, each at a moment of the clock. An open one reports on itself, too, and answers lines at the control
-/// socket.
+/// A desk that answers HTTP requests, each at a moment of the clock. An open desk also answers `/health`, `/metrics`, lists, and lines at the
+/// control socket.
 #[derive(Drop)]
 pub(crate) struct Desk<'a, 'w, M: Machine> {
     pub(crate) office: M::Office,
@@ -31,13 +31,13 @@ pub(crate) struct Desk<'a, 'w, M: Machine> {
     pub(crate) machine: &'a M,
     pub(crate) is_open: bool,
     pub(crate) file: &'a str,
-    /// The signer of CRLs, and the one of OCSP answers, as the command line names them.
+    /// The signers of CRLs and of OCSP responses, as the command line names them.
     pub(crate) signer: &'a Option<KeyHolder<'w>>,
     pub(crate) answerer: &'a Answerer<'w>,
     /// The back-off of the OCSP signer, for `ocsp` lines at the control socket.
     pub(crate) backoff: Backoff,
-    /// What was counted since the register was opened. No contract of the desk mentions it, and it is a `Cell`: `finish` takes `&self`, and counts
-    /// an answer whose signature came later.
+    /// What was counted since the register was opened. No contract of the desk mentions it. It is a `Cell`, because `finish` takes `&self` and counts
+    /// a response when its signature arrives.
     pub(crate) tally: &'a Cell<Tally>,
     pub(crate) connection_totals: &'a Cell<ConnectionTotals>,
     pub(crate) admission: Admission,

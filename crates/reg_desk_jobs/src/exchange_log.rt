@@ -1,4 +1,4 @@
-//! What is put into the log, where there is one.
+//! Writes exchanges and lost connections to the log, if there is one.
 
 use crate::log_lines::{exchange_line, lost_line};
 use crate::machine::Machine;
@@ -9,7 +9,7 @@ use reg_office_api::SignatureFate;
 use std::alloc::{AllocError, Global};
 use std::net::SocketAddr;
 
-/// The client of a line at the control socket, which has no address.
+/// The name in the log of a client at the control socket, which has no address.
 pub(crate) const CONTROL_SOCKET: &str = "control";
 
 pub(crate) fn log_exchange<M: Machine>(
@@ -24,7 +24,7 @@ pub(crate) fn log_exchange<M: Machine>(
     if !machine.has_log() {
         return;
     }
-    // What there is no memory for is left out.
+    // Without memory, there is no line in the log.
     let Ok(client_text) = name_of(alloc, Some(client)) else {
         return;
     };
@@ -44,8 +44,8 @@ pub(crate) fn log_exchange<M: Machine>(
     );
 }
 
-/// Logs what a line at the control socket was answered at a moment, in how many microseconds, the request that it entered or decided, and
-/// whether a signature did not come for it.
+/// Logs a line at the control socket and its reply, how many microseconds it took, the request that it entered or decided, and whether a
+/// signature failed.
 pub(crate) fn log_line<M: Machine>(
     alloc: Global,
     machine: &M,
@@ -113,7 +113,7 @@ fn word_of(why: ConnectionFault) -> &'static [u8] {
     }
 }
 
-/// The address of a client and its port, as `127.0.0.1:50000` or `[::1]:50000`.
+/// A client's address and port, as `127.0.0.1:50000` or `[::1]:50000`; `control` for the control socket.
 fn name_of(alloc: Global, client: Option<SocketAddr>) -> Result<String, AllocError> {
     match client {
         Some(client) => format!(in alloc; "{client}"),

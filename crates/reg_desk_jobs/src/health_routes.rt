@@ -1,4 +1,4 @@
-//! What an open desk reports of itself, at two routes of its own: `/health` and `/metrics`.
+//! The routes `/health` and `/metrics`, on which an open desk reports on itself.
 
 ghost use Rattle.std.specs.Prelude.{◌≡◌, ◌↔◌, ℕ, List, IsTrue, IfErr, IfOk, option_map};
 ghost use Rattle.reg_core.specs.Crls.{latest as latest_in, row_of};
@@ -37,7 +37,7 @@ use std::alloc::Global;
 
 const PROMETHEUS: &str = "text/plain; version=0.0.4; charset=utf-8";
 
-/// Tells whether all is well, at a moment, with the moment that the operator accepted.
+/// Answers `/health` at a moment: whether all is well. `accepted` is the moment that the operator accepted with `accept-clock`.
 pub(crate) fn answer_health<M: Machine>(
     alloc: Global,
     office: &mut M::Office,
@@ -71,7 +71,7 @@ fn health_at<M: Machine>(
     health_answer(alloc, &Health::of(now, &found, tally, accepted))
 }
 
-/// Answers with the metrics, at a moment. Requests for revocation that were not counted for a minute are counted for them.
+/// Answers `/metrics` at a moment. The requests for revocation are counted anew if the last count is a minute old.
 pub(crate) fn answer_metrics<M: Machine>(
     alloc: Global,
     office: &mut M::Office,
@@ -134,7 +134,7 @@ fn found_at<M: Machine>(
     }
 }
 
-/// When the next CRL is due, behind the latest one; `None`: at once.
+/// When the next CRL is due, after the latest one; `None`: at once.
 fn due_at<M: Machine>(
     alloc: Global,
     office: &mut M::Office,
@@ -168,7 +168,7 @@ fn due_behind(read: ReadCrl, due: Option<Moment>) -> Option<Moment>
     if read.is_unsigned { None } else { due }
 }
 
-/// What was read in the latest CRL, where a key signs the next one; `None` before the first.
+/// What was read in the latest CRL. `None` if there is no CRL, or if no signer has the key for the next one.
 fn latest_read<M: Machine>(
     alloc: Global,
     office: &mut M::Office,
@@ -209,7 +209,7 @@ fn read_latest<M: Machine>(
     }
 }
 
-/// Whether a placeholder digest stands in place of a CRL's signature.
+/// Whether a CRL has a placeholder digest instead of a signature.
 fn is_unsigned(crl: &[u8]) -> bool
     ensures { IsUnsigned crl.now result }
 {
@@ -226,7 +226,7 @@ fn is_digest(algorithm: &[u8]) -> bool
     algorithm == digest.algorithm()
 }
 
-/// Keeps for the word `why`, where a reply says when the next CRL is due, that it is due at once for want of a signature.
+/// After a query for when the next CRL is due: if the latest CRL has no signature, keeps for `why` that the next one is due at once.
 pub(crate) fn keep_due_reason<M: Machine>(
     alloc: Global,
     office: &mut M::Office,
@@ -247,7 +247,7 @@ pub(crate) fn keep_due_reason<M: Machine>(
     }
 }
 
-/// Why the next CRL is due at once, where the latest has no signature.
+/// The reason if the next CRL is due at once because the latest one has no signature.
 fn why_at_once<M: Machine>(
     alloc: Global,
     office: &mut M::Office,
@@ -262,7 +262,7 @@ fn why_at_once<M: Machine>(
     }
 }
 
-/// Who signs the CRLs, as it is counted.
+/// How CRLs are signed, as the tally has it.
 pub(crate) fn signing_of(crls: &CrlSigner<'_>) -> CrlSigning
     ensures { result ≡ signing_by crls.now }
 {
@@ -312,7 +312,7 @@ fn many_of(overdue: Option<Overdue>) -> u64
     }
 }
 
-/// Counts the requests for revocation anew, where they were not counted within a minute.
+/// Counts the requests for revocation anew, unless they were counted less than a minute before.
 fn recount<M: Machine>(alloc: Global, office: &mut M::Office, now: Moment, tally: &mut Tally)
     ensures moves { Looks M.Office.is_clean M.Office.stands (λ records. Recounts records now tally.old tally.new) office.old office.new }
     ensures recounted { IsCounted tally.old tally.new }
@@ -382,7 +382,7 @@ fn metrics_answer(
     }
 }
 
-/// notAfter of the responder's certificate, where that can be read.
+/// notAfter of the responder's certificate; `None` if the responder has none of its own, or if it can't be read.
 pub(crate) fn responder_end<M: Machine>(machine: &M, answerer: &Answerer<'_>) -> Option<Moment> {
     match answerer {
         Answerer::Delegate { certificate, .. } => not_after(&machine.file(certificate.as_str())?),

@@ -1,4 +1,4 @@
-//! What came on a connection, as a desk answers it: an HTTP exchange of its register, or of an open desk itself.
+//! Answers the bytes that came on an HTTP connection: the register does, or an open desk itself.
 
 ghost use Rattle.std.specs.Prelude.{◌≡◌};
 ghost use Rattle.reg_office_api.specs.Leads.{Leads};
@@ -36,22 +36,22 @@ use reg_office_api::{Office, SignatureFate};
 use std::alloc::Global;
 use std::net::SocketAddr;
 
-/// What answers a request.
+/// Which part of the desk answers a request.
 #[derive(Clone, Copy, PartialEq, Eq)]
 pub(crate) enum Dispatch {
     /// The register.
     ToRegister,
-    /// An open desk, which refuses requests for revocation beyond its limits, and then the register.
+    /// An open desk refuses requests for revocation beyond its limits, and passes the others to the register.
     ToLimits,
-    /// An open desk, with a page of a list.
+    /// An open desk answers with a page of a list.
     ToList,
-    /// An open desk, with its health.
+    /// An open desk answers with its health.
     ToHealth,
-    /// An open desk, with its metrics.
+    /// An open desk answers with its metrics.
     ToMetrics,
 }
 
-/// What answers a request at a route: a desk that is not open has the register alone.
+/// Which part answers a request at a route: the register, if the desk is not open.
 fn dispatch_of(is_open: bool, route: Route) -> Dispatch
     ensures { result ≡ dispatch is_open route }
 {
@@ -67,8 +67,8 @@ fn dispatch_of(is_open: bool, route: Route) -> Dispatch
     }
 }
 
-/// Answers what came on a connection, at a moment, counts it, and puts it into the log, where there is one; or leaves what is to be signed
-/// for it, which is counted where it is finished.
+/// Answers the bytes that came on a connection at a moment, counts the exchange, and logs it if there is a log; or leaves a response to be signed,
+/// which is counted when it is finished.
 pub(crate) fn answer_http<M: Machine>(
     alloc: Global,
     office: &mut M::Office,
@@ -118,7 +118,7 @@ pub(crate) fn answer_http<M: Machine>(
     }
 }
 
-/// Answers what came on a connection, at a moment, or leaves what is to be signed for it. Room for the text is made before anything is asked.
+/// Answers the bytes that came on a connection at a moment, or leaves a response to be signed. Memory for the text is reserved first.
 fn exchange_at<M: Machine>(
     alloc: Global,
     office: &mut M::Office,
@@ -192,7 +192,7 @@ fn ready(answered: Result<Answered, Memory>) -> Result<Begun<Answered, Draft>, M
     }
 }
 
-/// Answers what is asked at a route, at a moment, or leaves what is to be signed for it.
+/// Answers a request at a route at a moment, or leaves a response to be signed.
 fn begin_at<M: Machine>(
     alloc: Global,
     office: &mut M::Office,

@@ -1,4 +1,4 @@
-//! The jobs but `serve`.
+//! The jobs `init`, `script`, `import`, `crl`, `schedule`, `key-id` and `audit`.
 
 ghost use Rattle.std.specs.Prelude.{◌≡◌, Result, IfErr, IsTrue, None};
 ghost use Rattle.reg_office_api.specs.Items.{items_of};
@@ -30,7 +30,7 @@ use std::alloc::Global;
 use std::cell::Cell;
 use std::io::{Read, Write};
 
-/// How a job ends whose run of a register ended so.
+/// The end of a job, by the result of its run over a register.
 pub fn ended(ran: Result<(), Fault>) -> Result<(), Failure>
     ensures { result ≡ exit_of ran }
 {
@@ -40,8 +40,8 @@ pub fn ended(ran: Result<(), Fault>) -> Result<(), Failure>
     }
 }
 
-/// Makes a register at a path. The issuer and then the policy are looked at before the path is. Where that fails, a path
-/// at which nothing lay has nothing there afterwards, but for a register that somebody else made there meanwhile.
+/// Creates a register at a path. The issuer and the policy are checked first. If the job fails and claimed a free path, it removes what it created
+/// there, except a register that another program created there meanwhile.
 pub fn init<M: Machine, W: Write>(
     alloc: Global,
     machine: &mut M,
@@ -93,7 +93,7 @@ fn make_at<M: Machine, W: Write>(
     print_text(writer, b"created\n")
 }
 
-/// Runs the script of standard input over the register at a path. Where a digest seals its first CRL, that is said at the front.
+/// Runs the script of standard input over the register at a path. If its first CRL gets a placeholder digest, it warns on standard error.
 pub fn script<M: Machine, R: Read, W: Write>(
     alloc: Global,
     machine: &mut M,
@@ -113,9 +113,9 @@ pub fn script<M: Machine, R: Read, W: Write>(
     ended(ran)
 }
 
-/// Imports standard input into the register at a path, at one moment: the one that is given, or the clock's as it begins, which is refused if it
-/// is too far ahead and the operator does not accept it. A strict import ends at the first refusal or fault, and runs no last row without its
-/// line end; why its last row was refused, if it was, is kept.
+/// Imports standard input into the register at a path, at one moment: the given one, or that of the clock at the start. The clock's moment is
+/// refused if it is too far ahead, unless the operator accepts that. A strict import ends at the first refusal or fault, and runs no last row
+/// without its line end. If its last row was refused, the reason is kept.
 pub fn import_rows<M: Machine, R: Read, W: Write>(
     alloc: Global,
     machine: &mut M,
@@ -170,7 +170,7 @@ fn import_at<M: Machine, R: Read, W: Write>(
     ended(imported)
 }
 
-/// Whether the moment of an import is checked, and too far ahead.
+/// Whether the moment of an import is to be checked and is too far ahead.
 fn refuses_import<M: Machine>(office: &mut M::Office, now: Moment, is_checked: bool) -> bool
     ensures checked { IsTrue result → IsTrue is_checked }
     ensures looks { Looks M.Office.is_clean M.Office.stands (λ records. IsTrue result → IsTrue (is_ahead now records.last None)) office.old office.new }
@@ -238,7 +238,7 @@ pub(crate) fn print_result<W: Write>(
     }
 }
 
-/// Gives the register at a path another schedule, which is looked at before the path is.
+/// Sets another schedule for the register at a path. The schedule is checked before the path is opened.
 pub fn schedule<M: Machine, W: Write>(
     alloc: Global,
     machine: &mut M,
@@ -256,8 +256,8 @@ pub fn schedule<M: Machine, W: Write>(
     answer_setting(writer, b"schedule set\n", set)
 }
 
-/// Gives the issuer of the register at a path a key identifier of its own, for the CRLs from the next one on. The word is looked
-/// at before the path is.
+/// Sets the key identifier of the issuer of the register at a path, for CRLs from the next one on (RFC 5280 5.2.1). The word is checked before
+/// the path is opened.
 pub fn key_identifier<M: Machine, W: Write>(
     alloc: Global,
     machine: &mut M,
@@ -289,7 +289,7 @@ fn answer_setting<W: Write>(
     }
 }
 
-/// Audits the register at a path, and reports what was found. It only reads: the files are as they were.
+/// Audits the register at a path, and reports what was found. It only reads, so no file changes.
 pub fn audit<M: Machine, W: Write>(
     alloc: Global,
     machine: &M,

@@ -1,4 +1,4 @@
-//! The jobs of the program `desk`: each over any machine.
+//! The jobs of the program `desk`, which run on any [`Machine`].
 #![tactic(auto)]
 
 mod admission;

@@ -1,4 +1,4 @@
-//! The job `script`: lines of standard input over a register.
+//! The job `script` with `--clock` or `--strict`: runs the lines of standard input over a register, one by one.
 
 ghost use Rattle.std.specs.Prelude.{◌↔◌, IsTrue, None};
 ghost use Rattle.reg_office_api.specs.Leads.{Leads, Looks};
@@ -21,13 +21,13 @@ use std::alloc::Global;
 use std::cell::Cell;
 use std::io::{Read, Write};
 
-/// The host of a script: the clock of the machine, and a warning on its standard error where the first CRL of the register has a placeholder
-/// digest and no signature.
+/// The host of a script: the machine's clock, and a warning on standard error when the register's first CRL gets a placeholder digest instead of
+/// a signature.
 #[derive(Clone, Copy)]
 struct ScriptHost<'a, M: Machine> {
     machine: &'a M,
     is_clocked: bool,
-    /// Whether a digest stands in for signatures.
+    /// Whether CRLs get a placeholder digest instead of a signature.
     is_unsigned: bool,
 }
 
@@ -51,9 +51,9 @@ impl<'a, M: Machine> Host for ScriptHost<'a, M> {
     }
 }
 
-/// Runs the script of standard input over the register at a path, line by line. A strict one ends at the first refusal or fault, and runs
-/// no last line without its end; why its last line was refused, if that was a registration, is kept. Where a digest seals its first CRL, that
-/// is said on standard error. No line runs if the clock is too far ahead and the operator does not accept it.
+/// Runs the script of standard input over the register at a path, line by line. A strict one ends at the first refusal or fault, and runs no last
+/// line without its line end. If its last line was a refused registration, the reason is kept. If the register's first CRL gets a placeholder
+/// digest, it warns on standard error. No line runs if the clock is too far ahead, unless the operator accepts that.
 pub fn script_by_lines<M: Machine, R: Read, W: Write>(
     alloc: Global,
     machine: &mut M,
@@ -87,7 +87,7 @@ pub fn script_by_lines<M: Machine, R: Read, W: Write>(
     run_ended(ran)
 }
 
-/// Whether the lines run at the machine's clock, which is too far ahead and which the operator does not accept.
+/// Whether the lines run at the machine's clock, this is too far ahead, and the operator does not accept that.
 fn refuses_clock<M: Machine>(machine: &M, office: &mut M::Office, way: Way) -> bool
     ensures { Looks M.Office.is_clean M.Office.stands (λ records. IsTrue result → IsClockRefused way M.clock_reached records) office.old office.new }
 {
@@ -100,7 +100,7 @@ fn refuses_clock<M: Machine>(machine: &M, office: &mut M::Office, way: Way) -> b
     is_ahead_of::<M>(office, now)
 }
 
-/// Whether a moment is more than 30 days past the last accepted one of the register; a register that can't tell it is left to the job.
+/// Whether a moment is more than 30 days past the register's last accepted one; `false` if the register can't be read: the job will report it.
 pub(crate) fn is_ahead_of<M: Machine>(office: &mut M::Office, now: Moment) -> bool
     ensures { Looks M.Office.is_clean M.Office.stands (λ records. IsTrue result → IsTrue (ahead now records.last None)) office.old office.new }
 {

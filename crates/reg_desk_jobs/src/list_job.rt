@@ -1,4 +1,4 @@
-//! The job `list`: a list of a register, whole.
+//! The job `list`: writes a whole list of a register.
 
 ghost use Rattle.std.specs.Prelude.{◌≡◌, ◌++◌, IfErr, IfOk, OnOk, flat_map};
 ghost use Rattle.reg_core_lists.specs.Filters.{wanted_rows};
@@ -20,8 +20,8 @@ use std::io::Write;
 
 const MOST_ROWS: u64 = 1_000;
 
-/// Writes a list of the register at a path, at a moment that is told, or else at that of the clock. Nothing is written unless
-/// all of it was read.
+/// Writes a list of the register at a path, at the given moment, or else at that of the clock. Nothing is written unless
+/// the whole list was read.
 pub fn list<M: Machine, W: Write>(
     alloc: Global,
     machine: &mut M,

@@ -1,4 +1,4 @@
-//! The lines of the log: that of an exchange, whatever came, and that of a connection that ended by a fault.
+//! The lines of the log: one for each exchange, and one for each connection that ended by a fault.
 
 ghost use Rattle.std.specs.Prelude.{◌≡◌, ◌++◌, ◌∷◌, ◌<◌, ◌≤◌, [], IfOk, IfSome, OnOk, decimal, length, take};
 ghost use Rattle.std.specs.List.{flat_map, position};
@@ -8,12 +8,12 @@ use reg_core::{Decimal, Moment};
 use reg_http::NamedRequest;
 use std::alloc::{AllocError, Global};
 
-/// The most bytes of a text that the log has.
+/// The most bytes of a request or an answer that the log keeps.
 pub(crate) const MOST_QUOTED: usize = 256;
 
-/// The line of an exchange, with no LF behind it. The client stands there as it is; what was asked and answered puts no control character and
-/// no byte outside ASCII there, so that no peer can put a line of its own into the log. A request that was entered or decided is named by its
-/// number and serial number, and one that was entered by its ground, too. Where a signature did not come, the last word is `signer`.
+/// The line of an exchange, without its LF. The client's name stands there unchanged. The request and the answer are escaped: they put no control
+/// character and no byte outside ASCII into the log, so that no client can forge a line. A request for revocation that was entered or decided is
+/// named by number and serial number; one that was entered, also by its ground. If a signature failed, the last word is `signer`.
 pub(crate) fn exchange_line(
     alloc: Global,
     now: Moment,
@@ -37,7 +37,7 @@ pub(crate) fn exchange_line(
     Ok(line)
 }
 
-/// The line of a connection that ended by a fault, with no LF behind it.
+/// The line of a connection that ended by a fault, without its LF.
 pub(crate) fn lost_line(
     alloc: Global,
     now: Moment,

@@ -1,4 +1,4 @@
-//! The job `open`: a register that is kept open, for HTTP requests and for lines at a control socket.
+//! The job `open`: keeps a register open for HTTP requests and for lines at a control socket.
 
 ghost use Rattle.reg_desk_jobs.specs.Ends.{OpenAt};
 
@@ -8,8 +8,8 @@ use crate::serve_job::serve_checked;
 use reg_desk_cli::{Failure, KeptOpen};
 use std::io::{Read, Write};
 
-/// Keeps the register at a path open, until the program is ended. It is opened before the port is bound, and the port is bound
-/// before the control socket is created. If a published CRL is given, `reader` has its bytes, and a register that lacks something of it is not served.
+/// Keeps the register at a path open until the program ends. The register is opened first, then the port is bound, then the control
+/// socket is created. If a published CRL is given, `reader` has its bytes, and a register that lacks any of it is not served.
 pub fn serve_open<M: Machine, R: Read, W: Write>(
     rt: &HostRuntime,
     machine: &mut M,

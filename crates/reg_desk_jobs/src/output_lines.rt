@@ -1,4 +1,4 @@
-//! What a job writes.
+//! Writes the output of a job, and the report of its end.
 
 ghost use Rattle.std.specs.Prelude.{◌≡◌, ◌∷◌, [], ℕ, List, IfOk};
 ghost use Rattle.reg_desk_jobs.specs.Ends.{PrintsText, PrintsLine};
@@ -11,7 +11,7 @@ use reg_io::write_whole;
 use std::alloc::{AllocError, Global};
 use std::io::Write;
 
-/// Writes a text of the job; `Write` where the writer fails, or takes no byte of the rest.
+/// Writes a text. `Write` if the writer fails, or accepts no more bytes.
 pub(crate) fn print_text<W: Write>(writer: &mut W, text: &[u8]) -> Result<(), Failure>
     ensures { PrintsText text.now (W.contents writer.old) (W.contents writer.new) result }
 {
@@ -34,8 +34,8 @@ pub(crate) fn print_line<W: Write>(
     }
 }
 
-/// Reports on standard error why a job failed, in one line; and where that is asked for and known, in one line more, the cause of a fault,
-/// or why a registration was refused at which the job ended. Nothing more is written to a device that fails.
+/// Reports on standard error why a job failed, in one line. If `is_asked`, one more line has the cause of a fault, or the reason of the refused
+/// registration that ended the job, if it is known. If a write fails, nothing more is written.
 pub fn report_exit<W: Write>(
     alloc: Global,
     errors: &mut W,
@@ -77,8 +77,8 @@ fn put<W: Write>(errors: &mut W, text: &[u8])
     }
 }
 
-/// Reports in one line, where that is asked for and known, the cause of a fault by its exit status, or why a registration was refused by that
-/// of a refusal.
+/// Writes one line if `is_asked`: for the exit status of a fault, its cause; for that of a refusal, the reason of the refused registration. Nothing
+/// if it is not known.
 fn explain<W: Write>(
     alloc: Global,
     errors: &mut W,

@@ -1,4 +1,4 @@
-//! A published CRL compared with a register, before the register is served.
+//! Compares a published CRL with a register, before the register is served.
 
 ghost use Rattle.std.specs.Prelude.{◌≡◌, ◌++◌, ◌∷◌, [], ℕ, IfOk, OnOk};
 ghost use Rattle.reg_core.specs.Records.{Records};
@@ -18,9 +18,9 @@ use reg_office_api::Office;
 use std::alloc::{AllocError, Global};
 use std::io::{ErrorKind, Read, Write};
 
-/// Compares the published CRL in a reader with the register, and writes a line for each item that the register lacks: a number above that of its
-/// latest CRL, and each listed serial number that is not revoked. No record changes. Errors: `LacksPublished` if lines were written; `NotACrl` if the
-/// bytes are no CRL with a number; those of a query, of reading and of writing.
+/// Compares the published CRL in a reader with the register, and writes a line for each item that the register lacks: the CRL number, if it is above
+/// that of the register's latest CRL, and each listed serial number that is not revoked. No record changes. Errors: `LacksPublished` if lines were
+/// written; `NotACrl` if the bytes are no CRL with a number; those of a query, of reading and of writing.
 pub(crate) fn check_published<O: Office, R: Read, W: Write>(
     alloc: Global,
     office: &mut O,
@@ -52,7 +52,7 @@ fn read_all<R: Read>(alloc: Global, reader: &mut R) -> Result<Vec<u8>, Fault>
     }
 }
 
-/// The lines of the items that the CRL in these bytes has and the register lacks.
+/// The lines for the items that the CRL in these bytes has and the register lacks.
 fn missing_lines<O: Office>(alloc: Global, office: &mut O, bytes: &[u8]) -> Result<Vec<u8>, Failure>
     ensures { Looks O.is_clean O.stands (λ records. FindsMissing records bytes.now (items_of result)) office.old office.new }
 {
@@ -86,7 +86,7 @@ fn latest_number(latest: Option<CrlRow>) -> u64
     }
 }
 
-/// Adds a line for each entry whose serial number is not revoked. Errors: `NotACrl` where the bytes are no entry.
+/// Adds a line for each entry whose serial number is not revoked. Errors: `NotACrl` if the bytes are not CRL entries.
 fn put_missing_revocations<O: Office>(
     alloc: Global,
     office: &mut O,
@@ -132,7 +132,7 @@ fn put_unless_revoked(lines: &mut Vec<u8>, revoked: bool, serial: Serial) -> Res
     put_line(lines, b"missing revocation ", &serial.text())
 }
 
-/// Whether a serial number is revoked, at the last accepted moment. That does not change with time.
+/// Whether a serial number is revoked at the last accepted moment. This does not change with time.
 fn is_revoked<O: Office>(
     alloc: Global,
     office: &mut O,

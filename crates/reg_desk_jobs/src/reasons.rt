@@ -1,4 +1,4 @@
-//! Why a registration, or a decision of a request, was refused: as the word `why` at the control socket gives it after the line, and a strict script or import under `--why`.
+//! Why a line was refused: the text of `why` at the control socket, and of `--why` for a strict script or import.
 
 ghost use Rattle.std.specs.Prelude.{◌≡◌, ◌++◌, ◌∷◌, [], IfOk, IfSome};
 ghost use Rattle.reg_office_api.specs.Leads.{Leads};
@@ -16,22 +16,22 @@ use std::cell::Cell;
 
 const DAY: u64 = 86_400;
 
-/// Why a command was refused, where the reply says more than the refusal.
+/// Why a command was refused, in more detail than the refusal.
 #[derive(Clone, Copy, PartialEq, Eq)]
 pub enum Reason {
-    /// There is no order of this number.
+    /// There is no order with this number.
     NoOrder(u64),
-    /// The order of this number has its certificate.
+    /// The order with this number has its certificate.
     Filled(u64),
     /// The order and the schedule allow no later notAfter than this.
     Latest(Moment),
-    /// The request of this number is for this serial number, and not for the one that was told.
+    /// The request with this number is for this serial number, and not for the one in the line.
     OtherSerial(u64, Serial),
     /// The clock is more than 30 days past this last accepted moment.
     ClockAhead(Moment),
-    /// The line can't be read, for this.
+    /// The line can't be read, because of this field.
     Wrong(WrongField),
-    /// The CRL of this number has a placeholder digest, and the next one will be signed.
+    /// The CRL with this number has a placeholder digest, and the next one will be signed.
     Unsigned(u64),
 }
 
@@ -54,8 +54,8 @@ fn why_reply(alloc: Global, last_reason: &[u8]) -> Result<Vec<u8>, AllocError>
     Ok(text)
 }
 
-/// Keeps why a line was refused by this reply. Where no command was refused, the register does not say it, or there is no memory for it, that is
-/// the reply itself.
+/// Keeps why a line was refused with this reply. That is the reply itself if no command was refused, if the register gives no reason, or if there
+/// is no memory for it.
 pub(crate) fn keep_refusal_reason<M: Machine>(
     alloc: Global,
     office: &mut M::Office,
@@ -74,7 +74,7 @@ pub(crate) fn keep_refusal_reason<M: Machine>(
     }
 }
 
-/// Notes a text in place of what was noted; where there is none, or no memory for it, the reply.
+/// Keeps a text as the last reason; if there is none, or no memory for it, keeps the reply.
 pub(crate) fn keep_reason_text(text: Option<Vec<u8>>, reply: &[u8], last_reason: &mut Vec<u8>) {
     match text {
         Some(text) => *last_reason = text,
@@ -82,7 +82,7 @@ pub(crate) fn keep_reason_text(text: Option<Vec<u8>>, reply: &[u8], last_reason:
     }
 }
 
-/// Notes which field of a line is wrong by which it can't be read, in place of its reply; where the line can be read, nothing.
+/// Keeps which field of a line is wrong, instead of the reply, if the line can't be read.
 pub(crate) fn keep_syntax_reason(
     alloc: Global,
     line: &[u8],
@@ -107,7 +107,7 @@ pub(crate) fn keep_reply_reason(reply: &[u8], last_reason: &mut Vec<u8>) {
     let _ = last_reason.extend_from_slice(reply);
 }
 
-/// Why a command was refused, if it is a registration, as the register tells it. Nothing changes.
+/// Why a command was refused, if it is a registration, as the register shows. No record changes.
 fn reason_of<M: Machine>(office: &mut M::Office, refused: &RefusedCommand) -> Option<Reason>
     ensures { Leads M.Office.is_clean M.Office.stands (λ identity before after. after ≡ before) office.old office.new }
 {
@@ -127,7 +127,7 @@ fn reason_of<M: Machine>(office: &mut M::Office, refused: &RefusedCommand) -> Op
     }
 }
 
-/// Up to when a certificate that is valid from a moment on may be valid by its order.
+/// The latest notAfter that an order and the schedule allow a certificate with this notBefore.
 fn latest_of<M: Machine>(office: &mut M::Office, order: u64, not_before: Moment) -> Option<Reason>
     ensures { Leads M.Office.is_clean M.Office.stands (λ identity before after. after ≡ before) office.old office.new }
 {
@@ -137,7 +137,7 @@ fn latest_of<M: Machine>(office: &mut M::Office, order: u64, not_before: Moment)
     }
 }
 
-/// Keeps why the last command of a run was refused, if the run ended at that and it was a registration.
+/// Keeps why the last command of a run was refused, if the run ended there and the command is a registration.
 pub(crate) fn keep_reason<M: Machine>(
     office: &mut M::Office,
     ran: &Result<Ended, Fault>,
@@ -151,7 +151,7 @@ pub(crate) fn keep_reason<M: Machine>(
     }
 }
 
-/// The last second of so many days from a moment on, both ends counted (RFC 5280 4.1.2.5).
+/// The last second of that many days from a moment on, with both ends counted (RFC 5280 4.1.2.5).
 fn last_of(not_before: Moment, days: u64) -> Option<Moment>
     ensures { IfSome result (λ at. at ≡ last_second not_before days) }
 {
@@ -159,7 +159,7 @@ fn last_of(not_before: Moment, days: u64) -> Option<Moment>
     Moment::of_secs(not_before.secs().checked_add(seconds)?)
 }
 
-/// A text and the words of a reason behind it, with an LF, where there is a reason and memory for them.
+/// A prefix, the text of a reason and an LF; `None` if there is no reason or no memory.
 pub(crate) fn reason_line(alloc: Global, prefix: &[u8], reason: Option<Reason>) -> Option<Vec<u8>>
     ensures { IfSome result (λ text. IsReasonLine prefix.now reason text.items) }
 {

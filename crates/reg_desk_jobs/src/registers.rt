@@ -1,4 +1,4 @@
-//! A register is opened, made and audited at a machine, by the calls that this takes.
+//! Opens, creates and audits a register on a machine.
 
 ghost use Rattle.std.specs.Prelude.{IfErr, IfOk};
 ghost use Rattle.reg_office_api.specs.Signatories.{Signatory};
@@ -14,7 +14,7 @@ use reg_core::{Fault, Policy};
 use reg_der::Issuer;
 use reg_desk_cli::{Answerer, Failure, KeyHolder};
 
-/// Opens the register at a path, where nothing will be signed.
+/// Opens the register at a path for a job that signs nothing.
 pub(crate) fn open_unsigned<M: Machine>(machine: &mut M, path: &str) -> Result<M::Office, Failure>
     ensures ok { IfOk result (λ office. Opened M.Machine machine.old path.now unsigned office machine.new) }
     ensures err { IfErr result (λ why. Unopened M.Machine machine.old path.now unsigned why machine.new) }
@@ -24,8 +24,8 @@ pub(crate) fn open_unsigned<M: Machine>(machine: &mut M, path: &str) -> Result<M
     open_by(machine, path, &CrlSigner::Nobody, &itself)
 }
 
-/// Opens the register at a path with the signer of its CRLs, or else a digest, and with the responder of its OCSP answers. Where that is one
-/// with a key of its own and there is no signer for the issuer's, no CRL is signed.
+/// Opens the register at a path with the signer of its CRLs, or else a placeholder digest, and with its OCSP responder. If the responder has a key
+/// of its own and there is no signer with the issuer's key, no CRL is signed.
 pub(crate) fn open_signed<M: Machine>(
     machine: &mut M,
     path: &str,
@@ -39,7 +39,7 @@ pub(crate) fn open_signed<M: Machine>(
     open_by(machine, path, &CrlSigner::of(signer, answerer), answerer)
 }
 
-/// To open a path where no database is would make one, so the path is looked at before.
+/// Checks first that there is a database at the path, because opening a path without one would create one.
 fn open_by<M: Machine>(
     machine: &mut M,
     path: &str,
@@ -56,7 +56,7 @@ fn open_by<M: Machine>(
     machine.open_in(database, crls, responder)
 }
 
-/// Makes a register with no records at a path at which something lies. Where that fails, a file without a register may be left there.
+/// Creates a register without records in the file at a path, which must exist. If that fails, a file without a register may be left there.
 pub(crate) fn make<M: Machine>(
     machine: &mut M,
     path: &str,
@@ -68,8 +68,8 @@ pub(crate) fn make<M: Machine>(
     ensures err { IfErr result (λ why. Unmade M.Machine machine.old path.now why machine.new) }
     ensures faults { IfErr result IsMaking }
 {
-    // What could not be claimed and is not there can't be made: a link that leads nowhere, a log without its register.
-    // Why it could not be claimed was noted then.
+    // A path that was not claimed and has no file can't become a register: a dangling symbolic link, or a log without its register. `claim` kept
+    // the cause.
     if !machine.is_there(path) {
         return Err(Failure::Fault(Fault::Store));
     }
@@ -77,8 +77,8 @@ pub(crate) fn make<M: Machine>(
     machine.make_in(database, issuer, policy)
 }
 
-/// Audits the register at a path. It only reads: each byte of the files stays, nothing is created beside them, and one of an older version is
-/// not made newer.
+/// Audits the register at a path. It only reads: no file changes, none is created, and a register of an older version is not
+/// migrated.
 pub(crate) fn audit_at<M: Machine>(machine: &M, path: &str) -> Result<AuditResult, Failure>
     ensures ok { IfOk result (Audits M.Machine machine.now path.now) }
     ensures err { IfErr result (Unaudited M.Machine machine.now path.now) }

@@ -1,4 +1,4 @@
-//! The job `replay`: the commands that a log has as accepted, sent to the control socket of an open desk once more.
+//! The job `replay`: sends the accepted commands of a log to the control socket of an open desk again.
 
 ghost use Rattle.std.specs.Prelude.{◌≡◌, ◌++◌, IfOk, OnOk};
 ghost use Rattle.reg_desk_jobs.specs.LogEntries.{exchange_of};
@@ -18,17 +18,17 @@ use std::alloc::{AllocError, Global};
 use std::io::{BufRead, BufReader, Read, Write};
 use std::os::unix::net::UnixStream;
 
-/// The number that a request has in the log, and the one that the replay's reply gave it.
+/// The number that a request has in the log, and the number that the open desk gave it in the replay.
 #[derive(Clone, Copy)]
 struct Renumbered {
     logged: u64,
     given: u64,
 }
 
-/// Sends each command that a log has as accepted to the control socket at a path, in the log's order, and writes the replies. A request is
-/// revoked or declined by its serial number, under the number that it was given now. Errors: `Refused` at the first reply that differs, or
-/// at a command that the log does not tell whole, behind which that line of the log is written; `NoLineEnd` at a last line without its end;
-/// else as of [`at`](crate::at).
+/// Sends each accepted command of a log to the control socket at a path, in the log's order, and writes the replies. A request is revoked or
+/// declined by its serial number and by the number that it has now. Errors: `Refused` at the first reply that differs, or at a command of which
+/// the log has only a part: then that line of the log is written last; `NoLineEnd` at a last line without its line end; else those of
+/// [`at`](crate::at).
 pub fn replay<M: Machine, R: Read, W: Write>(
     alloc: Global,
     machine: &M,
@@ -160,7 +160,7 @@ fn replay_entry<W: Write, C: BufRead, S: Write>(
     }
 }
 
-/// Writes the line of the log at which a replay stops.
+/// Writes the line of the log at which a replay stops, and fails.
 fn stop<W: Write>(writer: &mut W, line: &[u8]) -> Result<(), Failure>
     ensures { StopsWith (W.contents writer.old) line.now (W.contents writer.new) result }
 {
@@ -206,7 +206,7 @@ fn put_text(
     }
 }
 
-/// The number that a request has now: the one that it was given last, or that of the log.
+/// The number that a request has now: the last one that it was given, or else that of the log.
 fn number_now(numbers: &[Renumbered], logged: u64) -> u64
     ensures { result ≡ number_now numbers.now logged }
 {
@@ -219,7 +219,7 @@ fn number_now(numbers: &[Renumbered], logged: u64) -> u64
     number
 }
 
-/// Whether a reply is that of the log.
+/// Whether a reply agrees with that of the log.
 fn agrees(logged_exchange: &ExchangeText<'_>, entry: &Entry, reply: &[u8]) -> bool
     ensures { result ≡ agrees (exchange_of logged_exchange.now) entry.now reply.now }
 {

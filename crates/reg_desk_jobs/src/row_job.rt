@@ -1,5 +1,5 @@
-//! The job `at` with a task for each row of a file: its certificate is registered under a new order, or is requested and revoked, at the control
-//! socket of an open desk.
+//! The job `at` with a task for each row of a file: it registers the row's certificate under a new order, or requests its revocation and revokes
+//! it, at the control socket of an open desk.
 
 ghost use Rattle.std.specs.Prelude.{◌≡◌, ◌<◌, ◌==◌, ◌↔◌, IfErr, IfOk, IfSome, IsTrue, length, option_map, position};
 ghost use Rattle.reg_core_lists.specs.ListParameters.{label_of};
@@ -19,14 +19,14 @@ use std::alloc::{AllocError, Global};
 use std::io::{BufRead, BufReader, Read, Write};
 use std::os::unix::net::UnixStream;
 
-/// A row of a file of certificates that are to be revoked: one of them, and the word of its ground.
+/// A row of a file of certificates to revoke: the serial number, and the word of the ground.
 #[derive(Clone, Copy)]
 struct RevocationRow {
     serial: Serial,
     word: Label,
 }
 
-/// A row of a file of certificates that are to be registered.
+/// A row of a file of certificates to register.
 #[derive(Clone, Copy)]
 struct RegistrationRow {
     serial: Serial,
@@ -35,8 +35,8 @@ struct RegistrationRow {
 }
 
 /// Does a task with the certificate of each row at the control socket at a path, in the rows' order, and writes one reply for each: that to the
-/// last line sent for it. A row is `SERIAL,GROUND` to revoke, and `SERIAL,NOTBEFORE,NOTAFTER` to register. An empty line and a header are passed
-/// over. Errors: as of [`at`](crate::at), where the reply to a certificate that was revoked before is no refusal.
+/// last line sent for it. A row is `SERIAL,GROUND` to revoke, and `SERIAL,NOTBEFORE,NOTAFTER` to register. Empty lines and a header are
+/// skipped. Errors: those of [`at`](crate::at), except that E19, for a certificate that is already revoked, does not count as a refusal.
 pub fn each_row<M: Machine, R: Read, W: Write>(
     alloc: Global,
     machine: &M,
@@ -97,7 +97,7 @@ fn send_each<R: BufRead, W: Write, C: BufRead, S: Write>(
     Err(Failure::Fault(Fault::Read))
 }
 
-/// Does the task with the certificate of a line, if it is a row, and writes the reply. Whether no reply was a refusal or a fault.
+/// Does the task with the certificate of a line, if it is a row, and writes the reply. Returns whether no reply was a refusal or a fault.
 fn send_line<W: Write, C: BufRead, S: Write>(
     alloc: Global,
     task: RowTask,
@@ -142,7 +142,7 @@ fn answer_row<C: BufRead, S: Write>(
     }
 }
 
-/// Registers the certificate of a row under a new order, if no certificate has its serial number. The last reply.
+/// Registers the certificate of a row under a new order, if no certificate has its serial number. Returns the last reply.
 fn register_row<C: BufRead, S: Write>(
     alloc: Global,
     terms: OrderTerms,
@@ -167,7 +167,7 @@ fn register_row<C: BufRead, S: Write>(
     order_row(alloc, terms, &row, incoming, sent)
 }
 
-/// Makes an order, and registers the certificate of a row under it if the reply gives the order a number. The last reply.
+/// Enters an order, and registers the certificate of a row under it if the reply gives the order's number. Returns the last reply.
 fn order_row<C: BufRead, S: Write>(
     alloc: Global,
     terms: OrderTerms,
@@ -192,7 +192,7 @@ fn order_row<C: BufRead, S: Write>(
     request_reply(alloc, &registration, incoming, sent)
 }
 
-/// Requests that a certificate be revoked, and revokes it if the reply gives the request a number. The last reply.
+/// Requests that a certificate be revoked, and revokes it if the reply gives the request's number. Returns the last reply.
 fn revoke_row<C: BufRead, S: Write>(
     alloc: Global,
     row: Option<RevocationRow>,
@@ -234,7 +234,7 @@ fn header_of(task: RowTask) -> &'static [u8]
     }
 }
 
-/// The row `SERIAL,GROUND`; `None` where a text is none.
+/// Reads the row `SERIAL,GROUND`; `None` for any other text.
 #[tactic(auto, unfolding(crate::specs::RowTasks::revocation_row_in))]
 fn revocation_row_in(text: &[u8]) -> Option<RevocationRow>
     ensures { result ≡ revocation_row_in text.now }
@@ -245,7 +245,7 @@ fn revocation_row_in(text: &[u8]) -> Option<RevocationRow>
     Some(RevocationRow { serial, word })
 }
 
-/// The row `SERIAL,NOTBEFORE,NOTAFTER`; `None` where a text is none.
+/// Reads the row `SERIAL,NOTBEFORE,NOTAFTER`; `None` for any other text.
 #[tactic(auto, unfolding(crate::specs::RowTasks::registration_row_in))]
 fn registration_row_in(text: &[u8]) -> Option<RegistrationRow>
     ensures { result ≡ registration_row_in text.now }
@@ -259,7 +259,7 @@ fn registration_row_in(text: &[u8]) -> Option<RegistrationRow>
     })
 }
 
-/// A text up to its first comma, and behind it.
+/// The text before the first comma, and the text after it.
 #[tactic(auto, unfolding(crate::specs::RowTasks::parted_by_comma))]
 fn parted_by_comma(text: &[u8]) -> Option<(&[u8], &[u8])>
     ensures { option_map (λ p. (p.0.now, p.1.now)) result ≡ parted_by_comma text.now }
@@ -291,7 +291,7 @@ fn request_line(alloc: Global, row: &RevocationRow) -> Result<Vec<u8>, AllocErro
     Ok(line)
 }
 
-/// The line that revokes, under the number that a reply gives to the request.
+/// The line that revokes, with the request's number from the reply.
 fn revocation_line(
     alloc: Global,
     row: &RevocationRow,
@@ -325,7 +325,7 @@ fn order_line(alloc: Global, terms: OrderTerms) -> Result<Vec<u8>, AllocError>
     Ok(line)
 }
 
-/// The line that registers, under the number that a reply gives to the order.
+/// The line that registers, with the order's number from the reply.
 fn registration_line(
     alloc: Global,
     row: &RegistrationRow,
@@ -348,7 +348,7 @@ fn has_first_word(reply: &[u8], word: &[u8]) -> bool
     first_word(without_end(reply)) == word
 }
 
-/// Whether a reply is no refusal and no fault, or says that the certificate was revoked before.
+/// Whether a reply is no refusal and no fault, or is E19: the certificate is already revoked.
 fn is_done(reply: &[u8]) -> bool
     ensures { IsTrue result ↔ IsRowDone reply.now }
 {

@@ -1,4 +1,4 @@
-//! The job `serve`, HTTP on the loopback interface; and what it shares with the job `open`, many connections at once.
+//! The job `serve`: HTTP on the loopback interface, many connections at once. The job `open` uses the same functions.
 
 ghost use Rattle.std.specs.Prelude.{◌≡◌, ◌⊎◌, ◌++◌, ◌∷◌, [], List, None, Err, OnOk, IfErr, IsTrue, IsFalse, decimal, is_some, option_copied};
 ghost use Rattle.reg_office_api.specs.Leads.{Leads, Looks};
@@ -35,8 +35,8 @@ const LOOPBACK: [u8; 4] = [127, 0, 0, 1];
 
 const LOOPBACK_V6: [u8; 16] = [0, 0, 0, 0, 0, 0, 0, 0, 0, 0, 0, 0, 0, 0, 0, 1];
 
-/// Answers so many requests over a register, which is opened before the port is bound. If a published CRL is given, `reader` has its bytes, and a
-/// register that lacks something of it is not served.
+/// Answers a number of requests over a register, which is opened before the port is bound. If a published CRL is given, `reader` has its bytes, and a
+/// register that lacks any of it is not served.
 pub fn serve<M: Machine, R: Read, W: Write>(
     rt: &HostRuntime,
     machine: &mut M,
@@ -67,7 +67,7 @@ pub fn serve<M: Machine, R: Read, W: Write>(
     ending
 }
 
-/// Serves a register, and gives the office back. If a published CRL is given, the register must have all of it ([`check_published`]).
+/// Serves a register, and returns the office. If a published CRL is given, the register must have all of it ([`check_published`]).
 pub(crate) fn serve_checked<'a, 'w, M: Machine, R: Read, W: Write>(
     rt: &HostRuntime,
     machine: &'a M,
@@ -113,7 +113,7 @@ pub(crate) fn serve_checked<'a, 'w, M: Machine, R: Read, W: Write>(
     )
 }
 
-/// Binds the port, creates the control socket where one is given, prints the port, answers so many requests, and gives the office back.
+/// Binds the port, creates the control socket if one is given, prints the port, answers the requests, and returns the office.
 fn serve_desk<'a, 'w, M: Machine, W: Write>(
     rt: &HostRuntime,
     machine: &'a M,
@@ -208,7 +208,7 @@ fn event_loop_over<H: Handler>(
     }
 }
 
-/// Prints the port, answers so many requests, and sends on their answers.
+/// Prints the port, answers the requests, and sends the answers that are left.
 fn run_event_loop<H: Handler, W: Write>(
     rt: &HostRuntime,
     mut event_loop: EventLoop<H>,
@@ -226,12 +226,12 @@ fn run_event_loop<H: Handler, W: Write>(
         Err(why) => return Err(why),
     }
     let mut made = 0;
-    // It stops early where the clock or the sockets fail.
+    // It stops early if the clock or the sockets fail.
     let _ = event_loop.serve_all(rt, handler, &mut made, requests);
     if made != requests {
         return Err(Failure::Fault(Fault::Read));
     }
-    // A client that does not read its answer in time is closed.
+    // Connections whose clients don't read their answers in time are closed.
     let _ = event_loop.finish(rt, handler);
     Ok(())
 }

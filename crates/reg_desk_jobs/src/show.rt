@@ -1,4 +1,4 @@
-//! Rows that are looked up and shown at the control socket, and its words.
+//! The words `show` and `help` at the control socket.
 
 ghost use Rattle.std.specs.Prelude.{◌≡◌, ◌++◌, ◌∷◌, ◌-◌, ◌≤◌, [], IfOk, find as first_passing};
 ghost use Rattle.reg_core_lists.specs.Lists.{key_of, page};
@@ -17,7 +17,7 @@ use reg_core_lists::{Cursor, Form, Row, put_rows};
 use reg_office_api::Office;
 use std::alloc::{AllocError, Global};
 
-/// How many subscribers are looked at in one call.
+/// How many subscribers are read in one call.
 const SUBSCRIBERS: u64 = 250;
 
 const SERIAL_BYTES: usize = 20;
@@ -32,7 +32,7 @@ pub(crate) fn answer_help(alloc: Global) -> ControlReply
     ControlReply::line(alloc, WORDS, LineOutcome::Done)
 }
 
-/// Shows a row as `list --json` has it, at a moment. No record changes.
+/// Shows a row at a moment, in the form of `list --json`. No record changes.
 pub(crate) fn answer_shown<M: Machine>(
     alloc: Global,
     office: &mut M::Office,
@@ -65,7 +65,7 @@ fn answer_found(
     }
 }
 
-/// Replies a fault, which is kept for `why`.
+/// Replies with a fault, and keeps it for `why`.
 pub(crate) fn report_fault(alloc: Global, fault: Fault, last_reason: &mut Vec<u8>) -> ControlReply
     ensures told { ReportsFault fault result.text.items }
     ensures came { ReportsLineOutcome result.came result.text.items }
@@ -93,7 +93,7 @@ fn row_line(alloc: Global, row: Row) -> Result<Vec<u8>, AllocError>
     Ok(text)
 }
 
-/// The row that is asked for, at a moment; `None` where there is none. Errors: those of [`Office::page`].
+/// The row to be shown, at a moment; `None` if there is none. Errors: those of [`Office::page`].
 pub(crate) fn find<O: Office>(
     alloc: Global,
     office: &mut O,
@@ -117,7 +117,7 @@ pub(crate) fn find<O: Office>(
     }
 }
 
-/// Looks whether the first row behind a key is the one that is asked for.
+/// The first row after a key, if it is the one to be shown.
 fn find_at<O: Office>(
     alloc: Global,
     office: &mut O,
@@ -133,7 +133,7 @@ fn find_at<O: Office>(
     Ok(shown_among(&page.rows, shown))
 }
 
-/// Looks at all subscribers up to the one of a name.
+/// Reads the subscribers in order until it finds the one with this name.
 fn find_subscriber<O: Office>(
     alloc: Global,
     office: &mut O,
@@ -158,7 +158,7 @@ fn find_subscriber<O: Office>(
             None => return Ok(None),
         }
     }
-    // No register has so many pages.
+    // No register has this many pages.
     Err(Fault::Store)
 }
 
@@ -184,7 +184,7 @@ fn is_shown(row: &Row, shown: &Shown) -> bool
     }
 }
 
-/// The serial number before one; `None` before the first.
+/// The serial number before this one; `None` for the first.
 fn serial_before(serial: Serial) -> Option<Serial>
     ensures before { key_of result ≡ serial - 1 }
     ensures above_0 { 1 ≤ serial }

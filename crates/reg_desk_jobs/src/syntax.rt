@@ -1,4 +1,4 @@
-//! What is wrong with a line that can't be read: the field of its command that is missing or has another form, as `why` gives it.
+//! Finds what is wrong with a line that can't be read: the field that is missing or has another form, for `why`.
 
 ghost use Rattle.std.specs.Prelude.{◌≡◌, ◌++◌, [], IfOk, is_some, option_map};
 ghost use Rattle.reg_core.specs.Calendar.{moment_of};
@@ -30,7 +30,7 @@ pub enum WrongField {
     /// This field has another form.
     Form(Field),
     Missing(Field),
-    /// A field stands after the last one.
+    /// There is a field after the last one.
     TooMany,
 }
 
@@ -47,12 +47,12 @@ const REGISTER: &[Field] = &[
 
 const REQUEST: &[Field] = &[Field::Serial, Field::Ground];
 
-/// Of `revoke` and `decline`, which may be without the serial number.
+/// The fields of `revoke` and `decline`. The serial number is optional.
 const DECISION: &[Field] = &[Field::Request, Field::Serial];
 
 const STATUS: &[Field] = &[Field::Serial];
 
-/// What is wrong with the fields of a line that can't be read; `None` where its word is no command with fields.
+/// What is wrong with the fields of a line that can't be read; `None` if its word is no command with fields.
 pub(crate) fn wrong_field(line: &[u8]) -> Option<WrongField>
     ensures { result ≡ wrong_in (fields_of line.now) }
 {

@@ -1,4 +1,4 @@
-//! An OCSP response that is left to be signed, and how it is finished.
+//! OCSP responses that are to be signed, and how they are finished.
 
 ghost use Rattle.std.specs.Prelude.{◌≡◌, ◌≤◌, IfSome, length, option_map};
 ghost use Rattle.reg_desk_jobs.specs.Counted.{CountsFinished};
@@ -21,27 +21,27 @@ use reg_office_api::SignatureFate;
 use std::alloc::Global;
 use std::net::SocketAddr;
 
-/// How many bytes of what was asked are kept for the log: as many as it has of a text.
+/// How many bytes of the request are kept for the log: as many as the log keeps of a text.
 const MOST_KEPT: usize = 256;
 
-/// An OCSP answer that is left to be signed.
+/// An OCSP response that is to be signed, with what the tally and the log need.
 #[derive(Drop)]
 pub struct Unsigned {
-    /// What is to be signed, and what the answer has beside that.
+    /// The message to sign, and the rest of the response.
     pub(crate) draft: Draft,
     /// The moment of the answer.
     pub(crate) moment: Moment,
-    /// The route that was asked, by which it is counted.
+    /// The route of the request, for the tally.
     pub(crate) route: Route,
-    /// When it was begun, in microseconds.
+    /// When the desk began to answer, in microseconds.
     pub(crate) began: u64,
-    /// The client's address, as text.
+    /// The client's address.
     pub(crate) client: SocketAddr,
-    /// The front of what was asked, where there is a log.
+    /// The first bytes of the request; empty if there is no log.
     pub(crate) asked: Vec<u8>,
 }
 
-/// What is to be signed for an answer of this moment, with that by which it is counted, and what the log will tell of it.
+/// A response that is to be signed, with its moment, and with what the tally and the log need.
 pub(crate) fn unsigned_of<M: Machine>(
     alloc: Global,
     machine: &M,
@@ -66,7 +66,7 @@ pub(crate) fn unsigned_of<M: Machine>(
     }
 }
 
-/// The front of what was asked, where there is a log. What there is no memory for is left out.
+/// The first bytes of the request; empty if there is no log or no memory.
 fn kept_of<M: Machine>(alloc: Global, machine: &M, request: &[u8]) -> Vec<u8> {
     if !machine.has_log() {
         return Vec::new(alloc);
@@ -78,8 +78,8 @@ fn kept_of<M: Machine>(alloc: Global, machine: &M, request: &[u8]) -> Vec<u8> {
     }
 }
 
-/// The text that finishes an answer, with what came on a connection, or without a signature. It is counted by the moment and the route of the
-/// answer, and put into the log, where there is one.
+/// Finishes a response with the signer's answer on a connection, or without a signature, and returns its text. Counts the exchange at the moment
+/// and the route of the request, and logs it if there is a log.
 pub(crate) fn finish_http<M: Machine>(
     alloc: Global,
     machine: &M,
@@ -132,7 +132,7 @@ fn signature_of<M: Machine>(
     }
 }
 
-/// What came on a connection, where the signer was asked on it to sign this message.
+/// The signer's answer on the connection on which it was asked to sign this message.
 pub(crate) fn received_answer<M: Machine>(
     alloc: Global,
     signer: &Option<KeyHolder<'_>>,

@@ -21,7 +21,7 @@ pub(crate) fn not_after(certificate: &[u8]) -> Option<Moment>
     }
 }
 
-/// Its text as a moment is written in lines.
+/// notAfter, as the text of a moment in lines.
 #[tactic(auto, unfolding(crate::specs::Validities::not_after_at))]
 fn not_after_text(certificate: &[u8]) -> Option<[u8; 20]>
     ensures { result ≡ not_after_at certificate.now }
@@ -33,7 +33,7 @@ fn not_after_text(certificate: &[u8]) -> Option<[u8; 20]>
     time_text(time.tag, time.contents)
 }
 
-/// The contents of validity in those of a TBSCertificate (RFC 5280 4.1).
+/// The contents of the field validity in those of a TBSCertificate (RFC 5280 4.1).
 #[tactic(auto, unfolding(crate::specs::Validities::validity_at))]
 fn validity_in(bytes: &[u8]) -> Option<&[u8]>
     ensures { Gives (λ x. x.now) result (validity_at bytes.now) }

@@ -1,4 +1,4 @@
-//! What a line at the control socket says.
+//! Reads a line at the control socket.
 
 ghost use Rattle.std.specs.Prelude.{◌≡◌, IfOk};
 ghost use Rattle.reg_core.specs.Calendar.{moment_of};
@@ -13,45 +13,45 @@ use reg_desk_cli::{Steps, read_step};
 use reg_lines::{Fields, command_in, without_end};
 use std::alloc::{AllocError, Global};
 
-/// What a line at the control socket says.
+/// The meaning of a line at the control socket.
 #[derive(Drop)]
 pub(crate) enum ControlWord<'a> {
-    /// It asks for the words.
+    /// `help`: it lists the words.
     Help,
-    /// It asks why the last refused line of its connection was refused.
+    /// `why`: it tells why the last refused line of its connection was refused.
     Why,
-    /// It has the register copied to this path; `None` where that is no text of UTF-8.
+    /// `copy`: it copies the register to this path; `None` if that is not UTF-8.
     Copy(Option<&'a str>),
-    /// It asks for a row.
+    /// `show`: it shows a row.
     Show(Shown),
-    /// It revokes or declines a request that it names with its serial number.
+    /// It revokes or declines a request, given by number and serial number.
     Settle(SerialDecision),
-    /// It accepts the clock.
+    /// `accept-clock`: the operator accepts the clock.
     AcceptClock(AcceptedClock),
-    /// It sets another schedule, of these steps.
+    /// `schedule`: it sets another schedule, with these steps.
     Schedule(Steps),
-    /// It is a command line, without its end; `None` where it has too many bytes.
+    /// Any other line, without its line end; `None` if it has too many bytes.
     Line(Option<&'a [u8]>),
 }
 
-/// What a line asks to be shown.
+/// The row that `show` is to show.
 #[derive(Clone, Copy)]
 pub(crate) enum Shown {
-    /// The request of a number.
+    /// The request with a number.
     Request(u64),
-    /// The certificate of a serial number.
+    /// The certificate with a serial number.
     Certificate(Serial),
-    /// The subscriber of a name.
+    /// The subscriber with a name.
     Subscriber(Label),
 }
 
-/// The moment until 30 days past which the operator accepts the clock.
+/// The moment that the operator accepts: the clock may be up to 30 days past it.
 #[derive(Clone, Copy)]
 pub(crate) struct AcceptedClock {
     pub(crate) moment: Moment,
 }
 
-/// A command that decides a request, and the serial number that the request is to be for.
+/// A command that decides a request, and the serial number that the request must be for.
 #[derive(Clone, Copy)]
 pub(crate) struct SerialDecision {
     pub(crate) command: Command,
@@ -99,7 +99,7 @@ fn shown_in(text: &[u8]) -> Option<Shown>
     }
 }
 
-/// What is to be shown: `SERIAL`, `request N` or `subscriber NAME`.
+/// The row to show: `SERIAL`, `request N` or `subscriber NAME`.
 fn read_shown(mut fields: Fields<'_>) -> Option<Shown>
     ensures { result ≡ shown_by fields.entry }
 {
@@ -211,6 +211,6 @@ fn read_steps(alloc: Global, mut fields: Fields<'_>) -> Result<Option<Steps>, Al
             None => return Ok(Some(Steps::of(steps))),
         }
     }
-    // No line has so many fields.
+    // No line has this many fields.
     Err(AllocError)
 }

@@ -6,11 +6,11 @@ use Rattle.std.specs.declared.option.Option.{Option}
 abbrev pub is_far : ℕ → ℕ → Bool
 is_far now moment = nat_lt 2592000 (now - moment)
 
--- the clock is more than 30 days past the moment that the operator accepted, or the operator accepted none
+-- the clock is more than 30 days past the moment that the operator accepted, or there is no such moment
 abbrev pub is_far_from : ℕ → Option ℕ → Bool
 is_far_from now (Some moment) = is_far now moment
 is_far_from now None = true
 
--- the clock is more than 30 days past the last accepted moment, if there is one, and past the moment that the operator accepted
+-- the clock is more than 30 days past the last accepted moment, if there is one, and also past the moment that the operator accepted
 abbrev pub is_ahead : ℕ → ℕ → Option ℕ → Bool
 is_ahead now last accepted = if (last == 0) || not (is_far now last) then false else is_far_from now accepted

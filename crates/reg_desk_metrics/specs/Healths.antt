@@ -18,24 +18,24 @@ abbrev pub is_none : Option ℕ → Bool
 is_none (Some at) = false
 is_none None = true
 
--- up to when the clock is behind the last command; now, if it is too far ahead, or the register refuses it for another cause, as it is past its end
+-- the moment of the last command, if the clock is behind it; now, if the clock is too far ahead, or past its end
 abbrev pub clock_of : ℕ → Result Numbers Fault → Option ℕ → Option ℕ
 clock_of now (Ok numbers) accepted = cond (is_ahead now numbers.standing.last accepted) (Some now) None
 clock_of now (Err (Refused (ClockBack last))) accepted = Some last
 clock_of now (Err (Refused other)) accepted = Some now
 clock_of now other accepted = None
 
--- whether there is no CRL yet: the next is due at once
+-- whether the next CRL is due at once: there is none yet, or the latest one has a placeholder digest and the desk has a signer
 abbrev pub has_no_crl : Result Numbers Fault → Bool
 has_no_crl (Ok numbers) = is_none numbers.due
 has_no_crl (Err fault) = false
 
--- a moment that is past
+-- a moment, if it is past
 abbrev pub if_past : ℕ → Option ℕ → Option ℕ
 if_past now (Some at) = cond (nat_lt at now) (Some at) None
 if_past now None = None
 
--- since when the next CRL is due, where that is past
+-- since when the next CRL is late
 abbrev pub crl_since : ℕ → Result Numbers Fault → Option ℕ
 crl_since now (Ok numbers) = if_past now numbers.due
 crl_since now (Err fault) = None
@@ -53,13 +53,13 @@ abbrev pub rows_since : ℕ → Result Numbers Fault → Option ℕ
 rows_since now (Ok numbers) = cond (is_filling numbers.standing) (Some now) None
 rows_since now (Err fault) = None
 
--- since when the store fails: as was counted, or now, where it answers nothing
+-- since when the store fails, as was counted; or else now, if the register can't be read
 abbrev pub store_since_at : ℕ → Result Numbers Fault → Option ℕ → Option ℕ
 store_since_at now (Ok numbers) since = since
 store_since_at now (Err (Refused why)) since = since
 store_since_at now (Err other) since = option_or since (Some now)
 
--- the health of a register at a moment, by what was found there, what was counted, and the moment that the operator accepted
+-- the health of a register at a moment, from its numbers, the tally, and the moment that the operator accepted
 abbrev pub health_of : ℕ → Result Numbers Fault → Tally → Option ℕ → Health
 health_of now found tally accepted = record {
   clock = clock_of now found accepted;
@@ -71,7 +71,7 @@ health_of now found tally accepted = record {
   store = store_since_at now found tally.store_since;
 }
 
--- all is well: no clock that is behind or ahead, a CRL that is not due, signers that do not fail, room in each table, and a store that does not fail
+-- all is well: the clock is neither behind nor too far ahead, no CRL is due at once or late, signers and the store don't fail, and each table has room
 abbrev pub is_well : Health → Bool
 is_well health =
     is_none health.clock && (not health.has_no_crl && (is_none health.crl && (is_none health.crl_signer && (is_none health.ocsp_signer && (is_none health.rows && is_none health.store)))))
@@ -81,23 +81,23 @@ abbrev pub since_text : Option ℕ → List ℕ
 since_text (Some at) = 34 ∷ moment_text at ++ 34 ∷ []
 since_text None = codes "null"
 
--- a member: its name, and since when
+-- a member: its name, and since when it fails
 abbrev pub member : List ℕ → Option ℕ → List ℕ
 member name since = name ++ since_text since
 
--- the member of the CRL: since when it is due, or at once where there is none yet
+-- the member of the CRL: since when it is late, or that it is due at once
 unfoldable pub crl_text : Bool → Option ℕ → List ℕ
 crl_text has_no_crl crl = codes ",\"crl\":" ++ cond has_no_crl (codes "\"at-once\"") (since_text crl)
 
--- the members of the signer
+-- the members of the two signers
 unfoldable pub signers_text : Option ℕ → Option ℕ → List ℕ
 signers_text crl ocsp = member (codes ",\"crl_signer\":") crl ++ member (codes ",\"ocsp_signer\":") ocsp
 
--- the member for whether all is well, and the name of the last
+-- the member `status`, and the name of the last member
 unfoldable pub health_member : Bool → List ℕ
 health_member is_well = cond is_well (codes ",\"status\":\"ok\",\"store\":") (codes ",\"status\":\"failing\",\"store\":")
 
--- the text: `{"clock":null,"crl":null,"crl_signer":null,"ocsp_signer":null,"rows":null,"status":"ok","store":null}`, where all is well
+-- the text; if all is well: `{"clock":null,"crl":null,"crl_signer":null,"ocsp_signer":null,"rows":null,"status":"ok","store":null}`
 unfoldable pub health_text : Health → List ℕ
 health_text health =
     codes "{\"clock\":" ++ since_text health.clock ++ crl_text health.has_no_crl health.crl ++ signers_text health.crl_signer health.ocsp_signer

@@ -1,21 +1,21 @@
--- Samples in the text form of Prometheus, version 0.0.4.
+-- Samples in the text format of Prometheus, version 0.0.4.
 use Rattle.std.specs.Prelude.{ℕ, ◌+◌, ◌/◌, ◌%◌, List, [], ◌∷◌, ◌++◌, decimal, Some, None}
 use Rattle.std.specs.declared.option.Option.{Option}
 
--- a sample: its series with a space behind it, its value and an LF
+-- a sample: its series with a space after it, its value and an LF
 abbrev pub sample : List ℕ → ℕ → List ℕ
 sample series value = series ++ decimal value ++ 10 ∷ []
 
--- a moment in seconds since 1970, 0 where there is none
+-- a moment in seconds since 1970; 0 if there is none
 abbrev pub moment_or_none : Option ℕ → ℕ
 moment_or_none (Some at) = at
 moment_or_none None = 0
 
--- the decimal digit of a number at a unit
+-- the decimal digit of a number for a power of ten
 abbrev pub digit_at : ℕ → ℕ → ℕ
 digit_at number unit = 48 + number / unit % 10
 
--- the point and the six digits behind it, of microseconds as seconds
+-- the decimal point and the six digits after it, for microseconds as seconds
 abbrev pub fraction : ℕ → List ℕ
 fraction micros =
     46 ∷ digit_at micros 100000 ∷ digit_at micros 10000 ∷ digit_at micros 1000 ∷ digit_at micros 100 ∷ digit_at micros 10

@@ -1,4 +1,4 @@
--- What is counted: each exchange once, and sums that stop at the greatest number of 64 bits.
+-- The tally: it counts each exchange once, and its sums stop at the greatest number of 64 bits.
 use Rattle.std.specs.Prelude.{◌≡◌, ℕ, Bool, true, false, cond, ◌&&◌, ◌||◌, ◌==◌, ◌+◌, ◌-◌, ◌*◌, ◌^◌, min, nat_lt, nat_le, List, replicate, slice_set, slice_index_or, if◌then◌else◌, Some, None}
 use Rattle.std.specs.Option.{option_or}
 use Rattle.std.specs.declared.option.Option.{Option}
@@ -27,15 +27,15 @@ greatest = 2 ^ 64 - 1
 abbrev pub one_more : ℕ → ℕ
 one_more count = min (count + 1) greatest
 
--- one more at a place
+-- one more at an index
 abbrev pub bumped : List ℕ → ℕ → List ℕ
 bumped counts index = slice_set counts index (one_more (slice_index_or counts index 0))
 
--- so much more at a place
+-- an amount more at an index
 abbrev pub with_amount : List ℕ → ℕ → ℕ → List ℕ
 with_amount sums index amount = slice_set sums index (min (slice_index_or sums index 0 + amount) greatest)
 
--- the places of the routes, and of the statuses
+-- the numbers of the routes, and of the statuses
 abbrev pub route_number : Route → ℕ
 route_number routes.Ocsp = 0
 route_number routes.OcspRest = 1
@@ -49,7 +49,7 @@ route_number routes.Health = 8
 route_number routes.Metrics = 9
 route_number routes.Other = 10
 
--- the last place is that of no answer, and of a status that no answer has
+-- the last number is for no answer, and for any other status
 unfoldable pub code_number : Option ℕ → ℕ
 code_number None = 11
 code_number (Some code) =
@@ -66,7 +66,7 @@ code_number (Some code) =
     else if code == 503 then 10
     else 11
 
--- the range of so many microseconds: the first whose end is not below it
+-- the index of the bucket for a time in microseconds: the first bucket whose upper bound is not below it
 unfoldable pub bucket_of : ℕ → ℕ
 bucket_of micros =
     if nat_le micros 100 then 0
@@ -82,25 +82,25 @@ bucket_of micros =
     else if nat_le micros 10000000 then 10
     else 11
 
--- no signature was asked for yet
+-- no signature was requested yet
 abbrev pub nothing_signed : Signing
 nothing_signed = record { received = 0; failed = 0; last = None; last_failed = None; failing_since = None }
 
--- signatures of one kind after an exchange at a moment: one came, and nothing fails any more; or one did not, and they fail since then, or since one
--- before it that no other came after
+-- signatures of one kind after an exchange at a moment: one was received, and they no longer fail; or one failed, and they fail since then, or since
+-- the first failure after the last one that was received
 abbrev pub signing_after : SignatureFate → ℕ → Signing → Signing
 signing_after signature.NotAsked now before = before
 signing_after signature.Made now before = record before { received = one_more before.received; last = Some now; failing_since = None }
 signing_after signature.Failed now before =
     record before { failed = one_more before.failed; last_failed = Some now; failing_since = option_or before.failing_since (Some now) }
 
--- since when the store fails, after an exchange at a moment: up to a command that is entered
+-- since when the store fails, after an exchange at a moment; not any more after an accepted command
 abbrev pub store_after : StoreEffect → ℕ → Option ℕ → Option ℕ
 store_after store.Unwritten now since = since
 store_after store.Written now since = None
 store_after store.Failed now since = option_or since (Some now)
 
--- nothing was counted yet, at a desk whose CRLs are signed so, and whose responder's certificate ends then
+-- nothing is counted yet, at a desk whose CRLs are signed in this way, with notAfter of its responder's certificate
 abbrev pub is_new : CrlSigning → Option ℕ → Tally → Type 0
 is_new signing ends tally =
     (tally.answers ≡ replicate 132 0) × (tally.accepted ≡ 0) × (tally.refused ≡ 0) × (tally.faults ≡ 0) × (tally.buckets ≡ replicate 12 0)
@@ -108,30 +108,30 @@ is_new signing ends tally =
     × (tally.crls ≡ nothing_signed) × (tally.ocsp ≡ nothing_signed) × (tally.store_since ≡ None) × (tally.requests ≡ None)
     × (tally.crl_signing ≡ signing) × (tally.responder_ends ≡ ends) × (tally.read ≡ None)
 
--- one exchange more, by how long it took
+-- one more exchange, in the bucket of its time
 abbrev pub with_seconds : ℕ → Tally → Tally
 with_seconds micros tally = record tally { buckets = bumped tally.buckets (bucket_of micros); micros = min (tally.micros + micros) greatest }
 
--- one line more, by how it was answered
+-- one more line, by the kind of its reply
 abbrev pub with_reply_to_line : LineReply → Tally → Tally
 with_reply_to_line Accepted tally = record tally { accepted = one_more tally.accepted }
 with_reply_to_line Refused tally = record tally { refused = one_more tally.refused }
 with_reply_to_line Fault tally = record tally { faults = one_more tally.faults }
 
--- an answer of a route, and how long it took
+-- one more answer of a route, with its time
 abbrev pub with_route : ℕ → ℕ → Tally → Tally
 with_route number micros tally = record tally {
   route_counts = bumped tally.route_counts number;
   route_micros = with_amount tally.route_micros number micros;
 }
 
--- whether a route is asked for OCSP responses
+-- whether a route is for OCSP requests
 abbrev pub is_ocsp_line : Route → Bool
 is_ocsp_line routes.Ocsp = true
 is_ocsp_line routes.OcspRest = true
 is_ocsp_line _ = false
 
--- whether an exchange gave an OCSP response, which has status 200 (RFC 6960 A.2)
+-- whether an exchange had an OCSP response, which has status 200 (RFC 6960 A.2)
 abbrev pub response_by : Route → Option ℕ → Bool
 response_by route None = false
 response_by route (Some code) = (code == 200) && is_ocsp_line route
@@ -139,7 +139,7 @@ response_by route (Some code) = (code == 200) && is_ocsp_line route
 abbrev pub has_response : Exchange → Bool
 has_response exchange = response_by exchange.route exchange.status
 
--- an OCSP response that was internalError (RFC 6960 2.3): the signer failed, or the store did
+-- an OCSP response that was internalError (RFC 6960 2.3), because the signer failed, or because the store failed
 abbrev pub with_cause : SignatureFate → StoreEffect → Tally → Tally
 with_cause signature.Failed effect tally = record tally { ocsp_unsigned = one_more tally.ocsp_unsigned }
 with_cause other store.Failed tally = record tally { ocsp_unread = one_more tally.ocsp_unread }
@@ -148,12 +148,12 @@ with_cause other effect tally = tally
 abbrev pub with_failure : Exchange → Tally → Tally
 with_failure exchange tally = cond (has_response exchange) (with_cause exchange.signature exchange.store tally) tally
 
--- what became of the signature of a CRL: none was requested where there is no signer
+-- what became of the signature of a CRL: it was not requested if the desk has no signer for CRLs
 abbrev pub fate_by : CrlSigning → SignatureFate → SignatureFate
 fate_by Nobody fate = signature.NotAsked
 fate_by other fate = fate
 
--- what an exchange said of signatures, of CRLs and of OCSP answers, and of the store
+-- the effects of an exchange on the signatures of CRLs and of OCSP responses, and on the store
 abbrev pub outcomes_counted : ℕ → SignatureFate → SignatureFate → StoreEffect → Tally → Tally
 outcomes_counted now crl ocsp effect tally = record tally {
   crls = signing_after (fate_by tally.crl_signing crl) now tally.crls;
@@ -161,17 +161,17 @@ outcomes_counted now crl ocsp effect tally = record tally {
   store_since = store_after effect now tally.store_since;
 }
 
--- an answer of a route and a status
+-- one more answer of a route with a status
 abbrev pub with_answer : Route → Option ℕ → ℕ → Tally → Tally
 with_answer route status micros tally =
     with_seconds micros (with_route (route_number route) micros (record tally { answers = bumped tally.answers (route_number route * 12 + code_number status) }))
 
--- an exchange of a moment is counted: by its route and its status, how long it took, and what became of its signature and of the store
+-- an exchange at a moment is counted: its route and status, its time, and its effects on the signature and the store
 abbrev pub with_exchange : ℕ → Exchange → ℕ → Tally → Tally
 with_exchange now exchange micros tally =
     outcomes_counted now signature.NotAsked exchange.signature exchange.store (with_failure exchange (with_answer exchange.route exchange.status micros tally))
 
--- a line is counted: by how it was answered, how long it took, and what became of its signatures and of the store
+-- a line is counted: the kind of its reply, its time, and its effects on the signatures and the store
 abbrev pub with_line : ℕ → LineEffects → ℕ → Tally → Tally
 with_line now line micros tally = outcomes_counted now line.crl line.ocsp line.store (with_seconds micros (with_reply_to_line line.reply tally))
 
@@ -179,7 +179,7 @@ with_line now line micros tally = outcomes_counted now line.crl line.ocsp line.s
 abbrev pub with_counted : Requests → Tally → Tally
 with_counted requests tally = record tally { requests = Some requests }
 
--- whether a key signs CRLs
+-- whether CRLs are signed with a key
 abbrev pub is_key : CrlSigning → Bool
 is_key Key = true
 is_key Digest = false
@@ -188,7 +188,7 @@ is_key Nobody = false
 abbrev pub has_crl_key : Tally → Bool
 has_crl_key tally = is_key tally.crl_signing
 
--- what was read, if that was in the CRL with a number
+-- what was read in a CRL, if that has this number
 abbrev pub read_with : ℕ → Option ReadCrl → Option ReadCrl
 read_with number None = None
 read_with number (Some read) = if read.number == number then Some read else None
@@ -196,11 +196,11 @@ read_with number (Some read) = if read.number == number then Some read else None
 abbrev pub read_of : ℕ → Tally → Option ReadCrl
 read_of number tally = read_with number tally.read
 
--- a CRL was read
+-- what was read in a CRL is kept
 abbrev pub with_read : ReadCrl → Tally → Tally
 with_read read tally = record tally { read = Some read }
 
--- whether requests for revocation are to be counted at a moment: they never were, or a minute before it, or the moment at which they were lies ahead
+-- whether the requests for revocation are to be counted at a moment: they were not yet, or at least a minute before it, or at a later moment
 abbrev pub wants_requests : ℕ → Option Requests → Bool
 wants_requests now None = true
 wants_requests now (Some counted) = nat_lt now counted.at || nat_le 60 (now - counted.at)

@@ -1,4 +1,4 @@
-//! What an open register reports of itself: what was counted, its health, and its metrics.
+//! What an open register reports on itself: its tally, its health, and its metrics.
 #![tactic(auto)]
 
 mod ahead;

@@ -1,4 +1,4 @@
-//! The names of series, each with a space behind it; before the first one of a family stand its lines of help and of type.
+//! The names of the series, each with a space after it. Before the first series of a family are the HELP and TYPE lines of the family.
 
 pub(crate) const BUILD: &str =
     "# HELP desk_build_info 1, with the version of the program.\n# TYPE desk_build_info gauge\ndesk_build_info{version=\"";

@@ -1,4 +1,4 @@
-//! Samples of the text form of Prometheus, version 0.0.4, each behind a text.
+//! Appends samples in the text format of Prometheus, version 0.0.4.
 
 ghost use Rattle.std.specs.Prelude.{◌≡◌, ◌<◌, ◌++◌, OnOk};
 ghost use Rattle.reg_desk_metrics.specs.Samples.{digit_at as digit_spec, moment_or_none, fraction as fraction_spec, sample, sample_of_seconds};
@@ -6,7 +6,7 @@ ghost use Rattle.reg_desk_metrics.specs.Samples.{digit_at as digit_spec, moment_
 use reg_core::{Decimal, Moment};
 use std::alloc::AllocError;
 
-/// Puts a sample behind a text: its series, its value, and an LF.
+/// Appends a sample: its series, its value, and an LF.
 pub(crate) fn put_sample(text: &mut Vec<u8>, series: &str, value: u64) -> Result<(), AllocError>
     ensures { OnOk result (text.new.items ≡ text.old.items ++ sample series.now value) }
 {
@@ -17,7 +17,7 @@ pub(crate) fn put_sample(text: &mut Vec<u8>, series: &str, value: u64) -> Result
     Ok(())
 }
 
-/// The same of a moment, in seconds since 1970; 0 where there is none.
+/// Appends a sample of a moment, in seconds since 1970; 0 if there is none.
 pub(crate) fn put_moment(
     text: &mut Vec<u8>,
     series: &str,
@@ -31,7 +31,7 @@ pub(crate) fn put_moment(
     }
 }
 
-/// The same of a time in microseconds, told in seconds.
+/// Appends a sample of a time in microseconds, written in seconds.
 pub(crate) fn put_seconds(text: &mut Vec<u8>, series: &str, micros: u64) -> Result<(), AllocError>
     ensures { OnOk result (text.new.items ≡ text.old.items ++ sample_of_seconds series.now micros) }
 {
@@ -43,7 +43,7 @@ pub(crate) fn put_seconds(text: &mut Vec<u8>, series: &str, micros: u64) -> Resu
     Ok(())
 }
 
-/// The point, and the six digits behind it.
+/// The decimal point, and the six digits after it.
 fn fraction(micros: u64) -> [u8; 7]
     ensures { result ≡ fraction_spec micros }
 {
@@ -58,7 +58,7 @@ fn fraction(micros: u64) -> [u8; 7]
     ]
 }
 
-/// The decimal digit of a number at a unit.
+/// The decimal digit of a number for a power of ten.
 fn digit_at(number: u64, unit: u64) -> u8
     requires { 0 < unit }
     ensures { result ≡ digit_spec number unit }

@@ -1,4 +1,4 @@
--- What an audit that found all sound gives of an office over the same tables.
+-- What follows for an office from an audit that found the same tables sound.
 use Rattle.std.specs.Prelude.{◌≡◌, ◌≤◌, ℕ, List}
 use Rattle.sqlite.specs.Effect.{Database}
 use Rattle.sqlite.specs.Files.{file_state, over_files}
@@ -21,8 +21,8 @@ use Rattle.reg_audit_rows.specs.declared.audit_result.AuditResult.{AuditResult}
 use Rattle.reg_desk_program.specs.Files.{IsAudited, IsOpenedFrom}
 use Rattle.reg_desk_jobs.specs.declared.crl_signer.CrlSigner.{CrlSigner}
 
--- an audit of a file that said that all is sound, with a disk that returned what was written, and where what is presumed of the
--- connection and of the file holds
+-- an audit of a file with the result `Sound`, over a disk that returned what was written, where what is presumed of the connection and the file
+-- holds
 pub record FoundSound {D : Type 0} (g : disk.Ghosts D) : Type 0 where
   pub audit_result : AuditResult
   pub audited : IsAudited g audit_result
@@ -34,15 +34,15 @@ pub record FoundSound {D : Type 0} (g : disk.Ghosts D) : Type 0 where
 abbrev pub tables_of : {D : Type 0} {g : disk.Ghosts D} → FoundSound g → Database
 tables_of found = (file_state found.audited.connection).now
 
--- a register that was opened over the very tables that were audited: those of a file that is read alone, and then of one that is written
+-- a register that was opened over the same tables as were audited: the audit's file is read-only, the register's is written
 pub record OpensSame {A D : Type 0} {a : disk.Ghosts A} {g : disk.Ghosts D} (found : FoundSound a) (register : Held (FileStore D g)) (signatory : Signatory) : Type 0 where
   pub signing : CrlSigner
   pub opened : IsOpenedFrom signing register signatory
   pub same : (file_state opened.connection).now ≡ tables_of found
 
--- There are records that the audited tables show: they are sound, what is kept beside them follows from them, and they are as many as
--- was told. And whatever records the tables show, they stand in each register that is opened over these tables, where each stored CRL
--- has the signature of the signer there, or below some number, the next one at the latest, the digest's seal: that an audit does not tell.
+-- The audited tables show records, which are sound and as many as the result says, and the derived tables agree with them. Any records that the
+-- tables show stand in each register that is opened over these tables, if each stored CRL there has the signature of the signer, or, below some
+-- number that is at most the next one, the placeholder digest: an audit does not check that.
 pub record StandsOnceAudited {A D : Type 0} {a : disk.Ghosts A} (g : disk.Ghosts D) (signs : Identity → List ℕ → List ℕ → Type 0) (found : FoundSound a) : Type 0 where
   pub shown : ShowsSound (tables_of found)
   pub counted : CountedBy found.audit_result shown.records

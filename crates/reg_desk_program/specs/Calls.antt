@@ -1,10 +1,10 @@
--- What the calls of the machine give.
+-- The results of the machine's calls.
 use Rattle.std.specs.Prelude.{◌≡◌, Bool, true, false, Result, Ok, Err}
 use Rattle.reg_core.specs.declared.memory.Memory.{Memory}
 use Rattle.reg_desk_files.specs.declared.file.ClaimFault.{ClaimFault}
 use Rattle.reg_desk_files.specs.declared.file.ClaimFault.TheVariants as claim
 
--- a call was made with these arguments: no clause can say what it did outside the program, so this holds of any
+-- a call was made with these arguments: true of any, since no clause can state what the call did outside the program
 abbrev pub Unsaid : {A : Type 0} → A → Type 0
 Unsaid arguments = arguments ≡ arguments
 

@@ -1,4 +1,4 @@
--- What is known of a register in a file.
+-- What is known about a register in a file.
 use Rattle.std.specs.Prelude.{◌≡◌, ◌≤◌, ◌⊎◌, Some, None}
 use Rattle.sqlite.specs.Files.{file_state, over_files, IsOpened}
 use Rattle.sqlite.specs.Held.{Held, IsNew, state}
@@ -40,20 +40,20 @@ use Rattle.reg_office.specs.declared.responder.Responder.{Responder}
 use Rattle.reg_desk_jobs.specs.Signers.{EmbedsOwn, Follows, IsSigning}
 use Rattle.reg_desk_jobs.specs.declared.crl_signer.CrlSigner.{CrlSigner}
 
--- tables showed the records of a register, of this program's version or of an older one
+-- the tables showed the records of a register, of this program's version or of an older one
 abbrev pub Showed : {C : Type 0} → Ghosts C → Held C → Records → Type 0
 Showed g held records = ShowsKept g held records ⊎ ((version : OlderVersion) × ShowsOlder version g held records × SoundRows records)
 
 -- A connection to a database.
 module _ {C : Type 0} (g : Ghosts C) (connection : Held C) where
-  -- its database is whole where its store returned what was written
+  -- its database is complete if its store returned what was written
   abbrev pub IsWhole : Type 0
   IsWhole = HasCleanDisk (state g connection) → Opens (state g connection) × IsLive (state g connection)
 
-  -- What a register holds that was opened over it shows the records that it showed, also those that its tables showed as ones of an
-  -- older version. The signer of CRLs is the one that was given, or that of the latest CRL where nothing will be signed; over the issuer's key, and
-  -- under the algorithm of the latest CRL, or behind one that the digest sealed. A certificate that stands with OCSP answers by the
-  -- issuer's key is of that key. A stop leaves the records that it showed.
+  -- A register that was opened over it has the records that the tables showed, also those of an older version. The signer of CRLs is the given one,
+  -- or one with the algorithm of the latest CRL if nothing is to be signed. It has the issuer's key, and the algorithm of the latest CRL unless
+  -- that has a placeholder digest. A certificate that is embedded in OCSP responses signed with the issuer's key has that key. A stop leaves
+  -- the records that the tables showed.
   pub record OpensOver (signing : CrlSigner) (register : Held C) (signatory : Signatory) : Type 0 where
     pub kept : (records : Records) → ShowsKept g connection records → ShowsKept g register records
     pub migrated : (version : OlderVersion) (records : Records) → ShowsOlder version g connection records → SoundRows records → ShowsKept g register records
@@ -64,8 +64,8 @@ module _ {C : Type 0} (g : Ghosts C) (connection : Held C) where
     pub embeds : (records : Records) → Showed g connection records → HasCleanDisk (state g register) → EmbedsOwn records.issuer.key signatory.answers
     pub leaves : IsWhole → (records : Records) → ShowsKept g connection records → LeavesThese g register records
 
-  -- In what a register holds that was made over it these records stand, and a stop leaves them, or one change more; it had no table, index
-  -- or view.
+  -- In a register that was created over it these records stand, and a stop leaves them, or these after one more change. The database had no table,
+  -- index or view.
   pub record MakesOver (signs : Signs) (register : Held C) (signatory : Identity) (records : Records) : Type 0 where
     pub stands : Stands g signs register signatory records
     pub leaves : IsWhole → LeavesReported g signs register signatory records
@@ -73,18 +73,18 @@ module _ {C : Type 0} (g : Ghosts C) (connection : Held C) where
     pub clean : doubt (state g connection).is_clean ≤ doubt (state g register).is_clean
 
 module _ {D : Type 0} {g : disk.Ghosts D} where
-  -- a connection that is new and in no transaction, to a database that is whole where the disk returned what was written
+  -- a connection that is new and in no transaction, to a database that is complete if the disk returned what was written
   pub record IsConnection (connection : Held (FileStore D g)) : Type 0 where
     pub fresh : IsNew connection
     pub whole : HasCleanDisk (file_state connection) → IsOpened connection
 
-  -- what a register holds was opened over a connection to a file
+  -- a register was opened over a connection to a file
   pub record IsOpenedFrom (signing : CrlSigner) (register : Held (FileStore D g)) (signatory : Signatory) : Type 0 where
     pub connection : Held (FileStore D g)
     pub connects : IsConnection connection
     pub opens : OpensOver over_files connection signing register signatory
 
-  -- what a register holds was made by a connection to a database with no table, index or view
+  -- a register was created over a connection to a database with no table, index or view
   pub record IsMadeFrom (connection register : Held (FileStore D g)) : Type 0 where
     pub empty : connection.schema ≡ no_schema
     pub clean : doubt (file_state connection).is_clean ≤ doubt (file_state register).is_clean
@@ -95,12 +95,11 @@ module _ {D : Type 0} {g : disk.Ghosts D} where
     pub opens : OpensOver over_files connection crls office.store (seen signer office).1
     pub answers : office.responder ≡ responder
 
--- What an audit says of a database, before and after it: its tables are as they were. Where all was said to be sound, they are a register's,
--- whatever records they showed are sound, each CRL's bytes are those of what it lists, whatever its signature, and what is kept beside the
--- records follows from them, the office was made with days that a schedule can allow, and they are as many as was told; and there are
--- such records, where what is presumed of the connection holds. Where a row was told, they showed no such records whose values are a
--- register's; and where it was not told for the bytes of a CRL, none whatever the bytes of CRLs are. That it is of an older version, or
--- of other tables, is reported where they say so.
+-- An audit of a database, with its state before and after: the tables did not change. If the result is `Sound`, they are a register's tables: any
+-- records that they showed are sound and as many as the result says, the bytes of each CRL are those of its entries with any signature, the
+-- derived tables agree with the records, and the office has days that a schedule can allow. There are such records, if what is presumed of the
+-- connection holds. If the result is a broken row, the tables showed no sound records with a register's values; if that row is not the bytes of a
+-- CRL, this is true whatever the bytes of CRLs are. An older version and other tables are reported only if the tables have them.
 pub record Says {D : Type 0} {g : disk.Ghosts D} (connection after : Held (FileStore D g)) (audit_result : AuditResult) : Type 0 where
   pub sound : (records : Records) (columns : Columns) → ShowsBoth over_files connection records columns → HasCleanDisk (file_state after)
       → IsSound audit_result → Sound IsSomeCrl records × Kept columns records × HasAllowedDays columns
@@ -113,19 +112,19 @@ pub record Says {D : Type 0} {g : disk.Ghosts D} (connection after : Held (FileS
   pub register : IsSound audit_result → IsRegister (file_state after)
   pub stays : Stays (file_state connection) (file_state after)
 
--- a database was audited by a connection, and this was said of it
+-- a database was audited over a connection, with this result
 pub record IsAudited {D : Type 0} (g : disk.Ghosts D) (audit_result : AuditResult) : Type 0 where
   pub connection : Held (FileStore D g)
   pub after : Held (FileStore D g)
   pub connects : IsConnection connection
   pub says : Says connection after audit_result
 
--- the same of files that hold these bytes: the connection finds what these stand for
+-- files with these bytes were audited: the connection finds what the bytes encode
 pub record IsAuditOf {D : Type 0} (g : disk.Ghosts D) (image : Image) (audit_result : AuditResult) : Type 0 where
   pub audited : IsAudited g audit_result
   pub found : HasCleanDisk (file_state audited.connection) → FindsIn image (file_state audited.connection)
 
--- the lines that say why files are not opened
+-- the failures for files that can't be opened
 abbrev pub failure_of : Unread → Failure
 failure_of unread.Nothing = failure.NotARegister
 failure_of (unread.Fault why) = failure.Fault why.fault

@@ -11,16 +11,16 @@ use Rattle.reg_crl_signer.specs.declared.algorithm.Algorithm.{Algorithm}
 abbrev pub IsKnownAlgorithm : List ℕ → Type 0
 IsKnownAlgorithm algorithm = (known : Algorithm) × (identifier_of known ≡ algorithm)
 
--- how the algorithm of a CRL differs from another that does not follow it: it is known here, or it is not
+-- the algorithm of a CRL is one that the other may not follow, and why: it is known here, or it is not
 abbrev pub Differs : List ℕ → List ℕ → Cause → Type 0
 Differs found algorithm why =
     (¬ MayFollow algorithm found)
     × (((why ≡ cause.OtherAlgorithm) × IsKnownAlgorithm found) ⊎ ((why ≡ cause.UnknownAlgorithm) × (¬ IsKnownAlgorithm found)))
 
--- why no CRL under an algorithm follows this one: what it is signed under differs so (RFC 5280 5.1.1.2)
+-- why no CRL with an algorithm may follow this one, by the algorithm in it (RFC 5280 5.1.1.2)
 abbrev pub IsMisfit : List ℕ → List ℕ → Cause → Type 0
 IsMisfit crl algorithm cause = (other : List ℕ) → IsCrlUnder crl other → Differs other algorithm cause
 
--- the same of the latest CRL, where there is one
+-- why no CRL with an algorithm may follow the latest one
 abbrev pub IsMisfitAfter : Option (List ℕ) → List ℕ → Cause → Type 0
 IsMisfitAfter latest algorithm cause = (crl : List ℕ) × (latest ≡ Some crl) × IsMisfit crl algorithm cause

@@ -13,9 +13,9 @@ use Rattle.reg_office.specs.Stands.{SoundFor}
 use Rattle.reg_store_tables.specs.Kept.{ShowsKept}
 use Rattle.reg_desk_program.specs.Files.{IsOpenedFrom}
 
--- An office: its store, and its signers. In one that is opened, the sound records that the file's tables showed stand. And of those
--- that stand in one, wherever its calls have led to: once the machine has stopped, in the middle of the last call or behind it, and a
--- register is opened again, they stand there, or those after one change more, for which no acceptance was replied.
+-- An office: its store, and its signers. In an office that is opened, the sound records stand that the file's tables showed. The machine may stop
+-- during any later call, or after it. If a register is then opened again, it has the records that stood in the office, or these after one more
+-- change, for which no acceptance was replied.
 pub record LeavesWhatWasReported {D : Type 0} (g : disk.Ghosts D) (signs : Signs) : Type 0 where
   pub begins : (signing : CrlSigner) (office : Held (FileStore D g) × Signatory) (opened : IsOpenedFrom signing office.0 office.1) (records : Records)
       → ShowsKept over_files opened.connection records → SoundFor signs office.1.crls records

@@ -1,10 +1,10 @@
-//! The progress of an audit, shown on standard error.
+//! Shows the progress of an audit on standard error.
 
 use crate::host::Host;
 use crate::progress::seconds;
 use reg_audit::ProgressObserver;
 
-/// Shows at most once a second how many rows an audit read and how many CRLs it compared, where that is wanted.
+/// Shows at most once a second how many rows an audit read and how many CRLs it compared, if standard error is a terminal.
 #[derive(Drop)]
 pub(crate) struct AuditProgress {
     rt: HostRuntime,

@@ -33,13 +33,13 @@ use reg_office::Responder;
 use reg_store::{DatabaseFault, Tables};
 use sqlite::Alter;
 
-/// The signer of CRLs for the register in these tables. Where nobody signs, it is as the latest CRL tells, and no process is asked: so a CRL comes
-/// to a fault of the signer.
+/// The signer of CRLs for the register in these tables. With `Nobody`, it has the algorithm of the latest CRL and asks no process, so the next
+/// CRL fails with a fault of the signer.
 ///
 /// # Errors
 ///
-/// `BadResponder` where the issuer's certificate has another key; else `BadSigner` where the issuer's key is none of the algorithm, or the latest
-/// CRL is signed under another one, or under one that is not known here: the cause is noted; `Memory`, `Store`.
+/// `BadResponder` if the issuer's certificate has another key; else `BadSigner`, with its cause kept in the host, if the issuer's key does not fit
+/// the algorithm, or the latest CRL has another algorithm or one that is unknown here; `Memory`, `Store`.
 #[tactic(auto, using(crate::proofs::Missing::opens_faulty))]
 pub(crate) fn signer_for<C: Alter>(
     host: &Host<'_>,
@@ -61,7 +61,7 @@ pub(crate) fn signer_for<C: Alter>(
     }
 }
 
-/// The signer as the latest CRL was signed, which asks nobody.
+/// A signer with the algorithm of the latest CRL that asks no process.
 fn silent_after<C: Alter>(
     host: &Host<'_>,
     tables: &mut Tables<C>,
@@ -81,8 +81,8 @@ fn silent_after<C: Alter>(
     }
 }
 
-/// Who would sign as the latest CRL was signed: at a path where no socket can be. `None` where a digest seals, and where the
-/// algorithm is not known.
+/// A holder with the algorithm of the latest CRL and an empty path, at which no socket can be. `None` if there is no CRL, if the latest one has a
+/// placeholder digest, or if its algorithm is unknown here.
 fn holder_of(latest: &Option<Vec<u8>>) -> Option<KeyHolder<'static>> {
     let identifier = crl_algorithm(latest.as_ref()?)?;
     let algorithm = Algorithm::identified(identifier)?;
@@ -122,7 +122,7 @@ fn signer_after<C: Alter>(
     }
 }
 
-/// Who signs over an issuer's key, as it is told. Where the key is none of the algorithm, that is noted.
+/// The signer of a holder of the issuer's key, or the placeholder digest for `None`. If the key does not fit the algorithm, keeps that cause.
 fn open_signer(
     host: &Host<'_>,
     told: Option<&KeyHolder<'_>>,
@@ -180,7 +180,7 @@ fn latest_crl<C: Alter>(tables: &mut Tables<C>) -> Result<Option<Vec<u8>>, Datab
     }
 }
 
-/// Why no CRL under an algorithm follows the latest one, where there is one. `None` where it follows.
+/// Why no CRL with this algorithm may follow the latest one. `None` if it may, or if there is no CRL.
 fn misfit(latest: &Option<Vec<u8>>, algorithm: &[u8]) -> Option<Cause>
     ensures { MatchOption result
         ((crl : List ℕ) → option_map (λ bytes. bytes.items) latest.now ≡ Some crl
@@ -215,8 +215,8 @@ fn difference(found: &[u8], algorithm: &[u8]) -> Option<Cause>
     }
 }
 
-/// Whether what is signed under an algorithm may stand behind a CRL under this one: it is the same, or that of the digest, which any
-/// key may follow.
+/// Whether a CRL with `algorithm` may follow one with `earlier`: they are equal, or the earlier one has the placeholder digest,
+/// which a signature may replace.
 fn may_follow(algorithm: &[u8], earlier: &[u8]) -> bool
     ensures { IsTrue result ↔ MayFollow algorithm.now earlier.now }
 {

@@ -1,4 +1,4 @@
-//! The program as the machine runs it: a job over standard input and output.
+//! Runs the program: a job over standard input and output.
 
 use crate::dispatch::perform_unreported;
 use crate::host::{Host, open_log};
@@ -11,8 +11,8 @@ use std::cell::Cell;
 use std::io;
 use std::io::IsTerminal;
 
-/// Does the job of an invocation over standard input, or the file that it reads, and standard output, and gives the exit status that [`perform`]
-/// gives. Nothing is done where the log can't be written, or that file can't be opened: 1, with the line of that on standard error.
+/// Does the job of an invocation over standard input, or the file that it reads, and standard output, and returns the exit status of [`perform`].
+/// If the log or the input file can't be opened, it does not start the job, reports the fault on standard error, and returns 1.
 ///
 /// [`perform`]: crate::perform
 pub fn run_desk(rt: &HostRuntime, invocation: &Invocation<'_>) -> u8 {
@@ -46,7 +46,7 @@ pub fn run_desk(rt: &HostRuntime, invocation: &Invocation<'_>) -> u8 {
     )
 }
 
-/// The path of the file of the log that an invocation names.
+/// The path of the log file that an invocation names.
 fn log_path<'n>(invocation: &'n Invocation<'_>) -> Option<&'n str> {
     match &invocation.log_file {
         Some(path) => Some(path.as_str()),
@@ -54,7 +54,7 @@ fn log_path<'n>(invocation: &'n Invocation<'_>) -> Option<&'n str> {
     }
 }
 
-/// Looks that the file of a log can be written.
+/// Checks that the log file can be opened for appending, and creates it if there is none.
 fn check_log(rt: &HostRuntime, log_file: Option<&str>) -> io::Result<()> {
     if let Some(path) = log_file {
         open_log(rt, path)?;
@@ -62,7 +62,7 @@ fn check_log(rt: &HostRuntime, log_file: Option<&str>) -> io::Result<()> {
     Ok(())
 }
 
-/// Reports a fault for which nothing is done, and gives the exit status.
+/// Reports a fault before the job starts, and returns the exit status.
 fn report_fault(
     rt: &HostRuntime,
     invocation: &Invocation<'_>,

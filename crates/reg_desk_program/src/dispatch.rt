@@ -12,10 +12,10 @@ use reg_desk_jobs::{
 use std::cell::Cell;
 use std::io::{Read, Write};
 
-/// Does a job at a machine, over standard input and output, and gives its exit status: 0 where it is done; 3 where a reply at the control
-/// socket, or in a strict script or import, was a refusal or a fault, or the last line there has no end; else 1; with the line of that on
-/// standard error. Where that is asked for, one line more tells the cause of a fault, if the machine knows it, or why a registration was
-/// refused at which a strict script or import ended.
+/// Does a job on a machine, over standard input and output, and returns its exit status: 0 if it is done; 3 if a reply at the control socket, or in
+/// a strict script or import, was a refusal or a fault, or if the last line there has no line end; else 1. It reports a failure on standard error.
+/// If `is_explained`, one more line has the cause of a fault, if the machine knows it, or the reason of the refused registration that ended a
+/// strict script or import.
 pub fn perform<M: Machine, R: Read, W: Write, E: Write>(
     rt: &HostRuntime,
     machine: &mut M,
@@ -43,8 +43,8 @@ pub fn perform<M: Machine, R: Read, W: Write, E: Write>(
     status_of(&ending)
 }
 
-/// Does the same, and says nothing of it. Where a caller's machine is known, the clause of [`perform`] would be written out over its files and
-/// sockets, where nothing stands on it, and take the prover minutes.
+/// Calls [`perform`], and has no contract. Without it, the prover would write out the contract of `perform` over the caller's files and sockets,
+/// and take minutes.
 pub(crate) fn perform_unreported<M: Machine, R: Read, W: Write, E: Write>(
     rt: &HostRuntime,
     machine: &mut M,
@@ -57,7 +57,7 @@ pub(crate) fn perform_unreported<M: Machine, R: Read, W: Write, E: Write>(
     perform(rt, machine, job, is_explained, reader, writer, errors)
 }
 
-/// Does a job. Why a registration was refused, at which it ended, is kept.
+/// Does a job, and keeps the reason of the refused registration that ended it.
 fn run<M: Machine, R: Read, W: Write>(
     rt: &HostRuntime,
     machine: &mut M,
@@ -138,7 +138,7 @@ fn keep_terms_cause<M: Machine>(machine: &M, job: &Job<'_>, ending: &Result<(), 
     }
 }
 
-/// The terms of a job that make no policy.
+/// Which of the job's terms make no policy.
 fn wrong_terms(job: &Job<'_>) -> Option<Cause> {
     match job {
         Job::Init(new) => of_terms(new.days, new.crl_life, new.ocsp_life, new.cap),

@@ -1,4 +1,4 @@
-//! A register in a file is audited.
+//! Audits a register in a file.
 
 ghost use Rattle.std.specs.Prelude.{◌≡◌, false, IfErr, IfOk};
 ghost use Rattle.reg_desk_jobs.specs.RegisterFailures.{IsOpening};
@@ -12,7 +12,7 @@ use reg_desk_cli::Failure;
 use sqlite::{Connection, FileStore};
 use sqlite_disk::Disk;
 
-/// What an audit says of the register of a database, which is closed afterwards.
+/// Audits the register of a database, and then drops the connection.
 pub(crate) fn audit_over<D: Disk + Drop>(
     host: &Host<'_>,
     connection: Connection<FileStore<D>>,

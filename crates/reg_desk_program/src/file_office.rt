@@ -11,17 +11,17 @@ use sqlite::{FileFrom, FileStore};
 use sqlite_disk::Unknown;
 use std::alloc::Global;
 
-/// A signer's process behind a socket of the machine, which is not asked for a while after a timeout.
+/// A signer process behind a Unix socket, which is not asked for a while after a timeout (back-off).
 pub type FileDevice = BackoffDevice<SocketDevice<UnixConnection>, HostRuntime>;
 
-/// The signer of a register in a file: a program behind a socket, or the placeholder digest.
+/// The signer of a register in a file: a process behind a socket, or the placeholder digest.
 pub type FileSigner = KeyOrDigest<FileDevice>;
 
 /// An office over a file, with its checks for damage.
 pub(crate) type OfficeInFile = Office<FileStore<FileFrom<Unknown>>, FileSigner>;
 
-/// The office of a register in a file. Each call is the one of [`reg_office::Office`]. It is a type without parameters, so that the prover
-/// compares it by its name: by all the types that the office is made of, a check takes more steps than the prover allows.
+/// The office of a register in a file. Each method calls that of [`reg_office::Office`]. The type has no parameters, so that the prover compares it
+/// by its name. To compare all the type arguments of the office takes more steps than the prover allows.
 #[derive(Drop)]
 pub struct FileOffice {
     pub(crate) office: OfficeInFile,

@@ -43,22 +43,22 @@ use std::{fs, io};
 
 const OWNER_ALONE: u32 = 0o600;
 
-/// What the system says where too many files are open, in this process or in all (EMFILE, ENFILE).
+/// The error numbers for too many open files, in this process (EMFILE) and in the system (ENFILE).
 const TOO_MANY_HERE: i32 = 24;
 
 const TOO_MANY: i32 = 23;
 
-/// The machine that the program runs on: its files, its clock, its ports and its sockets. It keeps why the call that failed last failed.
+/// The machine on which the program runs: its files, clock, TCP ports and Unix sockets. It keeps the cause of its last failed call.
 #[derive(Clone, Copy)]
 pub struct Host<'a> {
     pub(crate) rt: HostRuntime,
-    /// Where it keeps why a call failed.
+    /// The cause of the last failed call, if it is known.
     pub(crate) last_cause: &'a Cell<Option<Cause>>,
     /// Whether exchanges are logged on standard error.
     pub(crate) has_log: bool,
-    /// The path of the file in which they are logged, where one is told.
+    /// The path of the file in which exchanges are logged, if one is given.
     pub(crate) log_file: Option<&'a str>,
-    /// Whether an audit tells on standard error how far it is.
+    /// Whether an audit shows its progress on standard error.
     pub(crate) is_watched: bool,
 }
 
@@ -106,8 +106,8 @@ impl<'a> Host<'a> {
     }
 }
 
-/// Each method is one call of reg_desk_files or std with the arguments that it was given. What it did outside the program no clause can say, so
-/// those relations of [`Machine`] say nothing here (`Unsaid`).
+/// Most methods are one call of reg_desk_files or std with the arguments that they were given. No clause can state what that call did outside the
+/// program, so those relations of [`Machine`] state nothing here (`Unsaid`).
 impl<'a> Machine for Host<'a> {
     ghost use Rattle.std.specs.Prelude.{false};
     ghost use Rattle.std.proofs.Common.{inr};
@@ -405,7 +405,7 @@ impl<'a> Machine for Host<'a> {
     }
 }
 
-/// Why no copy was created of files that this program has open. Files in which no database was begun are not those.
+/// Why an open register's files were not copied. Such files hold a database; if they don't, they are damaged.
 fn uncopied_by(why: Unread) -> Uncopied
     requires { IsUnread why }
     ensures { IsOfStore result.fault }
@@ -422,7 +422,7 @@ fn uncopied_by(why: Unread) -> Uncopied
     }
 }
 
-/// The whole seconds of a time since 1970 began; 0 where the clock stands before that.
+/// The whole seconds since the start of 1970; 0 if the clock is before that.
 fn seconds_of(time: io::Result<Duration>) -> io::Result<u64>
     ensures { IfOk time (λ time. result ≡ Ok (as_nanos time / 1000000000)) }
 {
@@ -440,7 +440,7 @@ fn micros_of(passed: Duration) -> u64 {
         .saturating_add(u64::from(passed.subsec_micros()))
 }
 
-/// Why a signer can't be asked. Where too many files are open, a connection that is closed gives it room.
+/// The error of a connection to a signer. Too many open files become `WouldBlock`, since the request can be sent once another file is closed.
 fn for_room(error: io::Error) -> io::Error {
     match error.raw_os_error() {
         Some(TOO_MANY_HERE | TOO_MANY) => io::Error::from(ErrorKind::WouldBlock),
@@ -448,14 +448,14 @@ fn for_room(error: io::Error) -> io::Error {
     }
 }
 
-/// Appends a line to a log, which is opened for it alone: so a renamed log is followed by a new one at its path.
+/// Appends a line to the log file, which is opened anew for each line. So once the file is renamed, the next line goes to a new one at the path.
 fn append(rt: &HostRuntime, path: &str, line: &[u8]) {
     if let Ok(mut file) = open_log(rt, path) {
         let _ = write_whole(&mut file, line);
     }
 }
 
-/// Opens the file of a log to append to it, or makes one that its owner alone may read and write.
+/// Opens a log file for appending, or creates it so that only its owner may read and write it.
 pub(crate) fn open_log(rt: &HostRuntime, path: &str) -> io::Result<File> {
     let mut options = OpenOptions::new();
     options.append(true).create(true).mode(OWNER_ALONE);

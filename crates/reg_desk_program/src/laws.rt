@@ -9,33 +9,33 @@ use reg_crl::Signer;
 use reg_crl_signer::Device;
 use sqlite_disk::Disk;
 
-/// The register in a file that an audit found sound stands.
+/// A register that an audit found sound has sound records, and an office that opens its file has them.
 ///
-/// Where [`Machine::audit_in`](reg_desk_jobs::Machine::audit_in) of the [`Host`](crate::Host) answered `Sound`, the file's tables show sound records,
-/// and what is kept beside them follows from them. In an office that opens the file afterwards with these tables they stand, so the clauses and
-/// laws of [`reg_office`] hold of them. The law asks of the rows only what no audit can find: that each of `listed` has its last column
-/// (`IsPresumed`). It rests besides on the signatures of the stored CRLs, which an audit does not verify, on a disk that returned to the audit what
-/// was written, and on what the crate `sqlite` keeps of a connection and does not say.
+/// If [`Machine::audit_in`](reg_desk_jobs::Machine::audit_in) of the [`Host`](crate::Host) returned `Sound`, the file's tables show sound records,
+/// and the derived tables agree with them. If an office then opens the file with these tables, the records stand in it (`Stands`), so the clauses
+/// and laws of [`reg_office`] hold for them. The law assumes (`IsPresumed`) what no audit can check: that each row of `listed` has its last column.
+/// It also assumes the signatures of the stored CRLs, which an audit does not verify; a disk that returned what was written; and what the crate
+/// `sqlite` keeps for a connection without stating it.
 pub fn a_register_that_was_found_sound_stands<A: Disk, D: Disk, S: Signer>()
     ensures { (found : FoundSound A.Disk) → StandsOnceAudited D.Disk S.signs found }
 {}
 
-/// Where no signer holds the key of a register in a file, the digest alone signs: so a key may follow it, by
+/// If no signer has the key of a register in a file, the only signer is the placeholder digest. So a key may follow it, by
 /// [`reg_office::laws::a_key_follows_the_digest`].
 pub fn the_digest_is_a_seal<D: Device>()
     ensures { IsSeal (SignsBoth D.answers) digest }
 {}
 
-/// A stop at any moment of a job leaves the records that its replies report, or these after one change more.
+/// A stop at any moment of a job leaves the records that its replies reported, or these after one more change.
 ///
-/// [`perform`](crate::perform) ends with the register that a job opened and closed (`UsesRegister` in `Ends`): it leads from records that stand, by all
-/// that was replied, to others that stand. In a register of this program's version that is opened, the sound records stand that its file showed
-/// (`begins`). After a stop at any moment (`leaves`), a register that is opened again from what the disk left has the records that stood, or these
-/// after one change more, to which no acceptance was told. So no accepted command is lost. Which change that is, of commands run one after another,
-/// says [`reg_office::laws::a_register_opened_after_a_stop_stands_after_a_prefix`].
+/// [`perform`](crate::perform) leads the register that a job opens and closes (`UsesRegister` in `Ends`) from records that stand, through all that
+/// was replied, to others that stand. A register of this program's version that is opened has the sound records that its file showed (`begins`).
+/// After a stop at any moment (`leaves`), a register that is opened again from what the disk kept has the records that stood, or these after one
+/// more change, for which no acceptance was replied. So no accepted command is lost. Which change that is, among commands run one after another,
+/// is stated by [`reg_office::laws::a_register_opened_after_a_stop_stands_after_a_prefix`].
 ///
-/// A job that a stop cuts is one over a disk that refuses each call from that moment on, and nobody receives its later replies. A reply is
-/// written only after its call.
+/// The model of a stop is a disk that refuses each call from that moment on, and a client that receives no later reply. A reply is written
+/// only after its call.
 pub fn a_stop_leaves_what_was_reported<D: Disk, S: Signer>()
     ensures { LeavesWhatWasReported D.Disk S.signs }
 {}

@@ -1,4 +1,4 @@
-//! The program `desk`: its words, the machine that it runs on, and the registers in its files.
+//! The program `desk`: its jobs, the machine on which it runs, and the registers in its files.
 #![tactic(auto)]
 
 mod audit_progress;

@@ -30,7 +30,7 @@ const KEY: [u8; 3] = *b"abc";
 
 type MemoryOffice = Office<MemStore, DigestSeal>;
 
-/// Runs the script of standard input over a new register in memory, of a sample issuer whose key no signer holds.
+/// Runs the script of standard input over a new register in memory, with a sample issuer and the placeholder digest.
 pub(crate) fn script_in_memory<R: Read, W: Write>(
     alloc: Global,
     reader: &mut R,
@@ -42,7 +42,7 @@ pub(crate) fn script_in_memory<R: Read, W: Write>(
     ended(run_script(alloc, reader, writer, &mut fresh))
 }
 
-/// The office over a new register in memory, of a sample issuer and under the usual policy.
+/// The office over a new register in memory, with a sample issuer and the default policy.
 fn office_in_memory(alloc: Global) -> Result<MemoryOffice, Failure>
     ensures ok { IfOk result (λ office. Stands over_memory digests office.store digest sample_records) }
     ensures leaves { IfOk result (λ office. LeavesReported over_memory digests office.store digest sample_records) }

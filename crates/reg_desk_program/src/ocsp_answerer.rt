@@ -20,7 +20,7 @@ use reg_office::Responder;
 use std::fs;
 use std::io::ErrorKind;
 
-/// The signer of CRLs answers, with the certificate in the file at a path, where one is told.
+/// A responder that signs with the signer of CRLs, with the certificate in the file at a path, if one is given.
 pub(crate) fn issuer_answerer(
     host: &Host<'_>,
     path: &Option<Word<'_>>,
@@ -38,7 +38,7 @@ pub(crate) fn issuer_answerer(
     }
 }
 
-/// A responder with a key of its own answers, by the certificate in the file at a path.
+/// A responder with a key of its own, with the certificate in the file at a path.
 pub(crate) fn delegate_answerer(
     host: &Host<'_>,
     path: &Word<'_>,
@@ -63,7 +63,7 @@ pub(crate) fn delegate_answerer(
     }
 }
 
-/// The certificate in the file at a path. Where the file can't be read, the cause is noted.
+/// Reads the certificate in the file at a path. If the file can't be read, keeps the cause.
 fn certificate_at(host: &Host<'_>, path: &str) -> Result<Certificate, Failure>
     ensures { IfErr result (λ why. (why ≡ Failure.Fault Fault.Memory) ⊎ (why ≡ Failure.BadResponder)) }
 {

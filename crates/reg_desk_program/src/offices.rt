@@ -1,4 +1,4 @@
-//! A register in a file is opened, made and closed.
+//! Opens, creates and closes a register in a file.
 
 ghost use Rattle.std.specs.Prelude.{◌≡◌, None, false, IfOk, IfErr};
 ghost use Rattle.reg_core.specs.Records.{no_records};
@@ -25,7 +25,7 @@ use sqlite_disk::{Disk, Unknown};
 /// A file as a database, with its checks for damage.
 pub type FileConnection = Connection<FileStore<FileFrom<Unknown>>>;
 
-/// The office over a register that is made in a database; where it can't be made, why, and the connection back.
+/// Creates a register in a database, and returns its office; if that fails, the failure and the connection.
 pub(crate) fn made_over<C: Alter, S: Signer + Drop>(
     connection: Connection<C>,
     issuer: Issuer,
@@ -44,8 +44,8 @@ pub(crate) fn made_over<C: Alter, S: Signer + Drop>(
     }
 }
 
-/// The office over the register of a database, with this signer of CRLs and this responder; where there is none, why, and the connection back.
-/// The cause of `BadSigner` is noted.
+/// Opens the register of a database with this signer of CRLs and this responder, and returns its office; if that fails, the failure and the
+/// connection. Keeps the cause of `BadSigner`.
 pub(crate) fn office_over<C: Alter>(
     host: &Host<'_>,
     connection: Connection<C>,
@@ -74,12 +74,12 @@ pub(crate) fn connection_of<C: Alter, S: Signer + Drop>(office: Office<C, S>) ->
     store.into_connection()
 }
 
-/// Closes a connection. Where its log can't be copied into the file, the next opening reads the log: nothing is lost.
+/// Closes a connection. If its log can't be copied into the file, nothing is lost: the next opening reads the log.
 pub(crate) fn close<D: Disk + Drop>(connection: Connection<FileStore<D>>) {
     drop(connection.close());
 }
 
-/// Presets the next signature of the signer of CRLs, or of the responder. No contract says what a socket gave, so any answer may be preset.
+/// Presets the next signature of the signer of CRLs, or of the responder. No contract states what a socket returned, so any answer may be preset.
 #[tactic(auto, using(crate::proofs::Priming::given_anyhow))]
 pub(crate) fn preset_wanted(
     signer: &mut FileSigner,

@@ -1,4 +1,4 @@
-//! The progress of a long job, shown on standard error where that is a terminal.
+//! Shows the progress of a long job on standard error, if that is a terminal.
 
 use reg_core::{Cause, of_io};
 use reg_desk_cli::Job;
@@ -7,12 +7,12 @@ use std::io::{IsTerminal, Stdout, Write};
 use std::time::Clock;
 use std::{fs, io};
 
-/// The size of a file from which on its opening is told.
+/// The size of a file, in bytes, from which on its opening is shown.
 const LARGE: u64 = 67_108_864;
 
 const MEGABYTE: u64 = 1_000_000;
 
-/// Standard output, to which a script or an import writes a line for each line or row that is done. Once a second it shows how many were.
+/// Standard output, to which a long job writes a line for each line or row that is done. At most once a second it shows how many were.
 #[derive(Drop)]
 pub(crate) struct CountedOutput<'a> {
     rt: &'a HostRuntime,
@@ -20,13 +20,13 @@ pub(crate) struct CountedOutput<'a> {
     last_cause: &'a Cell<Option<Cause>>,
     shows_progress: bool,
     lines: u64,
-    /// The seconds of the clock when it began, and when it told last.
+    /// The seconds of the clock at the start, and when progress was last shown.
     began: u64,
     last_shown: u64,
 }
 
 impl<'a> CountedOutput<'a> {
-    /// Lines are counted where standard error is a terminal and standard output is none: an operator sees the replies there.
+    /// Lines are counted if standard error is a terminal and standard output is not. On a terminal, the operator sees the replies themselves.
     pub(crate) fn of(
         rt: &'a HostRuntime,
         job: &Job<'_>,
@@ -81,7 +81,7 @@ impl<'a> Write for CountedOutput<'a> {
     }
 }
 
-/// Shows that a large file is opened, where standard error is a terminal.
+/// Shows that a large file is opened, if standard error is a terminal.
 pub(crate) fn report_opening(rt: &HostRuntime, job: &Job<'_>) {
     let Some(path) = file_of(job) else {
         return;
@@ -93,7 +93,7 @@ pub(crate) fn report_opening(rt: &HostRuntime, job: &Job<'_>) {
     }
 }
 
-/// The seconds of the machine's clock since an arbitrary start; 0 where it can't be read.
+/// The seconds of the monotonic clock; 0 if it can't be read.
 pub(crate) fn seconds(rt: &HostRuntime) -> u64 {
     match rt.monotonic() {
         Ok(time) => time.as_secs(),
@@ -125,7 +125,7 @@ fn file_of<'a>(job: &Job<'a>) -> Option<&'a str> {
         Job::KeyId { file, .. } => Some(file.as_str()),
         Job::Listing(wanted) => Some(wanted.file.as_str()),
         Job::Audit { file } => Some(file.as_str()),
-        // It is read as it lies, and not opened.
+        // A copy reads the file's bytes, and does not open the register.
         Job::Copy { .. } => None,
         Job::Init(_) => None,
         Job::At { .. } | Job::EachRow { .. } | Job::Replay { .. } => None,

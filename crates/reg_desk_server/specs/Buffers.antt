@@ -1,4 +1,4 @@
--- The received bytes that are kept, and the sent part of a text.
+-- The received bytes that are kept, and the part of a text that was sent.
 use Rattle.std.specs.Prelude.{◌≡◌, ◌⊎◌, ℕ, List, [], ◌∷◌, ◌++◌, Option, drop}
 use Rattle.std.specs.Io.KnownBytes.{Appends, Consumes}
 use Rattle.reg_http_head.specs.Bytes.{collected_bytes}
@@ -10,27 +10,27 @@ use Rattle.reg_desk_server.specs.declared.unsent.Sent.{Sent}
 use Rattle.reg_desk_server.specs.declared.unsent.Sent.TheVariants as sent
 use Rattle.reg_desk_server.specs.declared.unsent.Unsent.{Unsent}
 
--- one more stands behind the others; out of memory, all is as it was
+-- one item is appended; if there is no memory for it, nothing changes
 abbrev pub AppendsIfMemory : {A : Type 0} → A → List A → List A → Type 0
 AppendsIfMemory one before after = (after ≡ before ++ one ∷ []) ⊎ (after ≡ before)
 
--- bytes that came were held behind the others; the last of them may have been lost, where there was no memory for them
+-- bytes that came were appended; if there was no memory, the last of them may be lost
 abbrev pub AddsTo : List ℕ → List ℕ → List ℕ → Received → Type 0
 AddsTo before arrived after received.OutOfMemory = (kept : List ℕ) × (lost : List ℕ) × (arrived ≡ kept ++ lost) × (after ≡ before ++ kept)
 AddsTo before arrived after other = after ≡ before ++ arrived
 
--- what was taken from the reader is held, in its order and whole
+-- all bytes that were taken from the reader are kept, in order
 pub record Receives (input left : Option (List ℕ)) (before after : List ℕ) (result : Received) : Type 0 where
   pub arrived : List ℕ
   pub consumed : Consumes input left arrived
   pub held : AddsTo before arrived after result
 
--- what was taken from the reader was collected, and where that ended at a whole request, one is held
+-- all bytes that were taken from the reader were collected; if that ended at a whole request, there is one
 pub record Collects (input left : Option (List ℕ)) (before after : Collected) (result : Received) : Type 0 where
   pub took : Receives input left (collected_bytes before) (collected_bytes after) result
   pub whole : result ≡ received.Whole → ∥ IsWholeRequest (collected_bytes after) ∥₁
 
--- the next bytes of what is left were appended to what the writer holds; where all was taken nothing is left
+-- the writer got the next bytes of the rest; if all are sent, no rest is left
 pub record SendsOn (old new : Option (List ℕ)) (before after : List ℕ) (rests : Sent) : Type 0 where
   pub went : List ℕ
   pub appended : Appends old new went
@@ -41,6 +41,6 @@ pub record SendsOn (old new : Option (List ℕ)) (before after : List ℕ) (rest
 abbrev pub unsent_of : Unsent → List ℕ
 unsent_of unsent = drop unsent.sent unsent.text.items
 
--- the next bytes of it were appended to what a writer holds
+-- the writer got the next bytes of it
 abbrev pub SendsUnsent : {W : Type 0} → (W → Option (List ℕ)) → W → W → Unsent → Unsent → Sent → Type 0
 SendsUnsent contents s t before after rests = SendsOn (contents s) (contents t) (unsent_of before) (unsent_of after) rests

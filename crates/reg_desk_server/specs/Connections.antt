@@ -1,5 +1,5 @@
--- A connection as a whole, from when it was accepted: which lines of a control connection were answered, and what of a request was. Where it
--- ends early, since it failed or there was no memory, what is behind is not answered, and what is unsent is not sent; nothing is answered or
+-- A whole connection, since it was accepted: which lines of a control connection, or what part of a request, were answered. If it ends early,
+-- because it failed or there was no memory, the rest is not answered, and what is unsent is not sent. Nothing is answered or
 -- sent twice.
 use Rattle.std.specs.Prelude.{◌≡◌, ◌≢◌, ◌⊎◌, ℕ, Bool, true, List, [], ◌∷◌, ◌++◌, Option, is_some}
 use Rattle.std.specs.Io.KnownBytes.{Appends, Consumes}
@@ -15,7 +15,7 @@ use Rattle.reg_desk_server.specs.declared.http_connection.HttpConnection.{HttpCo
 use Rattle.reg_desk_server.specs.declared.http_connection.Stage.{Stage}
 use Rattle.reg_desk_server.specs.declared.http_connection.Stage.TheVariants as stage
 
--- since a connection was accepted these bytes came on it, and those went out on it, in whichever pieces, up to now
+-- since a connection was accepted these bytes came on it, and those were sent on it, in any pieces
 pub data SinceAccepted {S : Type 0} (contents remaining : S → Option (List ℕ)) (first : S) : List ℕ → List ℕ → S → Type 0 where
   nothing_yet : SinceAccepted contents remaining first [] [] first
   more_received : (arrived gone more : List ℕ) (s t : S) → SinceAccepted contents remaining first arrived gone s → Consumes (remaining s) (remaining t) more
@@ -23,15 +23,15 @@ pub data SinceAccepted {S : Type 0} (contents remaining : S → Option (List ℕ
   more_sent : (arrived gone more : List ℕ) (s t : S) → SinceAccepted contents remaining first arrived gone s → Appends (contents s) (contents t) more
       → SinceAccepted contents remaining first arrived (gone ++ more) t
 
--- this line, which is other bytes and then LF, was answered, and this is the handler's reply to it
+-- this line, which ends with its only LF, was answered, and this is the handler's reply to it
 abbrev pub IsAnsweredBy : {H : Type 0} → (H → List ℕ → List ℕ → H → Type 0) → List ℕ → List ℕ → Type 0
 IsAnsweredBy {H = H} answers_line line reply =
     ((prefix : List ℕ) × (line ≡ prefix ++ 10 ∷ []) × All (λ byte. byte ≢ 10) prefix) × ((s : H) × (t : H) × answers_line s line reply t)
 
 module _ {S H : Type 0} (contents remaining : S → Option (List ℕ)) (answers_line : H → List ℕ → List ℕ → H → Type 0) where
-  -- These lines of a control connection were answered, each once: the bytes that came are they, one after the other, and then what is held,
-  -- of a line that is not whole or is answered next. The bytes that went out, and behind them what is unsent, are their replies, in the same
-  -- order, each once. Nothing is lost but the last that came, where there was no memory for it, and then the connection has ended.
+  -- These lines of a control connection were answered, each once. The bytes that came are these lines, one after the other, and then the bytes that
+  -- are kept, for a line that is incomplete or answered next. The bytes that were sent, followed by the unsent ones, are the replies, in the same
+  -- order, each once. Nothing is lost but the last bytes that came if there was no memory for them, and then the connection has ended.
   pub record HasAnsweredLines (first : S) (connection : ControlConnection S) (lines replies : List (List ℕ)) : Type 0 where
     pub arrived : List ℕ
     pub gone : List ℕ
@@ -42,13 +42,13 @@ module _ {S H : Type 0} (contents remaining : S → Option (List ℕ)) (answers_
     pub each : AllZip (IsAnsweredBy answers_line) lines replies
     pub whole : (lost ≡ []) ⊎ (connection.has_ended ≡ true)
 
-  -- where a control connection goes on, the same lines were answered
+  -- when a control connection is advanced, the answered lines stay the same
   abbrev pub AnswersNoMoreLines : Type 0
   AnswersNoMoreLines =
       (first : S) (old new : ControlConnection S) (lines replies : List (List ℕ)) → HasAnsweredLines first old lines replies
       → Advances contents remaining old new → HasAnsweredLines first new lines replies
 
-  -- where a line may be answered, by a step of the handler and of the connection: one more was, and this is its reply; or none was, and the
+  -- after a step of the handler and the connection that may answer a line: one more was answered, and this is its reply; or none was, and the
   -- handler did nothing
   abbrev pub AnswersOneMoreLine : (H → H → ControlConnection S → ControlConnection S → Type 0) → (H → H → ControlConnection S → Type 0) → Type 0
   AnswersOneMoreLine step rests =
@@ -58,26 +58,26 @@ module _ {S H : Type 0} (contents remaining : S → Option (List ℕ)) (answers_
       × HasAnsweredLines first new (lines ++ line ∷ []) (replies ++ unsent_of new.unsent ∷ []))
       ⊎ (rests s t old × HasAnsweredLines first new lines replies)
 
--- this text finishes what was left of an answer, as the handler finishes it at some time
+-- this text finishes an answer that was left to be signed, as the handler does at some time
 abbrev pub FinishesOnce : {H T : Type 0} → (H → T → List ℕ → Type 0) → T → List ℕ → Type 0
 FinishesOnce {H = H} finishes ticket text = (s : H) × finishes s ticket text
 
 module _ {H T : Type 0} (answers : H → List ℕ → Outcome T → H → Type 0) where
-  -- a prefix of the received bytes was left to be signed, once, and the bytes behind it are dropped
+  -- a prefix of the received bytes got an answer that is to be signed, once, and the bytes after it are dropped
   abbrev pub WasLeftUnsigned : List ℕ → T → Type 0
   WasLeftUnsigned arrived ticket =
       (asked : List ℕ) × (dropped : List ℕ) × (arrived ≡ asked ++ dropped) × ((s : H) × (t : H) × answers s asked (pending ticket) t)
 
-  -- a prefix of the received bytes was answered by this text, once, and the bytes behind it are dropped: the handler replied it, or finished
-  -- by it what it had left
+  -- a prefix of the received bytes was answered with this text, once, and the bytes after it are dropped: the handler replied it, or finished
+  -- with it an answer that it had left to be signed
   abbrev pub WasAnswered : (T → List ℕ → Type 0) → List ℕ → List ℕ → Type 0
   WasAnswered finishes arrived text =
       (asked : List ℕ) × (dropped : List ℕ) × (arrived ≡ asked ++ dropped)
       × (((s : H) × (t : H) × answers s asked (said text) t)
       ⊎ ((ticket : T) × finishes ticket text × ((s : H) × (t : H) × answers s asked (pending ticket) t)))
 
-  -- by the bytes that came and that went out on an HTTP connection: until it is answered what came is held, but for what there was no
-  -- memory for, and nothing went out; from then on what went out, and behind it what is unsent, is its answer, and nothing else is
+  -- the bytes that came and that were sent on an HTTP connection: until it is answered, what came is kept, except bytes for which there was no
+  -- memory, and nothing is sent; from then on the bytes that were sent, followed by the unsent ones, are its answer
   abbrev pub IsAnsweredOnce : (T → List ℕ → Type 0) → List ℕ → List ℕ → Stage T → Bool → Type 0
   IsAnsweredOnce finishes arrived gone (stage.Receiving collected) ended =
       (gone ≡ []) × (lost : List ℕ) × (arrived ≡ collected_bytes collected ++ lost) × ((lost ≡ []) ⊎ (ended ≡ true))
@@ -86,20 +86,20 @@ module _ {H T : Type 0} (answers : H → List ℕ → Outcome T → H → Type 0
   IsAnsweredOnce finishes arrived gone stage.Draining ended = WasAnswered finishes arrived gone
 
 module _ {S H T L : Type 0} (contents remaining : S → Option (List ℕ)) (g : Ghosts H T L) where
-  -- an HTTP connection of whose request no more is waited for, or more may come: it is answered once
+  -- an HTTP connection, whether or not more of its request is received: its request is answered once
   pub record HasServed (first : S) (connection : HttpConnection S H T L) : Type 0 where
     pub arrived : List ℕ
     pub gone : List ℕ
     pub since : SinceAccepted contents remaining first arrived gone connection.link
     pub once : IsAnsweredOnce g.answers (FinishesOnce g.finishes) arrived gone connection.stage (is_some connection.fault)
 
-  -- where an HTTP connection goes on, that stays so
+  -- when an HTTP connection is advanced, this stays true
   abbrev pub ServesOn : Type 0
   ServesOn =
       (first : S) (old new : HttpConnection S H T L) → HasServed first old
       → ReceivesMore remaining old new → Sends contents old new → Drops remaining old new → HasServed first new
 
-  -- what changes its stage alone keeps that, also where from then on no more of its request is waited for
+  -- a step that changes only the stage preserves this, also if no more of the request is received from then on
   abbrev pub KeepsServed : (Stage T → Stage T → Type 0) → Type 0
   KeepsServed step =
       (first : S) (old new : HttpConnection S H T L) → HasServed first old → new.link ≡ old.link → step old.stage new.stage

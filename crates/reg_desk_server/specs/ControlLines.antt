@@ -1,4 +1,4 @@
--- One control connection: the handler's reply to a line, and what is left behind it; and how what came is held until then.
+-- One control connection: the handler's reply to a line, the bytes that are left after it, and how received bytes are kept until then.
 use Rattle.std.specs.Prelude.{◌≡◌, ℕ, Bool, true, false, List, [], ◌∷◌, ◌++◌, ◌⊎◌, Option, take, drop}
 use Rattle.std.specs.Io.KnownBytes.{Appends, Consumes}
 use Rattle.reg_io.specs.Mark.{FirstMark, HasNoMark}
@@ -7,7 +7,7 @@ use Rattle.reg_desk_server.specs.declared.control_connection.ControlConnection.{
 use Rattle.reg_desk_server.specs.declared.request_bytes.Received.{Received}
 use Rattle.reg_desk_server.specs.declared.request_bytes.Received.TheVariants as received
 
--- no line of these bytes is whole
+-- these bytes have no whole line
 abbrev pub HasNoLine : List ℕ → Type 0
 HasNoLine bytes = HasNoMark (10 ∷ []) bytes
 
@@ -16,41 +16,41 @@ abbrev pub FirstLineEnds : List ℕ → ℕ → Type 0
 FirstLineEnds bytes end = FirstMark (10 ∷ []) bytes end
 
 module _ {S : Type 0} where
-  -- it was just accepted: nothing came, and nothing goes out
+  -- it was just accepted: nothing came, and nothing is to be sent
   abbrev pub IsFresh : ControlConnection S → Type 0
   IsFresh connection = (connection.arrived.items ≡ []) × (unsent_of connection.unsent ≡ []) × (connection.has_ended ≡ false)
 
-  -- its link is as it was, and it has ended if it had
+  -- its link did not change, nor whether it has ended
   abbrev pub SameLinkAndEnd : ControlConnection S → ControlConnection S → Type 0
   SameLinkAndEnd old new = (new.link ≡ old.link) × (new.has_ended ≡ old.has_ended)
 
-  -- where it has ended nothing more is held, and it stays so
+  -- if it has ended, no more bytes are kept, and it stays ended
   abbrev pub StaysEnded : ControlConnection S → ControlConnection S → Type 0
   StaysEnded old new = old.has_ended ≡ true → (new.arrived.items ≡ old.arrived.items) × (new.has_ended ≡ true)
 
-  -- what came is held as it was, and so is what goes out
+  -- the kept bytes and the unsent bytes did not change
   abbrev pub SameLines : ControlConnection S → ControlConnection S → Type 0
   SameLines old new = (new.arrived.items ≡ old.arrived.items) × (unsent_of new.unsent ≡ unsent_of old.unsent)
 
 module _ {H S : Type 0} where
-  -- The first line of what came was answered by this text, and is gone from what is held, where nothing of an older text was left; where
-  -- no line was whole, or something was left, nothing was answered.
+  -- The first line was answered with this text and removed from the kept bytes, if nothing of an older text was unsent. If there
+  -- was no whole line, or an unsent rest, nothing was answered.
   abbrev pub AnswersFirstLine : (H → List ℕ → List ℕ → H → Type 0) → H → H → ControlConnection S → ControlConnection S → Type 0
   AnswersFirstLine answers_line s t old new =
       ((end : ℕ) × FirstLineEnds old.arrived.items end × (unsent_of old.unsent ≡ [])
       × answers_line s (take end old.arrived.items) (unsent_of new.unsent) t × (new.arrived.items ≡ drop end old.arrived.items))
       ⊎ ((unsent_of old.unsent ≡ [] → HasNoLine old.arrived.items) × (t ≡ s) × SameLines old new)
 
-  -- the first line of what came was looked at, and not answered; or none was looked at
+  -- the message for the first line was made, and the line was not answered; or no line was considered
   abbrev pub DefersFirstLine : (H → List ℕ → H → Type 0) → H → H → ControlConnection S → Type 0
   DefersFirstLine defers s t old = ((end : ℕ) × FirstLineEnds old.arrived.items end × defers s (take end old.arrived.items) t) ⊎ (t ≡ s)
 
-  -- the same line was then answered, as any is; or it was looked at once more, and all that is held is as it was
+  -- that line was then answered like any other; or its message was made again, and the kept bytes did not change
   abbrev pub AnswersDeferred : (H → List ℕ → List ℕ → H → Type 0) → (H → List ℕ → H → Type 0) → H → H → ControlConnection S → ControlConnection S → Type 0
   AnswersDeferred answers_line defers s t old new = AnswersFirstLine answers_line s t old new ⊎ (DefersFirstLine defers s t old × SameLines old new)
 
--- What came next on a connection is held behind what was, in its order and whole. Where memory is out the last of it may be lost,
--- and then the connection has ended.
+-- The bytes that came next on a connection are appended to the kept ones. If there was no memory, the last of them may be lost, and then the
+-- connection has ended.
 pub record Gathers (input left : Option (List ℕ)) (before after : List ℕ) (ended : Bool) : Type 0 where
   pub kept : List ℕ
   pub lost : List ℕ
@@ -58,11 +58,11 @@ pub record Gathers (input left : Option (List ℕ)) (before after : List ℕ) (e
   pub held : after ≡ before ++ kept
   pub whole : (lost ≡ []) ⊎ (ended ≡ true)
 
--- the same of a control connection, by the bytes that a link will give
+-- the same for a control connection, with the bytes that its link will give
 abbrev pub GathersOn : {S : Type 0} → (S → Option (List ℕ)) → ControlConnection S → ControlConnection S → Type 0
 GathersOn remaining old new = Gathers (remaining old.link) (remaining new.link) old.arrived.items new.arrived.items new.has_ended
 
--- whether nothing more comes on a connection where receiving ended so
+-- whether nothing more comes on a connection after receiving ended in this way
 abbrev pub ends_by : Received → Bool
 ends_by received.Whole = false
 ends_by received.Blocked = false
@@ -71,7 +71,7 @@ ends_by received.Ended = true
 ends_by received.Broken = true
 ends_by received.OutOfMemory = true
 
--- The next bytes of a reply went out, and then what came next was held; where the connection has ended nothing more is held.
+-- The next bytes of a reply were sent, and then the bytes that came next were kept; once the connection has ended, no more are kept.
 pub record Advances {S : Type 0} (contents remaining : S → Option (List ℕ)) (old new : ControlConnection S) : Type 0 where
   pub between : S
   pub went : List ℕ

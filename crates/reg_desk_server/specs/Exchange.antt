@@ -1,14 +1,14 @@
--- What became of a handler: exchanges on HTTP connections and on control connections, one after the other.
+-- What happened to a handler: exchanges on HTTP connections and on control connections, one after the other.
 use Rattle.std.specs.Prelude.{◌≡◌, ℕ, zero, suc, ◌+◌, List, [], ◌∷◌}
 use Rattle.reg_io.specs.RunsOfAnswers.{Answered}
 
--- what came: the bytes of a request, or of a line of a control connection
+-- an input: the bytes of a request, or of a line of a control connection
 pub data Input : Type 0 where
   request : List ℕ → Input
   line : List ℕ → Input
 
--- what came of it: the text that answers it; or what was left to be signed, and is finished by a text later; or nothing yet, of a line that
--- was looked at and is answered later
+-- its outcome: the text that answers it; or an answer that is left to be signed, and that a text finishes later; or nothing yet, for a line whose
+-- message was made and that is answered later
 pub data Outcome (T : Type 0) : Type 0 where
   said : List ℕ → Outcome T
   pending : T → Outcome T
@@ -21,15 +21,15 @@ requests_in (request bytes ∷ inputs) = suc (requests_in inputs)
 requests_in (line bytes ∷ inputs) = requests_in inputs
 
 module _ {S T : Type 0} (answers : S → List ℕ → Outcome T → S → Type 0) (answers_line : S → List ℕ → List ℕ → S → Type 0) (defers : S → List ℕ → S → Type 0) where
-  -- the relation of a handler before and after it to what came and what came of it: a line is answered at once, or only looked at
+  -- the relation of a handler before and after it to an input and its outcome: a line is answered at once, or its message is made
   abbrev pub Handles : S → Input → Outcome T → S → Type 0
   Handles s (request bytes) outcome t = answers s bytes outcome t
   Handles s (line bytes) (said text) t = answers_line s bytes text t
   Handles s (line bytes) (pending ticket) t = ⊥
   Handles s (line bytes) later t = defers s bytes t
 
-  -- s became t by these exchanges and nothing else, and their requests were counted; each that was left to be signed stands where its
-  -- answer was begun
+  -- s became t by these exchanges and nothing else, and their requests were counted; an answer that is left to be signed stands where it
+  -- was begun
   pub record Exchanged (s t : S) (made made' : ℕ) : Type 0 where
     pub inputs : List Input
     pub outcomes : List (Outcome T)

@@ -1,4 +1,4 @@
--- What becomes of a handler.
+-- What happens to a handler.
 use Rattle.std.specs.Prelude.{ℕ}
 use Rattle.reg_desk_server.specs.Exchange.{Exchanged}
 use Rattle.reg_desk_server.specs.declared.handler.Handler.{Ghosts}
@@ -7,6 +7,6 @@ use Rattle.reg_desk_server.specs.declared.handler.Handler.{Ghosts}
 abbrev pub Handled : {H T L : Type 0} → Ghosts H T L → H → H → ℕ → ℕ → Type 0
 Handled g = Exchanged g.answers g.answers_line g.defers
 
--- the same by lines alone, of which none is counted
+-- the same with lines only, which are not counted
 abbrev pub AnsweredLines : {H T L : Type 0} → Ghosts H T L → H → H → Type 0
 AnsweredLines g s t = (made : ℕ) → Handled g s t made made

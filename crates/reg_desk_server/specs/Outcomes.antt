@@ -1,4 +1,4 @@
--- What a handler gives, as what came of a request.
+-- What a handler returns, as the outcome of a request.
 use Rattle.std.specs.Prelude.{ℕ, Vec}
 use Rattle.reg_desk_server.specs.Exchange.{Outcome, said, pending}
 use Rattle.reg_io.specs.declared.begun.Begun.{Begun}

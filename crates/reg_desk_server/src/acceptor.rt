@@ -15,17 +15,17 @@ use std::net::SocketAddr;
 
 const MOST_ACCEPTED: usize = 64;
 
-/// A listener, and the connection that it gave last.
+/// A listener, and the connection that it accepted last.
 #[derive(Drop)]
 pub(crate) struct Acceptor {
     listener: TcpListener,
     /// The connection that was accepted and has no slot yet.
     next: Option<(TcpStream, SocketAddr)>,
-    /// Whether the listener may have one more connection.
+    /// Whether another connection may be waiting at the listener.
     may_have_more: bool,
-    /// Whether it has one for sure: it was ready, and none was accepted since.
+    /// Whether one is certainly waiting: the listener was ready, and none was accepted since.
     has_more: bool,
-    /// Whether no descriptor was left for one that waits, and none of an HTTP connection could be freed for it.
+    /// Whether there was no descriptor for a waiting connection, and no HTTP connection whose descriptor could be freed for it.
     pub(crate) is_short: bool,
     pub(crate) accepted: u64,
 }
@@ -52,13 +52,13 @@ impl Acceptor {
         self.has_more = true;
     }
 
-    /// Whether a connection may be accepted, or has no slot yet, where so many are accepted at most.
+    /// Whether a connection may be accepted, or has no slot yet, if at most `most` are accepted in all.
     pub(crate) fn is_ready(&self, most: u64) -> bool {
         self.next.is_some() || (self.may_have_more && self.accepted < most)
     }
 
-    /// Accepts connections, as long as there are any, at most so many in all. If no descriptor is left and no HTTP connection has one, the
-    /// next call tries again; another fault of the system is then a [`EventLoopFault`].
+    /// Accepts connections while there are any, up to `most` in all. If there is no descriptor, and no HTTP connection that could be evicted, the
+    /// next call tries again; any other fault of the system is then an [`EventLoopFault`].
     pub(crate) fn accept_all<H: Handler>(
         &mut self,
         most: u64,
@@ -86,7 +86,7 @@ impl Acceptor {
         }
     }
 
-    /// Accepts the next connection and gives it a slot; whether there may be one more.
+    /// Accepts the next connection and gives it a slot. Returns whether there may be another one.
     fn accept<H: Handler>(
         &mut self,
         most: u64,
@@ -157,7 +157,7 @@ impl Acceptor {
                 Ok(())
             }
             ErrorKind::Interrupted | ErrorKind::ConnectionAborted => Ok(()),
-            // No descriptor may be left, which Linux says also where no connection waits.
+            // There may be no descriptor; Linux reports this even if no connection waits.
             _ if !self.has_more => {
                 self.poll_again(&shared.poller);
                 Ok(())
@@ -166,7 +166,7 @@ impl Acceptor {
                 connections.evict(shared);
                 Ok(())
             }
-            // Control connections and signature requests have them all.
+            // Control connections and signature requests have all descriptors.
             _ if is_out_of_descriptors(why) => {
                 self.may_have_more = false;
                 self.is_short = true;
@@ -176,7 +176,7 @@ impl Acceptor {
         }
     }
 
-    /// Has the listener reported as ready once more, if a connection waits. Where it can't be polled, one may.
+    /// Polls the listener anew, so that it is reported as ready if a connection waits. If it can't be polled, assumes that one may.
     fn poll_again(&mut self, poller: &Poller)
         ensures { self.new.accepted ≡ self.old.accepted }
     {

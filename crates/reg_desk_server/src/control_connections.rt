@@ -25,12 +25,12 @@ const MOST_CONTROL_CONNECTIONS: usize = 8;
 pub(crate) struct ControlConnections<H: Handler> {
     listener: Option<UnixListener>,
     pub(crate) slots: Slots<ControlConnection<UnixStream>>,
-    /// The line that waits for a signature, if one does. Until it is answered no other line is.
+    /// The line that waits for a signature, if there is one. No other line is answered before it.
     pub(crate) waiting: Option<WaitingLine<H>>,
     pub(crate) may_accept: bool,
-    /// Whether no descriptor was left for a connection, which may wait.
+    /// Whether there was no descriptor for a connection that may be waiting.
     pub(crate) is_short: bool,
-    /// Whether a connection may have a line that was not answered yet.
+    /// Whether a connection may have a line without a reply.
     has_lines: bool,
 }
 
@@ -62,7 +62,7 @@ impl<H: Handler> ControlConnections<H> {
         has_work || (self.may_accept && self.slots.has_free() && self.listener.is_some())
     }
 
-    /// How long may be waited at the longest, where a line waits for a signature.
+    /// The longest time that the loop may block while a line waits for a signature.
     pub(crate) fn longest_wait(&self) -> Duration {
         match &self.waiting {
             Some(waiting) if waiting.link.is_none() => Duration::from_millis(PAUSE),
@@ -76,7 +76,7 @@ impl<H: Handler> ControlConnections<H> {
         self.waiting = None;
     }
 
-    /// Accepts connections, as long as slots are free; further ones wait in the system's queue. If no descriptor is left, the next call tries
+    /// Accepts connections while slots are free; others wait in the kernel's backlog. If there is no descriptor, the next call tries
     /// again.
     pub(crate) fn accept_all(&mut self, shared: &mut Shared) {
         if self.is_short {
@@ -116,7 +116,7 @@ impl<H: Handler> ControlConnections<H> {
         }
     }
 
-    /// Goes on with a connection that was taken out of a slot, and puts it back unless it is to be closed.
+    /// Advances a connection that was taken out of its slot, and puts it back unless it is to be closed.
     fn drive(
         &mut self,
         slot: usize,
@@ -162,7 +162,7 @@ impl<H: Handler> ControlConnections<H> {
         self.slots.release(slot);
     }
 
-    /// Answers one line of each connection; or goes on with the one that waits for a signature, until which no other is answered.
+    /// Answers one line of each connection; or advances the line that waits for a signature, before which no other line is answered.
     #[tactic(auto, using(crate::proofs::Exchanges::exchanged_none))]
     pub(crate) fn answer_all_lines(
         &mut self,
@@ -185,7 +185,7 @@ impl<H: Handler> ControlConnections<H> {
         Ok(())
     }
 
-    /// Goes on with a line that waits for a signature, and answers it where it waits no more.
+    /// Advances a line that waits for a signature, and answers it once it waits no more.
     #[tactic(auto, using(crate::proofs::Exchanges::exchanged_none))]
     fn go_on(
         &mut self,
@@ -207,7 +207,7 @@ impl<H: Handler> ControlConnections<H> {
         Ok(())
     }
 
-    /// Answers one line of the connection of a slot, unless a line waits for a signature: this one, or one before it.
+    /// Answers one line of the connection in a slot, unless a line waits for a signature: this one, or an earlier one.
     #[tactic(auto, using(crate::proofs::Exchanges::exchanged_none))]
     fn answer_line_at(
         &mut self,

@@ -1,4 +1,4 @@
-//! The handler, which answers requests and lines.
+//! The trait of the handler, which answers requests and lines.
 
 use reg_crl_signer::SignatureRequest;
 use reg_http_head::Collected;
@@ -6,24 +6,24 @@ use reg_io::Begun;
 use std::io;
 use std::net::SocketAddr;
 
-/// No more can be answered: the clock can't be read, or the sockets fail.
+/// The loop can't go on: the clock can't be read, or the sockets fail.
 #[derive(Clone, Copy, Debug, PartialEq, Eq)]
 pub struct EventLoopFault;
 
-/// Why a connection ended by a fault.
+/// The fault by which a connection ended.
 #[derive(Clone, Copy, Debug, PartialEq, Eq)]
 pub enum ConnectionFault {
-    /// The client broke it off, or it can't be polled.
+    /// The client broke the connection off, or it can't be polled.
     Broken,
-    /// Its time was over: its request was not whole, or its answer not taken.
+    /// Its time was up: its request was incomplete, or the client had not received its whole answer.
     Late,
-    /// It was evicted: its request was not whole, or its answer not taken.
+    /// It was evicted for another one: its request was incomplete, or the client had not received its whole answer.
     Evicted,
-    /// There was no memory for what came on it.
+    /// There was no memory for the bytes that came on it.
     Memory,
 }
 
-/// How many connections there are, and how many HTTP connections were accepted up to now.
+/// How many connections are open, and how many HTTP connections were accepted so far.
 #[derive(Clone, Copy, Debug, PartialEq, Eq)]
 pub struct ConnectionCounts {
     pub open_http: usize,
@@ -31,40 +31,40 @@ pub struct ConnectionCounts {
     pub accepted: u64,
 }
 
-/// What is to be signed before a line of a control connection is answered, and what is kept of the line until then.
+/// The message that is to be signed before a line of a control connection is answered, and what the handler keeps of the line until then.
 #[derive(Drop)]
 pub struct Deferred<T> {
     pub message: Vec<u8>,
     pub ticket: T,
 }
 
-/// Answers requests and lines, one after the other. A signature for an answer or for a line is requested while others are answered.
-/// One type implements it, above this crate: the clauses of the event loop need its relations to range over.
+/// Answers requests and lines, one after the other. While a signature is requested for one of them, others are answered.
+/// Only one type, in another crate, implements it. It is a trait because the clauses of the event loop quantify over its relations.
 pub trait Handler {
     ghost use Rattle.std.specs.Prelude.{◌≡◌, ℕ, List, IfOk, OnErr, MatchOption};
     ghost use Rattle.reg_http_head.specs.Bytes.{collected_bytes};
     ghost use Rattle.reg_desk_server.specs.Exchange.{Outcome};
     ghost use Rattle.reg_desk_server.specs.Outcomes.{outcome_of};
 
-    /// What is kept of a request until its answer is signed.
+    /// What is kept of a request until its response is signed.
     type Ticket: Drop;
 
-    /// What is kept of a line until what is to be signed for it is signed.
+    /// What is kept of a line until its message is signed.
     type Line: Drop;
 
-    // This came of this request: the handler before and after it.
+    // The outcome of this request, with the handler before and after it.
     ghost answers: { Self → List ℕ → Outcome Self.Ticket → Self → Type 0 };
 
-    // This line was answered by this text: the handler before and after it.
+    // This text is the reply to this line, with the handler before and after it.
     ghost answers_line: { Self → List ℕ → List ℕ → Self → Type 0 };
 
-    // This line was looked at, and not answered: the handler before and after it.
+    // The handler made the message for this line, and has not answered it; the handler before and after.
     ghost defers: { Self → List ℕ → Self → Type 0 };
 
-    // This text finishes what was left of an answer, as the handler finishes it.
+    // This text finishes the answer that was left to be signed.
     ghost finishes: { Self → Self.Ticket → List ℕ → Type 0 };
 
-    /// Answers what came from the client at an address, or leaves what is to be signed. The text for no whole request may be empty.
+    /// Answers the bytes that came from a client, or leaves an answer to be signed. Bytes that are no whole request may get an empty text.
     fn answer(
         &mut self,
         client: SocketAddr,
@@ -74,16 +74,16 @@ pub trait Handler {
             answers self.old (collected_bytes request.now) (outcome_of begun) self.new) }
         ensures err { OnErr result (self.new ≡ self.old) };
 
-    /// Requests the signature of what was left, and waits for nothing: the connection on which it will come, up to its end. An error
-    /// is `WouldBlock` where the signer has no room for one more.
+    /// Requests the signature of such an answer, without blocking. Returns the connection on which the signature will come, up to its end. The error
+    /// is `WouldBlock` if the signer has no room for one more connection.
     fn request_signature(&self, ticket: &Self::Ticket) -> io::Result<SignatureRequest>;
 
-    /// The text that finishes what was left: with what came on the connection on which its signature was requested, which is at its
+    /// The text that finishes such an answer: with what came on the connection on which its signature was requested, which is at its
     /// end; or without a signature.
     fn finish(&self, ticket: Self::Ticket, link: Option<SignatureRequest>) -> Vec<u8>
         ensures { finishes self.now ticket result.items };
 
-    /// Answers one line of a control connection. The last reason of that connection is written here alone, and is empty where it begins.
+    /// Answers one line of a control connection. Only the handler writes `last_reason`, which is empty when the connection begins.
     fn answer_line(
         &mut self,
         line: &[u8],
@@ -92,15 +92,15 @@ pub trait Handler {
         ensures ok { IfOk result (λ text. answers_line self.old line.now text.items self.new) }
         ensures err { OnErr result ((self.new ≡ self.old) × (last_reason.new ≡ last_reason.old)) };
 
-    /// Looks at a line before it is answered: what is to be signed for it, or `None` where no signer would be waited for.
+    /// Makes the message that is to be signed before a line is answered. `None` if there is none, or no signer to wait for.
     fn defer(&mut self, line: &[u8]) -> Option<Deferred<Self::Line>>
         ensures { defers self.old line.now self.new };
 
-    /// Connects to the signer for a line, and waits for nothing. An error is `WouldBlock` where the signer has no room for one more.
+    /// Connects to the signer for a line, without blocking. The error is `WouldBlock` if the signer has no room for one more connection.
     fn reach(&self, ticket: &Self::Line) -> io::Result<SignatureRequest>;
 
-    /// Answers a line that was looked at: with what came on the connection on which its message went out, which is at its end; or
-    /// without a signature. `None` where another message is to be signed by now: the line is to be looked at again.
+    /// Answers a line whose message was made: with what came on the connection on which that was sent, which is at its end; or without a
+    /// signature. `None` if another message is to be signed by now: then `defer` is to be called again.
     fn answer_deferred(
         &mut self,
         line: &[u8],
@@ -112,9 +112,9 @@ pub trait Handler {
             (λ text. answers_line self.old line.now text.items self.new)) }
         ensures err { OnErr result ((self.new ≡ self.old) × (last_reason.new ≡ last_reason.old)) };
 
-    /// Takes notice that the connection from an address ended by a fault; a control connection has no address.
+    /// Reports that the connection from an address ended by a fault; a control connection has no address.
     fn report_lost(&self, client: Option<SocketAddr>, why: ConnectionFault);
 
-    /// Takes the number of connections, before it answers any in an iteration.
+    /// Receives the numbers of connections, in each iteration before anything is answered.
     fn keep_counts(&self, connection_counts: ConnectionCounts);
 }

@@ -1,4 +1,4 @@
-//! One HTTP connection, whose request is answered once.
+//! One HTTP connection, on which one request is answered.
 
 ghost use Rattle.std.specs.Prelude.{◌≡◌, ◌≤◌, ◌+◌, [], OnOk, OnErr, is_some, IsSome, IfNone, false};
 ghost use Rattle.reg_desk_server.specs.Handling.{Handled};
@@ -18,21 +18,21 @@ use std::io::{ErrorKind, Read};
 use std::net::SocketAddr;
 use std::{io, mem};
 
-/// How many milliseconds a client has to send its request, and as many to take its answer.
+/// How many milliseconds a client has to send its request, and then again to receive its answer.
 const PATIENCE: u64 = 30_000;
 
-/// How many milliseconds what a client still sends is dropped, once it has its answer.
+/// For how many milliseconds after its answer the bytes that a client still sends are dropped.
 const LINGER: u64 = 1_000;
 
 const MOST_DROPPED: usize = 32;
 
-/// How far a connection is.
+/// The stage of a connection.
 #[derive(Drop)]
 pub(crate) enum Stage<T> {
     Receiving(Collected),
-    /// This is left to be signed for the answer; the connection on which the signature was requested; whether to close once it was sent.
+    /// The answer is to be signed: its ticket, the connection on which the signature was requested, and whether to close once the answer is sent.
     Signing(T, Option<SignatureRequest>, bool),
-    /// The answer goes out; whether to close at once then.
+    /// The answer is being sent; whether to close at once then.
     Sending(Unsent, bool),
     Draining,
 }
@@ -46,7 +46,7 @@ pub enum Next {
     Close,
 }
 
-/// Drops what has come, for so many reads.
+/// Drops the bytes that came, in at most `MOST_DROPPED` reads.
 fn drop_all<R: Read>(reader: &mut R, room: &mut [u8]) -> Received
     ensures { IsDropped (R.remaining reader.old) (R.remaining reader.new) }
 {
@@ -70,16 +70,16 @@ fn drop_once<R: Read>(reader: &mut R, room: &mut [u8]) -> Received
     }
 }
 
-/// A connection of a client whose request is answered once by a handler. What is left to be signed for the answer is kept here, so the
-/// signature goes to no other client.
+/// A client's connection, on which a handler answers one request. An answer that is to be signed is kept in the connection, so its signature
+/// reaches no other client.
 #[derive(Drop)]
 pub struct HttpConnection<S: Link, H: Handler> {
     pub(crate) link: S,
     pub(crate) client: SocketAddr,
     pub(crate) stage: Stage<H::Ticket>,
-    /// The fault by which no more of the request is waited for, if there is one.
+    /// The fault because of which no more of the request is received, if there is one.
     pub(crate) fault: Option<ConnectionFault>,
-    /// Whether the client's side has ended while it waits for its answer.
+    /// Whether the client closed its sending side while it waits for its answer.
     pub(crate) has_ended: bool,
     pub(crate) until: u64,
     pub(crate) number: u64,
@@ -87,7 +87,7 @@ pub struct HttpConnection<S: Link, H: Handler> {
 }
 
 impl<S: Link, H: Handler> HttpConnection<S, H> {
-    /// A connection from an address that was accepted at this moment, in milliseconds of a clock that never goes back.
+    /// A connection from an address, accepted at this moment, in milliseconds of a monotonic clock.
     pub fn new(
         alloc: Global,
         link: S,
@@ -127,7 +127,7 @@ impl<S: Link, H: Handler> HttpConnection<S, H> {
         self.until <= now
     }
 
-    /// Notes by what fault it is answered at this moment before its request is whole, if by one, and gives it.
+    /// Keeps and returns the fault because of which the connection is to be answered before its request is whole, if there is one at this moment.
     pub fn record_fault(&mut self, now: u64) -> Option<ConnectionFault>
         ensures same_link { self.new.link ≡ self.old.link }
         ensures same_stage { self.new.stage ≡ self.old.stage }
@@ -149,7 +149,7 @@ impl<S: Link, H: Handler> HttpConnection<S, H> {
         }
     }
 
-    /// Goes on as far as the connection does without waiting.
+    /// Advances the connection as far as it goes without blocking.
     pub fn advance(&mut self, room: &mut [u8], now: u64) -> Next
         ensures receives { ReceivesMore S.Read.remaining self.old self.new }
         ensures sends { Sends S.Write.contents self.old self.new }
@@ -191,7 +191,7 @@ impl<S: Link, H: Handler> HttpConnection<S, H> {
         }
     }
 
-    /// Drops what the client still sends while it waits for its answer, and sees whether it is gone.
+    /// Drops the bytes that a client sends while it waits for its answer, and notices if it is gone.
     fn wait(&mut self, room: &mut [u8]) -> Next
         ensures { Drops S.Read.remaining self.old self.new }
     {
@@ -203,7 +203,7 @@ impl<S: Link, H: Handler> HttpConnection<S, H> {
         Next::Park
     }
 
-    /// Sends on the answer; once the client has all of it, the sending side is shut down.
+    /// Sends more of the answer. After the last byte, the sending side is shut down.
     fn send_on(&mut self, now: u64) -> Next
         ensures { Sends S.Write.contents self.old self.new }
     {
@@ -230,8 +230,8 @@ impl<S: Link, H: Handler> HttpConnection<S, H> {
         }
     }
 
-    /// Shuts down the sending side of the connection. A connection that is closed over unread bytes may cost the client the answer that it
-    /// has not read yet: so what it still sends is received for a short time.
+    /// Shuts down the sending side of the connection. If a connection is closed with unread bytes, the client may lose an answer that it has not
+    /// read yet. So the bytes that it still sends are received for a short time.
     fn finish(&mut self, now: u64) -> Next
         ensures link { self.new.link ≡ self.old.link }
         ensures drains { self.new.stage ≡ Stage.Draining }
@@ -253,7 +253,7 @@ impl<S: Link, H: Handler> HttpConnection<S, H> {
         }
     }
 
-    /// Answers what came of the request, whatever it is; whether something is left to be signed for the answer. A connection that has an
+    /// Answers the bytes that came of the request, also if it is incomplete. Returns whether the answer is to be signed. A connection that has an
     /// answer, or waits for one, is not answered again.
     #[tactic(auto, using(crate::proofs::Exchanges::exchanged_none))]
     pub fn answer(
@@ -295,19 +295,19 @@ impl<S: Link, H: Handler> HttpConnection<S, H> {
         }
     }
 
-    /// Holds the answer, which goes out from now on, to a request that was exact or was not.
+    /// Keeps the answer, which is sent from now on. `is_exact`: nothing came after the request.
     fn start_sending(&mut self, text: Vec<u8>, is_exact: bool, now: u64)
         ensures holds { HasUnsentText self.new.stage text.items }
         ensures kept { SameLinkAndFault self.old self.new }
     {
-        // Where nothing is sent, there is no answer that unread bytes could cost.
+        // Without an answer, unread bytes can't cost the client one.
         let is_last = is_exact || text.is_empty();
         self.stage = Stage::Sending(Unsent::new(text), is_last);
         self.until = now.saturating_add(PATIENCE);
     }
 
-    /// Requests the signature of what is left of the answer, and waits for nothing: the connection on which it will come is polled under a
-    /// token. An error is one of [`Handler::request_signature`] or of the system; `NotConnected` where no answer is waited for.
+    /// Requests the signature of the answer, without blocking. The connection on which it will come is polled under a token. The errors are
+    /// those of [`Handler::request_signature`] and of the system; `NotConnected` if no answer is to be signed.
     pub(crate) fn request_signature(
         &mut self,
         handler: &H,
@@ -330,8 +330,8 @@ impl<S: Link, H: Handler> HttpConnection<S, H> {
         }
     }
 
-    /// Finishes the answer that is waited for: with what came on the connection on which its signature was requested, where that is at its
-    /// end, or without a signature. A connection that does not wait is as it was.
+    /// Finishes the answer that is to be signed: if `has_come`, with what came on the connection on which its signature was requested; else without
+    /// a signature. Any other connection does not change.
     pub fn complete(&mut self, handler: &H, has_come: bool, now: u64)
         ensures finished { Finishing (H.finishes handler.now) self.old.stage self.new.stage }
         ensures kept { SameLinkAndFault self.old self.new }

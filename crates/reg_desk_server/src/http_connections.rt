@@ -14,15 +14,15 @@ use std::alloc::{AllocError, Global};
 use std::io;
 use std::io::ErrorKind;
 
-/// How many HTTP connections there may be at once: with what else a program has open, that fits the usual limit of 1,024 descriptors.
+/// How many HTTP connections can be open at once. With the other files of the program, they fit the usual limit of 1,024 descriptors.
 pub const MOST_HTTP_CONNECTIONS: usize = 1_000;
 
 const MOST_UNSENT: usize = 67_108_864;
 
-/// How many milliseconds pass between two looks for connections whose time is over.
+/// How many milliseconds pass between two searches for connections whose time is up.
 pub(crate) const SWEEP: u64 = 250;
 
-/// Which connections may be evicted: those without an answer, those with one, or those whose answer is not sent yet, but for one slot.
+/// Which connections may be evicted: those without an answer; those with one; those whose answer is not wholly sent, except one slot.
 #[derive(Clone, Copy)]
 enum Selection {
     Unanswered,
@@ -43,7 +43,7 @@ impl Selection {
 #[derive(Drop)]
 pub(crate) struct HttpConnections<H: Handler> {
     pub(crate) slots: Slots<HttpConnection<TcpStream, H>>,
-    /// Those that are to be answered in this iteration.
+    /// The slots of the connections that are to be answered in this iteration.
     pub(crate) due: Vec<usize>,
     unsent: usize,
     swept: u64,
@@ -76,7 +76,7 @@ impl<H: Handler> HttpConnections<H> {
         }
     }
 
-    /// Goes on with a connection that was taken out of a slot, and puts it back unless it is to be closed.
+    /// Advances a connection that was taken out of its slot, and puts it back unless it is to be closed.
     pub(crate) fn drive(
         &mut self,
         slot: usize,
@@ -114,11 +114,11 @@ impl<H: Handler> HttpConnections<H> {
         ensures { AppendsIfMemory slot self.old.due.items self.new.due.items }
     {
         self.slots.put(slot, connection);
-        // Where there is no memory for it, the end of its time comes again.
+        // Without memory for it, the next sweep finds it again.
         let _ = self.due.push(slot);
     }
 
-    /// Closes a connection that was taken out of a slot. Why is reported where its answer is not sent, and no fault was reported of it
+    /// Closes a connection that was taken out of its slot. Reports the fault if its answer is not wholly sent and no fault of it was reported
     /// before.
     fn close(
         &mut self,
@@ -139,8 +139,8 @@ impl<H: Handler> HttpConnections<H> {
         self.slots.release(slot);
     }
 
-    /// Closes one connection for others: the oldest that has its answer, or else the oldest, which is answered first as it is, unless its
-    /// answer is left to be signed.
+    /// Evicts one connection: the oldest that has an answer, or else the oldest of all. If its request is incomplete, that is answered first as it
+    /// is; if its answer is to be signed, it is closed without one.
     pub(crate) fn evict(&mut self, shared: &mut Shared) {
         let answered = self.oldest(Selection::Answered);
         let Some(slot) = answered.or(self.oldest(Selection::Unanswered)) else {
@@ -167,7 +167,7 @@ impl<H: Handler> HttpConnections<H> {
         found
     }
 
-    /// The number of the connection of a slot, if it meets a criterion, or else one that no connection has.
+    /// The number of the connection in a slot if it meets the criterion, or else the greatest number, which no connection has.
     fn number_at(&self, slot: usize, selection: Selection) -> u64 {
         match self.slots.get(slot) {
             Some(connection) if selection.takes(connection, slot) => connection.number,
@@ -175,7 +175,7 @@ impl<H: Handler> HttpConnections<H> {
         }
     }
 
-    /// Looks for connections whose time is over: one that still receives is answered, and one that has an answer is closed.
+    /// Looks for connections whose time is up: one that still receives is answered, and any other is closed.
     pub(crate) fn sweep(&mut self, shared: &mut Shared, now: u64) {
         if now.saturating_sub(self.swept) < SWEEP {
             return;
@@ -192,7 +192,7 @@ impl<H: Handler> HttpConnections<H> {
         }
     }
 
-    /// Ends the time of a connection that was taken out of a slot.
+    /// Ends the time of a connection that was taken out of its slot: it is answered if it still receives, and closed otherwise.
     fn expire(
         &mut self,
         slot: usize,
@@ -207,7 +207,7 @@ impl<H: Handler> HttpConnections<H> {
         }
     }
 
-    /// Holds no more unsent bytes than there may be: closes the oldest whose answer is not sent, but for the newest answer.
+    /// Limits the unsent bytes of all connections to `MOST_UNSENT`: closes the oldest whose answer is not wholly sent, except the newest answer.
     pub(crate) fn limit_unsent(&mut self, newest: usize, shared: &mut Shared) {
         for _ in 0..MOST_HTTP_CONNECTIONS {
             if self.unsent <= MOST_UNSENT {
@@ -285,7 +285,7 @@ impl<H: Handler> HttpConnections<H> {
         }
     }
 
-    /// Closes the connection of a requester whose side has ended; whether it waits no more.
+    /// Advances the connection of a requester, and closes it if the client closed its side. Returns whether the requester no longer waits.
     pub(crate) fn has_gone(&mut self, requester: Requester, shared: &mut Shared, now: u64) -> bool {
         self.advance(requester.slot, shared, now);
         match self.take_waiting(requester) {

@@ -10,11 +10,11 @@ ghost use Rattle.reg_desk_server.specs.declared.http_connection.HttpConnection.{
 use crate::handler::Handler;
 use crate::link::Link;
 
-/// On a control connection each line is answered once, in order, and so is each reply.
+/// On a control connection each line is answered once and in order, and each reply is sent once and in order.
 ///
-/// Over any steps from when it was accepted, what came on it are the lines that were answered, and then what is held; what went out on it, and
-/// behind it what is unsent, are the replies to these lines (`HasAnsweredLines`). It begins so. `ControlConnection::advance` answers no line; `answer_line` and
-/// `answer_deferred` answer one, or none. The bytes are those of a link that tells them: of a socket no clause does.
+/// Over any steps since the connection was accepted, the bytes that came are the answered lines and then the bytes that are kept. The bytes that
+/// were sent, followed by the unsent ones, are the replies to these lines (`HasAnsweredLines`). `ControlConnection::advance` answers no line;
+/// `answer_line` and `answer_deferred` answer at most one. The law is about the bytes of a `Link`; no clause states what bytes a socket carries.
 pub fn each_line_is_answered_once_in_order<S: Link, H: Handler>()
     ensures begins { (client : ControlConnection S) → IsFresh client
         → HasAnsweredLines S.Write.contents S.Read.remaining H.answers_line client.link client [] [] }
@@ -27,10 +27,10 @@ pub fn each_line_is_answered_once_in_order<S: Link, H: Handler>()
 
 /// A request is answered once.
 ///
-/// Over any steps from when an HTTP connection was accepted, what came on it is held until it is answered, and nothing went out; from then on
-/// what went out, and behind it what is unsent, is the answer to a front of what came, which is asked of the handler once, and what came behind
-/// that is dropped (`HasServed`). It begins so, and `HttpConnection::advance`, `answer` and `complete` keep it, also where a signature is requested,
-/// or no more of its request is waited for.
+/// Over any steps since an HTTP connection was accepted, the bytes that came are kept until it is answered, and nothing is sent. From then on the
+/// bytes that were sent, followed by the unsent ones, are the answer to a prefix of what came, which is passed to the handler once; the bytes
+/// after that are dropped (`HasServed`). `HttpConnection::advance`, `answer` and `complete` preserve this, also while a signature is requested, and
+/// if no more of the request is received.
 pub fn each_request_is_answered_once<S: Link, H: Handler>()
     ensures begins { (client : HttpConnection S H H.Ticket H.Line) → HasReceived client.stage []
         → HasServed S.Write.contents S.Read.remaining H.Handler client.link client }

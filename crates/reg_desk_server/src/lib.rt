@@ -1,5 +1,5 @@
-//! An event loop for many connections on one thread: what each HTTP client sends is collected until it is a whole request, answered once,
-//! and sent on as the client takes it; and each line of a control connection is answered in its turn.
+//! An event loop for many connections on one thread. It collects the bytes of each HTTP client until they are a whole request, answers that once,
+//! and sends the answer as fast as the client receives it. It answers the lines of each control connection in turn.
 #![tactic(auto)]
 
 mod acceptor;

@@ -1,4 +1,4 @@
-//! The poller, which lists the connections that are ready.
+//! The poller, which reports the connections that are ready.
 
 ghost use Rattle.std.specs.Prelude.{◌≡◌, [], IfOk, true};
 
@@ -12,15 +12,15 @@ use std::time::Duration;
 
 const MOST_EVENTS: usize = 1_024;
 
-/// What the system says where too many files are open, in this process (EMFILE) or in all (ENFILE).
+/// The error numbers for too many open files, in this process (EMFILE) and in the system (ENFILE).
 const TOO_MANY_HERE: i32 = 24;
 
 const TOO_MANY: i32 = 23;
 
 pub(crate) const MOST_SIGNATURES: usize = 32;
 
-/// The tokens of the listeners; behind them come those of the control connections, of the signature requests, of the one for a line, and of
-/// the HTTP connections.
+/// The tokens of the listeners. After them come those of the control connections, of the signature requests, of the signer's connection for a
+/// line, and of the HTTP connections.
 pub(crate) const HTTP_LISTENER: usize = 0;
 
 pub(crate) const CONTROL_LISTENER: usize = 1;
@@ -31,12 +31,12 @@ pub(crate) const FIRST_SIGNATURE: usize = 10;
 
 pub(crate) const LINE: usize = FIRST_SIGNATURE + MOST_SIGNATURES;
 
-/// The connection under the token before is at its end.
+/// The connection with the token `LINE` is at its end.
 pub(crate) const LINE_ENDED: usize = LINE + 1;
 
 pub(crate) const FIRST_HTTP: usize = LINE + 2;
 
-/// Polls connections, and holds the tokens of those that are ready in this iteration.
+/// Polls connections, and keeps the tokens of those that are ready in this iteration.
 #[derive(Drop)]
 pub(crate) struct Poller {
     poll: Poll,
@@ -76,7 +76,7 @@ impl Poller {
         }
     }
 
-    /// Registers a connection, or once more where it is noted that it was; whether that could be done.
+    /// Registers a connection, or registers it again if `is_registered`. Returns whether that succeeded.
     pub(crate) fn register_again<S: Source>(
         &self,
         source: &mut S,
@@ -93,7 +93,7 @@ impl Poller {
             .is_ok()
     }
 
-    /// Waits until something is ready, no longer than this. Then `tokens` has what is: a signature is, where all of it is there.
+    /// Blocks until something is ready, at most for `longest`. Then `tokens` has what is ready; a signature is ready once its connection is at its end.
     pub(crate) fn poll(&mut self, longest: Duration) -> Result<(), EventLoopFault> {
         if self.poll.poll(&mut self.events, Some(longest)).is_err() {
             return Err(EventLoopFault);
@@ -102,7 +102,7 @@ impl Poller {
         for event in &self.events {
             let Token(token) = event.token();
             if let Some(token) = ready_token(token, event.is_read_closed()) {
-                // There is room for each event.
+                // The vector has capacity for each event.
                 let _ = self.tokens.push(token);
             }
         }
@@ -110,7 +110,7 @@ impl Poller {
     }
 }
 
-/// The token under which an event is told: of a signature, only where its connection is at its end.
+/// The token to report for an event: that of a signature request only if its connection is at its end.
 fn ready_token(token: usize, is_ended: bool) -> Option<usize> {
     if FIRST_SIGNATURE <= token && token < LINE && !is_ended {
         return None;

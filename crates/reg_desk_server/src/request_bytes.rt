@@ -1,4 +1,4 @@
-//! Receiving the bytes of a request.
+//! Receives the bytes of a request.
 
 ghost use Rattle.std.specs.Prelude.{◌≡◌, ◌⊎◌};
 ghost use Rattle.reg_http_head.specs.Bytes.{collected_bytes};
@@ -10,7 +10,7 @@ use std::io::{ErrorKind, Read};
 
 const MOST_READS: usize = 32;
 
-/// How receiving ended: a whole request is held, nothing more has come yet, more may have come, nothing more comes, the connection fails, or
+/// How receiving ended: there is a whole request; nothing more has come yet; more may have come; nothing more will come; the connection failed; or
 /// there was no memory for the last bytes that came.
 #[derive(Clone, Copy)]
 pub(crate) enum Received {
@@ -22,7 +22,7 @@ pub(crate) enum Received {
     OutOfMemory,
 }
 
-/// Receives what has come, until it is a whole request, or for so many reads.
+/// Receives bytes until they are a whole request, or for at most `MOST_READS` reads.
 pub(crate) fn receive<R: Read>(
     reader: &mut R,
     collected: &mut Collected,

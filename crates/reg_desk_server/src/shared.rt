@@ -1,4 +1,4 @@
-//! What all connections of an event loop have in common.
+//! What all connections of an event loop share.
 
 ghost use Rattle.std.specs.Prelude.{◌≡◌, [], IfOk};
 ghost use Rattle.reg_desk_server.specs.Buffers.{AppendsIfMemory};
@@ -11,7 +11,7 @@ use std::net::{Net, SocketAddr};
 
 const ROOM: usize = 65_536;
 
-/// The poller, the lost connections, and the room for one read.
+/// The poller, the lost connections, and the buffer for one read.
 #[derive(Drop)]
 pub(crate) struct Shared {
     pub(crate) alloc: Global,
@@ -59,7 +59,7 @@ impl LostConnections {
     pub(crate) fn add_lost(&mut self, lost: LostConnection)
         ensures { AppendsIfMemory lost self.old.unreported.items self.new.unreported.items }
     {
-        // Where there is no memory for it, it is not reported.
+        // Without memory for it, it is not reported.
         let _ = self.unreported.push(lost);
     }
 

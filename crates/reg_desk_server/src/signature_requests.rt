@@ -1,4 +1,4 @@
-//! The signatures that are requested for HTTP answers.
+//! The signature requests for HTTP answers.
 
 use crate::poller::MOST_SIGNATURES;
 use std::alloc::Global;
@@ -8,10 +8,10 @@ use std::time::Duration;
 /// How many milliseconds a signature may take, from when its answer was begun.
 pub(crate) const PATIENCE: u64 = 10_000;
 
-/// How many milliseconds pass before a signer is asked again that had no room for one more request.
+/// How many milliseconds pass before a signer without room for one more connection is asked again.
 pub(crate) const PAUSE: u64 = 10;
 
-/// How often a signature that was requested is looked for before it is waited for, a hundred microseconds or two: most are there by then,
+/// How often the loop polls for a signature without blocking, for one or two hundred microseconds, before it blocks. Most signatures arrive by then,
 /// and to be woken takes as long as to sign.
 const LOOKS: u32 = 100;
 
@@ -22,29 +22,29 @@ pub(crate) struct Requester {
     pub(crate) number: u64,
 }
 
-/// A signature that is to be requested, and until when it may come.
+/// A signature that is to be requested, and when its time is up.
 #[derive(Clone, Copy)]
 pub(crate) struct Pending {
     pub(crate) requester: Requester,
     pub(crate) until: u64,
 }
 
-/// A signature that was requested on a connection, which its requester holds.
+/// A signature that was requested on a connection, which is kept with the requester.
 #[derive(Clone, Copy)]
 pub(crate) struct Requested {
     pub(crate) pending: Pending,
-    /// Whether the connection is at its end: what came on it is there.
+    /// Whether the connection to the signer is at its end, so that all of the answer has arrived.
     pub(crate) has_come: bool,
 }
 
-/// The signatures that were requested, each on a connection of its own, and those that wait for their turn.
+/// The signatures that were requested, each on its own connection, and the queue of those that are to be requested.
 #[derive(Drop)]
 pub(crate) struct SignatureRequests {
     queue: VecDeque<Pending>,
     requested: Vec<Option<Requested>>,
-    /// Until when the signer is not asked, since it had no room.
+    /// Until when the signer is not asked, because it had no room for one more connection.
     paused: Option<u64>,
-    /// How often a signature is still looked for before it is waited for.
+    /// How often the loop still polls for a signature before it blocks.
     looks: u32,
 }
 
@@ -58,13 +58,13 @@ impl SignatureRequests {
         }
     }
 
-    /// One more waits for its turn; whether there was memory for it.
+    /// Queues a requester. Returns whether there was memory for it.
     pub(crate) fn add(&mut self, requester: Requester, now: u64) -> bool {
         let until = now.saturating_add(PATIENCE);
         self.queue.push_back(Pending { requester, until }).is_ok()
     }
 
-    /// How long may be waited at the longest, where a signature is looked for, or a signer is to be asked again.
+    /// The longest time that the loop may block, with a signature to poll for, or a signer to be asked again.
     pub(crate) fn longest_wait(&mut self) -> Duration {
         if self.looks > 0 {
             self.looks = self.looks.saturating_sub(1);
@@ -76,7 +76,7 @@ impl SignatureRequests {
         }
     }
 
-    /// The next whose turn it is, and a free index for it, where there is room for one more request.
+    /// The next of the queue, and a free index for it; `None` if the signer is not asked now, no index is free, or the queue is empty.
     pub(crate) fn next(&mut self, now: u64) -> Option<(Pending, usize)> {
         if let Some(paused) = self.paused {
             if now < paused {
@@ -88,10 +88,10 @@ impl SignatureRequests {
         Some((self.queue.pop_front()?, index))
     }
 
-    /// Puts one back to the front, for which the signer had no room at this moment.
+    /// Puts one back to the front of the queue, because the signer had no room for one more connection at this moment.
     pub(crate) fn put_off(&mut self, pending: Pending, now: u64) {
         self.paused = Some(now.saturating_add(PAUSE));
-        // There is room for it: it was taken from there.
+        // There is capacity for it: it was taken from there.
         let _ = self.queue.push_front(pending);
     }
 
@@ -115,7 +115,7 @@ impl SignatureRequests {
         *self.requested.get(index)?
     }
 
-    /// Waits for one at a free index; whether there was memory for it.
+    /// Keeps a requested signature at a free index. Returns whether there was memory for it.
     pub(crate) fn put(&mut self, index: usize, pending: Pending) -> bool {
         self.looks = LOOKS;
         let requested = Requested {

@@ -1,8 +1,8 @@
-//! Slots for connections.
+//! The slots of connections.
 
 use std::alloc::{AllocError, Global};
 
-/// A fixed number of slots. A slot is free, or reserved for a connection, which is taken out while it is worked on.
+/// A fixed number of slots. A slot is free, or reserved for a connection, which is taken out of it while it is used.
 #[derive(Drop)]
 pub(crate) struct Slots<T> {
     pub(crate) entries: Vec<Option<T>>,
@@ -30,7 +30,7 @@ impl<T: Drop> Slots<T> {
 
     /// Frees a slot whose connection was taken out.
     pub(crate) fn release(&mut self, slot: usize) {
-        // There is room for each slot.
+        // There is capacity for each slot.
         let _ = self.free.push(slot);
     }
 

@@ -1,15 +1,15 @@
-//! A text on its way to a client.
+//! A text that is being sent to a client.
 
 ghost use Rattle.std.specs.Prelude.{◌≤◌, length};
 
 use std::io::{ErrorKind, Write};
 
-/// The most bytes that one write is handed.
+/// The most bytes for one write.
 const LONGEST_PIECE: usize = 65_536;
 
 const MOST_WRITES: usize = 4;
 
-/// How sending ended: all was taken, the client takes no more yet, it may take more, or it takes nothing more.
+/// How sending ended: all is sent; the client accepts no more yet; it may accept more; or the connection is broken.
 #[derive(Clone, Copy)]
 pub(crate) enum Sent {
     All,
@@ -18,7 +18,7 @@ pub(crate) enum Sent {
     Broken,
 }
 
-/// A text of which a front was sent.
+/// A text of which a prefix was sent.
 #[derive(Drop)]
 pub(crate) struct Unsent {
     pub(crate) text: Vec<u8>,
@@ -42,7 +42,7 @@ impl Unsent {
         self.text.len() - self.sent
     }
 
-    /// Sends what is left, as far as the writer takes it, or for so many writes.
+    /// Sends more of the text, as far as the writer accepts it, in at most `MOST_WRITES` writes.
     pub(crate) fn send_on<W: Write>(&mut self, writer: &mut W) -> Sent
         ensures { SendsUnsent W.contents writer.old writer.new self.old self.new result }
     {

@@ -9,10 +9,10 @@ use mio::net::UnixStream;
 use reg_crl_signer::{DeviceConnection, SignatureRequest};
 use std::io::ErrorKind;
 
-/// How many milliseconds a signature may take, from when its line was looked at.
+/// How many milliseconds a signature may take, from when its message was made.
 const PATIENCE: u64 = 10_000;
 
-/// How far the signature is: its message is going out, it is waited for, what came for it is there, or it does not come.
+/// The progress of a signature: its message is being sent; the signer's answer is awaited; it has arrived; or none will come.
 #[derive(Clone, Copy)]
 enum Progress {
     Sending,
@@ -21,16 +21,16 @@ enum Progress {
     Failed,
 }
 
-/// A line of a control connection that waits for a signature, with the connection, which is taken out of its slot: so no other client gets
+/// A line of a control connection that waits for a signature. Its connection is taken out of its slot and kept here, so no other client gets
 /// the reply.
 #[derive(Drop)]
 pub(crate) struct WaitingLine<H: Handler> {
     slot: usize,
     connection: ControlConnection<UnixStream>,
     ticket: H::Line,
-    /// The message to be signed, with what of it is not sent yet.
+    /// The message to be signed, with how much of it was sent.
     message: Unsent,
-    /// The connection to the signer, once there is one.
+    /// The connection to the signer, if there is one yet.
     pub(crate) link: Option<SignatureRequest>,
     is_registered: bool,
     progress: Progress,
@@ -64,7 +64,7 @@ impl<H: Handler> WaitingLine<H> {
         self.has_ended() || self.until <= now
     }
 
-    /// The connection to the signer is at its end: what came on it is there, unless the message had not gone out.
+    /// The connection to the signer is at its end: the answer has arrived, unless the message was not wholly sent.
     pub(crate) fn mark_ended(&mut self) {
         self.progress = match self.progress {
             Progress::Waiting | Progress::Come => Progress::Come,
@@ -72,7 +72,7 @@ impl<H: Handler> WaitingLine<H> {
         };
     }
 
-    /// Connects to the signer, where that was not done yet, and sends the message. Where the signer has no room, it is tried again.
+    /// Connects to the signer, if it is not connected yet, and sends the message. If the signer has no room for a connection, a later call tries again.
     pub(crate) fn begin(&mut self, handler: &H, poller: &Poller) {
         if self.link.is_some() {
             return;
@@ -112,7 +112,7 @@ impl<H: Handler> WaitingLine<H> {
         };
     }
 
-    /// The connection, with its slot; what was to be signed for its line; and the connection to the signer, where what came on it is there.
+    /// The slot, its connection, the message with its ticket, and, if the answer has arrived, the connection to the signer.
     pub(crate) fn into_parts(
         self,
     ) -> (

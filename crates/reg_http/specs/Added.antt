@@ -5,7 +5,7 @@ use Rattle.reg_core.specs.Records.{Records}
 use Rattle.reg_core.specs.Status.{counts}
 use Rattle.reg_core.specs.declared.rows.RequestRow.{RequestRow}
 
--- what an HTTP request can change: one request for revocation more at most; how many certificates have each status does not change,
+-- what an HTTP request can change: it adds at most one request for revocation; how many certificates have each status does not change,
 -- at any moment
 pub record AddsARequestAtMost (now : ℕ) (before after : Records) : Type 0 where
   pub added : (after ≡ before) ⊎ ((row : RequestRow) × (after ≡ with_request before now row))

@@ -1,5 +1,5 @@
--- An answer's response, with what became of its signature, what it says of the store, and the request for revocation that it
--- names.
+-- The response of an answer, with what became of its signature, what it shows about the store, and the request for revocation that it
+-- entered.
 use Rattle.std.specs.Prelude.{ℕ, List, codes, Option, Some, Some as ground, None, Result, Ok, Err}
 use Rattle.reg_office_api.specs.Responses.{signature_of, store_of, store_of_fault}
 use Rattle.reg_office_api.specs.declared.effects.SignatureFate.{SignatureFate}
@@ -23,7 +23,7 @@ pub record AnswerEffects : Type 0 where
   pub store : StoreEffect
   pub named : Option NamedRequest
 
--- the same of an answer
+-- the same for an answer
 abbrev pub answer_effects : Answered → AnswerEffects
 answer_effects answered = record {
   response = shown answered.answer;
@@ -32,19 +32,19 @@ answer_effects answered = record {
   named = answered.named;
 }
 
--- a response without a signature, which says this of the store and names no request
+-- a response without a signature, which shows this about the store and entered no request
 abbrev pub unsigned_answer : Response → StoreEffect → AnswerEffects
 unsigned_answer response effect = record { response = response; signature = NotAsked; store = effect; named = None }
 
--- a response that says nothing of the store either
+-- a response that shows nothing about the store either
 abbrev pub plain : Response → AnswerEffects
 plain response = unsigned_answer response Unwritten
 
--- the answer to a refusal or a fault is its line
+-- the answer to a refusal or a fault has its line
 abbrev pub fault_effects : Fault → AnswerEffects
 fault_effects fault = unsigned_answer (fault_response fault) (store_of_fault fault)
 
--- a reply to what a request can ask: 200 with its body; any other, which no office gives, is a fault of the store
+-- the answer to a reply: 200 with its body; any other reply, which no office gives, is a fault of the store
 abbrev pub reply_effects : Reply → AnswerEffects
 reply_effects (Status status) = plain (json 200 (status_text status))
 reply_effects (Counts counts) = plain (json 200 (counts_text counts))
@@ -55,12 +55,12 @@ abbrev pub outcome_effects : Result Reply Fault → AnswerEffects
 outcome_effects (Ok reply) = reply_effects reply
 outcome_effects (Err fault) = fault_effects fault
 
--- the request for revocation that a command entered: by the id that the reply has, and the serial number and the word that the command had
+-- the request for revocation that a command entered, with the id in the reply, and the serial number and the word of the command
 abbrev pub entered_request : ℕ → List ℕ → Result Reply Fault → Option NamedRequest
 entered_request serial word (Ok (Request id due)) = Some (record { id = id; serial = serial; ground = ground word })
 entered_request serial word other = None
 
--- the outcome of a command for a revocation, which names the request that it entered
+-- the outcome of a request for revocation, with the request that it entered
 abbrev pub request_effects : ℕ → List ℕ → Result Reply Fault → AnswerEffects
 request_effects serial word outcome = record (outcome_effects outcome) { named = entered_request serial word outcome }
 
@@ -69,7 +69,7 @@ abbrev pub crl_effects : Result (List ℕ) Fault → AnswerEffects
 crl_effects (Ok body) = plain (der (codes "application/pkix-crl") body)
 crl_effects (Err fault) = fault_effects fault
 
--- an OCSP response, of any status (RFC 6960 A.2), by its kind; out of memory is a fault
+-- an OCSP response, of any status (RFC 6960 A.2), with its kind; out of memory is a fault
 abbrev pub ocsp_effects : Result (ResponseKind × List ℕ) NoMemory → AnswerEffects
 ocsp_effects (Ok given) = record {
   response = der (codes "application/ocsp-response") given.1;

@@ -42,12 +42,12 @@ module _ {S : Type 0} (runs : S → ℕ → Command → Result Reply Fault → S
   Answers now s (request_of serial word) it t =
       (given : Result Reply Fault) × runs s now (Request serial word) given t × (it ≡ request_effects serial word given)
 
-  -- the answer to what is asked; or what is left to be signed for it, where that is an OCSP request
+  -- the answer to a request; or the draft of a response to be signed, if it is an OCSP request
   abbrev pub BeginsTo : (S → ℕ → List ℕ → Drafted → S → Type 0) → ℕ → S → RoutedRequest → Begun Answered Drafted → S → Type 0
   BeginsTo drafts now s what (Ready answered) t = Answers now s what (answer_effects answered) t
   BeginsTo drafts now s what (Unsigned draft) t = (request : List ℕ) × (what ≡ ocsp_of request) × drafts s now request draft t
 
--- an OCSP response is the answer, or is left to be signed, as the office begins it
+-- an OCSP response is the answer, or is to be signed, as the office begins it
 abbrev pub BeginsOcsp : Result (Begun OcspResponse Drafted) Memory → Begun Answered Drafted → Type 0
 BeginsOcsp (Ok (Ready response)) (Ready answered) = answer_effects answered ≡ ocsp_effects (Ok (response.kind, response.bytes.items))
 BeginsOcsp (Ok (Ready response)) (Unsigned draft) = ⊥
@@ -61,18 +61,18 @@ abbrev pub bytes_in : Result (ResponseKind × List ℕ) Memory → Result (List 
 bytes_in (Ok given) = Ok given.1
 bytes_in (Err memory) = Err memory
 
--- where the office reports no kind: one of any kind
+-- if the office reports no kind: a response of any kind
 abbrev pub of_any_kind : {S : Type 0} → (S → ℕ → List ℕ → Result (List ℕ) Memory → S → Type 0)
     → S → ℕ → List ℕ → Result (ResponseKind × List ℕ) Memory → S → Type 0
 of_any_kind ocsps s now request given t = ocsps s now request (bytes_in given) t
 
--- the response to what is asked, where OCSP responses come as bytes
+-- the response to a request, if OCSP responses are bytes without a kind
 abbrev pub RespondsTo : {S : Type 0} → (S → ℕ → Command → Result Reply Fault → S → Type 0) → (S → ℕ → Query → Result Reply Fault → S → Type 0)
     → (S → ℕ → List ℕ → Result (List ℕ) Memory → S → Type 0) → (S → Option ℕ → Result (List ℕ) Fault → S → Type 0)
     → ℕ → S → RoutedRequest → Response → S → Type 0
 RespondsTo runs asks ocsps crls now s what response t = (it : AnswerEffects) × Answers runs asks (of_any_kind ocsps) crls now s what it t × (response ≡ it.response)
 
--- the answers of an office, by its calls
+-- the answers of an office, with its relations
 abbrev pub AnswersIn : {O : Type 0} → Office O → ℕ → O → RoutedRequest → AnswerEffects → O → Type 0
 AnswersIn office = Answers (RunsIn office) (AsksIn office) (RepliesIn office) (CrlsIn office)
 

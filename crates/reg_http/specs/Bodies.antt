@@ -1,4 +1,4 @@
--- The bodies that are JSON (RFC 8259), and the response to each outcome.
+-- The JSON bodies (RFC 8259), and the response to each outcome.
 use Rattle.std.specs.Prelude.{ℕ, List, [], ◌∷◌, ◌++◌, codes, decimal, Some, None, Result, Ok, Err}
 use Rattle.reg_core.specs.Calendar.{moment_text}
 use Rattle.reg_core.specs.Lines.{fault_line}
@@ -16,7 +16,7 @@ use Rattle.reg_http_head.specs.Response.{Response}
 unfoldable pub error_text : List ℕ → List ℕ
 error_text line = codes "{\"error\":\"" ++ line ++ codes "\"}"
 
--- `{"status":"good"}` and its kin, or `{"at":"MOMENT","reason":N,"status":"revoked"}`
+-- `{"status":"good"}` or another status, or `{"at":"MOMENT","reason":N,"status":"revoked"}`
 unfoldable pub status_text : Status → List ℕ
 status_text Unknown = codes "{\"status\":\"unknown\"}"
 status_text Good = codes "{\"status\":\"good\"}"
@@ -42,7 +42,7 @@ json status body = record { status = status; kind = codes "application/json"; al
 unfoldable pub der : List ℕ → List ℕ → Response
 der kind body = record { status = 200; kind = kind; allow = None; body = body }
 
--- a refusal of HTTP itself: its own status, in the body too
+-- a refusal with an HTTP status, which is in the body too
 unfoldable pub http_refusal : ℕ → Response
 http_refusal status = json status (error_text (decimal status))
 
@@ -51,18 +51,18 @@ unfoldable pub only : List ℕ → Response
 only method =
     record { status = 405; kind = codes "application/json"; allow = Some method; body = error_text (decimal 405) }
 
--- the status of a refusal: 400 for what can't be read, 404 for no CRL, 409 for any other (RFC 9110 15.5)
+-- the status of a refusal: 400 if the request can't be read, 404 if there is no such CRL, 409 for any other (RFC 9110 15.5)
 abbrev pub refusal_status : Refusal → ℕ
 refusal_status Syntax = 400
 refusal_status NoCrl = 404
 refusal_status other = 409
 
--- the same of a fault: 500 (RFC 9110 15.6.1)
+-- the same for a fault: 500 (RFC 9110 15.6.1)
 abbrev pub fault_status : Fault → ℕ
 fault_status (Refused refused) = refusal_status refused
 fault_status other = 500
 
--- the answer to a refusal or a fault is its line
+-- the answer to a refusal or a fault has its line
 unfoldable pub fault_response : Fault → Response
 fault_response fault = json (fault_status fault) (error_text (fault_line fault))
 

@@ -1,4 +1,4 @@
--- Requests for lists, and what they are answered: the routes of an open desk alone.
+-- Requests for lists and their answers: these routes exist only at an open desk.
 use Rattle.std.specs.Prelude.{◌≡◌, ℕ, ◌==◌, List, drop, codes, bytes_eq, if◌then◌else◌, Option, Some, None, Result, Ok, Err}
 use Rattle.std.specs.List.{before_first, after_first, starts_with}
 use Rattle.percent_encoding.specs.Percent.{percent_decode}
@@ -17,34 +17,34 @@ use Rattle.reg_http.specs.AnswerEffects.{AnswerEffects, plain, fault_effects}
 use Rattle.reg_http.specs.declared.lists.ListRequest.{ListRequest}
 use Rattle.reg_http.specs.declared.lists.ListRequest.TheVariants.{OnlyGet, Unread, Page}
 
--- the page that was asked for, or that it can't be read
+-- the page that is wanted, or that it can't be read
 abbrev pub or_unread : Option PageQuery → ListRequest
 or_unread (Some wanted) = Page wanted
 or_unread None = Unread
 
--- the page that a path `/list/WORD` and its query ask for
+-- the page that is wanted by a path `/list/WORD` and its query
 abbrev pub page_of_path : List ℕ → List ℕ → ListRequest
 page_of_path path answer_effects =
     if starts_with (λ a b. a == b) path (codes "/list/") then or_unread (page_query (drop 6 path) answer_effects) else Unread
 
--- the same of a target (RFC 3986 3.3, 3.4): a path, and after `?` the query, percent-decoded
+-- the same for a target (RFC 3986 3.3, 3.4): a path, and after `?` the query, percent-decoded
 unfoldable pub page_in : List ℕ → ListRequest
 page_in target = page_of_path (before_first (λ b. b == 63) target) (percent_decode (after_first (λ b. b == 63) target))
 
--- what a request for a list asks
+-- the meaning of a request for a list
 abbrev pub list_request : List ℕ → List ℕ → ListRequest
 list_request method target = if bytes_eq method (codes "GET") then page_in target else OnlyGet
 
--- the rows of a page that are wanted, as they are written
+-- the body with the wanted rows of a page
 abbrev pub wanted_body : PageQuery → PageOf → List ℕ
 wanted_body wanted given = page_body wanted.from given.next (wanted_rows wanted.filter given.rows.items)
 
--- the same, or why there is none
+-- the answer with them, or with the fault because of which there are none
 abbrev pub given_page : PageQuery → Result PageOf Fault → AnswerEffects
 given_page wanted (Ok given) = plain (json 200 (wanted_body wanted given))
 given_page wanted (Err why) = fault_effects why
 
--- the answer to a request for a list, of records at a moment
+-- the answer to a request for a list, over records at a moment
 abbrev pub RespondsList : Records → ℕ → ListRequest → AnswerEffects → Type 0
 RespondsList records now (Page wanted) it =
     (given : Result PageOf Fault) × IsPaged records now wanted.most wanted.from given × (it ≡ given_page wanted given)

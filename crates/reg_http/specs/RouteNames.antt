@@ -1,11 +1,11 @@
--- By which route a path is dispatched and counted.
+-- The route by which a path is dispatched and counted.
 use Rattle.std.specs.Prelude.{ℕ, Bool, ◌==◌, ◌||◌, ◌+◌, nat_eq, List, [], take, drop, codes, bytes_eq, if◌then◌else◌, Some, None}
 use Rattle.std.specs.List.{position, starts_with}
 use Rattle.std.specs.declared.option.Option.{Option}
 use Rattle.reg_http.specs.declared.route.Route.{Route}
 use Rattle.reg_http.specs.declared.route.Route.TheVariants.{Ocsp, OcspRest, Crl, CrlNumber, Status, Counts, Requests, List as ListOf, Health, Metrics, Other}
 
--- the route of a path; of those that leave a part open, by how it begins
+-- the route of a path; a route with a variable part is found by the start of the path
 unfoldable pub route_at : List ℕ → Route
 route_at path =
     if bytes_eq path (codes "/ocsp") then Ocsp
@@ -28,21 +28,21 @@ is_space byte = byte == 32
 abbrev pub ends_path : ℕ → Bool
 ends_path byte = byte == 32 || byte == 63 || byte == 13 || byte == 10
 
--- what stands before this place, or all of a text where there is none
+-- the text before this index, or the whole text if there is none
 abbrev pub before : Option ℕ → List ℕ → List ℕ
 before (Some end) text = take end text
 before None text = text
 
--- what stands behind this place, or nothing where there is none
+-- the text after this index, or nothing if there is none
 abbrev pub behind : Option ℕ → List ℕ → List ℕ
 behind (Some at) text = drop (at + 1) text
 behind None text = []
 
--- a text up to the end of the path that it begins with
+-- the path with which a text begins
 abbrev pub prefix_to : List ℕ → List ℕ
 prefix_to text = before (position ends_path text) text
 
--- the path that the first line of a request names (RFC 9112 3): behind the first space, up to a `?` or to the next space
+-- the path in the first line of a request (RFC 9112 3): after the first space, up to a `?`, the next space, or the end of the line
 abbrev pub named_path : List ℕ → List ℕ
 named_path request = prefix_to (behind (position is_space request) request)
 

@@ -1,4 +1,4 @@
--- What a request asks: its route, its method, and what its path or body says.
+-- The meaning of a request, by its route, its method, and its path or body.
 use Rattle.std.specs.Prelude.{ℕ, Bool, false, ◌==◌, List, [], ◌∷◌, codes, bytes_eq, if◌then◌else◌, Option, Some, None, option_and_then, option_map}
 use Rattle.std.specs.List.{before_first}
 use Rattle.std.specs.Result.{result_ok}
@@ -17,8 +17,8 @@ use Rattle.reg_http.specs.Routes.{route}
 use Rattle.reg_http.specs.declared.route.Route.{Route}
 use Rattle.reg_http.specs.declared.route.Route.TheVariants.{Ocsp, OcspRest, Crl, CrlNumber, Status, Counts, Requests}
 
--- what is asked: a refusal of HTTP, another method than the route's, what can't be read, an OCSP request that can't be
--- decoded, or one of the five calls of the office
+-- the meaning of a request: a refusal with an HTTP status, another method than the route's, a part that can't be read, an OCSP request that
+-- can't be decoded, or one of the five calls of the office
 pub data RoutedRequest : Type 0 where
   refused : ℕ → RoutedRequest
   only : List ℕ → RoutedRequest
@@ -63,29 +63,29 @@ wanted_in value =
     (λ serial. option_map (λ word. (serial, word)) (option_and_then label_of (string_at (codes "ground") value)))
     (option_and_then serial_of (string_at (codes "serial") value))
 
--- the same in a body
+-- the request for revocation in a body
 abbrev pub wanted : List ℕ → Option (ℕ × List ℕ)
 wanted body = option_and_then wanted_in (json_of body)
 
--- what a text that was read asks, or that it can't be read
+-- the request with a value that was read, or that it can't be read
 abbrev pub or_unread : {A : Type 0} → (A → RoutedRequest) → Option A → RoutedRequest
 or_unread asks (Some value) = asks value
 or_unread asks None = unread
 
--- a request for revocation, by its serial number and the word of its ground, or that it can't be read
+-- a request for revocation, with its serial number and the word of its ground, or that it can't be read
 abbrev pub revocation_request : Option (ℕ × List ℕ) → RoutedRequest
 revocation_request wanted = or_unread (λ (it : ℕ × List ℕ). request_of it.0 it.1) wanted
 
--- an OCSP request that was decoded, or that it can't be
+-- an OCSP request that was decoded, or that it can't be decoded
 abbrev pub or_malformed : Option (List ℕ) → RoutedRequest
 or_malformed (Some request) = ocsp_of request
 or_malformed None = malformed
 
--- a route has one method; any other is refused so (RFC 9110 15.5.6)
+-- a route has one method; any other is refused with 405 (RFC 9110 15.5.6)
 abbrev pub by_method : List ℕ → List ℕ → RoutedRequest → RoutedRequest
 by_method has method asks = if bytes_eq method has then asks else only has
 
--- what is asked at a route, with what that leaves open of the path
+-- the meaning of a request at a route, with the variable part of the path
 abbrev pub asked_at : List ℕ → Route → List ℕ → List ℕ → RoutedRequest
 asked_at method Ocsp over body = by_method (codes "POST") method (ocsp_of body)
 asked_at method OcspRest over body = by_method (codes "GET") method (or_malformed (decoded over))
@@ -96,7 +96,7 @@ asked_at method Counts over body = by_method (codes "GET") method counts_of
 asked_at method Requests over body = by_method (codes "POST") method (revocation_request (wanted body))
 asked_at method _ over body = refused 404
 
--- what a request asks
+-- the meaning of a request
 abbrev pub asked : List ℕ → List ℕ → List ℕ → RoutedRequest
 asked method target body =
     if is_rooted target then asked_at method (route (path_of target)).0 (route (path_of target)).1 body else refused 400

@@ -1,4 +1,4 @@
--- Which route a path has, and how the router keeps it.
+-- The route of each path, and how the router finds it.
 use Rattle.std.specs.Prelude.{◌≡◌, ◌≤◌, ◌==◌, ℕ, List, [], ◌∷◌, ◌++◌, length, drop, codes, if◌then◌else◌, Option, Some, None, option_and_then}
 use Rattle.matchit.specs.Rows.{RowsOf, param_token, catch_all_token}
 use Rattle.matchit.specs.Seek.{has_slash}
@@ -6,7 +6,7 @@ use Rattle.reg_http.specs.declared.paths.Found.{Found}
 use Rattle.reg_http.specs.declared.route.Route.{Route}
 use Rattle.reg_http.specs.declared.route.Route.TheVariants.{Ocsp, OcspRest, Crl, CrlNumber, Status, Counts, Requests, Other}
 
--- how a path goes on after its prefix: not at all, with one segment, or with anything, a slash too
+-- what a path has after its prefix: nothing, one segment, or any bytes, slashes too
 pub data Ending : Type 0 where
   here : Ending
   one : Ending
@@ -33,13 +33,13 @@ table =
     ∷ route_line (codes "/status/") one Status
     ∷ []
 
--- the path after a prefix, where it begins with it
+-- the path after a prefix, if it begins with that
 abbrev pub path_after : List ℕ → List ℕ → Option (List ℕ)
 path_after [] path = Some path
 path_after (x ∷ prefix) [] = None
 path_after (x ∷ prefix) (b ∷ path) = if x == b then path_after prefix path else None
 
--- what is left is nothing, a segment with no slash, or any bytes but none
+-- the rest fits the ending: it is empty, a segment without a slash, or any bytes but none
 abbrev pub ended : Ending → List ℕ → Option (List ℕ)
 ended here [] = Some []
 ended here (b ∷ left) = None
@@ -48,16 +48,16 @@ ended one (b ∷ left) = if has_slash (b ∷ left) then None else Some (b ∷ le
 ended rest [] = None
 ended rest (b ∷ left) = Some (b ∷ left)
 
--- what a prefix with its ending leaves open of a path, where it takes it
+-- the variable part of a path with this prefix and ending, if it has them
 abbrev pub left : List ℕ → Ending → List ℕ → Option (List ℕ)
 left prefix ending path = option_and_then (ended ending) (path_after prefix path)
 
--- a route with what it leaves open, or the next
+-- a route with its variable part, or else the next one
 abbrev pub or_next : Route → Option (List ℕ) → Route × List ℕ → Route × List ℕ
 or_next to (Some over) next = (to, over)
 or_next to None next = next
 
--- the route of the first line that takes the path, and what it leaves open
+-- the route of the first line that the path fits, and its variable part
 abbrev pub route_in : List RouteLine → List ℕ → Route × List ℕ
 route_in [] path = (Other, [])
 route_in (l ∷ ls) path = or_next l.to (left l.prefix l.ending path) (route_in ls path)
@@ -66,13 +66,13 @@ route_in (l ∷ ls) path = or_next l.to (left l.prefix l.ending path) (route_in 
 unfoldable pub route : List ℕ → Route × List ℕ
 route path = route_in table path
 
--- the same of what the program found
+-- the same for what the program found
 abbrev pub route_seen : Found → Route × List ℕ
 route_seen found = (found.route, found.rest.now)
 
 -- ---- the router
 
--- what stands for an ending among the tokens of a pattern
+-- an ending among the tokens of a pattern
 abbrev pub mark : Ending → List ℕ
 mark here = []
 mark one = param_token ∷ []
@@ -83,7 +83,7 @@ abbrev pub rows_for : List RouteLine → RowsOf Route
 rows_for [] = []
 rows_for (l ∷ ls) = (l.prefix ++ mark l.ending, l.to) ∷ rows_for ls
 
--- how many bytes of the path a route passes over
+-- how many bytes of the path come before the variable part
 abbrev pub passed : Route → List ℕ → ℕ
 passed OcspRest path = 6
 passed CrlNumber path = 5

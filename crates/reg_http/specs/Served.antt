@@ -17,7 +17,7 @@ use Rattle.reg_http.specs.Answers.{RespondsTo}
 use Rattle.reg_http.specs.RoutedRequests.{asked as asks_for}
 use Rattle.reg_http.specs.Bodies.{http_refusal}
 
--- these bytes were taken from the reader, no more than a head and a body can have
+-- these bytes were taken from the reader, at most as many as a head and a body can have
 pub record TakesRequest (input left : Option (List ℕ)) (took : List ℕ) : Type 0 where
   pub consumed : Consumes input left took
   pub few : length took ≤ longest_head + longest_body
@@ -27,21 +27,21 @@ module _ {S : Type 0} (runs : S → ℕ → Command → Result Reply Fault → S
     (asks : S → ℕ → Query → Result Reply Fault → S → Type 0)
     (ocsps : S → ℕ → List ℕ → Result (List ℕ) NoMemory → S → Type 0)
     (crls : S → Option ℕ → Result (List ℕ) Fault → S → Type 0) where
-  -- the text of the refusal, or of what is answered; the constant text where there was no memory for an answer
+  -- the text of the refusal, or of the answer; the constant text if there was no memory for an answer
   abbrev pub Responds : ℕ → S → Part → List ℕ → S → Type 0
   Responds now s (refused status) text t = (t ≡ s) × IsText (http_refusal status) now text
   Responds now s (asked method target body) text t =
       ((response : Response) × RespondsTo runs asks ocsps crls now s (asks_for method target body) response t × IsText response now text)
       ⊎ ((t ≡ s) × (text ≡ memory_text))
 
-  -- the response to a request that was read was written whole; cut short where the writer failed; or there was no memory for it
+  -- the whole response to a request that was read was written; or a prefix, if the writer failed; or there was no memory for it
   abbrev pub ReplyEnds : ℕ → S → S → Part → Option (List ℕ) → Option (List ℕ) → Result (Unit {0}) Fault → Type 0
   ReplyEnds now s t part out written (Ok done) = (text : List ℕ) × Responds now s part text t × Appends out written text
   ReplyEnds now s t part out written (Err Write) = (text : List ℕ) × Responds now s part text t × AppendsPrefix out written text
   ReplyEnds now s t part out written (Err Memory) = Unit {0}
   ReplyEnds now s t part out written (Err other) = ⊥
 
-  -- one request was read, and of its response this was written
+  -- one request was read, and this was written of its response
   pub record Served (Wrote : List ℕ → Type 0) (now : ℕ) (s t : S) (input left : Option (List ℕ)) : Type 0 where
     pub took : List ℕ
     pub part : Part
@@ -51,8 +51,8 @@ module _ {S : Type 0} (runs : S → ℕ → Command → Result Reply Fault → S
     pub responds : Responds now s part text t
     pub wrote : Wrote text
 
-  -- served whole; less than the whole of the response, from the front, where the writer failed; else no whole request was there, or no memory
-  -- for it
+  -- the whole response was written; or a prefix of it, if the writer failed; else there was no whole request, or no memory for
+  -- it
   abbrev pub ServingEnds : ℕ → S → S → Option (List ℕ) → Option (List ℕ) → Option (List ℕ) → Option (List ℕ) → Result (Unit {0}) Fault → Type 0
   ServingEnds now s t input left out written (Ok done) = Served (Appends out written) now s t input left
   ServingEnds now s t input left out written (Err Write) = Served (AppendsPrefix out written) now s t input left

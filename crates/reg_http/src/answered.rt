@@ -1,4 +1,4 @@
-//! An answer, with what became of its signature and what it says of the store.
+//! An answer, with its effects: on the signature, on the store, and the request for revocation that it entered.
 
 ghost use Rattle.std.specs.Prelude.{◌≡◌, ◌≤◌, [], Ok, vec_capacity};
 ghost use Rattle.reg_office_api.specs.Items.{items_of};
@@ -16,27 +16,27 @@ use reg_io::Begun;
 use reg_ocsp::Draft;
 use reg_office_api::{OcspResponse, SignatureFate, StoreEffect};
 
-/// A request for revocation, as it is named where it was entered or decided.
+/// What the log names of a request for revocation that was entered or decided.
 #[derive(Clone, Copy)]
 pub struct NamedRequest {
     pub id: u64,
     pub serial: Serial,
-    /// The word of its ground, where it was entered.
+    /// The word of its ground, if it was entered.
     pub ground: Option<Label>,
 }
 
-/// An answer, with what became of its signature and what it says of the store.
+/// An answer, with what became of its signature and what it shows about the store.
 #[derive(Drop)]
 pub struct Answered {
     pub answer: Answer,
     pub signature: SignatureFate,
     pub store: StoreEffect,
-    /// The request that was entered, for the log.
+    /// The request for revocation that was entered, for the log.
     pub named: Option<NamedRequest>,
 }
 
 impl Answered {
-    /// An answer that says nothing of a signature, nor of the store.
+    /// An answer without a signature that shows nothing about the store.
     pub fn plain(answer: Answer) -> Answered
         ensures { answer_effects result ≡ plainly (shown answer) }
     {
@@ -65,8 +65,8 @@ pub(crate) fn answer_of_fault(room: Vec<u8>, fault: Fault) -> Answered
     Answered::unsigned(fault_answer(room, fault), store)
 }
 
-/// The answer whose body is the reply to a query or to a request for revocation. One to anything else, which no office gives, is answered as a fault
-/// of the store.
+/// The answer whose body is the reply to a query or to a request for revocation. Any other reply, which no office gives, is answered as a fault of
+/// the store.
 fn reply_answer(mut room: Vec<u8>, reply: Reply) -> Answered
     requires empty { room.items ≡ [] }
     requires room { 256 ≤ vec_capacity room }
@@ -100,7 +100,7 @@ pub(crate) fn outcome_answer(room: Vec<u8>, outcome: Outcome) -> Answered
     }
 }
 
-/// The answer to a command for a revocation, which names the request that it entered.
+/// The answer to a request for revocation, with what the log names of it if it was entered.
 pub(crate) fn request_answer(
     room: Vec<u8>,
     serial: Serial,
@@ -153,7 +153,7 @@ fn ocsp_answer_of(response: OcspResponse) -> Answered
     }
 }
 
-/// The answer that carries an OCSP response, or what is left to be signed for it.
+/// The answer with an OCSP response, or the draft of one that is to be signed.
 pub(crate) fn begun_answer(
     room: Vec<u8>,
     given: Result<Begun<OcspResponse, Draft>, Memory>,

@@ -1,4 +1,4 @@
-//! The bodies that are JSON, each written into room that was made for it, and the answers that carry them.
+//! The JSON bodies, each written into memory that was reserved for it, and the answers with these bodies.
 
 ghost use Rattle.std.specs.Prelude.{◌≡◌, ◌≤◌, [], IfOk, length, vec_capacity};
 ghost use Rattle.reg_http_head.specs.Response.{shown};
@@ -15,7 +15,7 @@ pub(crate) const OCSP_RESPONSE: &str = "application/ocsp-response";
 
 pub(crate) const PKIX_CRL: &str = "application/pkix-crl";
 
-/// Room for the longest body that is JSON.
+/// Reserves memory for the longest JSON body.
 pub(crate) fn json_room(alloc: Global) -> Result<Vec<u8>, Memory>
     ensures empty { IfOk result (λ room. room.items ≡ []) }
     ensures room { IfOk result (λ room. 256 ≤ vec_capacity room) }
@@ -121,7 +121,7 @@ pub(crate) fn refusal(mut room: Vec<u8>, code: u16) -> Answer
     json(code, room)
 }
 
-/// The answer to a method that the route has not, with the one that it has (RFC 9110 15.5.6).
+/// The answer to a method that the route does not have, with the one that it has (RFC 9110 15.5.6).
 #[tactic(auto, unfolding(crate::specs::Bodies::only))]
 pub(crate) fn only(mut room: Vec<u8>, method: &'static str) -> Answer
     requires empty { room.items ≡ [] }
@@ -141,7 +141,7 @@ pub(crate) fn only(mut room: Vec<u8>, method: &'static str) -> Answer
     }
 }
 
-/// The status code of a refusal or a fault: 400 for what can't be read, 404 for no CRL, 409 for any other refusal.
+/// The status code of a refusal or a fault: 400 if the request can't be read, 404 if there is no such CRL, 409 for other refusals, 500 for faults.
 fn status_of(fault: Fault) -> u16
     ensures { result ≡ fault_status fault }
 {

@@ -1,4 +1,4 @@
-//! One exchange, once its text is made: what is sent, and what is counted and logged of it.
+//! One exchange whose text is made: what is sent, counted and logged.
 
 ghost use Rattle.std.specs.Prelude.{◌≡◌, ◌≤◌, [], IfOk, vec_capacity};
 ghost use Rattle.reg_office_api.specs.Items.{items_of};
@@ -17,12 +17,12 @@ use reg_ocsp::Draft;
 use reg_office_api::{SignatureFate, StoreEffect};
 use std::alloc::Global;
 
-/// The bytes of room that are made for the text of a response before anything is asked. Each response about something entered
-/// fits, and so do most of an OCSP answer: memory can't be wanting for them once the office was asked.
+/// The bytes that are reserved for the text of a response before the office is called. The response to each request for revocation fits, and
+/// so do most OCSP responses. So there is no lack of memory for them after the call.
 const TEXT_ROOM: usize = 4_096;
 
-/// Room for the text of a response.
-/// [`Memory`] where memory is refused.
+/// Reserves memory for the text of a response.
+/// [`Memory`] if out of memory.
 pub fn text_room(alloc: Global) -> Result<Vec<u8>, Memory>
     ensures empty { IfOk result (λ room. room.items ≡ []) }
     ensures room { IfOk result (λ room. 512 ≤ vec_capacity room) }
@@ -30,11 +30,11 @@ pub fn text_room(alloc: Global) -> Result<Vec<u8>, Memory>
     Vec::with_capacity(alloc, TEXT_ROOM).map_err(|_| Memory)
 }
 
-/// One exchange, once its text is made.
+/// One exchange whose text is made.
 #[derive(Drop)]
 pub struct Exchange {
     pub route: Route,
-    /// The status code of the text; `None` where that is empty.
+    /// The status code of the text; `None` if the text is empty.
     pub status: Option<u16>,
     pub signature: SignatureFate,
     pub store: StoreEffect,
@@ -44,7 +44,7 @@ pub struct Exchange {
 }
 
 impl Exchange {
-    /// One that is answered by nothing, for which this became of its signature.
+    /// An exchange with an empty text, and this fate of its signature.
     pub fn empty(alloc: Global, route: Route, signature: SignatureFate) -> Exchange
         ensures empty { IsEmpty result }
         ensures effects { HasOnlySignature signature result }
@@ -60,7 +60,7 @@ impl Exchange {
         }
     }
 
-    /// One for whose answer there was no memory: the constant text of status 500, in room for a text.
+    /// An exchange whose answer lacked memory: the constant text of status 500, written into `room`.
     pub fn out_of_memory(route: Route, mut room: Vec<u8>) -> Exchange
         requires empty { room.items ≡ [] }
         requires room { 512 ≤ vec_capacity room }
@@ -79,7 +79,7 @@ impl Exchange {
         }
     }
 
-    /// One with this answer, in room for a text.
+    /// An exchange with this answer, written into `room`.
     pub fn of(route: Route, mut room: Vec<u8>, answered: Answered, now: Moment) -> Exchange
         requires empty { room.items ≡ [] }
         requires room { 512 ≤ vec_capacity room }
@@ -103,7 +103,7 @@ impl Exchange {
         }
     }
 
-    /// One with the OCSP response that was begun at a moment and is finished now, or none where memory runs out.
+    /// An exchange with the OCSP response that was begun at a moment and is finished now; out of memory, one with an empty text.
     pub fn finished(
         alloc: Global,
         route: Route,
@@ -128,14 +128,14 @@ impl Exchange {
     }
 }
 
-/// An OCSP response that is left to be signed, with the route that was asked.
+/// An OCSP response that is to be signed, with the route of its request.
 #[derive(Drop)]
 pub struct UnsignedResponse {
     pub route: Route,
     pub draft: Draft,
 }
 
-/// The exchange of what a request comes to at a route, in room for a text; or what is left to be signed for it.
+/// The exchange with the answer to a request at a route, written into `room`; or the response that is to be signed.
 pub fn begun_exchange(
     route: Route,
     room: Vec<u8>,
@@ -153,7 +153,7 @@ pub fn begun_exchange(
     }
 }
 
-/// Puts the text of an answer into an empty room, or the constant text where there is no memory for its body; the status of that.
+/// Writes the text of an answer into an empty `text`, or the constant text if there is no memory for its body. Returns the status.
 fn put_text(text: &mut Vec<u8>, answer: &Answer, now: Moment) -> u16
     requires empty { text.old.items ≡ [] }
     requires room { 512 ≤ vec_capacity text.old }

@@ -1,5 +1,5 @@
-//! Requests for lists, `GET /list/WORD?after=KEY&limit=N&before=MOMENT` with a filter, which an open desk alone answers: the
-//! routes of `serve` have none of them.
+//! Requests for lists, `GET /list/WORD?after=KEY&limit=N&before=MOMENT` with a filter. Only an open desk answers them; `serve`
+//! has no such route.
 
 ghost use Rattle.std.specs.Prelude.{◌≡◌, IfOk, OnErr};
 ghost use Rattle.reg_office_api.specs.Leads.{Looks};
@@ -17,18 +17,18 @@ use reg_http_head::status;
 use reg_office_api::Office;
 use std::alloc::{AllocError, Global};
 
-/// What a request for a list asks.
+/// The meaning of a request for a list.
 #[derive(Clone, Copy)]
 pub(crate) enum ListRequest {
-    /// Nothing: the route has GET alone.
+    /// Another method than GET, the only one of the route.
     OnlyGet,
-    /// The word of the list, or what is told beside it, can't be read.
+    /// The word of the list, or its query, can't be read.
     Unread,
     Page(PageQuery),
 }
 
-/// Answers a request for a list, at a moment. The records stay.
-/// [`Memory`] where memory is refused.
+/// Answers a request for a list at a moment. No record changes.
+/// [`Memory`] if out of memory.
 pub fn answer_list<O: Office>(
     alloc: Global,
     method: &Method,
@@ -91,7 +91,7 @@ fn page_behind(path: &[u8], plain_query: &[u8]) -> ListRequest
     }
 }
 
-/// The answer with the rows of a page that are wanted, or why there is none.
+/// The answer with the wanted rows of a page, or with the fault because of which there are none.
 fn answer_page(
     alloc: Global,
     wanted: &PageQuery,

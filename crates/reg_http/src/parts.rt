@@ -1,4 +1,4 @@
-//! What a request asks: read from its method, its target and its body, before any call of the office.
+//! Reads a request from its method, its target and its body, before the office is called.
 
 ghost use Rattle.std.specs.Prelude.{◌≡◌, ℕ, List, IfOk, Some, codes, option_map, option_and_then};
 ghost use Rattle.reg_core.specs.Number.{number_of};
@@ -21,20 +21,20 @@ use serde_json::{Category, Error, Value};
 use std::alloc::Global;
 use std::str;
 
-/// What a request asks.
+/// The meaning of a request.
 #[derive(Drop)]
 pub(crate) enum Part {
-    /// The OCSP response to the body.
+    /// An OCSP request in the body.
     Posted,
-    /// The OCSP response to what was decoded from the path.
+    /// An OCSP request that was decoded from the path.
     Decoded(Vec<u8>),
     Other(Call),
 }
 
-/// What is asked of the office beside OCSP responses, or why nothing is.
+/// A call of the office other than an OCSP request, or why there is no call.
 #[derive(Clone, Copy)]
 pub(crate) enum Call {
-    /// Refused by this status of HTTP.
+    /// The request is refused with this status.
     Refused(u16),
     OnlyGet,
     OnlyPost,
@@ -42,11 +42,11 @@ pub(crate) enum Call {
     Unread,
     /// The text of an OCSP request in the path can't be decoded.
     Malformed,
-    /// The CRL of this number, or the latest.
+    /// The CRL with this number, or the latest one.
     Crl(Option<u64>),
     Status(Serial),
     Counts,
-    /// The revocation of this serial number, on the ground that the word names.
+    /// A request to revoke this serial number, with the word of its ground.
     Request { serial: Serial, word: Label },
 }
 
@@ -56,7 +56,7 @@ fn is_rooted(target: &str) -> bool
     target.starts_with('/')
 }
 
-/// The OCSP request that a path carries: percent-decoded, then base64 (RFC 6960 A.1).
+/// Decodes the OCSP request in a path: percent-decoded, then base64 (RFC 6960 A.1).
 #[tactic(auto, unfolding(crate::specs::RoutedRequests::decoded))]
 fn decoded(alloc: Global, text: &[u8]) -> Result<Part, Memory>
     ensures { IfOk result (λ part. (body : List ℕ) → request_of_part body part ≡ or_malformed (decoded_in text.now)) }
@@ -127,7 +127,7 @@ fn request_in(value: &Value) -> Call
     }
 }
 
-/// A text that is no JSON can't be read; a lack of memory is reported as such.
+/// Text that is not JSON can't be read; a lack of memory is [`Memory`].
 fn unread(error: &Error) -> Result<Part, Memory>
     ensures { IfOk result (λ part. ¬ (IsMemory error.now) × (part ≡ Part.Other Call.Unread)) }
 {
@@ -171,8 +171,8 @@ fn part_at(alloc: Global, method: &Method, found: Found<'_>, body: &[u8]) -> Res
     }
 }
 
-/// What a request asks.
-/// [`Memory`] where memory is refused.
+/// Reads a request.
+/// [`Memory`] if out of memory.
 pub(crate) fn read_part(
     alloc: Global,
     method: &Method,

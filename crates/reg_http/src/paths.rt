@@ -1,4 +1,4 @@
-//! The route of each path, and the router that finds it.
+//! Finds the route of a path with a router.
 
 ghost use Rattle.std.specs.Prelude.{◌≡◌, ◌≤◌, ◌<◌, [], All, length, codes, IfOk, IsTrue, OnOk, unwrap_or};
 ghost use Rattle.matchit.specs.Router.{map_key, rename};
@@ -11,7 +11,7 @@ use matchit::{InsertError, Router};
 use reg_core::Memory;
 use std::alloc::Global;
 
-/// What the router finds: a route, with what of the path it leaves open.
+/// What the router finds: a route, and the variable part of the path.
 #[derive(Clone, Copy)]
 pub(crate) struct Found<'p> {
     pub(crate) route: Route,
@@ -61,7 +61,7 @@ fn find_which(alloc: Global, path: &str) -> Result<Route, Memory>
     requires { All (λ byte. byte < 256) path.now }
     ensures { IfOk result (IsRoute path.now) }
 {
-    // Nearly all ask for this one, and no router is made for it.
+    // Nearly all requests have this path, so it needs no router.
     if is_ocsp(path) {
         return Ok(Route::Ocsp);
     }
@@ -82,8 +82,8 @@ fn passed(route: Route, path: &[u8]) -> usize
     }
 }
 
-/// The route of a path by the router (RFC 3986 3.3), with what it leaves open.
-/// [`Memory`] where memory for the router is refused.
+/// The route that the router finds for a path (RFC 3986 3.3), and the variable part of the path.
+/// [`Memory`] if out of memory for the router.
 pub(crate) fn find_route(alloc: Global, path: &str) -> Result<Found<'_>, Memory>
     ensures { IfOk result (λ found. route_seen found ≡ route path.entry.now) }
 {

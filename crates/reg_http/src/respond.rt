@@ -1,4 +1,4 @@
-//! What is asked of the office, and what its answer says.
+//! Calls the office, and answers with its result.
 
 ghost use Rattle.std.specs.Prelude.{◌≡◌, ◌≤◌, [], codes, vec_capacity};
 ghost use Rattle.reg_http_head.specs.Response.{shown};
@@ -27,7 +27,7 @@ fn malformed(mut room: Vec<u8>) -> Answer
     der(OCSP_RESPONSE, room)
 }
 
-/// Queries the office and answers in room that was made before, so that no memory is needed after the call.
+/// Calls the office, and answers in memory that was reserved before, so that none is needed after the call.
 pub(crate) fn respond<O: Office>(
     alloc: Global,
     room: Vec<u8>,

@@ -1,15 +1,15 @@
-//! The routes of the desk, as it dispatches and counts by them.
+//! The routes of the desk, by which it dispatches and counts requests.
 
 ghost use Rattle.std.specs.Prelude.{◌≡◌, ◌<◌, IfSome, length};
 ghost use Rattle.std.specs.List.{position};
 ghost use Rattle.reg_http.specs.RoutedRequests.{path_of as path_in};
 ghost use Rattle.reg_http.specs.RouteNames.{ends_path as ends_a_path, prefix_to, is_space, named_path, named_route, route_at as route_of_path};
 
-/// A route, whatever stands at the part of the path that it leaves open.
+/// A route, with any variable part of the path.
 #[derive(Clone, Copy, PartialEq, Eq)]
 pub enum Route {
     Ocsp,
-    /// `/ocsp/{*rest}`: the request in the path, slashes too.
+    /// `/ocsp/{*rest}`: the request in the path, which may have slashes.
     OcspRest,
     Crl,
     /// `/crl/{n}`
@@ -18,25 +18,25 @@ pub enum Route {
     Status,
     Counts,
     Requests,
-    /// `/list/{word}`, at an open desk alone.
+    /// `/list/{word}`, only at an open desk.
     List,
-    /// `/health`, at an open desk alone.
+    /// `/health`, only at an open desk.
     Health,
-    /// `/metrics`, at an open desk alone.
+    /// `/metrics`, only at an open desk.
     Metrics,
     /// Any other path.
     Other,
 }
 
 impl Route {
-    /// The route of a target. One that leaves a part of the path open is told by how the path begins.
+    /// The route of a target. A route with a variable part is found by the start of the path.
     pub fn of(target: &str) -> Route
         ensures { result ≡ route_of_path (path_in target.now) }
     {
         route_at(path_of(target).as_bytes())
     }
 
-    /// The route that the first line of a request names, which may be no head.
+    /// The route that the first line of some bytes names, even if they are no valid head.
     pub fn named_in(request: &[u8]) -> Route
         ensures { result ≡ named_route request.now }
     {
@@ -54,7 +54,7 @@ pub(crate) fn path_of(target: &str) -> &str
     }
 }
 
-/// The path that a first line names: behind the first space, up to a `?`, to the next space or to the end of the line.
+/// The path in a first line: after the first space, up to a `?`, the next space, or the end of the line.
 fn path_in(request: &[u8]) -> &[u8]
     ensures { result.now ≡ named_path request.now }
 {

@@ -1,4 +1,4 @@
-//! The answer to one request, by the route table.
+//! Answers one request, by its route.
 
 ghost use Rattle.std.specs.Prelude.{◌≡◌, IfOk, OnErr, codes};
 ghost use Rattle.reg_office_api.specs.CallSteps.{Runs, Asks, Ocsps, Crls};
@@ -85,7 +85,7 @@ pub fn begin<O: Office>(
 }
 
 /// The serial number of a request for revocation whose ground has a known word; `None` for any other request.
-/// [`Memory`] where memory is refused.
+/// [`Memory`] if out of memory.
 pub fn serial_of(
     alloc: Global,
     method: &Method,
@@ -113,24 +113,24 @@ fn serial_in(call: Call) -> Option<Serial>
     }
 }
 
-/// The response to a request that met this fault, with its line.
-/// [`Memory`] where memory is refused.
+/// The response to a request that ended in this fault, with the fault's line.
+/// [`Memory`] if out of memory.
 pub fn report_fault(alloc: Global, fault: Fault) -> Result<Answered, Memory>
     ensures { IfOk result (λ answered. answer_effects answered ≡ fault_effects fault) }
 {
     Ok(answer_of_fault(json_room(alloc)?, fault))
 }
 
-/// The answer to a request that is refused by this status before the office is asked.
-/// [`Memory`] where memory is refused.
+/// The answer to a request that is refused with this status before the office is called.
+/// [`Memory`] if out of memory.
 pub fn refuse(alloc: Global, status: u16) -> Result<Answered, Memory>
     ensures { IfOk result (λ answered. answer_effects answered ≡ plain (http_refusal status)) }
 {
     Ok(Answered::plain(refusal(json_room(alloc)?, status)))
 }
 
-/// The answer to another method than GET at a route that has GET alone (RFC 9110 15.5.6).
-/// [`Memory`] where memory is refused.
+/// The answer to another method than GET at a route that has only GET (RFC 9110 15.5.6).
+/// [`Memory`] if out of memory.
 pub fn only_get(alloc: Global) -> Result<Answered, Memory>
     ensures { IfOk result (λ answered. answer_effects answered ≡ plain (only_response (codes "GET"))) }
 {

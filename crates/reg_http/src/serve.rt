@@ -1,4 +1,4 @@
-//! One request read, answered and written.
+//! Reads one request, answers it, and writes the response.
 
 ghost use Rattle.std.specs.Prelude.{◌≡◌, ◌≢◌, ◌≤◌, ◌⊎◌, [], ℕ, List, IfErr, OnOk, vec_capacity};
 ghost use Rattle.std.specs.Io.KnownBytes.{Appends};
@@ -31,7 +31,7 @@ fn send<W: Write>(writer: &mut W, room: Vec<u8>, answer: &Answer, now: Moment) -
     write_answer(writer, room, answer, now).map_err(|_| Fault::Write)
 }
 
-/// Writes the constant text that reports that memory ran out.
+/// Writes the constant text for a lack of memory.
 fn send_memory_fault<W: Write>(writer: &mut W) -> Result<(), Fault>
     ensures ok { OnOk result (Appends (W.contents writer.old) (W.contents writer.new) memory_text) }
     ensures err { IfErr result (λ fault. (fault ≡ Fault.Write)
@@ -104,14 +104,14 @@ fn reply<W: Write, O: Office>(
     }
 }
 
-/// Serves one request: reads it, answers it, and writes the response. Reads and writes come in pieces of any size. Where
-/// there was no memory for an answer, the office is as it was, and a constant response of status 500 is written.
+/// Serves one request: reads it, answers it, and writes the response. Reads and writes may be in pieces of any size. If
+/// there is no memory for an answer, the office does not change, and the constant response of status 500 is written.
 ///
 /// # Errors
 ///
-/// [`Fault::Read`] where the reader fails or ends within the request, and [`Fault::Memory`] where memory is refused before
-/// the request is answered: then nothing was written, and the office is as it was. [`Fault::Write`] where the writer fails
-/// or takes nothing more: less than the whole response went out, from the front, and the office is as the answer left it.
+/// [`Fault::Read`] if the reader fails or ends within the request, and [`Fault::Memory`] if out of memory before the request
+/// is answered: then nothing was written, and the office did not change. [`Fault::Write`] if the writer fails or accepts no
+/// more bytes: then only a prefix of the response was written, and the office is as it was after the answer.
 pub fn serve_one<R: Read, W: Write, O: Office>(
     alloc: Global,
     reader: &mut R,

@@ -1,4 +1,4 @@
--- What is known of the first bytes of a connection.
+-- What is known about the first bytes of a connection.
 use Rattle.std.specs.Prelude.{◌≡◌, ℕ, ◌+◌, ◌<◌, ◌≤◌, List, ◌++◌, length, take}
 use Rattle.httparse.specs.Grammar.{RequestHead}
 use Rattle.reg_io.specs.Mark.{EndsWith}
@@ -8,7 +8,7 @@ use Rattle.reg_http_head.specs.declared.known.HeadIn.{HeadIn}
 use Rattle.reg_http_head.specs.declared.known.Known.{Known}
 use Rattle.reg_http_head.specs.declared.known.Known.TheVariants.{Unmarked, Refused, Asked}
 
--- the bytes begin with a whole request, which comes to this part
+-- the bytes begin with a whole request, which has this meaning
 pub record HoldsRequest (bytes : List ℕ) (part : Part) : Type 0 where
   pub took : List ℕ
   pub left : List ℕ
@@ -28,20 +28,20 @@ IsUnmarked bytes count = (n : ℕ) → n ≤ count → ¬ EndsWith (take n bytes
 abbrev pub IsRefusedRequest : List ℕ → ℕ → ℕ → Type 0
 IsRefusedRequest bytes count status = Framed (take count bytes) (refused status)
 
--- a head stands at the front of the bytes so
+-- the bytes begin with this head, and its body ends at this index
 pub record NeedsBytes (bytes : List ℕ) (it : HeadIn) : Type 0 where
   pub head : RequestHead
   pub has_head : HasHead bytes it.end
   pub stands : IsHeadAt (take it.end bytes) it.spans head
   pub needed_is : it.needed ≡ it.end + it.spans.size
 
--- what is known of the bytes, however they go on
+-- what is known about the bytes, whatever comes after them
 abbrev pub Knows : List ℕ → Known → Type 0
 Knows bytes (Unmarked count) = (count ≤ length bytes) × IsUnmarked bytes count
 Knows bytes (Refused count status) = (count ≤ length bytes) × IsRefusedRequest bytes count status
 Knows bytes (Asked head) = NeedsBytes bytes head
 
--- what is known once all of the bytes were looked at: where no head ends in them, there is room for more of it
+-- what is known after all of the bytes were searched: if no head ends in them, they are fewer than the most bytes of a head
 abbrev pub IsAllKnown : List ℕ → Known → Type 0
 IsAllKnown bytes (Unmarked count) = (count ≡ length bytes) × (count < longest_head) × IsUnmarked bytes count
 IsAllKnown bytes (Refused count status) = (count ≤ length bytes) × IsRefusedRequest bytes count status

@@ -11,12 +11,12 @@ use Rattle.reg_http_head.specs.declared.request.Request.TheVariants.{Refused, As
 use Rattle.reg_http_head.specs.declared.request.RequestRef.{RequestRef}
 use Rattle.reg_http_head.specs.declared.request.RequestRef.TheVariants as collected
 
--- what the bytes come to: a refusal by its status, or what is asked by method, target and body
+-- the meaning of the bytes: a refusal with its status, or a request with method, target and body
 pub data Part : Type 0 where
   refused : ℕ → Part
   asked : List ℕ → List ℕ → List ℕ → Part
 
--- the bytes have a head and the whole of its body, and ask this
+-- the bytes are a head and the whole of its body, with this meaning
 pub record AsksFor (took method target body : List ℕ) : Type 0 where
   pub end : ℕ
   pub head : RequestHead
@@ -28,16 +28,16 @@ pub record AsksFor (took method target body : List ℕ) : Type 0 where
   pub size : body_size head ≡ Ok (length body)
   pub body_is : body ≡ take (length body) (drop end took)
 
--- the bytes are 8,192, and no head ends in them
+-- there are 8,192 bytes, and no head ends in them
 abbrev pub IsTooLong : List ℕ → Type 0
 IsTooLong took = (length took ≡ longest_head) × HasNoMark blank_line took
 
--- the head ends at this place, within the first 8,192 bytes
+-- the head ends at this index, within the first 8,192 bytes
 pub record HasHead (took : List ℕ) (end : ℕ) : Type 0 where
   pub within : end ≤ longest_head
   pub ends : FirstMark blank_line took end
 
--- what the bytes that were taken come to
+-- the meaning of the bytes that were taken
 abbrev pub Framed : List ℕ → Part → Type 0
 Framed took (refused status) =
     ((status ≡ 431) × IsTooLong took) ⊎ ((end : ℕ) × HasHead took end × RefusesHead (take end took) status)
@@ -50,20 +50,20 @@ IsUnfinished took =
     ⊎ ((end : ℕ) × (head : RequestHead) × (size : ℕ) × HasHead took end × IsHead (take end took) head
     × (body_size head ≡ Ok size) × (length took < end + size))
 
--- a fault came over these bytes: the reader failed or ended within a request, or memory was refused
+-- a fault came after these bytes: the reader failed or ended within a request, or there was no memory
 abbrev pub IsCutBy : Fault → List ℕ → Type 0
 IsCutBy why took = ((why ≡ fault.Read) × IsUnfinished took) ⊎ (why ≡ fault.Memory)
 
--- bytes were taken from a reader, no more than so many, and this is so of them
+-- bytes were taken from a reader, at most this many, and `IsSo` is true of them
 abbrev pub TakesAtMost : Option (List ℕ) → Option (List ℕ) → ℕ → (List ℕ → Type 0) → Type 0
 TakesAtMost input left most IsSo = (took : List ℕ) × Consumes input left took × (length took ≤ most) × IsSo took
 
--- what a request that was read comes to
+-- the meaning of a request that was read
 abbrev pub part_of : Request → Part
 part_of (Refused status) = refused status
 part_of (Asked method target body) = asked method (string_bytes target) body.items
 
--- the same of one that was collected
+-- the meaning of one that was collected
 abbrev pub part_of_ref : RequestRef → Part
 part_of_ref (collected.Refused status) = refused status
 part_of_ref (collected.Asked method target body) = asked method target.now body.now

@@ -1,4 +1,4 @@
--- The head of a request: where it ends, what it says, and why it is refused.
+-- The head of a request: where it ends, its meaning, and why it is refused.
 use Rattle.std.specs.Prelude.{◌≡◌, ℕ, ◌≤◌, ◌⊎◌, Bool, List, [], ◌∷◌, length, map, filter, codes, if◌then◌else◌, nat_lt, Option, Some, None, Result, Ok, Err, bytes_eq}
 use Rattle.std.specs.Char.{to_ascii_lowercase}
 use Rattle.reg_core.specs.Number.{number_of}
@@ -24,7 +24,7 @@ most_fields = 64
 abbrev pub longest_body : ℕ
 longest_body = 65536
 
--- the bytes are this head, whole, with no more than 64 fields (RFC 9112 2 to 5)
+-- the bytes are exactly this head, with at most 64 fields (RFC 9112 2 to 5)
 abbrev pub IsHead : List ℕ → RequestHead → Type 0
 IsHead bytes h = ReadsRequest bytes h [] × (length h.fields ≤ most_fields)
 
@@ -36,7 +36,7 @@ is_named name field = bytes_eq (map to_ascii_lowercase field.0) (map to_ascii_lo
 abbrev pub values_of : List ℕ → List (List ℕ × List ℕ) → List (List ℕ)
 values_of name fields = map (λ field. field.1) (filter (is_named name) fields)
 
--- a length that was read: 400 where it is no number of 1 to 18 digits, 413 where it is above 65,536 (RFC 9110 15.5.14)
+-- a length that was read: 400 if it is no number of 1 to 18 digits, 413 if it is above 65,536 (RFC 9110 15.5.14)
 abbrev pub size_in_bounds : Option ℕ → Result ℕ ℕ
 size_in_bounds None = Err 400
 size_in_bounds (Some size) = if nat_lt longest_body size then Err 413 else Ok size
@@ -56,24 +56,24 @@ size_of method fields =
     then size_by (values_of (codes "transfer-encoding") fields) (values_of (codes "content-length") fields)
     else Ok 0
 
--- the same of a head
+-- the same for a head
 abbrev pub body_size : RequestHead → Result ℕ ℕ
 body_size h = size_of h.method (map name_and_value h.fields)
 
--- why a head is refused: 431 for more than 64 fields, 400 for what is no head, or the status that its length gives
+-- why a head is refused: 431 for more than 64 fields, 400 for bytes that are no head, or the status for its length
 abbrev pub RefusesHead : List ℕ → ℕ → Type 0
 RefusesHead bytes status =
     ((status ≡ 431) × RequestExceeds most_fields bytes)
     ⊎ (((status ≡ 400) × ((h : RequestHead) → ¬ (ReadsRequest bytes h [])))
     ⊎ ((h : RequestHead) × IsHead bytes h × (body_size h ≡ Err status)))
 
--- the values of the fields of one name, as they were found: none, the one at its place in the head, or more than one
+-- the values of the fields with one name, as they were found: none, one with its position in the head, or more than one
 abbrev pub HasFieldValues : List ℕ → List (List ℕ) → Values → Type 0
 HasFieldValues head values Absent = values ≡ []
 HasFieldValues head values (One span) = IsWithin (length head) span × (values ≡ span_bytes head span ∷ [])
 HasFieldValues head values Several = 2 ≤ length values
 
--- the bytes are this head, and its parts stand in them so
+-- the bytes are this head, with its parts at these positions
 pub record IsHeadAt (bytes : List ℕ) (spans : HeadSpans) (h : RequestHead) : Type 0 where
   pub reads : IsHead bytes h
   pub method_within : IsWithin (length bytes) spans.method
@@ -82,6 +82,6 @@ pub record IsHeadAt (bytes : List ℕ) (spans : HeadSpans) (h : RequestHead) : T
   pub target_is : span_bytes bytes spans.target ≡ h.target
   pub size_is : body_size h ≡ Ok spans.size
 
--- they are a head whose parts stand so
+-- the bytes are a head with its parts at these positions
 abbrev pub HoldsHead : List ℕ → HeadSpans → Type 0
 HoldsHead bytes spans = (h : RequestHead) × IsHeadAt bytes spans h

@@ -4,7 +4,7 @@ use Rattle.httpdate.specs.Date.{unix_secs, date_text}
 use Rattle.httpdate.specs.declared.date.HttpDate.{HttpDate}
 use Rattle.reg_http_head.specs.declared.answer.Answer.{Answer}
 
--- what a response says: status code, content type, the method that a 405 allows, and body
+-- the parts of a response: status code, content type, the method that a 405 allows, and body
 pub record Response : Type 0 where
   pub status : ℕ
   pub kind : List ℕ
@@ -20,7 +20,7 @@ shown answer = record {
   body = answer.body.items;
 }
 
--- the phrase of a status code (RFC 9110 15, RFC 6585 5; of 413 the older one, RFC 7231 6.5.11); none for a code that the desk
+-- the phrase of a status code (RFC 9110 15, RFC 6585 5; for 413 the older one, RFC 7231 6.5.11); none for a code with which the desk
 -- never answers
 abbrev pub phrase : ℕ → List ℕ
 phrase status =
@@ -36,7 +36,7 @@ phrase status =
     else (if status == 500 then codes "Internal Server Error"
     else (if status == 503 then codes "Service Unavailable" else []))))))))))
 
--- a line of a start and a value, with its CR LF
+-- a line with a prefix and a value, and its CR LF
 unfoldable pub field_line : List ℕ → List ℕ → List ℕ
 field_line start value = start ++ value ++ 13 ∷ 10 ∷ []
 
@@ -53,7 +53,7 @@ allow_line (Some method) = field_line (codes "Allow: ") method
 unfoldable pub retry_line : ℕ → List ℕ
 retry_line status = if status == 429 then field_line (codes "Retry-After: ") (codes "60") else []
 
--- the status line and the fields, up to and with the empty line; the connection is closed after each response (RFC 9112 9.6)
+-- the status line and the fields, up to and including the empty line; the connection is closed after each response (RFC 9112 9.6)
 unfoldable pub head_text : List ℕ → Response → List ℕ
 head_text date response =
     status_line response.status
@@ -74,7 +74,7 @@ abbrev pub IsText : Response → ℕ → List ℕ → Type 0
 IsText response moment text =
     (date : List ℕ) × IsDateOf moment date × (text ≡ head_text date response ++ response.body)
 
--- what is written where there was no memory for an answer: a response of status 500 with no body
+-- the response if there was no memory for another one: status 500, without a body
 unfoldable pub memory_text : List ℕ
 memory_text =
     field_line (codes "HTTP/1.1 500 Internal Server Error") []

@@ -3,13 +3,13 @@
 ghost use Rattle.std.specs.Prelude.{◌≤◌, length, option_map};
 ghost use Rattle.reg_http_head.specs.Allow.{allowed};
 
-/// The answer to one request. Contracts speak of its parts as bytes.
+/// The answer to one request. Contracts describe its parts as bytes.
 #[derive(Drop)]
 pub struct Answer {
     pub status: u16,
     /// The media type of the body, at most 64 bytes.
     pub kind: &'static str,
-    /// Of a 405 the method that the route has, at most 64 bytes.
+    /// For a 405, the method that the route has, at most 64 bytes.
     pub allow: Option<&'static str>,
     pub body: Vec<u8>,
     ghost short_kind: { length kind.now ≤ 64 },

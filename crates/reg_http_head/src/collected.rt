@@ -1,4 +1,4 @@
-//! The bytes of a connection, as they come, until they hold a whole request.
+//! Collects the bytes of a connection until they hold a whole request.
 
 ghost use Rattle.std.specs.Prelude.{◌≡◌, ◌≤◌, length, IfErr, IfOk};
 ghost use Rattle.reg_http_head.specs.Collected.{HoldsRequest, Knows, NeedsBytes};
@@ -9,8 +9,8 @@ use crate::request::RequestRef;
 use reg_core::Fault;
 use std::alloc::{AllocError, Global};
 
-/// The bytes that came on a connection. Each of them is searched once for the end of a head, and the head is read once,
-/// in however many pieces they come.
+/// The bytes that came on a connection. In however many pieces they come, each byte is searched only once for the end of the
+/// head, and the head is read only once.
 #[derive(Drop)]
 pub struct Collected {
     bytes: Vec<u8>,
@@ -39,7 +39,7 @@ impl Collected {
         self.bytes.as_slice()
     }
 
-    /// Takes more bytes behind those that came before. An error comes only where what is held has no capacity for them; none was taken then.
+    /// Appends bytes. An error means that there is no memory for them; then none was appended.
     pub fn add(&mut self, more: &[u8]) -> Result<(), AllocError>
         ensures ok { OnOk result (collected_bytes self.new ≡ collected_bytes self.old ++ more.now) }
         ensures err { OnErr result (collected_bytes self.new ≡ collected_bytes self.old) }
@@ -49,7 +49,7 @@ impl Collected {
         self.bytes.extend_from_slice(more)
     }
 
-    /// Whether the bytes begin with a whole request (RFC 9112 2.1): asked with all of its body, or refused by its head.
+    /// Whether the bytes begin with a whole request (RFC 9112 2.1): one with all of its body, or one whose head is refused.
     pub fn is_whole(&mut self) -> bool
         ensures same { collected_bytes self.new ≡ collected_bytes self.old }
         ensures whole { result ≡ true → ∥ IsWholeRequest (collected_bytes self.old) ∥₁ }
@@ -63,7 +63,7 @@ impl Collected {
         }
     }
 
-    /// Whether the bytes were found to be one whole request that is asked, and nothing behind it.
+    /// Whether the bytes were found to be one whole request that is not refused, with nothing after it.
     pub fn is_exact(&self) -> bool
         ensures { result ≡ true → ∥ IsExact (collected_bytes self.now) ∥₁ }
     {
@@ -73,8 +73,8 @@ impl Collected {
         }
     }
 
-    /// The request that the bytes begin with, in slices of them. [`Fault::Read`] where they hold no whole request, [`Fault::Memory`] where
-    /// memory is refused.
+    /// The request with which the bytes begin, in slices of them. [`Fault::Read`] if they hold no whole request, [`Fault::Memory`] if there is
+    /// no memory.
     pub fn request(&self, alloc: Global) -> Result<RequestRef<'_>, Fault>
         ensures ok { IfOk result (λ request. ∥ HoldsRequest (collected_bytes self.now) (part_of_ref request) ∥₁) }
         ensures err { IfErr result (λ fault.

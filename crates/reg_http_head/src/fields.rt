@@ -1,4 +1,4 @@
-//! The fields of a head for the length of its body.
+//! Finds the length of the body from the fields of a head.
 
 ghost use Rattle.std.specs.Prelude.{◌≡◌, ◌++◌, ◌∷◌, [], ℕ, List, codes, length, map, All};
 ghost use Rattle.httparse.specs.Spans.{header_bytes, IsHeaderWithin};
@@ -33,7 +33,7 @@ fn with_field(head: &[u8], field: &HeaderSpan, name: &[u8], values: Values) -> V
     }
 }
 
-/// The values of the fields of this name, which is compared without regard to case (RFC 9110 5.1).
+/// The values of the fields with this name, which is compared without regard to case (RFC 9110 5.1).
 fn values_of(head: &[u8], fields: &[HeaderSpan], name: &[u8]) -> Values
     requires { All (IsHeaderWithin (length head.now)) fields.now }
     ensures { HasFieldValues head.now (values_of name.now (map (header_bytes head.now) fields.now)) result }

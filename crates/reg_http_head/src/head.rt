@@ -15,7 +15,7 @@ use std::str;
 
 const MOST_FIELDS: usize = 64;
 
-/// A head that was read: where its parts stand in its bytes, and how long the body is.
+/// A head that was read: the positions of its parts in its bytes, and the length of the body.
 #[derive(Clone, Copy)]
 pub(crate) struct HeadSpans {
     pub(crate) method: Span,
@@ -25,7 +25,7 @@ pub(crate) struct HeadSpans {
 }
 
 impl HeadSpans {
-    /// The method: a token, so only memory can be refused.
+    /// The method. It is a token, so the only error is a lack of memory.
     pub(crate) fn method_in(self, alloc: Global, head: &[u8]) -> Result<Method, Memory>
         requires { ∥ HoldsHead head.now self ∥₁ }
         ensures { IfOk result (λ method. method ≡ span_bytes head.now self.method) }
@@ -44,8 +44,8 @@ impl HeadSpans {
     }
 }
 
-/// Reads a head whole, with its empty line, or gives the status that refuses it: 431 for more than 64 fields, 400 where the bytes are no
-/// head for another cause, and for a POST those of its length.
+/// Reads a whole head, with its empty line. The error is the status that refuses it: 431 for more than 64 fields, 400 for any other bytes that
+/// are no head, and for a POST the status for its length.
 pub(crate) fn read_head(head: &[u8]) -> Result<HeadSpans, u16>
     ensures ok { IfOk result (HoldsHead head.now) }
     ensures small { IfOk result (λ spans. spans.size ≤ longest_body) }
@@ -61,7 +61,7 @@ pub(crate) fn read_head(head: &[u8]) -> Result<HeadSpans, u16>
                 size,
             })
         }
-        // The head that was read ends before the empty line: at an empty line of LF alone.
+        // The parser found a head that ends before the CR LF CR LF: at an empty line with LF alone.
         Ok(Status::Complete(_)) => Err(status::BAD_REQUEST),
         Ok(Status::Partial) => Err(status::BAD_REQUEST),
         Err(Error::TooManyHeaders) => Err(status::HEADERS_TOO_LARGE),

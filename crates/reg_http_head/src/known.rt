@@ -1,4 +1,4 @@
-//! What is known of the bytes of a connection, so that none of them is searched twice.
+//! What is known about the bytes of a connection, so that none is searched twice.
 
 ghost use Rattle.reg_http_head.specs.Frame.{HasHead};
 ghost use Rattle.reg_http_head.specs.Collected.{IsUnmarked, Knows, IsAllKnown};
@@ -8,17 +8,17 @@ use crate::request::{BLANK_LINE, LONGEST_HEAD};
 use crate::status;
 use reg_io::first_mark;
 
-/// What is known of the first bytes.
+/// What is known about the first bytes.
 #[derive(Clone, Copy)]
 pub(crate) enum Known {
-    /// No head ends in so many bytes.
+    /// No head ends in the first bytes, up to this count.
     Unmarked(usize),
-    /// So many bytes are refused with this status.
+    /// The first bytes, up to this count, are refused with this status.
     Refused(usize, u16),
     Asked(HeadIn),
 }
 
-/// A head that stands at the front of the bytes, where it ends, and where the body behind it does.
+/// A head at the start of the bytes, the index where it ends, and that where its body ends.
 #[derive(Clone, Copy)]
 pub(crate) struct HeadIn {
     pub(crate) spans: HeadSpans,
@@ -26,7 +26,7 @@ pub(crate) struct HeadIn {
     pub(crate) needed: usize,
 }
 
-/// What is known of the bytes once all of them are looked at.
+/// What is known about the bytes after all of them were searched.
 pub(crate) fn told(bytes: &[u8], known: Known) -> Known
     requires { ∥ Knows bytes.now known ∥₁ }
     ensures { ∥ IsAllKnown bytes.now result ∥₁ }
@@ -38,7 +38,7 @@ pub(crate) fn told(bytes: &[u8], known: Known) -> Known
     }
 }
 
-/// What is known of the bytes once they are searched for the end of a head, which none of the first `searched` is.
+/// What is known about the bytes after they were searched for the end of a head, of which there is none in the first `searched`.
 fn searched_on(bytes: &[u8], searched: usize) -> Known
     requires { IsUnmarked bytes.now searched }
     ensures { IsAllKnown bytes.now result }

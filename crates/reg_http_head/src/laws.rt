@@ -1,13 +1,13 @@
-//! What is proved of the definitions: a function here does nothing, and its contract is the law.
+//! Laws of the definitions: a function here does nothing, and its contract is the law.
 
 ghost use Rattle.reg_http_head.specs.Laws.{ArePhrases, IsOneRequest, IsOneText};
 
-/// The phrases of the desk's status codes are those that the crate `http` gives them.
+/// The phrases of the desk's status codes are those of the crate `http`.
 pub fn phrases()
     ensures { ArePhrases }
 {}
 
-/// The bytes that were taken ask one thing: a method, a target and a body.
+/// The bytes of a request have one meaning: a method, a target and a body.
 pub fn one_request()
     ensures { IsOneRequest }
 {}

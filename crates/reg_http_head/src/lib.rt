@@ -1,4 +1,4 @@
-//! The head of an HTTP/1.1 request read exactly, and the text of a response written exactly.
+//! Parses the head of an HTTP/1.1 request, and writes the text of a response, exactly as RFC 9112 defines them.
 #![tactic(auto)]
 
 mod answer;

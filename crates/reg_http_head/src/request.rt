@@ -1,4 +1,4 @@
-//! One request over any reader.
+//! Reads one request from any reader.
 
 ghost use Rattle.std.specs.Prelude.{◌≡◌, ◌+◌, ◌<◌, ◌≤◌, ◌++◌, ◌⊎◌, ℕ, List, length, take, IfOk, IfErr, OnOk, OnErr};
 ghost use Rattle.std.specs.Io.KnownBytes.{Consumes};
@@ -22,19 +22,19 @@ pub(crate) const BLANK_LINE: &[u8] = b"\r\n\r\n";
 /// A request that was read.
 #[derive(Drop)]
 pub enum Request {
-    /// It is refused before any route, with this status.
+    /// The head is refused with this status, before any route is found.
     Refused(u16),
     Asked {
         /// The method (RFC 9110 9.1).
         method: Method,
         /// The target, as it stands in the request line (RFC 9112 3.2).
         target: String,
-        /// The body; of no bytes where the method is not POST.
+        /// The body; empty if the method is not POST.
         body: Vec<u8>,
     },
 }
 
-/// A request that was collected: the same as [`Request`], in slices of its bytes.
+/// A request that was collected: as [`Request`], but in slices of the collected bytes.
 #[derive(Drop)]
 pub enum RequestRef<'b> {
     Refused(u16),
@@ -45,8 +45,8 @@ pub enum RequestRef<'b> {
     },
 }
 
-/// Reads one request (RFC 9112 2.1): its head, up to the first CR LF CR LF, and the body of a POST. No more than a head of 8,192 bytes and
-/// a body of 65,536 are taken. [`Fault::Read`] where the reader fails or ends within it, [`Fault::Memory`] where memory is refused.
+/// Reads one request (RFC 9112 2.1): its head, up to the first CR LF CR LF, and the body of a POST. It reads at most a head of 8,192 bytes and
+/// a body of 65,536. [`Fault::Read`] if the reader fails or ends within them, [`Fault::Memory`] if there is no memory.
 pub fn read_request<R: Read>(alloc: Global, reader: &mut R) -> Result<Request, Fault>
     ensures ok { IfOk result (λ request. TakesAtMost (R.remaining reader.old) (R.remaining reader.new)
         (longest_head + longest_body) (λ took. Framed took (part_of request))) }

@@ -1,4 +1,4 @@
-//! The text of a response (RFC 9112 4 to 6), and its way out.
+//! Makes and writes the text of a response (RFC 9112 4 to 6).
 
 ghost use Rattle.std.specs.Prelude.{◌≡◌, ◌+◌, ◌≤◌, ◌++◌, ℕ, List, [], length, OnOk, OnErr, option_map, vec_capacity};
 ghost use Rattle.std.specs.Io.KnownBytes.{Appends};
@@ -14,10 +14,10 @@ use reg_io::{WriteFault, write_whole};
 use std::alloc::AllocError;
 use std::io::Write;
 
-/// The bytes of room that [`write_answer`] wants for the head of a response.
+/// The bytes of capacity that [`write_answer`] needs for the head of a response.
 pub const HEAD_ROOM: usize = 512;
 
-/// Appends bytes for which there is room. It takes no memory.
+/// Appends bytes for which there is capacity, without an allocation.
 pub fn put(out: &mut Vec<u8>, bytes: &[u8])
     requires { length out.old.items + length bytes.now ≤ vec_capacity out.old }
     ensures items { out.new.items ≡ out.old.items ++ bytes.now }
@@ -71,7 +71,7 @@ fn put_status_line(out: &mut Vec<u8>, code: u16)
     put_line(out, b" ", phrase(code));
 }
 
-/// Appends the line that names the method of a 405, where one is named (RFC 9110 10.2.1).
+/// Appends the field with the method that a 405 allows, if there is one (RFC 9110 10.2.1).
 #[tactic(auto, unfolding(crate::specs::Response::allow_line))]
 fn put_allow(out: &mut Vec<u8>, allow: Option<&'static str>)
     requires short { length (allowed (option_map (λ method. method.now) allow)) ≤ 64 }
@@ -85,7 +85,7 @@ fn put_allow(out: &mut Vec<u8>, allow: Option<&'static str>)
     }
 }
 
-/// Appends the field that asks the client to wait a minute, in a 429 alone (RFC 9110 10.2.3).
+/// Appends the field that asks the client to wait a minute, only in a 429 (RFC 9110 10.2.3).
 #[tactic(auto, unfolding(crate::specs::Response::retry_line))]
 fn put_retry(out: &mut Vec<u8>, code: u16)
     requires { length out.old.items + 32 ≤ vec_capacity out.old }
@@ -124,7 +124,7 @@ fn date_of(now: Moment) -> [u8; 29]
     HttpDate::from_unix_secs(now.secs()).unwrap().to_bytes()
 }
 
-/// Puts the response into an empty room. Where memory for its body is refused, its head stands in the room.
+/// Writes the response into an empty `text`. If there is no memory for its body, `text` has only its head.
 pub fn put_answer(text: &mut Vec<u8>, answer: &Answer, now: Moment) -> Result<(), AllocError>
     requires empty { text.old.items ≡ [] }
     requires room { HEAD_ROOM ≤ vec_capacity text.old }
@@ -138,7 +138,7 @@ pub fn put_answer(text: &mut Vec<u8>, answer: &Answer, now: Moment) -> Result<()
     }
 }
 
-/// The constant response that says that there was no memory for an answer.
+/// The constant response for a lack of memory.
 #[tactic(auto, unfolding(crate::specs::Response::memory_text, crate::specs::Response::field_line))]
 pub fn memory_fault() -> &'static [u8]
     ensures text { result.now ≡ memory_text }
@@ -147,7 +147,7 @@ pub fn memory_fault() -> &'static [u8]
     b"HTTP/1.1 500 Internal Server Error\r\nConnection: close\r\nContent-Length: 0\r\n\r\n"
 }
 
-/// Writes the response: its head, made in the room, and the body. A [`WriteFault`] comes where the writer fails or takes nothing more.
+/// Writes the response: its head, made in `room`, and the body. [`WriteFault`] if the writer fails or accepts no more bytes.
 pub fn write_answer<W: Write>(
     writer: &mut W,
     mut room: Vec<u8>,

@@ -1,4 +1,4 @@
-//! The status codes that the desk answers with (RFC 9110 15).
+//! The status codes with which the desk answers (RFC 9110 15).
 
 /// 200: the answer is in the body.
 pub const OK: u16 = 200;
@@ -6,11 +6,11 @@ pub const OK: u16 = 200;
 pub const BAD_REQUEST: u16 = 400;
 /// 404: no route has the path, or there is no such CRL.
 pub const NOT_FOUND: u16 = 404;
-/// 405: the route has another method.
+/// 405: the route has another method than the request.
 pub const METHOD_NOT_ALLOWED: u16 = 405;
-/// 409: the register refuses.
+/// 409: the register refuses the request.
 pub const CONFLICT: u16 = 409;
-/// 411: a body's length is not given by Content-Length.
+/// 411: the length of the body is not given by Content-Length.
 pub const LENGTH_REQUIRED: u16 = 411;
 /// 413: the body is longer than 65,536 bytes.
 pub const PAYLOAD_TOO_LARGE: u16 = 413;
@@ -20,5 +20,5 @@ pub const TOO_MANY_REQUESTS: u16 = 429;
 pub const HEADERS_TOO_LARGE: u16 = 431;
 /// 500: a fault of the desk.
 pub const INTERNAL_SERVER_ERROR: u16 = 500;
-/// 503: the open desk is not healthy, or it keeps the rest of the requests table for the control socket.
+/// 503: the open desk is not healthy, its clock is too far ahead, or it keeps the rest of the requests table for the control socket.
 pub const SERVICE_UNAVAILABLE: u16 = 503;

@@ -1,4 +1,4 @@
--- What a reading into a buffer does to the bytes that the reader has left (input, then left) and to the buffer (before, then after).
+-- Reads into a buffer: what they do to the bytes that the reader has left (input, then left), and to the buffer (before, then after).
 use Rattle.std.specs.Prelude.{◌≡◌, ℕ, ◌+◌, ◌<◌, ◌≤◌, ◌++◌, List, length, take, drop}
 use Rattle.std.specs.declared.option.Option.{Option}
 use Rattle.std.specs.Io.KnownBytes.{Consumes, IsAtEnd}
@@ -6,32 +6,32 @@ use Rattle.reg_io.specs.declared.fill.Reached.{Reached}
 use Rattle.reg_io.specs.declared.fill.Reached.TheVariants.{Mark, Full, End}
 use Rattle.reg_io.specs.Mark.{FirstMark, HasNoMark}
 
--- these bytes were taken from the reader, and stand in the buffer behind the first `buffered`, which stayed
+-- these bytes were taken from the reader, and are in the buffer after the first `buffered` bytes, which stayed the same
 pub record Fills (input left : Option (List ℕ)) (before after : List ℕ) (buffered : ℕ) (took : List ℕ) : Type 0 where
   pub consumed : Consumes input left took
   pub within : buffered + length took ≤ length after
   pub stands : take (buffered + length took) after ≡ take buffered before ++ took
 
--- how many bytes are held where a reading came to rest, in a buffer of this size
+-- how many bytes a buffer of this size has after the read
 abbrev pub kept_of_reading : ℕ → Reached → ℕ
 kept_of_reading size (Mark end buffered) = buffered
 kept_of_reading size Full = size
 kept_of_reading size (End buffered) = buffered
 
--- what holds where a reading came to rest: the first mark is held, or the buffer is full of bytes without a mark, or the reader is at its end
+-- what holds after a read: the buffer has the first mark, or is full without a mark, or the reader is at its end
 abbrev pub RestsAt : List ℕ → List ℕ → Option (List ℕ) → Reached → Type 0
 RestsAt mark buffer left (Mark end buffered) = (end ≤ buffered) × FirstMark mark buffer end
 RestsAt mark buffer left Full = HasNoMark mark buffer
 RestsAt mark buffer left (End buffered) = (buffered < length buffer) × HasNoMark mark (take buffered buffer) × IsAtEnd left
 
--- a reading up to a mark: some bytes were taken, and these and no others are held where it came to rest
+-- a read up to a mark: these bytes were taken, and the buffer has them after the bytes before, and no others
 pub record FillsTo (mark : List ℕ) (input left : Option (List ℕ)) (before after : List ℕ) (buffered : ℕ) (reached : Reached) : Type 0 where
   pub took : List ℕ
   pub fills : Fills input left before after buffered took
   pub count : kept_of_reading (length after) reached ≡ buffered + length took
   pub rests : RestsAt mark after left reached
 
--- a reading up to a mark that failed: some bytes were taken before, they leave room, and no mark is held
+-- a read up to a mark that failed: these bytes were taken before that, the buffer is not full, and has no mark
 pub record FillsShort (mark : List ℕ) (input left : Option (List ℕ)) (before after : List ℕ) (buffered : ℕ) : Type 0 where
   pub took : List ℕ
   pub fills : Fills input left before after buffered took
@@ -40,13 +40,13 @@ pub record FillsShort (mark : List ℕ) (input left : Option (List ℕ)) (before
 
 -- ---- laws
 
--- what is held where a reading came to rest are the bytes that were held before, and those that were taken
+-- after a read, the buffer has the bytes that it had before, and then those that were taken
 abbrev pub KeepsWhatWasTaken : Type 0
 KeepsWhatWasTaken =
     (mark : List ℕ) (input left : Option (List ℕ)) (before after : List ℕ) (buffered : ℕ) (reached : Reached)
     → (to : FillsTo mark input left before after buffered reached) → take (kept_of_reading (length after) reached) after ≡ take buffered before ++ to.took
 
--- at a mark these are the bytes up to its end, and those that are held behind it
+-- if the read stopped at a mark, these are the bytes up to its end, and then those after it
 abbrev pub PartsAtMark : Type 0
 PartsAtMark =
     (mark : List ℕ) (input left : Option (List ℕ)) (before after : List ℕ) (buffered end now : ℕ)

@@ -1,4 +1,4 @@
--- A mark, which is some bytes that end a part of an input: LF ends a line, CR LF CR LF a head (RFC 9112 2.1).
+-- Marks: bytes that end a part of an input. LF ends a line, and CR LF CR LF ends a header section (RFC 9112 2.1).
 use Rattle.std.specs.Prelude.{◌≡◌, ◌≢◌, ℕ, ◌<◌, ◌≤◌, List, [], ◌∷◌, ◌++◌, length, take}
 use Rattle.std.specs.List.{All}
 
@@ -6,11 +6,11 @@ use Rattle.std.specs.List.{All}
 abbrev pub EndsWith : List ℕ → List ℕ → Type 0
 EndsWith bytes mark = (prefix : List ℕ) × (bytes ≡ prefix ++ mark)
 
--- no mark is in the bytes: none of their fronts ends with it
+-- the bytes do not contain the mark: no prefix of them ends with it
 abbrev pub HasNoMark : List ℕ → List ℕ → Type 0
 HasNoMark mark bytes = (n : ℕ) → ¬ EndsWith (take n bytes) mark
 
--- the first mark in the bytes ends at this place: the front up to there ends with it, and no shorter one does
+-- the first mark in the bytes ends at index `end`: the prefix of that length ends with it, and no shorter prefix does
 pub record FirstMark (mark bytes : List ℕ) (end : ℕ) : Type 0 where
   pub within : end ≤ length bytes
   pub here : EndsWith (take end bytes) mark
@@ -18,29 +18,29 @@ pub record FirstMark (mark bytes : List ℕ) (end : ℕ) : Type 0 where
 
 -- ---- laws
 
--- there is one first mark
+-- bytes have at most one first mark
 abbrev pub OneFirstMark : Type 0
 OneFirstMark = (mark bytes : List ℕ) (m n : ℕ) → FirstMark mark bytes m → FirstMark mark bytes n → m ≡ n
 
--- it stays the first, however the bytes go on
+-- the first mark stays the first if more bytes follow
 abbrev pub FirstMarkGoesOn : Type 0
 FirstMarkGoesOn = (mark bytes more : List ℕ) (end : ℕ) → FirstMark mark bytes end → FirstMark mark (bytes ++ more) end
 
--- and in each front of the bytes that it is in
+-- the first mark is also the first in each prefix that contains it
 abbrev pub FirstMarkInPrefix : Type 0
 FirstMarkInPrefix = (mark bytes : List ℕ) (end count : ℕ) → FirstMark mark bytes end → end ≤ count → FirstMark mark (take count bytes) end
 
--- no mark is in a front of the bytes where none of the fronts up to its end ends with it
+-- a prefix does not contain the mark if no prefix of at most its length ends with the mark
 abbrev pub NoMarkInPrefix : Type 0
 NoMarkInPrefix =
     (mark bytes : List ℕ) (count : ℕ) → ((n : ℕ) → n ≤ count → ¬ EndsWith (take n bytes) mark) → HasNoMark mark (take count bytes)
 
--- up to the first mark of one byte stand other bytes, and then that byte
+-- the bytes up to the first mark of one byte are other bytes, and then that byte
 abbrev pub FirstMarkOfByte : Type 0
 FirstMarkOfByte =
     (byte : ℕ) (bytes : List ℕ) (end : ℕ) → FirstMark (byte ∷ []) bytes end
     → (prefix : List ℕ) × (take end bytes ≡ prefix ++ byte ∷ []) × All (λ b. b ≢ byte) prefix
 
--- where a mark of one byte is not in the bytes, none of them is that byte
+-- bytes that do not contain a mark of one byte do not contain that byte
 abbrev pub NoMarkOfByte : Type 0
 NoMarkOfByte = (byte : ℕ) (bytes : List ℕ) → HasNoMark (byte ∷ []) bytes → All (λ b. b ≢ byte) bytes

@@ -1,8 +1,8 @@
--- Runs of an office: it is asked one thing after the other, and answers each.
+-- Runs: an object, such as an office, answers one request after another.
 use Rattle.std.specs.Prelude.{◌≡◌, List, [], ◌∷◌, ◌++◌}
 
--- Asked these things in turn from s on, the office gives these answers, one for each, and is t afterwards.
--- `answers s q a t` is one step: asked q at s, the office answers a and is t.
+-- From the state s on, the object answers the requests `asked` with the answers `given`, one for each, and is then in the state t.
+-- `answers s q a t` is one step: in the state s, the request q gets the answer a, and t is the state after it.
 abbrev pub Answered : {S Q A : Type 0} → (S → Q → A → S → Type 0) → S → List Q → List A → S → Type 0
 Answered answers s [] [] t = t ≡ s
 Answered {S = S} answers s (q ∷ asked) (a ∷ given) t = (m : S) × answers s q a m × Answered answers m asked given t
@@ -11,13 +11,13 @@ Answered answers s (q ∷ asked) [] t = ⊥
 
 -- ---- laws
 
--- a run, and another from where it ended, are a run
+-- a run, and another one from its end, together are a run
 abbrev pub RunsGoOn : {S Q A : Type 0} → (S → Q → A → S → Type 0) → Type 0
 RunsGoOn {S = S} {Q = Q} {A = A} answers =
     (s m t : S) (asked : List Q) (given : List A) (more : List Q) (others : List A)
     → Answered answers s asked given m → Answered answers m more others t → Answered answers s (asked ++ more) (given ++ others) t
 
--- and so are a run and one step more
+-- so are a run and one more step
 abbrev pub RunsStepOn : {S Q A : Type 0} → (S → Q → A → S → Type 0) → Type 0
 RunsStepOn {S = S} {Q = Q} {A = A} answers =
     (s m t : S) (asked : List Q) (given : List A) (q : Q) (a : A)

@@ -1,6 +1,6 @@
-//! What is ready, or left to be signed.
+//! A result that is ready, or one that must be signed first.
 
-/// What is ready, or what is left to be signed for it.
+/// A result that is ready, or what must be signed to complete it.
 #[derive(Drop)]
 pub enum Begun<R, U> {
     Ready(R),

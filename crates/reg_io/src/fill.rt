@@ -1,4 +1,4 @@
-//! Reading into a buffer, behind the bytes that it holds already.
+//! Reads into a buffer, after the bytes that it has already.
 
 ghost use Rattle.std.specs.Prelude.{◌≡◌, ℕ, ◌+◌, ◌<◌, ◌≤◌, ◌++◌, List, length, take, IfOk, MatchOption, OnErr, OnOk};
 ghost use Rattle.std.specs.Io.KnownBytes.{Consumes, IsAtEnd};
@@ -7,11 +7,11 @@ ghost use Rattle.reg_io.specs.Fill.{Fills, FillsShort, FillsTo};
 
 use std::io::Read;
 
-/// The reader failed, or it ended before the buffer was whole.
+/// The reader failed, it ended before the buffer was full, or the buffer was full before the reader ended.
 #[derive(Clone, Copy, PartialEq, Eq)]
 pub struct ReadFault;
 
-/// Where a reading up to a mark came to rest, with so many held bytes at the front of the buffer.
+/// Why a read up to a mark stopped: at the end of the first mark, with a full buffer, or at the reader's end. `buffered` bytes are in the buffer.
 #[derive(Clone, Copy, PartialEq, Eq)]
 pub enum Reached {
     Mark { end: usize, buffered: usize },
@@ -19,8 +19,8 @@ pub enum Reached {
     End { buffered: usize },
 }
 
-/// Reads on behind the first `buffered` bytes of `buf` until the held bytes contain the mark or fill the buffer, or the reader is at its end.
-/// [`ReadFault`] at the first read that fails, of whatever kind.
+/// Reads into `buf` after its first `buffered` bytes, until the buffered bytes contain the mark or fill the buffer, or the reader is at its end.
+/// [`ReadFault`] at the first read that fails, even with `Interrupted`.
 pub fn fill_to_mark<R: Read>(
     reader: &mut R,
     buf: &mut [u8],
@@ -34,7 +34,7 @@ pub fn fill_to_mark<R: Read>(
     ensures err { OnErr result (FillsShort mark.now
         (R.remaining reader.old) (R.remaining reader.new) buf.old buf.new buffered) }
 
-    // Where a mark is held already, or there is no room, nothing is read.
+    // If the buffer has a mark already, or is full, nothing is read.
     ensures marked { (end : ℕ) → end ≤ buffered → EndsWith (take end buf.old) mark.now
         → (reader.new ≡ reader.old) × (buf.new ≡ buf.old) }
     ensures no_room { buffered ≡ length buf.old → (reader.new ≡ reader.old) × (buf.new ≡ buf.old) }
@@ -60,7 +60,7 @@ pub fn fill_to_mark<R: Read>(
     }
 }
 
-/// Where the first mark ends among the first `buffered` bytes, none of whose first `searched` ends one.
+/// The end of the first mark in the first `buffered` bytes. The caller knows that no mark ends within the first `searched` bytes.
 pub fn first_mark(buf: &[u8], buffered: usize, mark: &[u8], searched: usize) -> Option<usize>
     requires buffered_fits { buffered ≤ length buf.now }
     requires none_before { (n : ℕ) → n ≤ searched → ¬ EndsWith (take n buf.now) mark.now }
@@ -76,8 +76,8 @@ pub fn first_mark(buf: &[u8], buffered: usize, mark: &[u8], searched: usize) -> 
     None
 }
 
-/// Reads on behind the first `buffered` bytes of `buf` until the buffer is full. [`ReadFault`] at the first read that fails, of whatever kind,
-/// and where the reader ends before.
+/// Reads into `buf` after its first `buffered` bytes, until the buffer is full. [`ReadFault`] at the first read that fails, even with
+/// `Interrupted`, and if the reader ends before.
 pub fn fill_whole<R: Read>(reader: &mut R, buf: &mut [u8], buffered: usize) -> Result<(), ReadFault>
     requires { buffered ≤ length buf.old }
     ensures ok { OnOk result ((took : List ℕ)
@@ -98,8 +98,8 @@ pub fn fill_whole<R: Read>(reader: &mut R, buf: &mut [u8], buffered: usize) -> R
     Ok(())
 }
 
-/// Reads until the reader is at its end, and returns how many bytes came. They stand at the front of `buf`, which is longer. [`ReadFault`] at
-/// the first read that fails, of whatever kind, and where the buffer is full before.
+/// Reads until the reader is at its end, and returns how many bytes came. They are at the front of `buf`, which must be longer. [`ReadFault`] at
+/// the first read that fails, even with `Interrupted`, and if the buffer is full before.
 pub fn fill_to_end<R: Read>(reader: &mut R, buf: &mut [u8]) -> Result<usize, ReadFault>
     ensures came { IfOk result (λ count.
         Consumes (R.remaining reader.old) (R.remaining reader.new) (take count buf.new)) }

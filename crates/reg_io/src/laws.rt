@@ -1,11 +1,11 @@
-//! The functions do nothing: their contracts are laws, which proofs above cite by `proofs/PublicLaws.antt`.
+//! Laws of reads, writes and runs: contracts of functions that do nothing. Proofs in other crates cite them by `proofs/PublicLaws.antt`.
 
 ghost use Rattle.reg_io.specs.Fill.{KeepsWhatWasTaken, PartsAtMark};
 ghost use Rattle.reg_io.specs.Mark.{OneFirstMark, FirstMarkGoesOn, FirstMarkInPrefix, NoMarkInPrefix, FirstMarkOfByte, NoMarkOfByte};
 ghost use Rattle.reg_io.specs.Put.{PrefixOfFirst, PrefixOfSecond};
 ghost use Rattle.reg_io.specs.RunsOfAnswers.{RunsGoOn, RunsStepOn};
 
-/// Bytes have one first mark. It stays the first where the bytes go on, and where they end anywhere behind it.
+/// Bytes have at most one first mark. It is also the first in longer bytes that begin with these, and in each prefix that contains it.
 pub fn one_first_mark()
     ensures one { OneFirstMark }
     ensures longer { FirstMarkGoesOn }
@@ -13,35 +13,35 @@ pub fn one_first_mark()
     ensures none { NoMarkInPrefix }
 {}
 
-/// A mark of one byte is the first of these bytes, and no such byte stands where no mark is.
+/// The first mark of one byte is the first such byte, and bytes without such a mark don't contain the byte.
 pub fn marks_of_one_byte()
     ensures first { FirstMarkOfByte }
     ensures none { NoMarkOfByte }
 {}
 
-/// Where a reading came to rest, the bytes are held that were held before and that it took, and no others.
+/// After a read up to a mark, the buffer has the bytes that it had before and those that were taken, and no others.
 pub fn kept_is_what_was_taken()
     ensures all { KeepsWhatWasTaken }
     ensures parts { PartsAtMark }
 {}
 
-/// A writing of two parts that broke off left a front of the first part, or that part and a front of the second.
+/// A write of two parts that failed wrote a proper prefix of the first part, or that part and a proper prefix of the second.
 pub fn prefixes_of_two_parts()
     ensures first { PrefixOfFirst }
     ensures second { PrefixOfSecond }
 {}
 
-/// What is asked one thing after the other. No type implements it: the law of runs needs a relation to range over.
+/// An object that answers one request after another. No type implements it: it only gives the law of runs a relation.
 pub trait AnswersInTurn {
     type Asked;
 
     type Given;
 
-    // One thing is asked and answered.
+    // One step: the object before, a request, its answer, and the object after.
     ghost answers: { Self → Self.Asked → Self.Given → Self → Type 0 };
 }
 
-/// A run goes on: with another run from where it ended, or with one step more.
+/// A run can be continued by a run that begins where it ended, and by one step.
 pub fn runs_go_on<O: AnswersInTurn>()
     ensures runs { RunsGoOn O.answers }
     ensures steps { RunsStepOn O.answers }

@@ -1,4 +1,4 @@
-//! Writing a slice whole.
+//! Writes a whole slice.
 
 ghost use Rattle.std.specs.Prelude.{OnErr, OnOk};
 ghost use Rattle.std.specs.Io.KnownBytes.{Appends};
@@ -6,12 +6,12 @@ ghost use Rattle.reg_io.specs.Put.{AppendsPrefix};
 
 use std::io::Write;
 
-/// The writer failed, or took no byte of what was left.
+/// The writer failed, or took 0 bytes.
 #[derive(Clone, Copy, PartialEq, Eq)]
 pub struct WriteFault;
 
-/// Writes all of the bytes, in as many writes as the writer needs. [`WriteFault`] at the first write that fails, of whatever kind, or that
-/// takes 0 bytes: exactly what the writes before it took went out.
+/// Writes all of the bytes, in as many writes as the writer needs. [`WriteFault`] at the first write that fails, even with `Interrupted`, or that
+/// takes 0 bytes. The bytes that earlier writes took are written.
 pub fn write_whole<W: Write>(writer: &mut W, bytes: &[u8]) -> Result<(), WriteFault>
     ensures ok { OnOk result (Appends (W.contents writer.old) (W.contents writer.new) bytes.now) }
     ensures err { OnErr result

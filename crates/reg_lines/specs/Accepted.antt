@@ -13,12 +13,12 @@ use Rattle.reg_lines.specs.declared.answered.RefusedCommand.{RefusedCommand}
 use Rattle.reg_io.specs.Put.{AppendsPrefix}
 use Rattle.reg_io.specs.declared.put.WriteFault.{WriteFault}
 
--- a reply that is accepted: a refusal begins with E and a fault with F (69 and 70), and that steps are no schedule with b (98)
+-- an accepted reply: a refusal begins with E and a fault with F (69 and 70), and the replies `bad-policy` and `bad-clock` with b (98)
 abbrev pub IsAccepted : List ℕ → Type 0
 IsAccepted [] = Unit {0}
 IsAccepted (first ∷ rest) = ¬ (first ≡ 69) × ¬ (first ≡ 70) × ¬ (first ≡ 98)
 
--- replies of which the last is the first that is a refusal or a fault
+-- replies of which only the last one is a refusal or a fault
 pub record EndsRefused (replies : List (List ℕ)) : Type 0 where
   pub accepted : List (List ℕ)
   pub refused : List ℕ
@@ -26,25 +26,25 @@ pub record EndsRefused (replies : List (List ℕ)) : Type 0 where
   pub each : AllByRecursion IsAccepted accepted
   pub last : ¬ IsAccepted refused
 
--- where a command was refused, the reply gives the reason
+-- if a command was refused, the reply has the reason
 abbrev pub GivesReason : Option RefusedCommand → List ℕ → Type 0
 GivesReason refused reply = IfSome refused (λ command. reply ≡ with_lf (refusal_line command.why))
 
--- whether a run goes on behind a reply: a strict one, only behind one that is accepted
+-- whether a run goes on after a reply: a strict one, only after an accepted one
 abbrev pub GoesOn : Bool → List ℕ → Passed → Type 0
 GoesOn is_strict reply On = IsTrue is_strict → IsAccepted reply
 GoesOn is_strict reply (Refused refused) = IsTrue is_strict × (¬ IsAccepted reply) × GivesReason refused reply
 
--- the bytes were written, or at a fault a front of them
+-- the bytes were written; or, after a fault, a prefix of them
 abbrev pub Wrote : Option (List ℕ) → Option (List ℕ) → List ℕ → Result (Unit {0}) WriteFault → Type 0
 Wrote out out' bytes (Ok done) = Appends out out' bytes
 Wrote out out' bytes (Err fault) = AppendsPrefix out out' bytes
 
--- a reply was written, and whether the run goes on behind it; or a front of it was
+-- a reply was written, with whether the run goes on after it; or a prefix of it was
 abbrev pub WritesReply : Bool → Option (List ℕ) → Option (List ℕ) → List ℕ → Result Passed WriteFault → Type 0
 WritesReply is_strict out out' reply (Ok passed) = Appends out out' reply × GoesOn is_strict reply passed
 WritesReply is_strict out out' reply (Err fault) = AppendsPrefix out out' reply
 
--- how a run ends, wherever it ended that met no fault
+-- the result of a run, without where it ended
 abbrev pub done_of : {A : Type 0} → Result A Fault → Result (Unit {0}) Fault
 done_of ran = result_map_both (λ ended. tt) (λ fault. fault) ran

@@ -22,7 +22,7 @@ abbrev pub reply_of : Answered → List ℕ
 reply_of (CameTo what outcome) = with_lf (outcome_line outcome)
 reply_of (Response reply) = reply.line.items
 
--- whether it is neither a refusal nor a fault
+-- whether the result is neither a refusal nor a fault
 abbrev pub accepts : Answered → Bool
 accepts (CameTo what outcome) = is_ok outcome
 accepts (Response reply) = true
@@ -32,36 +32,36 @@ abbrev pub refused_of : Answered → Option RefusedCommand
 refused_of (CameTo (Command command) (Err (Refused why))) = Some (record { command = command; why = why })
 refused_of other = None
 
--- what a line comes to that can't be read
+-- the result of a line that can't be read
 abbrev pub unreadable : Answered
 unreadable = CameTo Nothing (Err (Refused Syntax))
 
--- the reply to an OCSP request with this response, which refuses where it has five bytes: a status and nothing else (RFC 6960 4.2.1)
+-- the reply to an OCSP request with this response; it is a refusal if it has five bytes, which is only a status (RFC 6960 4.2.1)
 pub record IsReplyOf (response : List ℕ) (reply : OcspReply) : Type 0 where
   pub line : reply.line.items ≡ with_lf (codes "ocsp " ++ encode_lower response)
   pub refuses : reply.is_refusal ≡ (length response == 5)
 
--- what a line with an OCSP request comes to by what it was given; or there was no memory for the request, the response or its digits
+-- the result of a line with an OCSP request, by the response; or there was no memory for the request, the response or its digits
 abbrev pub OcspLineComesTo : Result (List ℕ) NoMemory → Answered → Type 0
 OcspLineComesTo given (CameTo what outcome) = (what ≡ Ocsp) × (outcome ≡ Err Memory)
 OcspLineComesTo (Ok response) (Response reply) = IsReplyOf response reply
 OcspLineComesTo (Err memory) (Response reply) = ⊥
 
--- Lines, run by an office: `s` is the office before, `t` after. `answers` is the relation of its calls, as `Lines`.
+-- Lines that an office runs: `s` is the office before, `t` after. `answers` is the relation of its calls, as `Lines`.
 module _ {S : Type 0} (answers : S → ℕ → Call → S → Type 0) where
-  -- the office is asked this at a moment, and it comes to that
+  -- the office gets this call at a moment, with this result
   abbrev pub OfficeAnswers : ℕ → S → Meaning → Answered → S → Type 0
   OfficeAnswers now s (means_command command) answered t = (outcome : Result Reply Fault) × answers s now (ran command outcome) t × (answered ≡ CameTo (Command command) outcome)
   OfficeAnswers now s (means_query query) answered t = (outcome : Result Reply Fault) × answers s now (asked query outcome) t × (answered ≡ CameTo (Query query) outcome)
   OfficeAnswers now s (is_ocsp_line request) answered t = (given : Result (List ℕ) NoMemory) × answers s now (responded request given) t × OcspLineComesTo given answered
 
-  -- a command line, at a moment: the office is asked what it means; or it is unreadable, and nothing is asked
+  -- a command line at a moment: the office gets the call that it means; or it is unreadable, and the office gets no call
   abbrev pub ComesTo : ℕ → S → List ℕ → Answered → S → Type 0
   ComesTo now s line answered t =
       ((meaning : Meaning) × LineMeans line meaning × OfficeAnswers now s meaning answered t)
       ⊎ (IsUnreadable line × (answered ≡ unreadable) × (t ≡ s))
 
-  -- a line of a script: a moment and a command line; or it begins with no moment, and is unreadable
+  -- a line of a script: a moment and a command line; or it does not begin with a moment, and is unreadable
   abbrev pub TimedComesTo : S → List ℕ → Answered → S → Type 0
   TimedComesTo s line answered t =
       ((now : ℕ) × (command : List ℕ) × HasMoment line now command × ComesTo now s command answered t)
@@ -72,7 +72,7 @@ module _ {S : Type 0} (answers : S → ℕ → Call → S → Type 0) where
   LineComesTo told true = λ s line answered t. (now : ℕ) × told now × ComesTo now s line answered t
   LineComesTo told false = TimedComesTo
 
--- a line and its reply, by what it comes to
+-- a line and its reply, by its result
 abbrev pub Replied : {S : Type 0} → (S → List ℕ → Answered → S → Type 0) → S → List ℕ → List ℕ → S → Type 0
 Replied comes_to s line reply t = (answered : Answered) × comes_to s line answered t × (reply ≡ reply_of answered)
 
@@ -80,6 +80,6 @@ Replied comes_to s line reply t = (answered : Answered) × comes_to s line answe
 abbrev pub LineReplies : {S : Type 0} → (S → ℕ → Call → S → Type 0) → (ℕ → Type 0) → Bool → S → List ℕ → List ℕ → S → Type 0
 LineReplies answers told is_clocked = Replied (LineComesTo answers told is_clocked)
 
--- the same as an office runs it for a host
+-- the same, as an office runs it for a host
 abbrev pub HostLines : {O H : Type 0} → Office O → Host H → H → O → List ℕ → List ℕ → O → Type 0
 HostLines office hosts host = LineReplies (LineCalls office) hosts.clock_reached (hosts.clocked host)

@@ -1,4 +1,4 @@
--- What a line asks of an office.
+-- The calls of an office for a line.
 use Rattle.std.specs.Prelude.{◌≡◌, ◌<◌, ℕ, List, Result, Err}
 use Rattle.reg_office_api.specs.CallSteps.{Signs, Runs, Asks, Ocsps}
 use Rattle.reg_office_api.specs.Leads.{Leads}
@@ -12,29 +12,29 @@ use Rattle.reg_core.specs.declared.memory.Memory.{Memory}
 use Rattle.reg_core.specs.declared.refusal.Fault.{Fault}
 use Rattle.reg_core.specs.declared.refusal.Fault.TheVariants.{Signer}
 
--- a call of an office, and what it came to: a command, a query, or an OCSP request by its bytes (RFC 6960 4.1)
+-- a call of an office, and its result: a command, a query, or the bytes of an OCSP request (RFC 6960 4.1)
 pub data Call : Type 0 where
   ran : Command → Result Reply Fault → Call
   asked : Query → Result Reply Fault → Call
   responded : List ℕ → Result (List ℕ) Memory → Call
 
--- what a line asks and is answered over the records at a moment, by what each call comes to
+-- the result of each call for a line, over the records at a moment
 abbrev pub Lines : Signs → Signatory → Records → ℕ → Call → Records → Type 0
 Lines signs signatory before now (ran command outcome) after = Runs signs signatory before now command outcome after
 Lines signs signatory before now (asked query outcome) after = Asks before now query outcome after
 Lines signs signatory before now (responded request given) after = Ocsps signs signatory before now request given after
 
--- a call came to a fault of the signer of CRLs
+-- the result of a call is a fault of the signer
 abbrev pub FailsToSign : Call → Type 0
 FailsToSign (ran command outcome) = outcome ≡ Err Signer
 FailsToSign (asked query outcome) = outcome ≡ Err Signer
 FailsToSign (responded request given) = ⊥
 
--- where a call came to a fault of the signer, the signer counted a failure: how many it had counted before and after
+-- if the result of a call is a fault of the signer, the signer counted a failure: its count before and after
 abbrev pub CountsFailure : ℕ → Call → ℕ → Type 0
 CountsFailure before call after = FailsToSign call → before < after
 
--- what a line asks, asked of an office: a step of the records that stand in it, at which its signer counts what it fails
+-- a call for a line, made of an office: a step of the records that stand in it, in which its signer counts its failures
 abbrev pub LineCalls : {O : Type 0} → Office O → O → ℕ → Call → O → Type 0
 LineCalls office s now call t =
     Leads office.is_clean office.stands (λ signatory before after. Lines office.signs signatory before now call after) s t

@@ -29,11 +29,11 @@ use Rattle.reg_lines.specs.Replies.{outcome_line, with_lf}
 abbrev pub most_bytes : ℕ
 most_bytes = 16777216
 
--- a row, as csv gives it: the bytes of each field
+-- a row, as the crate `csv` reads it: the bytes of each field
 abbrev pub Row : Type 0
 Row = List (List ℕ)
 
--- these are all the rows of a text (RFC 4180), as csv reads them: a byte order mark in front is passed over, a line with nothing in it is no row
+-- these are all rows of a text (RFC 4180), as `csv` reads them: it skips a byte order mark at the start and empty lines
 abbrev pub AreCsvRows : List ℕ → List Row → Type 0
 AreCsvRows text rows = AreRecords default_config st.StartRecord (strip_bom text) rows
 
@@ -51,32 +51,32 @@ are_names (Some names) =
 abbrev pub is_header : Row → Bool
 is_header row = are_names (four row)
 
--- the rows but for a header, which only the first one can be
+-- the rows without a header, which only the first one can be
 abbrev pub data_rows : List Row → List Row
 data_rows [] = []
 data_rows (row ∷ rows) = if is_header row then rows else row ∷ rows
 
--- a row's fields, behind the word `register`, spell the command
+-- the fields of a row, after the word `register`, spell the command
 abbrev pub RowMeans : Row → Command → Type 0
 RowMeans row command = SpellsCommand command (codes "register" ∷ row)
 
--- One row and its reply at a moment: the office `s` becomes `t`. A row that spells no command is unreadable, and the office is not asked.
+-- One row and its reply at a moment: the office `s` becomes `t`. If a row spells no command, it is unreadable, and the office gets no call.
 abbrev pub RowReplies : {S : Type 0} → (S → ℕ → Call → S → Type 0) → ℕ → S → Row → List ℕ → S → Type 0
 RowReplies answers now s row reply t =
     ((command : Command) × (outcome : Result Reply Fault) × RowMeans row command × answers s now (ran command outcome) t
     × (reply ≡ with_lf (outcome_line outcome)))
     ⊎ (((command : Command) → ¬ RowMeans row command) × (reply ≡ with_lf (outcome_line (Err (Refused Syntax)))) × (t ≡ s))
 
--- What was written of the rows of a text: the output before and after.
+-- What was written for the rows of a text: the output before and after.
 module _ (text : List ℕ) (out out' : Option (List ℕ)) where
-  -- the replies to rows of the text were written and nothing else: to all of them, or to the first ones
+  -- only the replies to rows of the text were written: to all of them, or to the first ones
   pub record RepliedRows (Are : List ℕ → List Row → Type 0) : Type 0 where
     pub rows : List Row
     pub replies : List (List ℕ)
     pub are : Are text rows
     pub wrote : Appends out out' (concat replies)
 
-  -- those to its first rows were, and a front of that to the row after them, which is no header
+  -- the replies to its first rows were written, and a prefix of the reply to the row after them, which is no header
   pub record CutRow : Type 0 where
     pub rows : List Row
     pub replies : List (List ℕ)
@@ -88,38 +88,38 @@ module _ (text : List ℕ) (out out' : Option (List ℕ)) where
     pub partly : part < length reply
     pub wrote : Appends out out' (concat replies ++ take part reply)
 
--- Rows of a text that ran at a moment, in turn: the office, and what was written, before and after.
+-- Rows of a text that ran at a moment, in order: the office, and the output, before and after.
 module _ {S : Type 0} (answers : S → ℕ → Call → S → Type 0) (now : ℕ) (s t : S) (out out' : Option (List ℕ)) (text : List ℕ) where
-  -- these ones
+  -- these rows
   abbrev pub RowsRan : (List ℕ → List Row → Type 0) → Type 0
   RowsRan Are = (ran : RepliedRows text out out' Are) × Answered (RowReplies answers now) s (data_rows ran.rows) ran.replies t
 
-  -- all of them, or the first ones
+  -- all rows, or the first ones
   abbrev pub AllRan : Type 0
   AllRan = RowsRan AreCsvRows
 
   abbrev pub FirstRan : Type 0
   FirstRan = RowsRan AreFirstRows
 
-  -- the first ones, and one whose reply was cut
+  -- the first rows, and one of whose reply only a prefix was written
   abbrev pub OneCut : Type 0
   OneCut = (cut : CutRow text out out') × (middle : S) × Answered (RowReplies answers now) s (data_rows cut.rows) cut.replies middle
       × RowReplies answers now middle cut.row cut.reply t
 
--- the text was taken whole
+-- the whole text was read
 pub record TookAll (input input' : Option (List ℕ)) (text : List ℕ) : Type 0 where
   pub consumed : Consumes input input' text
   pub at_end : IsAtEnd input'
   pub fits : length text ≤ most_bytes
 
--- bytes were taken, one more than the most of an import at most, and then a read failed or there was one byte too many
+-- bytes were read, at most one more than an import may have, and then a read failed or there was one byte too many
 abbrev pub TookSome : Option (List ℕ) → Option (List ℕ) → Type 0
 TookSome input input' = (took : List ℕ) × Consumes input input' took × (length took ≤ most_bytes + 1)
 
--- Rows that run at a moment, strictly or not: the office, and what was written, before and after.
+-- Rows that run at a moment, strictly or not: the office, and the output, before and after.
 module _ {S : Type 0} (answers : S → ℕ → Call → S → Type 0) (is_strict : Bool) (now : ℕ) (s t : S) where
-  -- How the run of a text's rows ends: whether each ran, or at a fault. Of a strict one each reply is accepted, or the last one is the
-  -- first that is not, and no row behind it ran.
+  -- How the run of a text's rows ends: each ran, or there was a fault. In a strict run all replies are accepted; or only the last one is not, and
+  -- no row after it ran.
   abbrev pub RowsEnd : Option (List ℕ) → Option (List ℕ) → List ℕ → Result Passed Fault → Type 0
   RowsEnd out out' text (Ok On) =
       (run : AllRan answers now s t out out' text) × (IsTrue is_strict → AllByRecursion IsAccepted run.0.replies)
@@ -132,14 +132,14 @@ module _ {S : Type 0} (answers : S → ℕ → Call → S → Type 0) (is_strict
       (run : FirstRan answers now s t out out' text) × (IsTrue is_strict → AllByRecursion IsAccepted run.0.replies)
   RowsEnd out out' text (Err other) = ⊥
 
--- How an import ends: the whole text was taken, and its rows ran so; or the input failed or the import was out of memory before the first row,
--- and nothing ran.
+-- How an import ends: the whole text was read, and its rows ran with this result; or the input failed, or there was no memory before the first
+-- row, and nothing ran.
 abbrev pub EndsBy : {S R W A : Type 0} → (R → Option (List ℕ)) → S → S → R → R → W → W → (List ℕ → Result A Fault → Type 0) → Result A Fault → Type 0
 EndsBy remaining s t reader reader' writer writer' Ran result =
     ((text : List ℕ) × TookAll (remaining reader) (remaining reader') text × Ran text result)
     ⊎ (((result ≡ Err Read) ⊎ (result ≡ Err Memory)) × TookSome (remaining reader) (remaining reader') × (t ≡ s) × (writer' ≡ writer))
 
--- the run of a text's rows at a moment, of which no refusal ends it
+-- the run of a text's rows at a moment, which goes on after a refusal
 abbrev pub ImportRan : {S : Type 0} → (S → ℕ → Call → S → Type 0) → ℕ → S → S → Option (List ℕ) → Option (List ℕ) → List ℕ
     → Result (Unit {0}) Fault → Type 0
 ImportRan answers now s t out out' text result =
@@ -153,14 +153,14 @@ ImportEnds answers remaining contents now s t reader reader' writer writer' =
 
 -- ---- the steps of an import
 
--- how the reading of the text ends
+-- how reading the text ends
 abbrev pub TextRead : Option (List ℕ) → Option (List ℕ) → Result (List ℕ) Fault → Type 0
 TextRead input input' (Ok text) = TookAll input input' text
 TextRead input input' (Err Read) = TookSome input input'
 TextRead input input' (Err Memory) = TookSome input input'
 TextRead input input' (Err other) = ⊥
 
--- a reader has read no row yet, takes the first one as any other, and leaves their fields as they are
+-- a CSV reader that has read no row yet, takes the first one for no header, and does not trim fields
 pub record IsAtStart (rows : Reader (Bor (List ℕ))) : Type 0 where
   pub untrimmed : reader_trim rows ≡ trim.None
   pub ready : Ready rows
@@ -173,13 +173,13 @@ ReadsText rows text = source_of (λ (s : Bor (List ℕ)). Some s.now) rows ≡ S
 
 -- One row that runs at a moment, strictly or not.
 module _ {S : Type 0} (answers : S → ℕ → Call → S → Type 0) (is_strict : Bool) (now : ℕ) (s t : S) where
-  -- a row ran, and its reply was written, or a front of it
+  -- a row ran, and its reply, or a prefix of that, was written
   pub record RanRow (row : Row) (out out' : Option (List ℕ)) (result : Result Passed WriteFault) : Type 0 where
     pub reply : List ℕ
     pub replied : RowReplies answers now s row reply t
     pub said : WritesReply is_strict out out' reply result
 
-  -- a row ran, or was passed over as the header, if it is the first one
+  -- a row ran; or it is the first one and a header, and was skipped
   abbrev pub TookRow : Bool → Row → Option (List ℕ) → Option (List ℕ) → Result Passed WriteFault → Type 0
   TookRow first row out out' result =
       (((first && is_header row) ≡ true) × (t ≡ s) × (result ≡ Ok On) × Appends out out' [])

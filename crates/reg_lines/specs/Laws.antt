@@ -1,4 +1,4 @@
--- Laws over the definitions: a row of an import is read as what it means, and a text that is imported twice.
+-- Laws of the definitions: what is read from a row is what it means; and a text that is imported twice.
 use Rattle.std.specs.Prelude.{◌≡◌, ◌⊎◌, ℕ, List, Option, Result, Some, codes}
 use Rattle.std.specs.List.{AllByRecursion, AllZip}
 use Rattle.reg_core.specs.Records.{Records}
@@ -16,30 +16,30 @@ use Rattle.reg_lines.specs.Replies.{outcome_line, with_lf}
 use Rattle.reg_office_api.specs.CallSteps.{Signs}
 use Rattle.reg_office_api.specs.Signatories.{Signatory}
 
--- fields that spell a registration are read as it
+-- fields that spell a registration are read as that registration
 abbrev pub RegistrationsAreRead : Type 0
 RegistrationsAreRead =
     (order serial not_before not_after : ℕ) (fields : List (List ℕ)) → SpellsRegister order serial not_before not_after fields
     → register_of fields ≡ Some (Register order serial not_before not_after)
 
--- a row means the command that is read of it
+-- a row means the command that is read from it
 abbrev pub RowsMeanWhatIsRead : Type 0
 RowsMeanWhatIsRead = (row : Row) (command : Command) → register_of row ≡ Some command → RowMeans row command
 
--- ---- imports that come twice, in the words of what an import writes
+-- ---- a text that is imported twice, by the replies
 
 -- the reply is a fault of memory, store, signer, input or output
 abbrev pub IsFaultLine : List ℕ → Type 0
 IsFaultLine reply = (outcome : Result Reply Fault) × (reply ≡ with_lf (outcome_line outcome)) × IsFault outcome
 
--- a row that was answered `registered` or `same` is answered `same` the second time, or a fault is replied
+-- a row with the reply `registered` or `same` gets the reply `same` the second time, or a fault
 abbrev pub RepliedAgain : List ℕ → List ℕ → Type 0
 RepliedAgain first second =
     (first ≡ with_lf (codes "registered")) ⊎ (first ≡ with_lf (codes "same")) → (second ≡ with_lf (codes "same")) ⊎ IsFaultLine second
 
--- Of a text that is imported twice at one moment, with nothing between, where each row ran both times and no fault was replied the
--- first time, over records that hold together, whatever signed their CRLs: the second time adds no certificate, and each of its replies
--- is as above.
+-- A text is imported twice at one moment, with nothing between, over sound records and with any signer of their CRLs. If each row ran both
+-- times, and no reply was a fault the first time, the second import adds no certificate, and each of its replies is as
+-- above.
 abbrev pub ImportsTextTwice : Signs → Type 0
 ImportsTextTwice signs =
     (identity : Signatory)

@@ -1,4 +1,4 @@
--- The same grammar as a function: what is read from fields, one after the other.
+-- The same grammar as a function: what is read from the fields of a line, in order.
 use Rattle.std.specs.Prelude.{ℕ, Bool, ◌&&◌, List, [], ◌∷◌, length, codes, bytes_eq, nat_le, nat_lt, if◌then◌else◌, cond, Option, Some, None, option_map, option_and_then}
 use Rattle.std.specs.List.{list_all}
 use Rattle.std.specs.Result.{result_ok}
@@ -47,7 +47,7 @@ four_at first second third fourth fifth = if fifth then None else (do
   d ← fourth
   Some (a, b, c, d))
 
--- a value, where no field is left
+-- a value, if no field is left
 abbrev pub alone : {A : Type 0} → A → List (List ℕ) → Option A
 alone value [] = Some value
 alone value (a ∷ rest) = None
@@ -59,7 +59,7 @@ number_alone fields = option_and_then number_of (one fields)
 unfoldable pub serial_alone : List (List ℕ) → Option ℕ
 serial_alone fields = option_and_then serial_of (one fields)
 
--- what each word says, by the fields after it: `subscriber NAME`
+-- the meaning of each word, with the fields after it: `subscriber NAME`
 unfoldable pub subscriber_of : List (List ℕ) → Option Command
 subscriber_of fields = do
   field ← one fields
@@ -83,7 +83,7 @@ register_by all = do
   not_after ← moment_of all.3
   Some (Register order serial not_before not_after)
 
--- the same, where there are four
+-- the same, if there are four
 unfoldable pub register_of : List (List ℕ) → Option Command
 register_of fields = option_and_then register_by (four fields)
 
@@ -103,7 +103,7 @@ hex_of digits = cond (nat_lt 0 (length digits)) (result_ok (decode_of digits)) N
 unfoldable pub ocsp_of : List (List ℕ) → Option (List ℕ)
 ocsp_of fields = option_and_then hex_of (one fields)
 
--- what a word asks, with the fields after it; any other word says nothing
+-- the query or OCSP request of a word and the fields after it; any other word has no meaning
 unfoldable pub asked_by : List ℕ → List (List ℕ) → Option Meaning
 asked_by word fields =
     if bytes_eq word (codes "status") then option_map means_query (option_map Status (serial_alone fields))
@@ -114,7 +114,7 @@ asked_by word fields =
     else if bytes_eq word (codes "ocsp") then option_map is_ocsp_line (ocsp_of fields)
     else None
 
--- what a word says of a revocation or a CRL; any other asks
+-- the command of a word for a revocation or a CRL; any other word may be a query
 unfoldable pub revoking_by : List ℕ → List (List ℕ) → Option Meaning
 revoking_by word fields =
     if bytes_eq word (codes "request") then option_map means_command (request_of fields)
@@ -123,7 +123,7 @@ revoking_by word fields =
     else if bytes_eq word (codes "crl") then option_map means_command (alone Crl fields)
     else asked_by word fields
 
--- what a word and the fields after it say: a registration's word, or one of those above
+-- the meaning of a word and the fields after it: a registration, or one of those above
 unfoldable pub said_by : List ℕ → List (List ℕ) → Option Meaning
 said_by word fields =
     if bytes_eq word (codes "subscriber") then option_map means_command (subscriber_of fields)
@@ -131,7 +131,7 @@ said_by word fields =
     else if bytes_eq word (codes "register") then option_map means_command (register_of fields)
     else revoking_by word fields
 
--- what fields say: a word, and the fields of what is told or asked
+-- the meaning of the fields of a line: its word, and the fields after it
 unfoldable pub said_of : List (List ℕ) → Option Meaning
 said_of [] = None
 said_of (word ∷ fields) = said_by word fields

@@ -1,4 +1,4 @@
--- The grammar of command lines: what each means, as the spellings of each meaning; and of lines of a script, which begin with a moment.
+-- The grammar of command lines: the spellings of each meaning; and of lines of a script, which begin with a moment.
 use Rattle.std.specs.Prelude.{◌≡◌, ℕ, ◌<◌, List, [], ◌∷◌, ◌++◌, length, codes, Ok, unwrap_or}
 use Rattle.std.specs.Result.{result_ok}
 use Rattle.hex.specs.Hex.{decode_of}
@@ -14,7 +14,7 @@ use Rattle.reg_lines.specs.Fields.{fields_of}
 use Rattle.reg_lines.specs.declared.line.CommandLine.{CommandLine}
 use Rattle.reg_lines.specs.declared.line.CommandLine.TheVariants as line
 
--- what a command line means: a command, a query, or an OCSP request by its bytes (RFC 6960 4.1)
+-- the meaning of a command line: a command, a query, or the bytes of an OCSP request (RFC 6960 4.1)
 pub data Meaning : Type 0 where
   means_command : Command → Meaning
   means_query : Query → Meaning
@@ -47,7 +47,7 @@ SpellsQuery (Listing serial) fields = (a : List ℕ) × (fields ≡ codes "listi
 SpellsQuery Overdue fields = fields ≡ codes "overdue" ∷ []
 SpellsQuery NextCrl fields = fields ≡ codes "next-crl" ∷ []
 
--- digits write these bytes in hexadecimal, two digits a byte in either case; there is at least one byte
+-- digits spell these bytes in hexadecimal, two digits a byte in either case; there is at least one byte
 abbrev pub IsHexOf : List ℕ → List ℕ → Type 0
 IsHexOf digits bytes = (0 < length digits) × (decode_of digits ≡ Ok bytes)
 
@@ -55,13 +55,13 @@ IsHexOf digits bytes = (0 < length digits) × (decode_of digits ≡ Ok bytes)
 abbrev pub SpellsOcsp : List ℕ → List (List ℕ) → Type 0
 SpellsOcsp bytes fields = (digits : List ℕ) × (fields ≡ codes "ocsp" ∷ digits ∷ []) × IsHexOf digits bytes
 
--- the command line is a spelling of the meaning: its fields are parted by one space each
+-- the command line is a spelling of the meaning: its fields are separated by one space each
 abbrev pub LineMeans : List ℕ → Meaning → Type 0
 LineMeans line (means_command command) = SpellsCommand command (fields_of line)
 LineMeans line (means_query query) = SpellsQuery query (fields_of line)
 LineMeans line (is_ocsp_line bytes) = SpellsOcsp bytes (fields_of line)
 
--- it is a spelling of no meaning
+-- it is no spelling of any meaning
 abbrev pub IsUnreadable : List ℕ → Type 0
 IsUnreadable line = (meaning : Meaning) → ¬ LineMeans line meaning
 
@@ -69,11 +69,11 @@ IsUnreadable line = (meaning : Meaning) → ¬ LineMeans line meaning
 abbrev pub OneMeaning : Type 0
 OneMeaning = (text : List ℕ) (a b : Meaning) → LineMeans text a → LineMeans text b → a ≡ b
 
--- the bytes that hexadecimal digits write, or none where they write none
+-- the bytes that hexadecimal digits spell; empty if they spell none
 abbrev pub decoded_bytes : List ℕ → List ℕ
 decoded_bytes digits = unwrap_or (result_ok (decode_of digits)) []
 
--- the meaning that a reading stands for
+-- the meaning of a line that was read
 abbrev pub meaning_of : CommandLine → Meaning
 meaning_of (line.Command command) = means_command command
 meaning_of (line.Query query) = means_query query
@@ -83,11 +83,11 @@ meaning_of (line.Ocsp digits) = is_ocsp_line (decoded_bytes digits.now)
 abbrev pub HasMoment : List ℕ → ℕ → List ℕ → Type 0
 HasMoment line now command = (line ≡ moment_text now ++ 32 ∷ command) × IsMoment now
 
--- it begins at no moment
+-- the line does not begin with a moment
 abbrev pub HasNoMoment : List ℕ → Type 0
 HasNoMoment line = (now : ℕ) (command : List ℕ) → ¬ HasMoment line now command
 
--- no line begins in two ways
+-- no line begins with two moments
 abbrev pub OneBeginning : Type 0
 OneBeginning =
     (line : List ℕ) (now other : ℕ) (command rest : List ℕ) → HasMoment line now command → HasMoment line other rest

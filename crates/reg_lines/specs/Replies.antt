@@ -22,7 +22,7 @@ line_of_status (Revoked at reason) = codes "revoked " ++ moment_text at ++ codes
 unfoldable pub counts_line : Counts → List ℕ
 counts_line counts = codes "good " ++ decimal counts.good ++ codes " revoked " ++ decimal counts.revoked ++ codes " expired " ++ decimal counts.expired
 
--- the line of a listing: the number of the first CRL, and that of the last one where it is known
+-- the line of a listing: the number of the first CRL, and of the last one if it is known
 unfoldable pub listing_by : ℕ → Option ℕ → List ℕ
 listing_by first None = codes "listing first " ++ decimal first
 listing_by first (Some last) = codes "listing first " ++ decimal first ++ codes " last " ++ decimal last
@@ -32,12 +32,12 @@ unfoldable pub listing_line : Option Listing → List ℕ
 listing_line None = codes "listing none"
 listing_line (Some listing) = listing_by listing.first listing.last
 
--- the line of what is overdue: how many, and the least id
+-- the line for overdue requests: how many there are, and the least id
 unfoldable pub overdue_line : Option Overdue → List ℕ
 overdue_line None = codes "overdue 0"
 overdue_line (Some overdue) = codes "overdue " ++ decimal overdue.count ++ codes " first " ++ decimal overdue.first
 
--- the line of when the next CRL is due
+-- the line for when the next CRL is due
 unfoldable pub next_crl_line : Option ℕ → List ℕ
 next_crl_line None = codes "next-crl at-once"
 next_crl_line (Some moment) = codes "next-crl " ++ moment_text moment
@@ -58,7 +58,7 @@ reply_line (reply.Listing listing) = listing_line listing
 reply_line (reply.Overdue overdue) = overdue_line overdue
 reply_line (reply.NextCrl moment) = next_crl_line moment
 
--- the line of what a command or query came to, without its LF
+-- the line for the outcome of a command or query, without its LF
 unfoldable pub outcome_line : Result Reply Fault → List ℕ
 outcome_line (Ok reply) = reply_line reply
 outcome_line (Err fault) = fault_line fault

@@ -6,13 +6,13 @@ use Rattle.reg_core.specs.declared.refusal.Fault.TheVariants.{Memory, Read}
 use Rattle.reg_lines.specs.Import.{AreCsvRows, Row, TookAll, TookSome, data_rows, is_header}
 use Rattle.reg_lines.specs.LineReading.{four, register_by}
 
--- the fields of a row, a space before each (the byte 32), where they spell a registration; else nothing
+-- the fields of a row, each after a space (the byte 32), if they spell a registration; else nothing
 abbrev pub fields_listed : Option (List ℕ × List ℕ × List ℕ × List ℕ) → List ℕ
 fields_listed None = []
 fields_listed (Some all) =
     cond (is_some (register_by all)) ((32 ∷ all.0) ++ (32 ∷ all.1) ++ (32 ∷ all.2) ++ (32 ∷ all.3)) []
 
--- the line of a row with its LF, by its four fields; one that spells no registration is sent as `register` alone
+-- the line of a row with its LF, with its four fields; for a row that spells no registration, `register` alone
 abbrev pub row_line : Option (List ℕ × List ℕ × List ℕ × List ℕ) → List ℕ
 row_line fields = codes "register" ++ fields_listed fields ++ 10 ∷ []
 
@@ -20,15 +20,15 @@ row_line fields = codes "register" ++ fields_listed fields ++ 10 ∷ []
 abbrev pub all_row_lines : List Row → List ℕ
 all_row_lines rows = concat (map (λ row. row_line (four row)) rows)
 
--- these bytes are the lines of all rows of a text, in turn, but for a header
+-- these bytes are the lines of all rows of a text, in order, without a header
 abbrev pub ListsRows : List ℕ → List ℕ → Type 0
 ListsRows text lines = (rows : List Row) × AreCsvRows text rows × (lines ≡ all_row_lines (data_rows rows))
 
--- what a row adds to the lines, as the first one or as another
+-- the line that a row adds, as the first row or as another
 abbrev pub told_at : Bool → Row → List ℕ
 told_at first row = cond (first && is_header row) [] (row_line (four row))
 
--- how the listing of an input ends: it was taken whole, and these are the lines of its rows; or a fault of the input or out of memory came
+-- how the listing of an input ends: it was read to its end, and these are the lines of its rows; or a fault of the input, or out of memory
 abbrev pub ListingEnds : Option (List ℕ) → Option (List ℕ) → Result (List ℕ) Fault → Type 0
 ListingEnds input input' (Ok lines) = (text : List ℕ) × TookAll input input' text × ListsRows text lines
 ListingEnds input input' (Err Read) = TookSome input input'

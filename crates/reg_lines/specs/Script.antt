@@ -18,11 +18,11 @@ use Rattle.reg_lines.specs.declared.answered.Passed.{Passed}
 use Rattle.reg_lines.specs.declared.lines.Next.{Next}
 use Rattle.reg_lines.specs.declared.lines.Next.TheVariants.{Held, End}
 
--- the most bytes of a line before its LF, where a CR counts
+-- the most bytes of a line before its LF; a CR counts
 abbrev pub longest_line : ℕ
 longest_line = 8192
 
--- the most bytes of a line that has no moment of its own: those of a moment and a space less
+-- the most bytes of a line without a moment of its own: fewer by the bytes of a moment and a space
 abbrev pub longest_of : Bool → ℕ
 longest_of true = 8171
 longest_of false = longest_line
@@ -31,7 +31,7 @@ longest_of false = longest_line
 abbrev pub most_lines : ℕ
 most_lines = 1000000
 
--- the lines of an input, each with its LF (the byte 10), the last one perhaps without; an input of no bytes has no line
+-- the lines of an input, each with its LF (the byte 10), except perhaps the last one; an empty input has no line
 unfoldable pub pieces : List ℕ → List (List ℕ)
 pieces [] = []
 pieces (byte ∷ input) = if byte == 10 then (byte ∷ []) ∷ pieces input else in_prefix byte (pieces input)
@@ -40,15 +40,15 @@ pieces (byte ∷ input) = if byte == 10 then (byte ∷ []) ∷ pieces input else
 abbrev pub line_of : List ℕ → List ℕ
 line_of piece = if ends_with_byte 10 piece then strip_last 13 (strip_last 10 piece) else piece
 
--- the line has no more bytes than these
+-- the line has at most this many bytes
 abbrev pub IsShort : ℕ → List ℕ → Type 0
 IsShort longest piece = length (strip_last 10 piece) ≤ longest
 
--- a command line, with its end, has no more bytes than one that runs at the moment of a clock
+-- a command line, with its line end, has at most as many bytes as one that runs at the moment of a clock
 abbrev pub IsShortCommand : List ℕ → Type 0
 IsShortCommand = IsShort (longest_of true)
 
--- no end of a line is in the bytes
+-- the bytes have no LF
 abbrev pub HasNoLf : List ℕ → Type 0
 HasNoLf bytes = All (λ byte. byte ≢ 10) bytes
 
@@ -60,16 +60,16 @@ IsWholeLine piece = (prefix : List ℕ) × (piece ≡ prefix ++ 10 ∷ []) × Ha
 abbrev pub IsCut : List ℕ → Type 0
 IsCut line = HasNoLf line × (0 < length line)
 
--- In the place of the next line there is a fault of the input: a line after the most, or more bytes than a line has, with no LF among
--- them, or, with fewer, a read that failed.
+-- Instead of a next line there is a fault of the input: a line after the most that a run may have; or more bytes than a line may have, without
+-- an LF; or, after fewer, a read that failed.
 abbrev pub InputFails : ℕ → List (List ℕ) → List ℕ → Type 0
 InputFails longest done left =
     ((length done ≡ most_lines) × (0 < length left) × (length left ≤ longest))
     ⊎ (((longest < length left) × HasNoLf left) ⊎ ((length left ≤ longest) × HasNoLf left))
 
--- What was read and written in a run of lines, none of which has more bytes than `longest`: the input and the output before and after.
+-- What a run of lines, each of at most `longest` bytes, read and wrote: the input and the output before and after.
 module _ (longest : ℕ) (input input' out out' : Option (List ℕ)) where
-  -- the input was taken to its end, and the replies of its lines were written and nothing else
+  -- the input was read to its end, and only the replies to its lines were written
   pub record AllLines : Type 0 where
     pub took : List ℕ
     pub replies : List (List ℕ)
@@ -79,8 +79,8 @@ module _ (longest : ℕ) (input input' out out' : Option (List ℕ)) where
     pub short : AllByRecursion (IsShort longest) (pieces took)
     pub wrote : Appends out out' (concat replies)
 
-  -- The replies of the first lines were written and nothing else. Of the bytes that were taken others are left, no more than one byte above
-  -- the longest line: however the input goes on, the lines that ran are its first ones, and those of what is left come after them.
+  -- Only the replies to the first lines were written. Of the bytes that were read, some are left, at most one more than the longest line has.
+  -- Whatever comes after them in the input, the lines that ran are its first ones, and the bytes that are left come next.
   pub record FirstLines : Type 0 where
     pub took : List ℕ
     pub done : List (List ℕ)
@@ -94,8 +94,8 @@ module _ (longest : ℕ) (input input' out out' : Option (List ℕ)) where
     pub little : length left ≤ longest + 1
     pub wrote : Appends out out' (concat replies)
 
-  -- The replies of the first lines were written, and a front of that of the line after them, and then the output failed. That line ends with
-  -- its LF, or with the input.
+  -- The replies to the first lines were written, and a prefix of the reply to the line after them, and then the output failed. That line ends
+  -- with its LF, or with the input.
   pub record CutLine : Type 0 where
     pub took : List ℕ
     pub done : List (List ℕ)
@@ -116,11 +116,11 @@ module _ (longest : ℕ) (input input' out out' : Option (List ℕ)) where
     pub partly : part < length reply
     pub wrote : Appends out out' (concat replies ++ take part reply)
 
-  -- How a run ends, of lines that run at the moments of a clock or at their own: `runs s line reply t` is one, without its end, with its reply,
-  -- where the office is `s` before and `t` after. A strict run ends behind the first reply that is a refusal or a fault, and does not run a last
-  -- line without its LF. At a fault of reading the input failed, or the clock did.
+  -- How a run of lines ends that run at the moments of a clock or at their own. `runs s line reply t` is a line, without its line end, with its
+  -- reply, where the office is `s` before and `t` after. A strict run ends after the first reply that is a refusal or a fault, and does not run a
+  -- last line without its LF. `Read` means that the input failed, or the clock.
   module _ {S : Type 0} (runs : S → List ℕ → List ℕ → S → Type 0) (s t : S) (is_clocked is_strict : Bool) where
-    -- these lines ran, in turn, and these are their replies
+    -- these lines ran, in order, and these are their replies
     abbrev pub RanAll : List (List ℕ) → List (List ℕ) → Type 0
     RanAll done replies = Answered runs s (map line_of done) replies t
 
@@ -146,25 +146,25 @@ module _ (longest : ℕ) (input input' out out' : Option (List ℕ)) where
 -- A run of lines, with the office, the reader and the writer before and after.
 module _ {S R W : Type 0} (answers : S → ℕ → Call → S → Type 0) (remaining : R → Option (List ℕ)) (contents : W → Option (List ℕ))
     (s t : S) (reader reader' : R) (writer writer' : W) where
-  -- a run as above; where it is out of memory, nothing ran, nothing was read and nothing was written
+  -- a run as above; if it is out of memory, nothing ran, nothing was read and nothing was written
   abbrev pub InputEnds : (S → List ℕ → List ℕ → S → Type 0) → Bool → Bool → Result Ended Fault → Type 0
   InputEnds runs is_clocked is_strict (Err Memory) = (t ≡ s) × (reader' ≡ reader) × (writer' ≡ writer)
   InputEnds runs is_clocked is_strict result =
       RunEnds (longest_of is_clocked) (remaining reader) (remaining reader') (contents writer) (contents writer') runs s t is_clocked is_strict result
 
-  -- lines that run at the moments of a clock, or at their own, to the first refusal or to the end
+  -- lines that run at the moments of a clock, or at their own, up to the first refusal or to the end
   abbrev pub LinesEnd : (ℕ → Type 0) → Bool → Bool → Result Ended Fault → Type 0
   LinesEnd told is_clocked = InputEnds (LineReplies answers told is_clocked) is_clocked
 
-  -- a script: lines that begin with their moments, at no clock, of which no refusal ends the run
+  -- a script: lines that begin with their own moments; the run goes on after a refusal
   abbrev pub ScriptEnds : Result (Unit {0}) Fault → Type 0
   ScriptEnds result = (ran : Result Ended Fault) × LinesEnd (λ now. ⊥) false false ran × (result ≡ done_of ran)
 
 -- ---- the steps of a run
 
--- Lines that run; the office, and what was written, before and after.
+-- Lines that run; the office, and the output, before and after.
 module _ {S : Type 0} (runs : S → List ℕ → List ℕ → S → Type 0) (s t : S) (out out' : Option (List ℕ)) where
-  -- a line ran, and its reply was written, or a front of it; or the clock could not be read, and it did not run
+  -- a line ran, and its reply, or a prefix of that, was written; or the clock could not be read, and it did not run
   abbrev pub LineEnds : Bool → Bool → List ℕ → Result Passed Fault → Type 0
   LineEnds is_clocked is_strict line (Ok passed) =
       (reply : List ℕ) × runs s line reply t × Appends out out' reply × GoesOn is_strict reply passed
@@ -172,9 +172,9 @@ module _ {S : Type 0} (runs : S → List ℕ → List ℕ → S → Type 0) (s t
   LineEnds is_clocked is_strict line (Err Read) = IsTrue is_clocked × (t ≡ s) × Appends out out' []
   LineEnds is_clocked is_strict line (Err other) = ⊥
 
-  -- The longest line; what is left of the input, before and after, and what was held of it.
+  -- The longest line; what is left of the input, before and after; and the bytes that were buffered.
   module _ (longest : ℕ) (input input' : Option (List ℕ)) (buffered : List ℕ) where
-    -- a whole line ran, of the bytes that were held and those that were taken, and the others are left
+    -- a whole line ran, from the bytes that were buffered and those that were read; the others are left
     pub record RanWhole (left : List ℕ) : Type 0 where
       pub took : List ℕ
       pub piece : List ℕ
@@ -187,7 +187,7 @@ module _ {S : Type 0} (runs : S → List ℕ → List ℕ → S → Type 0) (s t
       pub replied : runs s (line_of piece) reply t
       pub wrote : Appends out out' reply
 
-    -- the input is at its end, and the bytes that are left were a line that ran, or there are none
+    -- the input is at its end; the bytes that are left were a line that ran, or there are none
     pub record RanLast : Type 0 where
       pub took : List ℕ
       pub consumed : Consumes input input' took
@@ -197,7 +197,7 @@ module _ {S : Type 0} (runs : S → List ℕ → List ℕ → S → Type 0) (s t
       pub ran : ((buffered ++ took ≡ []) × (t ≡ s) × Appends out out' [])
           ⊎ ((0 < length (buffered ++ took)) × (reply : List ℕ) × runs s (buffered ++ took) reply t × Appends out out' reply)
 
-    -- no line ran, and some bytes were taken, one more than a line has at most
+    -- no line ran, and bytes were read, at most one more than a line may have
     pub record RanNone : Type 0 where
       pub took : List ℕ
       pub consumed : Consumes input input' took
@@ -218,7 +218,7 @@ module _ {S : Type 0} (runs : S → List ℕ → List ℕ → S → Type 0) (s t
       pub replied : runs s (line_of piece) reply t
       pub wrote : AppendsPrefix out out' reply
 
-    -- how a step ends: with a number of bytes held at the front of the buffer, or with the run, or at a fault
+    -- how a step ends: with a number of bytes at the start of the buffer, or with the run, or with a fault
     abbrev pub NextEnds : Bool → Bool → List ℕ → Result Next Fault → Type 0
     NextEnds is_clocked is_strict buffer (Ok (Held left)) =
         (left < length buffer) × (ran : RanWhole (take left buffer)) × (IsTrue is_strict → IsAccepted ran.reply)
@@ -232,7 +232,7 @@ module _ {S : Type 0} (runs : S → List ℕ → List ℕ → S → Type 0) (s t
     NextEnds is_clocked is_strict buffer (Err Write) = WritesPart
     NextEnds is_clocked is_strict buffer (Err other) = ⊥
 
--- the input is at its end and nothing was taken, or a byte was, or a read failed
+-- the input is at its end and nothing was read; or a byte was read; or a read failed
 abbrev pub EndOrMore : Option (List ℕ) → Option (List ℕ) → Result Ended Fault → Type 0
 EndOrMore input input' (Ok ended) = (ended ≡ Whole) × Consumes input input' [] × IsAtEnd input'
 EndOrMore input input' (Err fault) = (fault ≡ Read) × (took : List ℕ) × Consumes input input' took × (length took ≤ 1)

@@ -1,4 +1,4 @@
--- A strict import: it ends at the first refusal or fault, and what has no line end is not run.
+-- A strict import: it ends at the first refusal or fault, and does not run a last row without its line end.
 use Rattle.std.specs.Prelude.{◌≡◌, ℕ, ◌==◌, ◌&&◌, Bool, true, not, List, [], ◌∷◌, length, reverse, if◌then◌else◌, Result, Ok, Err}
 use Rattle.std.specs.declared.option.Option.{Option}
 use Rattle.reg_core.specs.declared.refusal.Fault.{Fault}
@@ -8,20 +8,20 @@ use Rattle.reg_lines.specs.declared.answered.Ended.{Ended}
 use Rattle.reg_lines.specs.declared.answered.Ended.TheVariants.{Whole, Refused, NoLineEnd}
 use Rattle.reg_lines.specs.declared.answered.Passed.TheVariants as passed
 
--- a byte that ends no line: neither CR nor LF (13 and 10), each of which ends a record
+-- a byte within a line: neither CR nor LF (13 and 10), each of which ends a record
 abbrev pub is_within : ℕ → Bool
 is_within byte = not (byte == 13) && not (byte == 10)
 
--- the bytes from the first on that ends a line
+-- the bytes from the first CR or LF on
 abbrev pub skip_within : List ℕ → List ℕ
 skip_within [] = []
 skip_within (byte ∷ rest) = if is_within byte then skip_within rest else byte ∷ rest
 
--- a text up to and with its last line end
+-- a text up to and including its last line end
 abbrev pub ended_part : List ℕ → List ℕ
 ended_part text = reverse (skip_within (reverse text))
 
--- how the run of a text ends, of which no more is run than what is up to its last line end: nothing is behind that, or something is
+-- how the run of a text ends, of which only the part up to its last line end runs: nothing is left after that, or something is
 abbrev pub StrictRan
     : {S : Type 0} → (S → ℕ → Call → S → Type 0) → ℕ → S → S → Option (List ℕ) → Option (List ℕ) → List ℕ → Result Ended Fault → Type 0
 StrictRan answers now s t out out' text (Ok Whole) =

@@ -3,7 +3,7 @@
 ghost use Rattle.std.specs.Prelude.{◌↔◌, IsTrue};
 ghost use Rattle.reg_lines.specs.Accepted.{IsAccepted};
 
-/// Whether a reply tells neither a refusal nor a fault.
+/// Whether a reply is no refusal, no fault, and neither `bad-policy` nor `bad-clock` of an open desk.
 pub fn is_accepted(reply: &[u8]) -> bool
     ensures { IsTrue result ↔ IsAccepted reply.now }
 {

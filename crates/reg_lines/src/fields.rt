@@ -6,7 +6,7 @@ ghost use Rattle.reg_lines.specs.LineReading.{one, two, four};
 
 use std::marker::Model;
 
-/// The fields of a line that were not yet taken. Contracts see the list of them.
+/// The fields of a line that are left. Contracts see the list of them.
 #[derive(Drop)]
 pub struct Fields<'a> {
     rest: Option<&'a [u8]>,

@@ -1,18 +1,18 @@
-//! Laws of lines and rows. The functions do nothing: their contracts are the laws. Proofs above cite them by `proofs/PublicLaws.antt`.
+//! Laws of lines and rows. The functions do nothing: their contracts are the laws. Proofs in other crates cite them by `proofs/PublicLaws.antt`.
 
 ghost use Rattle.reg_lines.specs.Laws.{ImportsTextTwice, RegistrationsAreRead, RowsMeanWhatIsRead};
 
 use reg_office_api::Office;
 
-/// The fields of a row are read as the registration that they spell, and what is read of a row is what it means.
+/// The fields of a row are read as the registration that they spell, and a row means what is read from it.
 pub fn rows_are_read()
     ensures read { RegistrationsAreRead }
     ensures means { RowsMeanWhatIsRead }
 {}
 
-/// A text that comes twice at one moment, with nothing between, adds no certificate the second time, whoever keeps the
-/// records and signs, where each import ran whole and no reply of the first told a fault (of memory, store or signer). And
-/// a row that was answered `registered` or `same` is answered `same`, unless a fault comes the second time.
+/// If a text is imported twice at one moment, with nothing between, the second import adds no certificate, with any office and
+/// signer. Each import must have run whole, and no reply of the first may be a fault (of memory, store or signer). A row
+/// with the reply `registered` or `same` gets the reply `same` the second time, unless there is a fault.
 pub fn import_twice<O: Office>()
     ensures { ImportsTextTwice O.signs }
 {}

@@ -1,4 +1,4 @@
-//! The moment that a line of a script begins with, and the end of a line.
+//! The moment at the start of a line of a script, and the end of a line.
 
 ghost use Rattle.std.specs.Prelude.{◌≡◌, IfNone, IfSome, MatchOption};
 ghost use Rattle.std.specs.Io.BufRead.{strip_last};
@@ -10,7 +10,7 @@ use reg_core::Moment;
 
 pub(crate) const MOMENT: usize = 20;
 
-/// The moment that a line of a script begins with, and the command line behind it. No line has two such readings.
+/// The moment with which a line of a script begins, and the command line after it. No line has two such readings.
 pub fn take_moment(line: &[u8]) -> Option<(Moment, &[u8])>
     ensures found { IfSome result (λ taken. HasMoment line.now taken.0 taken.1.now) }
     ensures none { IfNone result (HasNoMoment line.now) }
@@ -23,7 +23,7 @@ pub fn take_moment(line: &[u8]) -> Option<(Moment, &[u8])>
     Some((now, &line[MOMENT + 1..]))
 }
 
-/// The command line of a line that runs at the moment of a clock: without its end. `None` where it has too many bytes.
+/// The command line of a line that runs at the moment of a clock, without its line end. `None` if it has too many bytes.
 pub fn command_in(line: &[u8]) -> Option<&[u8]>
     ensures { MatchOption result (¬ IsShortCommand line.now)
         (λ command. (command.now ≡ line_of line.now) × IsShortCommand line.now) }

@@ -13,13 +13,13 @@ use reg_core::Fault;
 use std::alloc::{AllocError, Global};
 use std::io::Read;
 
-/// The lines that tell each row of a text to an office, in turn: `register` and its four fields, and no moment. A first row
-/// `order,serial,notBefore,notAfter` is passed over. A row that spells no registration is told as `register` alone, which says nothing
-/// either, so that each row has one line.
+/// The line for each row of a text, in order: `register` and its four fields, without a moment. A first row
+/// `order,serial,notBefore,notAfter` is skipped. The line for a row that spells no registration is `register` alone, which is unreadable
+/// too, so that each row has one line.
 ///
 /// # Errors
 ///
-/// [`Fault::Read`] at a read that fails and at more than 16,777,216 bytes; [`Fault::Memory`].
+/// [`Fault::Read`] if a read fails or there are more than 16,777,216 bytes; [`Fault::Memory`].
 pub fn lines_of_rows<R: Read>(alloc: Global, reader: &mut R) -> Result<Vec<u8>, Fault>
     ensures { ListingEnds (R.remaining reader.old) (R.remaining reader.new)
         (result_map_both (λ lines. lines.items) (λ fault. fault) result) }
@@ -42,7 +42,7 @@ fn lines_of_text(alloc: Global, text: &[u8]) -> Result<Vec<u8>, Fault>
     }
 }
 
-/// Puts the line of each row behind nothing that a reader has, which read none yet: one after the other in one record.
+/// Appends the line of each row of a reader that has read none yet, one after the other in one record.
 fn put_each(
     rows: &mut Reader<&[u8]>,
     row: &mut ByteRecord,
@@ -59,15 +59,15 @@ fn put_each(
                 Err(fault) => return Err(fault),
             },
             Ok(false) => return Ok(()),
-            // Over bytes in memory, with rows of any length, a read can want nothing but memory.
+            // Over bytes in memory, with rows of any length, a read fails only for lack of memory.
             Err(_) => return Err(AllocError),
         }
     }
-    // No text has so many rows.
+    // No text has this many rows.
     Err(AllocError)
 }
 
-/// Puts the line of a row behind others, if it is not the header, which only the first row can be.
+/// Appends the line of a row, if it is not the header, which only the first row can be.
 fn put_row(row: &ByteRecord, first: bool, lines: &mut Vec<u8>) -> Result<(), AllocError>
     ensures { OnOk result (lines.new.items ≡ lines.old.items ++ told_at first (fields_of row.now)) }
 {
@@ -90,7 +90,7 @@ fn put_line(
     Ok(())
 }
 
-/// Puts these four fields of a row behind a text, where they spell a registration.
+/// Appends these four fields of a row, if they spell a registration.
 fn put_fields(
     fields: Option<(&[u8], &[u8], &[u8], &[u8])>,
     text: &mut Vec<u8>,

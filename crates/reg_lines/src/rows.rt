@@ -1,4 +1,4 @@
-//! An import: rows in, reply lines out.
+//! Imports rows, and writes a reply line for each.
 
 ghost use Rattle.std.specs.Prelude.{◌≡◌, ◌==◌, ◌&&◌, ℕ, List, option_map, is_some};
 ghost use Rattle.std.specs.Result.{result_map_both};
@@ -23,14 +23,14 @@ pub const MOST_BYTES: usize = 16_777_216;
 
 const PIECE: usize = 4096;
 
-/// Registers each row of a text of comma-separated fields (RFC 4180) at one moment, in turn, and writes each reply before
-/// it runs the next row. The text is read whole first. A first row `order,serial,notBefore,notAfter` is passed over.
+/// Registers each row of a text of comma-separated fields (RFC 4180) at one moment, in order, and writes each reply before
+/// it runs the next row. It reads the whole text first. A first row `order,serial,notBefore,notAfter` is skipped.
 ///
 /// # Errors
 ///
-/// [`Fault::Read`] at a read that fails and at more than 16,777,216 bytes: nothing ran. [`Fault::Write`] where the output
-/// fails in a reply, whose row ran. [`Fault::Memory`] where memory was refused for the text or for a row: the rows before
-/// it ran, and their replies were written.
+/// [`Fault::Read`] if a read fails or there are more than 16,777,216 bytes: nothing ran. [`Fault::Write`] if the output
+/// fails in a reply, whose row ran. [`Fault::Memory`] if out of memory for the text or for a row: the rows before it
+/// ran, and their replies were written.
 pub fn import<R: Read, W: Write, O: Office>(
     alloc: Global,
     reader: &mut R,
@@ -71,7 +71,7 @@ pub(crate) fn read_text<R: Read>(alloc: Global, reader: &mut R) -> Result<Vec<u8
     Err(Fault::Read)
 }
 
-/// A reader of the rows of a text, of any number of fields each, which read none yet.
+/// A reader of the rows of a text, each with any number of fields. It has read none yet.
 pub(crate) fn rows_of(alloc: Global, text: &[u8]) -> Reader<&[u8]>
     ensures at_start { IsAtStart result }
     ensures reads { ReadsText result text.entry.now }
@@ -82,7 +82,7 @@ pub(crate) fn rows_of(alloc: Global, text: &[u8]) -> Reader<&[u8]>
         .from_reader(alloc, text)
 }
 
-/// Runs each row of a text; where it is strict, up to the first reply that is a refusal or a fault.
+/// Runs each row of a text; a strict run ends at the first reply that is a refusal or a fault.
 pub(crate) fn run_rows<W: Write, O: Office>(
     alloc: Global,
     writer: &mut W,
@@ -99,7 +99,7 @@ pub(crate) fn run_rows<W: Write, O: Office>(
     run_each(alloc, writer, now, office, is_strict, &mut rows, &mut row)
 }
 
-/// Runs each row that a reader has, which read none yet: one after the other in one record.
+/// Runs each row of a reader that has read none yet, one after the other in one record.
 fn run_each<W: Write, O: Office>(
     alloc: Global,
     writer: &mut W,
@@ -122,15 +122,15 @@ fn run_each<W: Write, O: Office>(
                 Err(_) => return Err(Fault::Write),
             },
             Ok(false) => return Ok(Passed::On),
-            // Over bytes in memory, with rows of any length, a read can want nothing but memory.
+            // Over bytes in memory, with rows of any length, a read fails only for lack of memory.
             Err(_) => return Err(Fault::Memory),
         }
     }
-    // No text has so many rows.
+    // No text has this many rows.
     Err(Fault::Memory)
 }
 
-/// Runs a row, if it is not the header, which only the first row can be. Whether the next one is run.
+/// Runs a row, if it is not the header, which only the first row can be. Returns whether the run goes on.
 fn take_row<W: Write, O: Office>(
     alloc: Global,
     writer: &mut W,
@@ -197,7 +197,7 @@ pub(crate) fn four_fields(row: &ByteRecord) -> Option<(&[u8], &[u8], &[u8], &[u8
     four_of(row.get(0), row.get(1), row.get(2), row.get(3), row.get(4))
 }
 
-/// The first four fields, where they are there and a fifth is not.
+/// The first four fields, if there are four and no fifth.
 fn four_of<'a>(
     first: Option<&'a [u8]>,
     second: Option<&'a [u8]>,

@@ -1,4 +1,4 @@
-//! A script: lines that each begin with a moment in, reply lines out.
+//! Runs a script, in which each line begins with a moment, and writes a reply line for each.
 
 ghost use Rattle.std.specs.Prelude.{IsFalse};
 ghost use Rattle.reg_office_api.specs.Leads.{Leads};
@@ -13,7 +13,7 @@ use reg_office_api::Office;
 use std::alloc::Global;
 use std::io::{Read, Write};
 
-/// The host of a script whose lines have moments of their own, and which nobody observes.
+/// The host of a script whose lines have moments of their own. It observes nothing.
 struct NoHost;
 
 impl Host for NoHost {
@@ -34,15 +34,15 @@ impl Host for NoHost {
     fn observe(&self, _answered: &Answered) {}
 }
 
-/// Runs each line of a script, in turn, and writes each reply before it runs the next line. The input may come in pieces
-/// of any size. Memory is taken once, before the first line; after that by the calls of the office, and for an `ocsp` line,
-/// whose reply is `F1 memory` where it is refused. `F3 signer` is replied only to a line at which the signer counted a failure.
+/// Runs each line of a script, in order, and writes each reply before it runs the next line. The input may come in pieces
+/// of any size. Memory is allocated once, before the first line; after that by the calls of the office, and for an `ocsp` line:
+/// without it the reply is `F1 memory`. `F3 signer` is the reply only to a line at which the signer counted a failure.
 ///
 /// # Errors
 ///
-/// [`Fault::Read`] at a read that fails, at a line of more than 8,192 bytes and at a line after the 1,000,000th: the lines
-/// before it ran, and their replies were written. [`Fault::Write`] where the output fails in a reply, whose line ran.
-/// [`Fault::Memory`] where there is no memory for one line: nothing ran, nothing was read and nothing was written.
+/// [`Fault::Read`] if a read fails, a line has more than 8,192 bytes, or there is a line after the 1,000,000th: the lines
+/// before it ran, and their replies were written. [`Fault::Write`] if the output fails in a reply, whose line ran.
+/// [`Fault::Memory`] if there is no memory for one line: nothing ran, nothing was read and nothing was written.
 pub fn run_script<R: Read, W: Write, O: Office>(
     alloc: Global,
     reader: &mut R,
@@ -59,7 +59,7 @@ pub fn run_script<R: Read, W: Write, O: Office>(
     run_script_for(alloc, reader, writer, office, &NoHost)
 }
 
-/// The same for a host that has no clock: it observes what each line comes to.
+/// As [`run_script`], for a host without a clock, which observes the result of each line.
 /// Errors are those of [`run_script`].
 pub fn run_script_for<R: Read, W: Write, O: Office, H: Host>(
     alloc: Global,

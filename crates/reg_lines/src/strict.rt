@@ -1,4 +1,4 @@
-//! A strict import: it ends at the first refusal or fault, and what has no line end is not run.
+//! A strict import: it ends at the first refusal or fault, and does not run a last row without its line end.
 
 ghost use Rattle.std.specs.Prelude.{◌≡◌};
 ghost use Rattle.reg_office_api.specs.Leads.{Leads};
@@ -12,8 +12,8 @@ use reg_office_api::Office;
 use std::alloc::Global;
 use std::io::{Read, Write};
 
-/// Registers each row of a text as [`crate::import`] does, up to the first reply that is a refusal or a fault. A last row that has
-/// no line end, a CR or an LF, is not run.
+/// Registers each row of a text as [`crate::import`] does, up to the first reply that is a refusal or a fault. A last row
+/// without its line end, a CR or an LF, does not run.
 /// Errors are those of [`crate::import`].
 pub fn import_strictly<R: Read, W: Write, O: Office>(
     alloc: Global,

@@ -1,4 +1,4 @@
--- What is read of a certificate (RFC 5280 4.1): its public key. A tree of what stands in one, how a tree is spelled, and how it is read.
+-- The public key of a certificate (RFC 5280 4.1): the fields of a certificate as a tree, the encoding of a tree, and how it is read.
 use Rattle.std.specs.Prelude.{◌≡◌, ℕ, ◌≤◌, ◌==◌, ◌&&◌, nat_le, nat_lt, if◌then◌else◌, List, [], ◌∷◌, ◌++◌, length, Option, Some, None}
 use Rattle.reg_core.specs.Integer.{IsBytes}
 use Rattle.reg_core.specs.Sequence.{◌>>=◌}
@@ -10,9 +10,9 @@ use Rattle.reg_der.specs.TaggedValues.{expect_at, whole_at, optional_at}
 
 -- ---- the tree
 
--- A Certificate. Of what is not looked into it has the contents: of the version, where it is written, the serial number, the signature's
--- algorithm, the issuer, the validity and the subject; of the AlgorithmIdentifier of its public key; what stands behind the key in the
--- TBSCertificate (unique identifiers, extensions); the algorithm and the bits of the signature.
+-- A Certificate. Each field that is not read further is the contents of its value: `version` (if it is written) to `subject`; `algorithm`, of
+-- the public key; `signed_under` and `signed`, which are signatureAlgorithm and signatureValue. `key` is the bits of the public key, and
+-- `behind` the bytes after subjectPublicKeyInfo in the TBSCertificate (unique identifiers, extensions).
 pub record Form : Type 0 where
   pub version : Option (List ℕ)
   pub serial : List ℕ
@@ -26,7 +26,7 @@ pub record Form : Type 0 where
   pub signed_under : List ℕ
   pub signed : List ℕ
 
--- SubjectPublicKeyInfo ::= SEQUENCE { algorithm AlgorithmIdentifier, subjectPublicKey BIT STRING }: of the bits none is unused
+-- SubjectPublicKeyInfo ::= SEQUENCE { algorithm AlgorithmIdentifier, subjectPublicKey BIT STRING }, without unused bits
 abbrev pub key_info : Form → List ℕ
 key_info c = tlv 0x30 (tlv 0x30 c.algorithm ++ bits_value c.key)
 
@@ -41,7 +41,7 @@ to_be_signed c =
 abbrev pub certificate : Form → List ℕ
 certificate c = tlv 0x30 (to_be_signed c ++ (tlv 0x30 c.signed_under ++ tlv 0x03 c.signed))
 
--- the bytes, 65,536 at most, are a certificate of this public key, the bits of its subjectPublicKey, under this AlgorithmIdentifier
+-- the bytes, at most 65,536, are a certificate whose subjectPublicKeyInfo has this AlgorithmIdentifier and these bits of a key
 pub record IsCertificateOf (bytes algorithm key : List ℕ) : Type 0 where
   pub each : IsBytes bytes
   pub short : length bytes ≤ 65536
@@ -51,24 +51,24 @@ pub record IsCertificateOf (bytes algorithm key : List ℕ) : Type 0 where
   pub of_key : key ≡ form.key
   pub is_key : IsKey key
 
--- a certificate: its bytes, the whole value of the AlgorithmIdentifier of its public key, and that key
+-- a certificate: its DER, the whole DER value of its public key's AlgorithmIdentifier, and that key
 pub record Certified : Type 0 where
   pub der : List ℕ
   pub algorithm : List ℕ
   pub key : List ℕ
 
--- ---- reading it, as functions on lists
+-- ---- reading a certificate, as functions on lists of bytes
 
--- the bits of a BIT STRING of which none is unused
+-- the bits of a BIT STRING without unused bits
 abbrev pub no_unused : List ℕ → Option (List ℕ)
 no_unused [] = None
 no_unused (unused ∷ bits) = if unused == 0 then Some bits else None
 
--- 1 to 2,048 bytes of a key
+-- a key of 1 to 2,048 bytes
 abbrev pub as_key : List ℕ → Option (List ℕ)
 as_key bits = if nat_le 1 (length bits) && nat_le (length bits) 2048 then Some bits else None
 
--- the algorithm's whole value and the key, of the contents of a SubjectPublicKeyInfo
+-- the whole DER value of the algorithm, and the key, in the contents of a SubjectPublicKeyInfo
 unfoldable pub key_info_at : List ℕ → Option (List ℕ × List ℕ)
 key_info_at bytes = do
   algorithm ← expect_at 0x30 bytes
@@ -77,7 +77,7 @@ key_info_at bytes = do
   key ← as_key bits
   Some (tlv 0x30 algorithm.0, key)
 
--- what follows a subject, in the contents of a TBSCertificate
+-- the bytes after the subject, in the contents of a TBSCertificate
 unfoldable pub after_subject_at : List ℕ → Option (List ℕ)
 after_subject_at bytes = do
   version ← optional_at 0xA0 bytes
@@ -95,7 +95,7 @@ signed_part_at bytes =
     else (whole_at 0x30 bytes >>= λ outer. expect_at 0x30 outer >>= λ part. expect_at 0x30 part.1 >>= λ under. whole_at 0x03 under.1
     >>= λ signed. Some part.0)
 
--- the algorithm's whole value and the key, of a certificate
+-- the whole DER value of the public key's algorithm, and the key, of a certificate
 unfoldable pub certificate_at : List ℕ → Option (List ℕ × List ℕ)
 certificate_at bytes = do
   part ← signed_part_at bytes

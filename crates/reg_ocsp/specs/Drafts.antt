@@ -1,17 +1,17 @@
--- An OCSP answer before it is signed (RFC 6960 4.2.1).
+-- An OCSP response before it is signed (RFC 6960 4.2.1).
 use Rattle.std.specs.Prelude.{ℕ, List, Option, Some, None}
 use Rattle.reg_ocsp.specs.Response.{ocsp_response, refusal_response}
 use Rattle.reg_ocsp.specs.declared.response.RefusalStatus.TheVariants.{Internal}
 
--- the ResponseData that is to be signed, the algorithm and the key of its signer, and the certificate that stands with the answer,
--- where one does
+-- the ResponseData that is to be signed, the algorithm and the public key of its signer, and the certificate in `certs`, if there
+-- is one
 pub record Drafted : Type 0 where
   pub message : List ℕ
   pub algorithm : List ℕ
   pub key : List ℕ
   pub certificate : Option (List ℕ)
 
--- the answer with this signature; internalError where none came
+-- the response with this signature; internalError without a signature
 abbrev pub drafted_response : Drafted → Option (List ℕ) → List ℕ
 drafted_response draft (Some signature) = ocsp_response draft.message draft.algorithm signature draft.certificate
 drafted_response draft None = refusal_response Internal

@@ -1,4 +1,4 @@
--- Which certificate of an issuer a CertID names (RFC 6960 4.1.1).
+-- The certificate of an issuer that a CertID identifies (RFC 6960 4.1.1).
 use Rattle.std.specs.Prelude.{◌≡◌, ℕ, List, [], ◌∷◌, Some, None, ◌⊎◌}
 use Rattle.sha1.specs.Sha1.{sha1}
 use Rattle.sha2.specs.Sha256.{sha256}
@@ -21,21 +21,21 @@ sha256_identifier = 0x60 ∷ 0x86 ∷ 0x48 ∷ 0x01 ∷ 0x65 ∷ 0x03 ∷ 0x04 �
 abbrev pub null : Parts
 null = record { tag = 0x05; contents = [] }
 
--- the whole value of the algorithm of this identifier: its parameters are left out or NULL (RFC 3370 2.1, RFC 5754 2)
+-- the whole DER value of the AlgorithmIdentifier with this OID, whose parameters are left out or NULL (RFC 3370 2.1, RFC 5754 2)
 abbrev pub IsHashAlgorithm : List ℕ → List ℕ → Type 0
 IsHashAlgorithm identifier value = (value ≡ algorithm identifier None) ⊎ (value ≡ algorithm identifier (Some null))
 
--- the CertID has this hash of the issuer's name and of its key
+-- the CertID has this hash algorithm, and its hashes are those of the issuer's Name and key
 pub record IsHashedBy (identifier : List ℕ) (hash : List ℕ → List ℕ) (issuer : core.Issuer) (id : Id) : Type 0 where
   pub algorithm : IsHashAlgorithm identifier id.algorithm
   pub name : id.name_hash ≡ hash (name_of issuer)
   pub key : id.key_hash ≡ hash issuer.key
 
--- the CertID names the issuer, by SHA-1 or by SHA-256
+-- the CertID identifies the issuer by SHA-1 or SHA-256
 abbrev pub NamesIssuer : core.Issuer → Id → Type 0
 NamesIssuer issuer id = IsHashedBy sha1_identifier sha1 issuer id ⊎ IsHashedBy sha256_identifier sha256 issuer id
 
--- the CertID names the issuer's certificate with this serial number
+-- the CertID identifies the issuer's certificate with this serial number
 pub record IsMatch (issuer : core.Issuer) (id : Id) (serial : ℕ) : Type 0 where
   pub issued : NamesIssuer issuer id
   pub in_range : IsSerial serial

@@ -1,5 +1,5 @@
--- OCSP requests (RFC 6960 4.1.1): a tree of what stands in one, how a tree is spelled, and what it asks.
--- Where the standard's producers differ, the tree has the choice: a version 0 that is written, a `critical` FALSE that is written.
+-- OCSP requests (RFC 6960 4.1.1): the fields of a request as a tree, the encoding of a tree, and the CertIDs and the nonce of a request.
+-- Some clients encode defaults that DER leaves out. So the tree says whether version 0, and `critical` FALSE, is written.
 use Rattle.std.specs.Prelude.{◌≡◌, ℕ, ◌%◌, ◌<◌, ◌≤◌, Bool, true, false, ◌&&◌, nat_le, if◌then◌else◌, List, [], ◌∷◌, ◌++◌, length, map, Option, Some, None, IfSome, sum_by}
 use Rattle.std.specs.List.{flat_map, AllByRecursion}
 use Rattle.std.specs.Str.{bytes_eq}
@@ -9,14 +9,14 @@ use Rattle.reg_der.specs.ValueReading.{Parts}
 
 -- ---- the trees
 
--- an Extension: its identifier, `critical` where it is written, and the contents of its value (RFC 5280 4.1)
+-- an Extension: extnID, `critical` if it is written, and the contents of extnValue (RFC 5280 4.1)
 pub record Extension : Type 0 where
   pub identifier : List ℕ
   pub critical : Option Bool
   pub value : List ℕ
 
--- a CertID: the hash algorithm's identifier and parameters, which are any one value or none, then the issuer's name hash,
--- its key hash and the octets of the serial number
+-- a CertID: the OID and the parameters of the hash algorithm (any one value, or none), issuerNameHash, issuerKeyHash and the
+-- contents octets of the serial number
 pub record Target : Type 0 where
   pub identifier : List ℕ
   pub parameters : Option Parts
@@ -24,13 +24,13 @@ pub record Target : Type 0 where
   pub key_hash : List ℕ
   pub serial : List ℕ
 
--- a Request: the certificate that it asks for, and singleRequestExtensions where they are written
+-- a Request: its CertID, and singleRequestExtensions if they are written
 pub record Single : Type 0 where
   pub target : Target
   pub extensions : Option (List Extension)
 
--- an OCSPRequest: whether version 0 is written; the contents of requestorName and of optionalSignature, which aren't looked
--- at, where they are written; the requests; requestExtensions where they are written
+-- an OCSPRequest: whether version 0 is written; the contents of requestorName and of optionalSignature, which are not checked, if
+-- they are written; the requests; requestExtensions, if they are written
 pub record Form : Type 0 where
   pub version : Bool
   pub requestor : Option (List ℕ)
@@ -38,9 +38,9 @@ pub record Form : Type 0 where
   pub extensions : Option (List Extension)
   pub signature : Option (List ℕ)
 
--- ---- how a tree is spelled
+-- ---- the encoding of a tree
 
--- a part that may be left out
+-- an optional value
 abbrev pub optional : ℕ → Option (List ℕ) → List ℕ
 optional tag None = []
 optional tag (Some contents) = tlv tag contents
@@ -59,7 +59,7 @@ critical (Some flag) = tlv 0x01 (boolean flag)
 abbrev pub request_extension : Extension → List ℕ
 request_extension e = tlv 0x30 (tlv 0x06 e.identifier ++ (critical e.critical ++ tlv 0x04 e.value))
 
--- Extensions ::= SEQUENCE OF Extension, under an explicit tag, and left out where there is none to write
+-- Extensions ::= SEQUENCE OF Extension, optional, under an explicit tag
 abbrev pub extensions : ℕ → Option (List Extension) → List ℕ
 extensions tag None = []
 extensions tag (Some es) = tlv tag (tlv 0x30 (flat_map request_extension es))
@@ -100,12 +100,12 @@ spelling f = tlv 0x30 (to_be_signed f ++ optional 0xA0 f.signature)
 abbrev pub nonce_identifier : List ℕ
 nonce_identifier = 0x2B ∷ 0x06 ∷ 0x01 ∷ 0x05 ∷ 0x05 ∷ 0x07 ∷ 0x30 ∷ 0x01 ∷ 0x02 ∷ []
 
--- an identifier has octets, and an extension that is critical is one that is known: the nonce (RFC 5280 4.2)
+-- the OID is not empty, and a critical extension is the nonce, the only one that is known (RFC 5280 4.2)
 pub record IsExtension (e : Extension) : Type 0 where
   pub identified : 1 ≤ length e.identifier
   pub known : e.critical ≡ Some true → e.identifier ≡ nonce_identifier
 
--- an identifier has octets, parameters have a tag of one octet, and a serial number is an INTEGER in the fewest octets
+-- the OID is not empty, the tag of the parameters has one octet, and the serial number is an INTEGER in the fewest octets
 -- (X.690 8.1.2.4, 8.3.2, 8.19.2)
 pub record IsTarget (t : Target) : Type 0 where
   pub identified : 1 ≤ length t.identifier
@@ -119,15 +119,15 @@ pub record IsSingle (s : Single) : Type 0 where
   pub target : IsTarget s.target
   pub extensions : AreExtensions s.extensions
 
--- one request at least
+-- at least one request
 pub record IsForm (f : Form) : Type 0 where
   pub some : 1 ≤ length f.singles
   pub each : AllByRecursion IsSingle f.singles
   pub extensions : AreExtensions f.extensions
 
--- ---- what it asks
+-- ---- the CertIDs and the nonce of a request
 
--- a CertID as it stands in a request: its whole value, the whole value of its algorithm, and the contents of the rest
+-- a CertID in a request: its whole DER value, that of its hashAlgorithm, and the contents of its other fields
 pub record Id : Type 0 where
   pub raw : List ℕ
   pub algorithm : List ℕ
@@ -141,38 +141,38 @@ id_of t = record { raw = cert_id t; algorithm = algorithm t.identifier t.paramet
 abbrev pub cert_id_in : Single → Id
 cert_id_in s = id_of s.target
 
--- the value of the first extension with the nonce's identifier
+-- the value of the first extension with the nonce's OID
 abbrev pub first_nonce : List Extension → Option (List ℕ)
 first_nonce [] = None
 first_nonce (e ∷ es) = if bytes_eq e.identifier nonce_identifier then Some e.value else first_nonce es
 
--- a nonce of 1 to 131 bytes is repeated in the answer, any other is left out
+-- the response repeats a nonce of 1 to 131 bytes, and leaves out any other
 abbrev pub repeated : Option (List ℕ) → Option (List ℕ)
 repeated None = None
 repeated (Some nonce) = if nat_le 1 (length nonce) && nat_le (length nonce) 131 then Some nonce else None
 
--- what the answer repeats of requestExtensions
+-- the nonce in requestExtensions that the response repeats
 abbrev pub nonce_of : Option (List Extension) → Option (List ℕ)
 nonce_of None = None
 nonce_of (Some es) = repeated (first_nonce es)
 
 -- ---- the relation
 
--- the bytes spell this tree, which asks for these CertIDs and for this nonce
+-- the bytes are the encoding of this tree, which has these CertIDs and this nonce to repeat
 pub record IsRequestOf (bytes : List ℕ) (ids : List Id) (nonce : Option (List ℕ)) (f : Form) : Type 0 where
   pub allowed : IsForm f
   pub spelled : bytes ≡ spelling f
   pub asks : ids ≡ map cert_id_in f.singles
   pub repeats : nonce ≡ nonce_of f.extensions
 
--- the bytes, 65,536 at most, are an OCSP request for these CertIDs and with this nonce
+-- the bytes, at most 65,536, are an OCSP request with these CertIDs and this nonce to repeat
 pub record IsOcspRequest (bytes : List ℕ) (ids : List Id) (nonce : Option (List ℕ)) : Type 0 where
   pub each : IsBytes bytes
   pub short : length bytes ≤ 65536
   pub form : Form
   pub built : IsRequestOf bytes ids nonce form
 
--- no bytes have two readings
+-- bytes have at most one reading as a request
 abbrev pub OneReading : Type 0
 OneReading = (bytes : List ℕ) (ids_a ids_b : List Id) (nonce_a nonce_b : Option (List ℕ)) → IsOcspRequest bytes ids_a nonce_a → IsOcspRequest bytes ids_b nonce_b → (ids_a ≡ ids_b) × (nonce_a ≡ nonce_b)
 
@@ -181,12 +181,12 @@ OneReading = (bytes : List ℕ) (ids_a ids_b : List Id) (nonce_a nonce_b : Optio
 abbrev pub raw_length : Id → ℕ
 raw_length id = length id.raw
 
--- a nonce that is repeated
+-- a nonce that the response repeats
 pub record IsNonce (value : List ℕ) : Type 0 where
   pub some : 1 ≤ length value
   pub short : length value ≤ 131
 
--- few and short enough to be answered in one response: 65,536 CertIDs at most, of 65,536 bytes in all, and a nonce of 131
+-- a request that one response can answer: at most 65,536 CertIDs of 65,536 bytes in all, and a nonce of at most 131 bytes
 pub record CanBeAnswered (ids : List Id) (nonce : Option (List ℕ)) : Type 0 where
   pub few : length ids ≤ 65536
   pub short : sum_by raw_length ids ≤ 65536

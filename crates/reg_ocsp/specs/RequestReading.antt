@@ -1,4 +1,4 @@
--- Reading a request, as functions on lists. What they mean is `IsOcspRequest`.
+-- Reading a request, as functions on lists of bytes. `IsOcspRequest` states what a request is.
 use Rattle.std.specs.Prelude.{ℕ, Bool, true, false, not, ◌&&◌, ◌||◌, ◌==◌, nat_lt, nat_le, if◌then◌else◌, List, [], ◌∷◌, length, Option, Some, None, unwrap_or}
 use Rattle.std.specs.Str.{bytes_eq}
 use Rattle.reg_der.specs.Der.{tlv}
@@ -19,11 +19,11 @@ abbrev pub written_flag : Option (List ℕ) → Option (Option Bool)
 written_flag None = Some None
 written_flag (Some contents) = flag_of contents >>= λ flag. Some (Some flag)
 
--- `critical` where it is written, and what follows
+-- `critical`, if it is written, and the bytes after it
 unfoldable pub critical_at : List ℕ → Option (Option Bool × List ℕ)
 critical_at bytes = optional_at 0x01 bytes >>= λ x. written_flag x.0 >>= λ flag. Some (flag, x.1)
 
--- no identifier, or critical and unknown
+-- the OID is empty, or the extension is critical and not the nonce
 abbrev pub is_refused : List ℕ → Option Bool → Bool
 is_refused identifier critical = (length identifier == 0) || (unwrap_or critical false && not (bytes_eq identifier nonce_identifier))
 
@@ -42,7 +42,7 @@ extension_at bytes = do
   extension ← fields_at outer.0
   Some (extension, outer.1)
 
--- the value of the first nonce of Extensions that nothing follows
+-- the value of the first nonce in Extensions, which nothing follows
 unfoldable pub nonce_at : List ℕ → Option (Option (List ℕ))
 nonce_at bytes = do
   list ← whole_at 0x30 bytes
@@ -53,18 +53,18 @@ abbrev pub written_nonce : Option (List ℕ) → Option (Option (List ℕ))
 written_nonce None = Some None
 written_nonce (Some contents) = nonce_at contents
 
--- the same of Extensions under a tag to the end of the bytes, if there are bytes
+-- the value of the first nonce in Extensions under this tag, which are all of the bytes; no nonce if there are no bytes
 unfoldable pub last_nonce_at : ℕ → List ℕ → Option (Option (List ℕ))
 last_nonce_at tag bytes = last_at tag bytes >>= written_nonce
 
 -- ---- requests
 
--- the read ended with its last byte, or there was no byte
+-- the bytes are the one value that was read from them, or there are none
 abbrev pub read_all : List ℕ → Option (Parts × List ℕ) → Bool
 read_all bytes None = length bytes == 0
 read_all bytes (Some x) = length x.1 == 0
 
--- the whole value of an AlgorithmIdentifier, and what follows
+-- the whole DER value of an AlgorithmIdentifier, and the bytes after it
 unfoldable pub algorithm_at : List ℕ → Option (List ℕ × List ℕ)
 algorithm_at bytes = do
   outer ← expect_at 0x30 bytes
@@ -72,13 +72,13 @@ algorithm_at bytes = do
   if (length identifier.0 == 0) || not (read_all identifier.1 (value_at identifier.1)) then None
       else Some (tlv 0x30 outer.0, outer.1)
 
--- the octets of an INTEGER are the fewest
+-- the contents octets of an INTEGER are the fewest (X.690 8.3.2)
 abbrev pub is_shortest : List ℕ → Bool
 is_shortest [] = false
 is_shortest (first ∷ []) = true
 is_shortest (first ∷ second ∷ rest) = not ((first == 0) && nat_lt second 128) && not ((first == 255) && nat_le 128 second)
 
--- the octets of an INTEGER in the fewest, which nothing follows
+-- the contents octets of an INTEGER in the fewest, which nothing follows
 unfoldable pub serial_at : List ℕ → Option (List ℕ)
 serial_at bytes = whole_at 0x02 bytes >>= λ serial. if is_shortest serial then Some serial else None
 
@@ -104,7 +104,7 @@ single_at bytes = do
   ignored ← last_nonce_at 0xA0 target.1
   Some (target.0, outer.1)
 
--- one request at least
+-- the CertIDs of requestList, at least one
 unfoldable pub ids_at : List ℕ → Option (List Id)
 ids_at bytes = if length bytes == 0 then None else all_at single_at bytes
 
@@ -114,25 +114,25 @@ abbrev pub is_version : Option (List ℕ) → Bool
 is_version None = true
 is_version (Some contents) = bytes_eq contents (0x02 ∷ 0x01 ∷ 0x00 ∷ [])
 
--- what follows the version
+-- the bytes after the version
 unfoldable pub version_at : List ℕ → Option (List ℕ)
 version_at bytes = optional_at 0xA0 bytes >>= λ x. if is_version x.0 then Some x.1 else None
 
--- the list of requests in the contents of a TBSRequest, and what follows
+-- the contents of requestList in the contents of a TBSRequest, and the bytes after it
 unfoldable pub list_at : List ℕ → Option (List ℕ × List ℕ)
 list_at bytes = do
   after ← version_at bytes
   requestor ← optional_at 0xA1 after
   expect_at 0x30 requestor.1
 
--- the list of requests, and the nonce to repeat
+-- the contents of requestList, and the nonce to repeat, in the contents of a TBSRequest
 unfoldable pub signed_at : List ℕ → Option (List ℕ × Option (List ℕ))
 signed_at bytes = do
   list ← list_at bytes
   nonce ← last_nonce_at 0xA2 list.1
   Some (list.0, repeated nonce)
 
--- the contents of the TBSRequest in a whole request
+-- the contents of the TBSRequest in an OCSPRequest
 unfoldable pub tbs_at : List ℕ → Option (List ℕ)
 tbs_at bytes = do
   outer ← whole_at 0x30 bytes
@@ -140,7 +140,7 @@ tbs_at bytes = do
   signature ← last_at 0xA0 signed.1
   Some signed.0
 
--- the list of requests and the nonce to repeat in a whole request
+-- the contents of requestList, and the nonce to repeat, in an OCSPRequest
 unfoldable pub parts_at : List ℕ → Option (List ℕ × Option (List ℕ))
 parts_at bytes = if nat_lt 65536 (length bytes) then None else (tbs_at bytes >>= signed_at)
 

@@ -14,19 +14,19 @@ use Rattle.reg_ocsp.specs.declared.response.RefusalStatus.TheVariants.{Malformed
 abbrev pub enumerated : ℕ → List ℕ
 enumerated number = tlv 0x0A (number ∷ [])
 
--- `revocationReason [0] EXPLICIT CRLReason OPTIONAL`: unspecified, 0, is left out (RFC 5280 5.3.1)
+-- `revocationReason [0] EXPLICIT CRLReason OPTIONAL`: the reason unspecified, 0, is left out (RFC 5280 5.3.1)
 abbrev pub reason_part : ℕ → List ℕ
 reason_part reason = if reason == 0 then [] else tlv 0xA0 (enumerated reason)
 
--- CertStatus ::= CHOICE { good [0] NULL, revoked [1] RevokedInfo, unknown [2] NULL }, all IMPLICIT. A certificate past its
--- end that is not revoked is good.
+-- CertStatus ::= CHOICE { good [0] NULL, revoked [1] RevokedInfo, unknown [2] NULL }, all IMPLICIT. An expired certificate
+-- that is not revoked is good.
 abbrev pub cert_status : Status → List ℕ
 cert_status Good = tlv 0x80 []
 cert_status Expired = tlv 0x80 []
 cert_status Unknown = tlv 0x82 []
 cert_status (Revoked at reason) = tlv 0xA1 (general_value at ++ reason_part reason)
 
--- a CertID's whole value, and what it is answered
+-- a CertID's whole DER value, and the status of its certificate
 pub record SingleAnswer : Type 0 where
   pub raw : List ℕ
   pub status : Status
@@ -51,7 +51,7 @@ responder key = tlv 0xA2 (tlv 0x04 (sha1 key))
 abbrev pub nonce_extension : List ℕ → List ℕ
 nonce_extension nonce = tlv 0x30 (tlv 0x06 nonce_identifier ++ tlv 0x04 nonce)
 
--- `responseExtensions [1] EXPLICIT Extensions OPTIONAL`: the nonce alone, where one is repeated (RFC 6960 4.4.1)
+-- `responseExtensions [1] EXPLICIT Extensions OPTIONAL`: only the nonce, if one is repeated (RFC 6960 4.4.1)
 abbrev pub nonce_part : Option (List ℕ) → List ℕ
 nonce_part None = []
 nonce_part (Some nonce) = tlv 0xA1 (tlv 0x30 (nonce_extension nonce))
@@ -62,16 +62,16 @@ data_fields key now next answers nonce =
     responder key ++ general_value now ++ tlv 0x30 (flat_map (single_response now next) answers) ++ nonce_part nonce
 
 -- ResponseData ::= SEQUENCE { responderID, producedAt GeneralizedTime, responses SEQUENCE OF SingleResponse,
--- responseExtensions }, by the key of the responder; each answer holds from now to next
+-- responseExtensions }, for the responder with this key; thisUpdate of each response is `now`, and nextUpdate is `next`
 unfoldable pub response_data : List ℕ → ℕ → ℕ → List SingleAnswer → Option (List ℕ) → List ℕ
 response_data key now next answers nonce = tlv 0x30 (data_fields key now next answers nonce)
 
--- `certs [0] EXPLICIT SEQUENCE OF Certificate OPTIONAL`: the one certificate, where one stands there
+-- `certs [0] EXPLICIT SEQUENCE OF Certificate OPTIONAL`: one certificate or none
 abbrev pub certs_part : Option (List ℕ) → List ℕ
 certs_part None = []
 certs_part (Some certificate) = tlv 0xA0 (tlv 0x30 certificate)
 
--- how many bytes that has at most
+-- the most bytes of `certs`
 abbrev pub certs_room : Option (List ℕ) → ℕ
 certs_room None = 0
 certs_room (Some certificate) = length certificate + 12
@@ -96,7 +96,7 @@ response_bytes response = tlv 0x30 (tlv 0x06 basic_identifier ++ tlv 0x04 respon
 abbrev pub successful_response : List ℕ → List ℕ
 successful_response bytes = tlv 0x30 (enumerated 0 ++ tlv 0xA0 bytes)
 
--- the same with a BasicOCSPResponse
+-- the successful OCSPResponse with a BasicOCSPResponse
 unfoldable pub ocsp_response : List ℕ → List ℕ → List ℕ → Option (List ℕ) → List ℕ
 ocsp_response signed algorithm signature certificate = successful_response (response_bytes (basic_response signed algorithm signature certificate))
 

@@ -1,4 +1,4 @@
--- What contracts see of the values that a request is read into.
+-- The models of Rust values in contracts: slices are replaced by their bytes.
 use Rattle.std.specs.Prelude.{◌≡◌, ℕ, List, length, map, Option, Some, None, Result, Ok, Err}
 use Rattle.reg_ocsp.specs.declared.fault.RequestFault.{RequestFault}
 use Rattle.reg_ocsp.specs.declared.fault.RequestFault.TheVariants.{Malformed, Memory}
@@ -9,24 +9,24 @@ use Rattle.reg_core.specs.declared.command.Status.{Status}
 use Rattle.reg_ocsp.specs.Request.{Id, Extension}
 use Rattle.reg_ocsp.specs.Response.{SingleAnswer}
 
--- the slices of a CertID, by their bytes
+-- a CertID, each slice replaced by its bytes
 abbrev pub id_seen : CertId → Id
 id_seen id = record { raw = id.raw.now; algorithm = id.algorithm.now; name_hash = id.name_hash.now; key_hash = id.key_hash.now; serial = id.serial.now }
 
 abbrev pub ids_seen : List CertId → List Id
 ids_seen ids = map id_seen ids
 
--- what a function returned, seen by view, is what reading gives, unless memory was wanting
+-- the model of what a function returned is what reading gives, unless it ran out of memory
 abbrev pub GivesUnlessMemory : {X Y : Type 0} → (X → Y) → Result X RequestFault → Option Y → Type 0
 GivesUnlessMemory view (Ok x) read = read ≡ Some (view x)
 GivesUnlessMemory view (Err Malformed) read = read ≡ None
 GivesUnlessMemory view (Err Memory) read = Unit {0}
 
--- an extension, its slices by their bytes
+-- an extension, each slice replaced by its bytes
 abbrev pub extension_seen : code.Extension → Extension
 extension_seen e = record { identifier = e.identifier.now; critical = e.critical; value = e.value.now }
 
--- a CertID with what it is answered: its whole value by its bytes
+-- a CertID's whole DER value, and its status
 abbrev pub answer_seen : CertId × Status → SingleAnswer
 answer_seen answer = record { raw = answer.0.raw.now; status = answer.1 }
 
@@ -37,10 +37,10 @@ answers_seen answers = map answer_seen answers
 abbrev pub answered : List (CertId × Status) → List CertId
 answered answers = map (λ answer. answer.0) answers
 
--- the length of the whole value of its CertID
+-- the length of the CertID's whole DER value
 abbrev pub answered_length : CertId × Status → ℕ
 answered_length answer = length answer.0.raw.now
 
--- a certificate's key: the whole value of its algorithm, and its bits
+-- a certificate's key: the whole DER value of its algorithm, and its bits
 abbrev pub key_seen : CertifiedKey → List ℕ × List ℕ
 key_seen it = (it.algorithm.now, it.key.now)

@@ -1,4 +1,4 @@
-//! The public key that stands in a certificate (RFC 5280 4.1).
+//! Reads the public key of a certificate (RFC 5280 4.1).
 
 ghost use Rattle.std.specs.Prelude.{◌≡◌, ◌≤◌, ℕ, List, Some, IfOk, IfSome, IsErrOf, length, option_map};
 ghost use Rattle.reg_der.specs.ValueReading.{Gives};
@@ -15,10 +15,10 @@ const LONGEST_CERTIFICATE: usize = 65_536;
 
 const LONGEST_KEY: usize = 2_048;
 
-/// Why bytes make no certificate.
+/// Why there is no [`Certificate`].
 #[derive(Clone, Copy, PartialEq, Eq)]
 pub enum CertificateFault {
-    /// They are no certificate with a public key, as [`certified_key`] says.
+    /// The bytes are not a certificate with a public key that [`certified_key`] reads.
     Bad,
     Memory,
 }
@@ -31,7 +31,7 @@ impl From<AllocError> for CertificateFault {
     }
 }
 
-/// A certificate that is to stand with answers. Contracts see its bytes, and its public key with the algorithm of that.
+/// The responder's certificate, for `certs` of responses. Its model is its bytes, its public key and the algorithm of that key.
 #[derive(Drop)]
 pub struct Certificate {
     der: Vec<u8>,
@@ -50,7 +50,7 @@ impl Model for Certificate {
 }
 
 impl Certificate {
-    /// The certificate that the bytes are; `Bad` where they are none with a public key ([`certified_key`]).
+    /// A certificate from its DER; `Bad` if [`certified_key`] gives `None`; `Memory`.
     pub fn new(alloc: Global, der: &[u8]) -> Result<Certificate, CertificateFault>
         ensures der { IfOk result (λ it. it.der ≡ der.now) }
         ensures bad { IsErrOf result CertificateFault.Bad → (algorithm key : List ℕ) → ¬ (IsCertificateOf der.now algorithm key) }
@@ -69,7 +69,7 @@ impl Certificate {
         })
     }
 
-    /// All of it, in DER: 65,536 bytes at most.
+    /// The whole certificate in DER: at most 65,536 bytes.
     pub fn der(&self) -> &[u8]
         ensures der { result.now ≡ self.now.der }
         ensures short { length result.now ≤ 65536 }
@@ -77,14 +77,14 @@ impl Certificate {
         &self.der
     }
 
-    /// The whole value of the AlgorithmIdentifier of its public key (RFC 5280 4.1.2.7).
+    /// The whole DER value of the AlgorithmIdentifier of its public key (RFC 5280 4.1.2.7).
     pub fn algorithm(&self) -> &[u8]
         ensures { result.now ≡ self.now.algorithm }
     {
         &self.algorithm
     }
 
-    /// The bits of its subjectPublicKey, without the octet that counts unused ones.
+    /// The bits of its subjectPublicKey, without the octet that counts the unused bits.
     pub fn key(&self) -> &[u8]
         ensures key { result.now ≡ self.now.key }
         ensures certified { IsCertificateOf self.now.der self.now.algorithm result.now }
@@ -96,15 +96,15 @@ impl Certificate {
 /// The public key of a certificate, in slices of the certificate's bytes.
 #[derive(Clone, Copy)]
 pub struct CertifiedKey<'a> {
-    /// The whole value of the AlgorithmIdentifier of its subjectPublicKeyInfo.
+    /// The whole DER value of the AlgorithmIdentifier in its subjectPublicKeyInfo.
     pub algorithm: &'a [u8],
-    /// The bits of its subjectPublicKey, without the octet that counts unused ones: 1 to 2,048 bytes.
+    /// The bits of its subjectPublicKey, without the octet that counts the unused bits: 1 to 2,048 bytes.
     pub key: &'a [u8],
 }
 
-/// The public key of a certificate: all bytes, 65,536 at most, are one Certificate in DER. Only what stands before the key
-/// is read, and by the tags of its parts alone: whose it is, for what and until when, and its signature aren't looked at.
-/// `None` exactly for other bytes, or for a key of other bits than whole bytes, of none, or of more than 2,048.
+/// The public key of a certificate, whose DER is all of the bytes, at most 65,536. Of the fields, only the tags and the public
+/// key are checked: not the issuer, the validity, the subject, the extensions or the signature. `None` exactly for other bytes,
+/// and for a key that has unused bits, is empty, or is longer than 2,048 bytes.
 pub fn certified_key(certificate: &[u8]) -> Option<CertifiedKey<'_>>
     ensures found { IfSome result (λ it. IsCertificateOf certificate.now it.algorithm.now it.key.now) }
     ensures only { (algorithm key : List ℕ) → IsCertificateOf certificate.now algorithm key → option_map key_seen result ≡ Some (algorithm, key) }
@@ -135,7 +135,7 @@ fn signed_part(bytes: &[u8]) -> Option<&[u8]>
     Some(part.contents)
 }
 
-/// What follows the subject, in the contents of a TBSCertificate.
+/// The fields after the subject, in the contents of a TBSCertificate.
 #[tactic(auto, unfolding(crate::specs::Certificate::after_subject_at))]
 fn after_subject(part: &[u8]) -> Option<&[u8]>
     ensures { Gives (λ x. x.now) result (after_subject_at part.now) }
@@ -149,7 +149,7 @@ fn after_subject(part: &[u8]) -> Option<&[u8]>
     Some(rest)
 }
 
-/// The key of the contents of a SubjectPublicKeyInfo.
+/// The key and its algorithm, from the contents of a SubjectPublicKeyInfo.
 #[tactic(auto, unfolding(crate::specs::Certificate::key_info_at))]
 fn key_info(bytes: &[u8]) -> Option<CertifiedKey<'_>>
     ensures { Gives key_seen result (key_info_at bytes.now) }

@@ -7,14 +7,14 @@ use reg_der::copy_of;
 use std::alloc::Global;
 use std::marker::Model;
 
-/// What is to be signed for an OCSP request, and what its answer has beside that (BasicOCSPResponse, RFC 6960 4.2.1). It holds
-/// all that the answer is made of, so that nothing else is looked at once the signature is there.
+/// The fields of a BasicOCSPResponse but for the signature (RFC 6960 4.2.1). The response needs only these and the signature, so
+/// the register may change until that comes.
 #[derive(Drop)]
 pub struct Draft {
     message: Vec<u8>,
     algorithm: Vec<u8>,
     key: Vec<u8>,
-    /// The certificate that stands with the answer, where one does.
+    /// The certificate in `certs`, if there is one.
     certificate: Option<Vec<u8>>,
 }
 
@@ -36,7 +36,7 @@ impl Model for Draft {
 }
 
 impl Draft {
-    /// A draft of these parts.
+    /// A draft of the ResponseData (at most 2^27 bytes), the AlgorithmIdentifier (1,024), the signer's key and the certificate (65,536).
     pub fn of(
         alloc: Global,
         message: &[u8],
@@ -66,7 +66,7 @@ impl Draft {
         })
     }
 
-    /// What is to be signed.
+    /// The ResponseData, which is to be signed.
     pub fn message(&self) -> &[u8]
         ensures { result.now ≡ self.now.message }
     {
@@ -80,14 +80,14 @@ impl Draft {
         &self.algorithm
     }
 
-    /// The public key of who is to sign.
+    /// The public key of the signer.
     pub fn key(&self) -> &[u8]
         ensures { result.now ≡ self.now.key }
     {
         &self.key
     }
 
-    /// The whole OCSPResponse with this signature; internalError where there is none (RFC 6960 2.3).
+    /// The whole OCSPResponse with this signature, of at most 65,536 bytes; internalError without a signature (RFC 6960 2.3).
     pub fn response(&self, alloc: Global, signature: Option<&[u8]>) -> Result<Vec<u8>, Memory>
         requires { IfSome (option_copied signature) (λ bytes. length bytes ≤ 65536) }
         ensures { IfOk result (λ bytes. bytes.items ≡ drafted_response self.now (option_copied signature.entry)) }
@@ -114,7 +114,7 @@ fn copied(alloc: Global, bytes: Option<&[u8]>) -> Result<Option<Vec<u8>>, Memory
     }
 }
 
-/// The bytes, where there are any.
+/// A slice of the bytes, if there is a vector.
 pub fn slice_of(bytes: &Option<Vec<u8>>) -> Option<&[u8]>
     ensures { option_copied result ≡ option_map (λ it. it.items) bytes.now }
 {

@@ -10,7 +10,7 @@ use reg_der::values::{expect, last, optional, whole};
 /// id-pkix-ocsp-nonce, 1.3.6.1.5.5.7.48.1.2 (RFC 6960 4.4.1).
 pub(crate) const NONCE: [u8; 9] = [0x2B, 0x06, 0x01, 0x05, 0x05, 0x07, 0x30, 0x01, 0x02];
 
-/// An Extension that is known or need not be.
+/// An Extension that is the nonce or is not critical.
 #[derive(Clone, Copy)]
 pub(crate) struct Extension<'a> {
     identifier: &'a [u8],
@@ -19,8 +19,8 @@ pub(crate) struct Extension<'a> {
     value: &'a [u8],
 }
 
-/// The value of the first nonce of the Extensions under the tag that all the bytes are, if there are bytes; all of them
-/// are read.
+/// The value of the first nonce in Extensions under this tag, which are all of the bytes. `Some(None)` if there are no bytes or no
+/// nonce; `None` if any of the Extensions is invalid.
 #[tactic(auto, unfolding(crate::specs::RequestReading::last_nonce_at))]
 pub(crate) fn last_nonce(tag: u8, bytes: &[u8]) -> Option<Option<&[u8]>>
     ensures { Gives (λ x. option_copied x) result (last_nonce_at tag bytes.now) }
@@ -37,7 +37,7 @@ fn written_nonce(extensions: Option<&[u8]>) -> Option<Option<&[u8]>>
     }
 }
 
-/// The value of the first nonce of Extensions that all the bytes are.
+/// The value of the first nonce in Extensions, which are all of the bytes.
 #[tactic(auto, unfolding(crate::specs::RequestReading::nonce_at))]
 fn first_nonce(bytes: &[u8]) -> Option<Option<&[u8]>>
     ensures { Gives (λ x. option_copied x) result (nonce_at bytes.now) }
@@ -54,7 +54,7 @@ fn first_nonce(bytes: &[u8]) -> Option<Option<&[u8]>>
     Some(nonce)
 }
 
-/// The Extension at the front, and what follows.
+/// The first Extension, and the bytes after it.
 #[tactic(auto, unfolding(crate::specs::RequestReading::extension_at))]
 fn next_extension(bytes: &[u8]) -> Option<(Extension<'_>, &[u8])>
     ensures exact { Gives (λ x. (extension_seen x.0, x.1.now)) result (extension_at bytes.now) }
@@ -65,7 +65,7 @@ fn next_extension(bytes: &[u8]) -> Option<(Extension<'_>, &[u8])>
     Some((extension, rest))
 }
 
-/// The Extension whose fields the bytes are.
+/// The Extension with these contents.
 #[tactic(auto, unfolding(crate::specs::RequestReading::fields_at))]
 fn extension_of(bytes: &[u8]) -> Option<Extension<'_>>
     ensures { Gives extension_seen result (fields_at bytes.now) }
@@ -90,7 +90,7 @@ fn is_refused(identifier: &[u8], critical: Option<bool>) -> bool
     identifier.is_empty() || (critical.unwrap_or(false) && identifier != NONCE.as_slice())
 }
 
-/// `critical`, where it is written, and what follows.
+/// `critical`, if it is written, and the bytes after it.
 #[tactic(auto, unfolding(crate::specs::RequestReading::critical_at))]
 fn critical(bytes: &[u8]) -> Option<(Option<bool>, &[u8])>
     ensures { Gives (λ x. (x.0, x.1.now)) result (critical_at bytes.now) }

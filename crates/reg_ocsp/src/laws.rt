@@ -2,7 +2,7 @@
 
 ghost use Rattle.reg_ocsp.specs.Request.{OneReading};
 
-/// No bytes are two requests: what `read_request` gives is the only reading.
+/// Bytes have at most one reading as a request: the one that `read_request` gives.
 pub fn one_reading()
     ensures { OneReading }
 {}

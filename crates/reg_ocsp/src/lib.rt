@@ -1,4 +1,4 @@
-//! OCSP requests read by their grammar, and responses written exactly (RFC 6960 4).
+//! Reads OCSP requests by their grammar, and writes responses (RFC 6960 4).
 #![tactic(auto)]
 
 mod asked;

@@ -1,4 +1,4 @@
-//! An OCSP request read from the outside inwards (RFC 6960 4.1.1).
+//! Reads an OCSP request (RFC 6960 4.1.1).
 
 ghost use Rattle.std.specs.Prelude.{◌≡◌, ℕ, List, Option, ◌≤◌, ◌<◌, length, IfOk, IfSome, IsErrOf, option_copied};
 ghost use Rattle.reg_der.specs.ValueReading.{Gives, value_at};
@@ -20,15 +20,15 @@ use std::alloc::Global;
 
 const LONGEST_REQUEST: usize = 65_536;
 
-/// The INTEGER 0, which stands for version 1 (RFC 6960 4.1.1).
+/// The INTEGER 0, which means version 1 (RFC 6960 4.1.1).
 const VERSION_1: [u8; 3] = [0x02, 0x01, 0x00];
 
 const LONGEST_NONCE: usize = 131;
 
-/// What an OCSP request asks. `Malformed` exactly for bytes that are no request: all 65,536 bytes at most are one
-/// OCSPRequest in DER, with one CertID at least and no critical extension but the nonce. A version 0 and a `critical`
-/// FALSE may be written; the contents of the requestor's name and of the signature aren't looked at. No bytes have two
-/// readings (`laws::one_reading`).
+/// Reads an OCSP request. `Malformed` exactly if the bytes are not one OCSPRequest in DER of at most 65,536 bytes, with at
+/// least one CertID and no critical extension but the nonce. The defaults (version v1, `critical` FALSE) may be encoded. The
+/// contents of requestorName and of optionalSignature are not checked. Bytes have at most one reading
+/// (`laws::one_reading`). `Memory` if out of memory for the CertIDs.
 pub fn read_request(alloc: Global, bytes: &[u8]) -> Result<Asked<'_>, RequestFault>
     ensures found { IfOk result (λ a. IsOcspRequest bytes.now (ids_seen a.ids.items) (option_copied a.nonce)) }
     ensures malformed { IsErrOf result RequestFault.Malformed → (ids : List Id) (nonce : Option (List ℕ)) → IsOcspRequest bytes.now ids nonce → ⊥ }
@@ -50,7 +50,7 @@ fn request(alloc: Global, bytes: &[u8]) -> Result<Asked<'_>, RequestFault>
     Ok(Asked { ids, nonce })
 }
 
-/// The contents of the list of requests, and the nonce that is to be repeated.
+/// The contents of requestList, and the nonce to repeat.
 #[tactic(auto, unfolding(crate::specs::RequestReading::parts_at))]
 fn parts(bytes: &[u8]) -> Option<(&[u8], Option<&[u8]>)>
     ensures { Gives (λ x. (x.0.now, option_copied x.1)) result (parts_at bytes.now) }
@@ -70,7 +70,7 @@ fn to_be_signed(bytes: &[u8]) -> Option<&[u8]>
     Some(signed.contents)
 }
 
-/// The same of the contents of a TBSRequest.
+/// The contents of requestList, and the nonce to repeat, from the contents of a TBSRequest.
 #[tactic(auto, unfolding(crate::specs::RequestReading::signed_at))]
 fn signed_parts(bytes: &[u8]) -> Option<(&[u8], Option<&[u8]>)>
     ensures { Gives (λ x. (x.0.now, option_copied x.1)) result (signed_at bytes.now) }
@@ -80,7 +80,7 @@ fn signed_parts(bytes: &[u8]) -> Option<(&[u8], Option<&[u8]>)>
     Some((list, repeated(nonce)))
 }
 
-/// The contents of the list of requests in the contents of a TBSRequest, and what follows.
+/// The contents of requestList in the contents of a TBSRequest, and the bytes after it.
 #[tactic(auto, unfolding(crate::specs::RequestReading::list_at))]
 fn list(bytes: &[u8]) -> Option<(&[u8], &[u8])>
     ensures { Gives (λ x. (x.0.now, x.1.now)) result (list_at bytes.now) }
@@ -90,7 +90,7 @@ fn list(bytes: &[u8]) -> Option<(&[u8], &[u8])>
     Some((list.contents, rest))
 }
 
-/// What follows the version, which may be left out and is 0 where it is written.
+/// The bytes after the version, which is 0 or left out.
 #[tactic(auto, unfolding(crate::specs::RequestReading::version_at))]
 fn after_version(bytes: &[u8]) -> Option<&[u8]>
     ensures { Gives (λ x. x.now) result (version_at bytes.now) }
@@ -108,7 +108,7 @@ fn repeated(nonce: Option<&[u8]>) -> Option<&[u8]>
     nonce.filter(|value| !value.is_empty() && value.len() <= LONGEST_NONCE)
 }
 
-/// The CertIDs of a list of requests, one at least.
+/// The CertIDs in the contents of requestList: at least one.
 #[tactic(auto, unfolding(crate::specs::RequestReading::ids_at))]
 fn ids(alloc: Global, bytes: &[u8]) -> Result<Vec<CertId<'_>>, RequestFault>
     ensures { GivesUnlessMemory (λ ids. ids_seen ids.items) result (ids_at bytes.now) }
@@ -128,7 +128,7 @@ fn ids(alloc: Global, bytes: &[u8]) -> Result<Vec<CertId<'_>>, RequestFault>
     Ok(ids)
 }
 
-/// The CertID of the Request at the front, and what follows.
+/// The CertID of the first Request, and the bytes after that Request.
 #[tactic(auto, unfolding(crate::specs::RequestReading::single_at))]
 fn single(bytes: &[u8]) -> Option<(CertId<'_>, &[u8])>
     ensures exact { Gives (λ x. (id_seen x.0, x.1.now)) result (single_at bytes.now) }
@@ -140,7 +140,7 @@ fn single(bytes: &[u8]) -> Option<(CertId<'_>, &[u8])>
     Some((id, rest))
 }
 
-/// The CertID at the front, and what follows.
+/// The CertID at the front, and the bytes after it.
 #[tactic(auto, unfolding(crate::specs::RequestReading::target_at))]
 fn cert_id(bytes: &[u8]) -> Option<(CertId<'_>, &[u8])>
     ensures { Gives (λ x. (id_seen x.0, x.1.now)) result (target_at bytes.now) }
@@ -158,7 +158,7 @@ fn cert_id(bytes: &[u8]) -> Option<(CertId<'_>, &[u8])>
     Some((id, rest))
 }
 
-/// The hashes of the issuer's name and of its key, and the contents octets of the serial number.
+/// issuerNameHash, issuerKeyHash, and the contents octets of serialNumber.
 #[tactic(auto, unfolding(crate::specs::RequestReading::names_at))]
 fn names(bytes: &[u8]) -> Option<(&[u8], &[u8], &[u8])>
     ensures { Gives (λ x. (x.0.now, x.1.now, x.2.now)) result (names_at bytes.now) }
@@ -181,7 +181,7 @@ fn serial(bytes: &[u8]) -> Option<&[u8]>
     }
 }
 
-/// The whole value of the AlgorithmIdentifier at the front, and what follows.
+/// The whole DER value of the AlgorithmIdentifier at the front, and the bytes after it.
 #[tactic(auto, unfolding(crate::specs::RequestReading::algorithm_at))]
 fn algorithm(bytes: &[u8]) -> Option<(&[u8], &[u8])>
     ensures { Gives (λ x. (x.0.now, x.1.now)) result (algorithm_at bytes.now) }

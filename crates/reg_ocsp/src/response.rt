@@ -1,4 +1,4 @@
-//! OCSP responses written exactly (RFC 6960 4.2.1).
+//! Writes OCSP responses (RFC 6960 4.2.1).
 
 ghost use Rattle.std.specs.Prelude.{◌≡◌, ◌+◌, ◌*◌, ◌^◌, ◌++◌, ◌<◌, ◌≤◌, ◌%◌, length, None, IfOk, OnOk, IfSome, option_copied, sum_by};
 ghost use Rattle.std.specs.List.{flat_map};
@@ -23,18 +23,18 @@ use std::alloc::Global;
 /// id-pkix-ocsp-basic, 1.3.6.1.5.5.7.48.1.1 (RFC 6960 4.2.1).
 const BASIC: [u8; 9] = [0x2B, 0x06, 0x01, 0x05, 0x05, 0x07, 0x30, 0x01, 0x01];
 
-/// Why a request gets no answer (OCSPResponseStatus, RFC 6960 4.2.1).
+/// Why a response has no responseBytes (OCSPResponseStatus, RFC 6960 4.2.1).
 #[derive(Clone, Copy, PartialEq, Eq)]
 pub enum RefusalStatus {
-    /// malformedRequest (1): the request is none.
+    /// malformedRequest (1): the bytes are not a request.
     Malformed,
     /// internalError (2): the responder failed.
     Internal,
-    /// tryLater (3): the responder can't answer now.
+    /// tryLater (3): the responder can't answer at this time.
     TryLater,
 }
 
-/// The whole OCSPResponse that refuses an answer.
+/// The whole OCSPResponse with this status and no responseBytes.
 #[tactic(auto, unfolding(reg_der::specs::Der::tlv, reg_der::specs::Der::length_octets))]
 pub fn refusal(status: RefusalStatus) -> [u8; 5]
     ensures { result ≡ refusal_response status }
@@ -47,11 +47,11 @@ pub fn refusal(status: RefusalStatus) -> [u8; 5]
     [SEQUENCE, 3, ENUMERATED, 1, code]
 }
 
-/// The ResponseData (RFC 6960 4.2.1) of an issuer that answers for itself, named by the SHA-1 of its key: what is signed.
+/// The ResponseData, which is to be signed (RFC 6960 4.2.1), of an issuer that is its own responder; responderID is the SHA-1 of its key.
 ///
 /// producedAt and each thisUpdate are `now`, each nextUpdate is `next`. Each CertID is repeated byte for byte, in the order
-/// of `answers`. A certificate past its end that isn't revoked is `good`, and the reason 0 is left out. There are at most
-/// 65,536 CertIDs with 65,536 bytes in all, and the nonce has at most 131, as `read_request` gives them.
+/// of `answers`. An expired certificate that isn't revoked is `good`, and the reason 0 is left out. There are at most
+/// 65,536 CertIDs with 65,536 bytes in all, and the nonce has at most 131, as `read_request` gives them. At most 2^27 bytes.
 pub fn response_data(
     alloc: Global,
     issuer: &Issuer,
@@ -67,7 +67,7 @@ pub fn response_data(
     response_data_by(alloc, issuer.key(), now, next, answers, nonce)
 }
 
-/// The same of whoever answers with a key: the responder is named by the SHA-1 of that key, the bits of its
+/// As [`response_data`], for a responder with this key: responderID is the SHA-1 of the key, which is the bits of its
 /// subjectPublicKey (RFC 6960 4.2.1).
 #[tactic(auto, using(crate::proofs::Answering::few_answers, crate::proofs::Answering::short_answers), unfolding(crate::specs::Response::response_data))]
 pub fn response_data_by(
@@ -108,8 +108,8 @@ fn put_data_fields(
     put_nonce(alloc, out, nonce)
 }
 
-/// The whole OCSPResponse with a BasicOCSPResponse (RFC 6960 4.2.1) of what was signed, at most 2^27 bytes, the signature's
-/// AlgorithmIdentifier, at most 1,024, and the signature, at most 65,536.
+/// The whole OCSPResponse with a BasicOCSPResponse (RFC 6960 4.2.1). It has the ResponseData that was signed, at most 2^27 bytes,
+/// the signature's AlgorithmIdentifier, at most 1,024, and the signature, at most 65,536.
 pub fn basic(
     alloc: Global,
     signed: &[u8],
@@ -125,7 +125,7 @@ pub fn basic(
     basic_with(alloc, signed, algorithm, signature, None)
 }
 
-/// The same with a certificate in `certs`, where there is one: its DER, at most 65,536 bytes (RFC 6960 4.2.1, 4.2.2.2).
+/// As [`basic`], with a certificate in `certs`, if there is one: its DER, at most 65,536 bytes (RFC 6960 4.2.1, 4.2.2.2).
 #[tactic(auto, unfolding(crate::specs::Response::ocsp_response))]
 pub fn basic_with(
     alloc: Global,
@@ -237,7 +237,7 @@ fn put_certificate(
     put(out, TAGGED_0, &certificates)
 }
 
-/// Appends the ResponderID by a key.
+/// Appends the ResponderID byKey: the SHA-1 of the key.
 fn put_responder(alloc: Global, out: &mut Vec<u8>, key: &[u8]) -> Result<(), Memory>
     ensures ok { OnOk result (out.new.items ≡ out.old.items ++ spec.responder key.now) }
     ensures longer { OnOk result (length out.new.items ≤ length out.old.items + 32) }

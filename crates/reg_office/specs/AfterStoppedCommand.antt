@@ -1,4 +1,4 @@
--- What a stop during a command may find.
+-- The rows that a stop (a crash or a power failure) may leave during a command.
 use Rattle.std.specs.Prelude.{◌≡◌, ◌⊎◌, ℕ, List, [], ◌∷◌, ◌++◌, Result, Ok, Err, OnOk, IsTrue}
 use Rattle.sqlite_trees.specs.Tree.{Trees}
 use Rattle.sqlite_trees.specs.declared.store.Store.{Ghosts}
@@ -17,8 +17,8 @@ use Rattle.reg_store_tables.specs.AfterStop.{AreARegisters, IsAtRest}
 use Rattle.reg_core_laws.specs.Run.{Happens, Run}
 use Rattle.reg_office.specs.Stands.{SoundFor, Stands, CameTo}
 
--- the rows show the records after the command, which was accepted over these, and what is kept beside them stands for them; they are sound for
--- the signers of the office
+-- the rows show the records after the command, which was accepted over `records`; the derived tables match them, and they are sound for the
+-- office's signer
 pub record IsDone (signs : Signs) (identity : Identity) (records : Records) (now : ℕ) (command : Command) (trees : Trees) : Type 0 where
   pub answer : Reply
   pub after : Records
@@ -26,29 +26,29 @@ pub record IsDone (signs : Signs) (identity : Identity) (records : Records) (now
   pub rests : IsAtRest after trees
   pub sound : SoundFor signs identity after
 
--- the rows as a command of an office leaves them that is accepted over the records that stood
+-- the rows after a command of an office that was accepted over the records before it
 abbrev pub Does : {C : Type 0} → Ghosts C → Signs → Held C → Identity → ℕ → Command → Trees → Type 0
 Does g signs old identity now command trees = (records : Records) → Stands g signs old identity records → IsDone signs identity records now command trees
 
--- the rows as a key identifier of the issuer's own leaves them, which CRLs have from the next one on
+-- the rows after the issuer was given a key identifier of its own, which CRLs have from the next one on
 abbrev pub IsIdentified : {C : Type 0} → Ghosts C → Held C → List ℕ → Trees → Type 0
 IsIdentified g old octets trees = (records : Records) → ShowsKept g old records → IsAtRest (with_key_identifier records octets) trees
 
 -- ---- over a run
 
--- no reply is among these outcomes: each is a refusal or a fault
+-- each of these outcomes is a refusal or a fault
 abbrev pub HaveNoReply : List (Result Reply Fault) → Type 0
 HaveNoReply [] = Unit {0}
 HaveNoReply (Ok reply ∷ outcomes) = ⊥
 HaveNoReply (Err fault ∷ outcomes) = HaveNoReply outcomes
 
--- this holds of the first of these commands over the records
+-- `Done` holds of the records and the first of these commands
 abbrev pub IsNext : (Records → ℕ → Command → Type 0) → Records → List (ℕ × Command) → Type 0
 IsNext Done records [] = ⊥
 IsNext Done records (timed ∷ commands) = Done records timed.0 timed.1
 
--- The records after a prefix of the commands stand: after those which came to the first of the outcomes, or after these and the next, whose
--- outcome is a fault that was replied; no reply was given to any that is left.
+-- What is left are the records after a prefix of the commands: after those of `done`, whose outcomes are `came`, or after these and the next
+-- command. The outcomes of the commands past `done` are refusals or faults.
 pub record PartlyRun (signs : Signs) (identity : Identity) (Rests : Records → Type 0) (Done : Records → ℕ → Command → Type 0)
     (records : Records) (commands : List (ℕ × Command)) (outcomes : List (Result Reply Fault)) : Type 0 where
   pub done : List (ℕ × Command)
@@ -63,18 +63,18 @@ pub record PartlyRun (signs : Signs) (identity : Identity) (Rests : Records → 
   pub sound : SoundFor signs identity after
   pub rests : Rests after ⊎ IsNext Done after left
 
--- the rows show the records after a prefix of the commands, and what is kept beside them stands for them
+-- the rows show the records after a prefix of the commands, and the derived tables match them
 abbrev pub IsPartlyRun : Signs → Identity → Records → List (ℕ × Command) → List (Result Reply Fault) → Trees → Type 0
 IsPartlyRun signs identity records commands outcomes trees =
     PartlyRun signs identity (λ after. IsAtRest after trees) (λ after now command. IsDone signs identity after now command trees) records commands outcomes
 
--- one command as `run_one` runs it, from one state of an office's tables to the next: what its clauses say
+-- what the clauses of `run_one` say of one command, from one state of an office's tables to the next
 pub record IsRunOne {C : Type 0} (g : Ghosts C) (signs : Signs) (identity : Identity) (old new : Held C) (now : ℕ) (command : Command) (outcome : Result Reply Fault) : Type 0 where
   pub step : (records : Records) → Stands g signs old identity records → HasCleanDisk (state g new) → CameTo g signs new identity records now command outcome
   pub live : HasCleanDisk (state g new) → OnOk outcome (IsTrue (state g new).is_open)
   pub survives : Survives (state g old) (state g new) (Does g signs old identity now command)
 
--- commands as calls of `run_one` run them, one after another, with an outcome for each
+-- commands that calls of `run_one` ran one after another, with an outcome for each
 abbrev pub AreRunByOne : {C : Type 0} → Ghosts C → Signs → Identity → Held C → List (ℕ × Command) → List (Result Reply Fault) → Held C → Type 0
 AreRunByOne g signs identity old [] [] new = new ≡ old
 AreRunByOne g signs identity old [] (outcome ∷ outcomes) new = ⊥
@@ -84,18 +84,18 @@ AreRunByOne {C = C} g signs identity old (timed ∷ commands) (outcome ∷ outco
 
 -- ---- over any calls
 
--- a stop after a call, or in the middle of it, leaves rows of these records, with what is kept beside them
+-- a stop after a call, or in the middle of it, leaves rows that show these records, with derived tables that match them
 abbrev pub LeavesThese : {C : Type 0} → Ghosts C → Held C → Records → Type 0
 LeavesThese g held records = HasCleanDisk (state g held) → (trees : Trees) → (state g held).may_leave trees → IsAtRest records trees
 
--- the rows of the records after one change more, for which no acceptance was replied: a command, or another schedule or key identifier
+-- the rows show the records after one more change, whose acceptance was not replied: a command, or another schedule or key identifier
 abbrev pub IsOneMore : Signs → Identity → Records → Trees → Type 0
 IsOneMore signs identity records trees =
     ((now : ℕ) × (command : Command) × IsDone signs identity records now command trees)
     ⊎ (((steps : List (ℕ × ℕ)) × IsAtRest (with_schedule records steps) trees)
     ⊎ ((octets : List ℕ) × IsAtRest (with_key_identifier records octets) trees))
 
--- where a stop after a call, or in the middle of it, leaves a register, its rows are those of these records, or of one change more
+-- if a stop after a call, or in the middle of it, leaves a register's tables, these show these records, or those after one more change
 abbrev pub LeavesReported : {C : Type 0} → Ghosts C → Signs → Held C → Identity → Records → Type 0
 LeavesReported g signs held identity records =
     HasCleanDisk (state g held) → (trees : Trees) → (state g held).may_leave trees → AreARegisters trees

@@ -12,10 +12,10 @@ use Rattle.reg_ocsp.specs.Request.{Id}
 use Rattle.reg_ocsp.specs.Response.{SingleAnswer, cert_status}
 use Rattle.reg_office_api.specs.Ocsp.{IsOcspData}
 
--- An answer agrees with the records: a CertID that names the issuer's certificate of a serial number is told revoked
--- with the recorded time and reason where the serial number is revoked, good where it is registered and not revoked,
--- unknown where it is not registered; a CertID that names none is answered unknown. So each entry of a CRL, of the latest
--- one too, is answered as revoked with the same time and reason.
+-- An answer agrees with the records. If its CertID names the issuer's certificate of a serial number, it says revoked, with
+-- the recorded time and reason, if the serial number is revoked; good if it is registered and not revoked; unknown if it is
+-- not registered. If the CertID names none, it says unknown. So if the serial number has an entry in a CRL, the answer says
+-- revoked, with that entry's time and reason.
 pub record Agrees (records : Records) (id : Id) (answer : SingleAnswer) : Type 0 where
   pub repeated : answer.raw ≡ id.raw
   pub revoked : (serial : ℕ) (revocation : RevocationRow)
@@ -37,7 +37,7 @@ pub record Agrees (records : Records) (id : Id) (answer : SingleAnswer) : Type 0
       (λ entry. IsMatch records.issuer id entry.serial → answer.status ≡ Revoked entry.at entry.reason)
       (entries records n)
 
--- OCSP statuses agree: in every ResponseData of sound records, by whatever key, at every moment, each answer agrees with the records
+-- OCSP statuses agree: in every ResponseData of sound records, with any key, at every moment, each answer agrees with the records
 abbrev pub OcspAgrees : Type 0
 OcspAgrees =
     (key : List ℕ)

@@ -7,7 +7,7 @@ use Rattle.reg_office.specs.declared.responder.Naming.{Naming}
 use Rattle.reg_office.specs.declared.responder.Responder.{Responder as Held}
 use Rattle.reg_office.specs.declared.responder.Responder.TheVariants.{Issuer, Delegate}
 
--- a signer under this identity, with what an answer has of it
+-- the responder with this identity, and with the key and certificate of a naming
 abbrev pub responder_named : Identity → Naming → Responder
 responder_named identity naming = record {
   identity = identity;
@@ -15,7 +15,7 @@ responder_named identity naming = record {
   certificate = option_copied naming.certificate;
 }
 
--- the responder, where this is the signer of CRLs: the same, under the issuer's key; or another one, under the key of its certificate
+-- the responder, given the identity of the signer of CRLs: that signer, named by the issuer's key; or another one, named by its certificate's key
 abbrev pub answers_by : {S : Type 0} → (S → Identity) → Identity → Held S → Responder
 answers_by identity crls (Issuer certificate) = record {
   identity = crls;
@@ -32,16 +32,16 @@ answers_by identity crls (Delegate signer certificate) = record {
 abbrev pub signatory_of : {S : Type 0} → (S → Identity) → Identity → Held S → Signatory
 signatory_of identity crls responder = record { crls = crls; answers = answers_by identity crls responder }
 
--- how many failures the responder has counted, where the signer of CRLs has counted so many
+-- how many failures the responder has counted, given the count of the signer of CRLs
 abbrev pub failures_of : {S : Type 0} → (S → ℕ) → ℕ → Held S → ℕ
 failures_of count crls (Issuer certificate) = crls
 failures_of count crls (Delegate signer certificate) = count signer
 
--- the responder, by this signer of CRLs
+-- the responder, given the signer of CRLs
 abbrev pub answering : {S : Type 0} → Signer S → S → Held S → Responder
 answering signer crls responder = answers_by signer.identity (signer.identity crls) responder
 
--- the signers of an office are the same
+-- the signers of an office have the same identities as before
 abbrev pub SameSignatory : {S : Type 0} → Signer S → S → Held S → S → Held S → Type 0
 SameSignatory signer old answered new answers =
     signatory_of signer.identity (signer.identity new) answers ≡ signatory_of signer.identity (signer.identity old) answered

@@ -1,4 +1,4 @@
--- What an OCSP request comes to, where its response may be left to be signed.
+-- The response to an OCSP request, or a draft of it that is not signed yet.
 use Rattle.std.specs.Prelude.{◌≡◌, ◌⊎◌, ◌↔◌, ℕ, ◌+◌, List, Option, Some, None, Result, Ok, Err, IsSome, Vec, unwrap_or}
 use Rattle.reg_core.specs.Checks.{clock_checks, first_of_all}
 use Rattle.reg_core.specs.Issuer.{Issuer}
@@ -20,31 +20,31 @@ use Rattle.reg_io.specs.declared.begun.Begun.TheVariants.{Ready, Unsigned}
 use Rattle.reg_office.specs.declared.ocsp_faults.ResponseFault.{ResponseFault}
 use Rattle.reg_office.specs.declared.ocsp_faults.ResponseFault.TheVariants as fault
 
--- the response to the bytes of a request, or what is left to be signed of it
+-- the response to the bytes of a request, or a draft of it
 abbrev pub IsBegun : Signs → Responder → Records → ℕ → List ℕ → Begun OcspResponse Drafted → Type 0
 IsBegun signs responder records now request (Ready response) =
     IsOcspResponse signs responder records now request response.kind response.bytes.items
 IsBegun signs responder records now request (Unsigned draft) = IsDraft responder records now request draft
 
--- Whatever the store shows: the response is malformedRequest exactly where the bytes are no request, and internalError where the signer
--- failed; nothing is left to be signed of bytes that are no request.
+-- Whatever the store shows: the response is malformedRequest exactly if the bytes are no request, and internalError if the signer
+-- failed. A draft is left only if the bytes are a request.
 abbrev pub RefusesRequest : List ℕ → Begun OcspResponse Drafted → Type 0
 RefusesRequest request (Ready response) =
     ((response.bytes.items ≡ refusal_response status.Malformed) ↔ HasNoReading request)
     × (response.kind ≡ SignerFailure → response.bytes.items ≡ refusal_response status.Internal)
 RefusesRequest request (Unsigned left) = ¬ (HasNoReading request)
 
--- the bytes of the response of which this was left to be signed: with a signature by the responder, or internalError
+-- the bytes of the response of a draft: with a signature by the responder, or internalError
 abbrev pub IsSignedBy : Signs → Responder → Drafted → List ℕ → Type 0
 IsSignedBy signs responder draft bytes =
     (bytes ≡ refusal_response status.Internal)
     ⊎ ((signature : List ℕ) × signs responder.identity draft.message signature × (bytes ≡ drafted_response draft (Some signature)))
 
--- the key by which a responder is named: its own, or the issuer's
+-- the key that names a responder: its own, or the issuer's
 abbrev pub key_in : Records → Option (List ℕ) → List ℕ
 key_in records own = unwrap_or own records.issuer.key
 
--- the issuer, and the moment one life of an answer from now; the clock refuses this moment; or memory or the store failed
+-- the issuer, and now plus the life of an OCSP answer; or the clock checks refuse this moment; or memory or the store failed
 abbrev pub IsResponding : Records → ℕ → Result (Issuer × ℕ) ResponseFault → Type 0
 IsResponding records now (Ok it) =
     (first_of_all (clock_checks now records.last) ≡ None) × (it.0 ≡ records.issuer) × (it.1 ≡ now + records.policy.ocsp_life)
@@ -52,7 +52,7 @@ IsResponding records now (Err fault.Clock) = IsSome (first_of_all (clock_checks 
 IsResponding records now (Err fault.Memory) = Unit {0}
 IsResponding records now (Err fault.Store) = Unit {0}
 
--- the ResponseData to a request that was read; the clock refuses this moment; or memory or the store failed
+-- the ResponseData for a request that was read; or the clock checks refuse this moment; or memory or the store failed
 abbrev pub IsMessage : {Z : Type 0} → List ℕ → Records → ℕ → List Id → Option (List ℕ) → Result (Vec ℕ Z) ResponseFault → Type 0
 IsMessage key records now ids echo (Ok bytes) =
     (first_of_all (clock_checks now records.last) ≡ None) × IsOcspData key records now ids echo bytes.items
@@ -60,12 +60,12 @@ IsMessage key records now ids echo (Err fault.Clock) = IsSome (first_of_all (clo
 IsMessage key records now ids echo (Err fault.Memory) = Unit {0}
 IsMessage key records now ids echo (Err fault.Store) = Unit {0}
 
--- a response of this kind and of these bytes
+-- a ready response of this kind, with these bytes
 abbrev pub IsReady : ResponseKind → List ℕ → Begun OcspResponse Drafted → Type 0
 IsReady kind bytes (Ready response) = (response.kind ≡ kind) × (response.bytes.items ≡ bytes)
 IsReady kind bytes (Unsigned draft) = ⊥
 
--- the response over this ResponseData: signed, or internalError where the signer failed; or what is left of it for the responder to sign
+-- the response with this ResponseData: signed; or internalError, if the signer failed; or a draft for the responder to sign
 abbrev pub IsResponseOver : Signs → Responder → List ℕ → Begun OcspResponse Drafted → Type 0
 IsResponseOver signs responder message (Ready response) =
     ((response.kind ≡ Signed) × response_signed_by signs responder message response.bytes.items)

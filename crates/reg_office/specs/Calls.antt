@@ -1,4 +1,4 @@
--- The calls of an office over a store, as steps of the records that stand in it.
+-- The calls of an office over a store, as steps of its records.
 use Rattle.std.specs.Prelude.{◌≡◌, ℕ, Result}
 use Rattle.sqlite.specs.Held.{Held, state}
 use Rattle.sqlite.specs.State.{HasCleanDisk}
@@ -18,12 +18,12 @@ use Rattle.reg_office.specs.Commands.{RunsCommand}
 use Rattle.reg_office.specs.Stands.{Stands}
 use Rattle.reg_office.specs.declared.office.Office.{Office}
 
--- the records stand in a store for the signers, and a stop leaves them, or one change more
+-- the store shows the records, which are sound for the signers; a stop leaves them, or those after one more change
 abbrev pub StandsFor : {C : Type 0} → Ghosts C → Signs → Held C × Signatory → Signatory → Records → Type 0
 StandsFor g signs office signatory records =
     (office.1 ≡ signatory) × Stands g signs office.0 signatory.crls records × LeavesReported g signs office.0 signatory.crls records
 
--- a call of an office over a store leads from its store, and its signers, to those after it by a step of the records
+-- a call of an office, given by its store and its signers before and after, is this step of the records
 abbrev pub LeadsOver : {C : Type 0} → Ghosts C → Signs → (Signatory → Records → Records → Type 0) → Held C × Signatory → Held C × Signatory → Type 0
 LeadsOver {C = C} g signs step =
     Leads (λ (office : Held C × Signatory). HasCleanDisk (state g office.0)) (λ signatory office records. StandsFor g signs office signatory records) step
@@ -32,11 +32,11 @@ LeadsOver {C = C} g signs step =
 abbrev pub seen : {C S : Type 0} → Signer S → Office C S → Held C × Signatory
 seen signer office = (office.store, signatory_of signer.identity (signer.identity office.signer) office.responder)
 
--- a call of an office leads from the records that stand in it to others by a step
+-- a call of an office is this step of its records
 abbrev pub OfficeLeads : {C S : Type 0} → Ghosts C → Signer S → (Signatory → Records → Records → Type 0) → Office C S → Office C S → Type 0
 OfficeLeads g signer step old new = LeadsOver g signer.signs step (seen signer old) (seen signer new)
 
--- the records stand in an office's store, sound for the signer of its CRLs
+-- an office's store shows the records, which are sound for the signer of its CRLs
 abbrev pub StandsIn : {C S : Type 0} → Ghosts C → Signer S → Office C S → Records → Type 0
 StandsIn g signer office records = Stands g signer.signs office.store (signer.identity office.signer) records
 
@@ -44,7 +44,7 @@ StandsIn g signer office records = Stands g signer.signs office.store (signer.id
 abbrev pub RanIn : {C S : Type 0} → Ghosts C → Signer S → ℕ → Command → Result Reply Fault → Office C S → Office C S → Type 0
 RanIn g signer now command outcome old new = RunsCommand g signer old.store new.store old.signer new.signer now command outcome
 
--- a call asked nobody for a signature
+-- a call requested no signature: the signers are unchanged
 abbrev pub SignsNothing : {C S : Type 0} → Office C S → Office C S → Type 0
 SignsNothing old new = (new.signer ≡ old.signer) × (new.responder ≡ old.responder)
 
@@ -52,7 +52,7 @@ SignsNothing old new = (new.signer ≡ old.signer) × (new.responder ≡ old.res
 abbrev pub answer_failures_in : {C S : Type 0} → Signer S → Office C S → ℕ
 answer_failures_in signer office = failures_of signer.failure_count (signer.failure_count office.signer) office.responder
 
--- A look-up of an office: no table changes, the signers are the same, and this holds of the records that stand in it.
+-- A look-up of an office: no table changes, the signers have the same identities, and `Holds` holds of the office's records.
 pub record OfficeLooks {C S : Type 0} (g : Ghosts C) (signer : Signer S) (Holds : Records → Type 0) (old new : Office C S) : Type 0 where
   pub looked : Looked g old.store new.store
   pub same : (seen signer new).1 ≡ (seen signer old).1

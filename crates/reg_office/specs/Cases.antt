@@ -1,4 +1,4 @@
--- A request as it is settled.
+-- The rows by which a request is declined or its certificate revoked.
 use Rattle.std.specs.Prelude.{◌≡◌, ℕ, option_and_then}
 use Rattle.reg_core.specs.Records.{Records, certificate_in, request_in, revocation_in}
 use Rattle.reg_office.specs.declared.requests.Case.{Case}

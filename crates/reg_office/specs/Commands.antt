@@ -1,4 +1,4 @@
--- What one command of an office comes to, over its store and its signer.
+-- One run of a command in an office, over its store and its signer.
 use Rattle.std.specs.Prelude.{◌≡◌, ℕ, ◌<◌, List, Result, IsErrOf, IfErr}
 use Rattle.sqlite_trees.specs.declared.store.Store.{Ghosts}
 use Rattle.sqlite.specs.Held.{Held, state}
@@ -17,8 +17,8 @@ use Rattle.reg_office.specs.AfterStoppedCommand.{Does}
 use Rattle.reg_office.specs.Faults.{IsOfficeFault}
 use Rattle.reg_office.specs.Stands.{Stands, CameTo}
 
--- The command was run: records that stood came to the outcome, and those after it stand; a stop leaves the records before it or after
--- it; the signer is the same, and a fault of the signer comes of a CRL at which it counted a failure.
+-- The command was run: it had this outcome over the store's records, and the store shows those after it. A stop leaves the records before
+-- it or after it. The signer has the same identity. `Signer` is the outcome only of a CRL for which the signer counted a failure.
 pub record IsCommandRun {C S : Type 0} (g : Ghosts C) (signs : Signs) (identity : S → Identity) (failures : S → ℕ) (old new : Held C) (signer left : S) (now : ℕ) (command : Command) (outcome : Result Reply Fault) : Type 0 where
   pub step : (records : Records) → Stands g signs old (identity signer) records → HasCleanDisk (state g new) → CameTo g signs new (identity left) records now command outcome
   pub changed : Changed g old new (Does g signs old (identity signer) now command) outcome
@@ -26,7 +26,7 @@ pub record IsCommandRun {C S : Type 0} (g : Ghosts C) (signs : Signs) (identity 
   pub device : IsErrOf outcome SignerFailed → (command ≡ IssueCrl) × (failures signer < failures left)
   pub faults : IfErr outcome IsOfficeFault
 
--- the same, by this signer
+-- `IsCommandRun`, for this signer
 abbrev pub RunsCommand : {C S : Type 0} → Ghosts C → Signer S → Held C → Held C → S → S → ℕ → Command → Result Reply Fault → Type 0
 RunsCommand g signer old new own left now command outcome =
     IsCommandRun g signer.signs signer.identity signer.failure_count old new own left now command outcome

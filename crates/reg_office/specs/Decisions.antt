@@ -1,5 +1,5 @@
--- What each pure decision is: the step of its command. Handed the rows that the records have for the command, a refusal is what the
--- command is answered, and the records stay; what was decided is what is replied, and it is the one change of the records.
+-- Each pure decision is the step of its command, if it is given the rows that the records have for the command. A refusal is the
+-- command's reply, and the records don't change. Otherwise the decision gives the reply, and the one change of the records.
 use Rattle.std.specs.Prelude.{ℕ, Bool, List, length, Option, Some, None, Result, Ok, Err, option_map}
 use Rattle.reg_core.specs.Changes.{changed_by, with_crl}
 use Rattle.reg_core.specs.Crls.{CertList, cert_list, content, latest, row_of}
@@ -23,7 +23,7 @@ use Rattle.reg_core.specs.declared.rows.RequestRow.{RequestRow}
 use Rattle.reg_core.specs.declared.rows.RevocationRow.{RevocationRow}
 use Rattle.reg_core.specs.declared.rows.CrlRow.{CrlRow}
 
--- a refusal is replied and the records stay; what was decided is replied so, and changes the records so
+-- a refusal is replied, and the records don't change; an answer gives the reply and the change of the records
 abbrev pub IsStepOf : {Answer : Type 0} → (CertList → List ℕ → Type 0) → Records → ℕ → Command → (Answer → Reply) → (Answer → Change) → Result Answer Refusal → Type 0
 IsStepOf signed records now command replied changes (Err refused) = Step signed records now command (Err (Refused refused)) records
 IsStepOf signed records now command replied changes (Ok answer) = Step signed records now command (Ok (replied answer)) (changed_by records now (changes answer))
@@ -42,7 +42,7 @@ OrdersAreSteps signed =
     → DecidesOrder (head_of records now (length records.orders)) (subscriber_in records.subscribers subscriber) days result
     → IsStepOf signed records now (Order subscriber days) (λ row. OrderEntered row.id) (λ row. change.Order row) result
 
--- a certificate to enter, or none where it stands registered
+-- the reply and the change for a certificate to register, or for none: it is registered already, with the same fields
 abbrev pub registration_reply : Option CertRow → Reply
 registration_reply None = Same
 registration_reply (Some row) = Registered
@@ -72,14 +72,14 @@ RequestsAreSteps signed =
     → DecidesRequest (head_of records now (length records.requests)) (certificate_in records.certificates serial) word (revocation_in records.revocations serial) result
     → IsStepOf signed records now (Request serial word) (λ row. RequestEntered row.id (deadline row)) (λ row. change.Request row) result
 
--- on a request that is to be declined; no table grows
+-- on declining a request; no table grows
 abbrev pub DeclinesAreSteps : (CertList → List ℕ → Type 0) → Type 0
 DeclinesAreSteps signed =
     (records : Records) (now held id : ℕ) (result : Result RequestRow Refusal)
     → DecidesDecline (head_of records now held) (request_in records.requests id) (certificate_of_request records id) (revocation_of_request records id) result
     → IsStepOf signed records now (Decline id) (λ row. Declined) (λ row. change.Decline row.id) result
 
--- on a request by which is revoked: the revocation, and whether it is late
+-- on revoking the certificate of a request: the revocation, and whether it is late
 abbrev pub RevocationsAreSteps : (CertList → List ℕ → Type 0) → Type 0
 RevocationsAreSteps signed =
     (records : Records) (now held id not_after : ℕ) (result : Result (RevocationRow × Bool) Refusal)
@@ -92,7 +92,7 @@ RevocationsAreSteps signed =
     result
     → IsStepOf signed records now (Revoke id) (λ decided. Revoked decided.1) (λ decided. change.Revocation decided.0 not_after) result
 
--- a refusal is replied and the records stay; a CRL is issued with any bytes that are signed over what it lists
+-- a refusal is replied, and the records don't change; otherwise a CRL is issued, with any bytes that are signed over its entries
 abbrev pub IsIssue : (CertList → List ℕ → Type 0) → Records → ℕ → Result CrlRow Refusal → Type 0
 IsIssue signed records now (Err refused) = Step signed records now IssueCrl (Err (Refused refused)) records
 IsIssue signed records now (Ok row) =

@@ -1,4 +1,4 @@
--- Which faults a call of the office comes to.
+-- The faults that calls of the office return.
 use Rattle.std.specs.Prelude.{◌≡◌, ◌⊎◌}
 use Rattle.reg_core.specs.declared.refusal.Fault.{Fault}
 use Rattle.reg_core.specs.declared.refusal.Fault.TheVariants.{Memory, Store, Signer, Read, Write}
@@ -10,7 +10,7 @@ IsTableFault Read = ⊥
 IsTableFault Write = ⊥
 IsTableFault other = Unit {0}
 
--- any of these, or a failure of the signer
+-- a refusal, out of memory, or a failure of the store or of the signer
 abbrev pub IsOfficeFault : Fault → Type 0
 IsOfficeFault Read = ⊥
 IsOfficeFault Write = ⊥

@@ -1,4 +1,4 @@
--- A key behind the digest: how the CRLs of a register are signed.
+-- A key after the placeholder digest: how the CRLs of a register are signed.
 use Rattle.std.specs.Prelude.{◌≡◌, ℕ, List, Result}
 use Rattle.sha1.specs.Sha1.{sha1}
 use Rattle.sqlite_trees.specs.declared.store.Store.{Ghosts}
@@ -14,15 +14,15 @@ use Rattle.reg_office_api.specs.Signatories.{Signs}
 use Rattle.reg_core_laws.specs.Run.{Run}
 use Rattle.reg_office.specs.Stands.{SoundFor, Stands}
 
--- a law of how CRLs are signed, by any signer
+-- a law about signed CRLs, for any signer
 abbrev pub Signed : {S : Type 0} → Signer S → ((CertList → List ℕ → Type 0) → Type 0) → Type 0
 Signed {S = S} signer Law = (it : S) → Law (signed_by signer.signs (signer.identity it))
 
--- the same, where the CRLs below any number are sealed by the digest
+-- a law about signed CRLs, for any signer, and for CRLs with the placeholder digest below any number
 abbrev pub Sealed : {S : Type 0} → Signer S → ((CertList → List ℕ → Type 0) → Type 0) → Type 0
 Sealed {S = S} signer Law = (it : S) (since : ℕ) → Law (sealed_until since signer.signs (signer.identity it))
 
--- a run in which the signer signs each new CRL is one whose CRLs are sealed by the digest below a number that was reached before it
+-- a run whose new CRLs the signer signs is also one whose CRLs have the placeholder digest below a number that was reached before it
 abbrev pub RunsSince : Signs → Identity → Type 0
 RunsSince signs identity =
     (records after : Records) (commands : List (ℕ × Command)) (outcomes : List (Result Reply Fault))
@@ -30,12 +30,12 @@ RunsSince signs identity =
     → Run (signed_by signs identity) records commands outcomes after
     → Run (sealed_until sound.since signs identity) records commands outcomes after
 
--- this signer is the digest: under the AlgorithmIdentifier of SHA-1, and each signature is the SHA-1 of its message
+-- this signer makes the placeholder digest: its AlgorithmIdentifier is that of SHA-1, and each signature is the SHA-1 of its message
 pub record IsSeal (signs : Signs) (identity : Identity) : Type 0 where
   pub algorithm : identity.algorithm ≡ sha1_algorithm
   pub seals : (message signature : List ℕ) → signs identity message signature → signature ≡ sha1 message
 
--- records that stood for the digest stand for the next signer: the CRLs that are there were all sealed by the digest
+-- records that are sound for the placeholder digest are sound for any next signer: all CRLs so far have the digest
 abbrev pub FollowsSeal : {C : Type 0} → Ghosts C → Signs → Type 0
 FollowsSeal {C = C} g signs =
     (held : Held C) (seal identity : Identity) (records : Records)

@@ -1,4 +1,4 @@
--- What is decided by look-ups.
+-- Decisions by rows that are looked up.
 use Rattle.std.specs.Prelude.{◌≡◌, ℕ, [], ◌++◌, Option, None, Some, Result, Ok, Err, IfErr}
 use Rattle.sqlite_trees.specs.declared.store.Store.{Ghosts}
 use Rattle.sqlite.specs.Held.{Held}
@@ -17,7 +17,7 @@ use Rattle.reg_core.specs.declared.refusal.Refusal.{Refusal}
 use Rattle.reg_store_tables.specs.LookUps.{LooksUp}
 use Rattle.reg_office.specs.Faults.{IsTableFault}
 
--- what is decided; or the refusal that applies; a fault says nothing of the records
+-- a decision, of which `IsWhat` holds; or the refusal that applies; a fault says nothing of the records
 abbrev pub IsDecidedOr : {T : Type 0} → Option Refusal → (T → Type 0) → Result T Fault → Type 0
 IsDecidedOr refused IsWhat (Ok decided) = IsWhat decided
 IsDecidedOr refused IsWhat (Err (Refused why)) = refused ≡ Some why
@@ -32,14 +32,14 @@ pub record LooksAndDecides {C T : Type 0} (g : Ghosts C) (old new : Held C) (ref
   pub looks : LooksUp g old new (λ records. IsDecidedOr (refused records) (IsWhat records) result)
   pub faults : IfErr result IsTableFault
 
--- no refusal applies to the command, it is answered so, and this change is the one that it makes of the records, which they allow
+-- no refusal applies to the command, this is its reply, and this is the one change that it makes of the records, which fits them
 pub record IsAcceptance (now : ℕ) (command : Command) (records : Records) (decided : Reply × Change) : Type 0 where
   pub accepted : refusal records now command ≡ None
   pub replies : reply records now command ≡ decided.0
   pub changes : changed records now command [] ≡ changed_by records now decided.1
   pub fits : Fits records now decided.1
 
--- a command at a moment is refused so, or it is accepted
+-- the decision on a command at a moment: the refusal that applies, or its reply and change
 abbrev pub DecidesCommand : {C : Type 0} → Ghosts C → Held C → Held C → ℕ → Command → Result (Reply × Change) Fault → Type 0
 DecidesCommand g old new now command result = LooksAndDecides g old new (λ records. refusal records now command) (IsAcceptance now command) result
 
@@ -51,7 +51,7 @@ clock_refusal records now = first_of_all (clock_checks now records.last)
 abbrev pub query_refusal : Records → ℕ → Query → Option Refusal
 query_refusal records now query = first_of_all (clock_checks now records.last ++ query_checks records query)
 
--- a query at a moment is refused so, or no refusal applies to it, and it is answered so
+-- the answer to a query at a moment: the refusal that applies, or the reply if none applies
 abbrev pub AnswersQuery : {C : Type 0} → Ghosts C → Held C → Held C → ℕ → Query → Result Reply Fault → Type 0
 AnswersQuery g old new now query result =
     LooksAndDecides g old new

@@ -17,13 +17,13 @@ use Rattle.reg_store_tables.specs.Schema.{register_schema}
 use Rattle.reg_office.specs.AfterStoppedCommand.{AreRunByOne, Does, PartlyRun}
 use Rattle.reg_office.specs.Stands.{Stands, CameTo}
 
--- the command was accepted over the records, and those after it stand
+-- the command was accepted over the records, and the store shows those after it
 pub record StandsDone {C : Type 0} (g : Ghosts C) (signs : Signs) (held : Held C) (identity : Identity) (records : Records) (now : ℕ) (command : Command) : Type 0 where
   pub answer : Reply
   pub came : CameTo g signs held identity records now command (Ok answer)
 
--- the machine stops after a command, or in the middle of it, and the register is opened again: the records before the command stand, or those
--- after its acceptance, with what is kept beside them; over any disk that may lose what was not synced
+-- if the machine stops after a command, or in the middle of it, and the register is opened again, it shows the records before the command, or
+-- those after its acceptance, with derived tables that match them; the disk may lose what was not synced
 abbrev pub OpensBeforeOrAfter : {C : Type 0} → Ghosts C → Signs → Type 0
 OpensBeforeOrAfter {C = C} g signs =
     (old new again : Held C) (identity : Identity) (records : Records) (now : ℕ) (command : Command)
@@ -33,13 +33,13 @@ OpensBeforeOrAfter {C = C} g signs =
 
 -- ---- over a run
 
--- the records after a prefix of the commands stand, with what is kept beside them
+-- the store shows the records after a prefix of the commands, with derived tables that match them
 abbrev pub StandsPartlyRun : {C : Type 0} → Ghosts C → Signs → Held C → Identity → Records → List (ℕ × Command) → List (Result Reply Fault) → Type 0
 StandsPartlyRun g signs held identity records commands outcomes =
     PartlyRun signs identity (Stands g signs held identity) (StandsDone g signs held identity) records commands outcomes
 
--- the machine stops after such a run, or in the middle of it, and the register is opened again: the records after a prefix of the commands
--- stand, which has at least those whose replies were given; over any disk that may lose what was not synced
+-- if the machine stops after such a run, or in the middle of it, and the register is opened again, it shows the records after a prefix of the
+-- commands, which includes each command whose acceptance was replied; the disk may lose what was not synced
 abbrev pub OpensAfterAPrefix : {C : Type 0} → Ghosts C → Signs → Type 0
 OpensAfterAPrefix {C = C} g signs =
     (old new again : Held C) (identity : Identity) (records : Records) (commands : List (ℕ × Command)) (outcomes : List (Result Reply Fault))
@@ -49,14 +49,14 @@ OpensAfterAPrefix {C = C} g signs =
 
 -- ---- over any calls
 
--- the records stand after one change more, for which no acceptance was replied: a command, or another schedule or key identifier
+-- the store shows the records after one more change, whose acceptance was not replied: a command, or another schedule or key identifier
 abbrev pub StandsOneMore : {C : Type 0} → Ghosts C → Signs → Held C → Identity → Records → Type 0
 StandsOneMore g signs held identity records =
     ((now : ℕ) × (command : Command) × StandsDone g signs held identity records now command)
     ⊎ (((steps : List (ℕ × ℕ)) × ShowsKept g held (with_schedule records steps))
     ⊎ ((octets : List ℕ) × ShowsKept g held (with_key_identifier records octets)))
 
--- the machine stops, and a register is opened again from what the disk left: these records stand, or those after one change more
+-- if the machine stops, and a register is opened again from what the disk left, it shows these records, or those after one more change
 abbrev pub OpensReported : {C : Type 0} → Ghosts C → Signs → Held C → Identity → Records → Type 0
 OpensReported {C = C} g signs held identity records =
     (again : Held C) → IsOpenedAgain g held again → (state g again).committed.schema ≡ register_schema

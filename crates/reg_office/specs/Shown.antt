@@ -1,8 +1,8 @@
 -- A revoked certificate is shown as revoked everywhere, and nothing else is.
 --
 -- A register shows in three ways whether a certificate is revoked: by the status of its serial number, by answers to
--- OCSP requests (RFC 6960), and by the CRLs that it issues (RFC 5280 5). Stated here is what each shows after any run of
--- commands: so it holds at every moment that is reached while commands are run, for what ran up to it is a run.
+-- OCSP requests (RFC 6960), and by the CRLs that it issues (RFC 5280 5). This file says what each shows after any run of
+-- commands. It holds in the middle of a run too: the commands that ran so far are a run themselves.
 use Rattle.std.specs.Prelude.{◌≡◌, ◌⊎◌, ℕ, Bool, ◌+◌, ◌<◌, ◌≤◌, nat_lt, List, [], ◌∷◌, ◌++◌, find, ◌==◌, Option, Some, None, Result, Ok, Err, MatchBool, IsFalse, IsSome, IsSomeAnd}
 use Rattle.std.specs.List.{AllByRecursion, AllZip}
 use Rattle.reg_core.specs.Checks.{clock_end}
@@ -35,8 +35,8 @@ use Rattle.reg_office.specs.Stands.{SoundFor}
 
 -- A RUN, AND THE REVOCATIONS THAT IT ACCEPTED
 
--- a run: from records that are sound for the signer, commands, each at its moment, came to these outcomes, one for each and in order, and
--- led to the records after them; each new CRL was signed by the signer
+-- a run: commands, each at its moment, ran from records that are sound for the signer. They had these outcomes, one for each and in order, and
+-- led to the records after them. The signer signed each new CRL.
 pub record SoundRun (signs : Signs) (identity : Identity) : Type 0 where
   pub start : Records
   pub commands : List (ℕ × Command)
@@ -45,8 +45,8 @@ pub record SoundRun (signs : Signs) (identity : Identity) : Type 0 where
   pub sound : SoundFor signs identity start
   pub ran : Run (signed_by signs identity) start commands outcomes after
 
--- a revocation that a run accepted: at some place of the run the command to revoke by the request of this id, handed in
--- at this moment, was answered `Revoked`
+-- a revocation that a run accepted: one command of the run was to revoke by the request with this id, at this moment, and
+-- its reply was `Revoked`
 pub record AcceptedRevocation {signs : Signs} {identity : Identity} (run : SoundRun signs identity) : Type 0 where
   pub id : ℕ
   pub at : ℕ
@@ -56,7 +56,7 @@ pub record AcceptedRevocation {signs : Signs} {identity : Identity} (run : Sound
   pub early : List (Result Reply Fault)
   pub before : Records
   pub ran_before : Run (signed_by signs identity) run.start front early before
-  -- the records that it led to
+  -- the records after it
   pub next : Records
   pub accepted : Happens (signed_by signs identity) before at (Revoke id) (Ok (IsRevokedNow is_late)) next
   -- the commands after it, and their outcomes
@@ -67,14 +67,14 @@ pub record AcceptedRevocation {signs : Signs} {identity : Identity} (run : Sound
   pub commands_are : run.commands ≡ front ++ (at, Revoke id) ∷ rest
   pub outcomes_are : run.outcomes ≡ early ++ Ok (IsRevokedNow is_late) ∷ late
 
--- a moment that is reached after a run: from the last accepted moment on, below the clock's end
+-- a moment after a run: at or after the last accepted moment, and before the clock's end
 pub record IsReached (records : Records) (moment : ℕ) : Type 0 where
   pub not_back : records.last ≤ moment
   pub not_ended : moment < clock_end
 
--- WHAT OCSP TELLS
+-- WHAT OCSP SHOWS
 
--- a response in which each CertID that names the issuer's certificate of the serial number is answered so (RFC 6960 4.2.1)
+-- a response in which each CertID that names the issuer's certificate of the serial number has such a status (RFC 6960 4.2.1)
 pub record ResponseHasStatuses (signs : Signs) (responder : Responder) (records : Records) (moment serial : ℕ)
     (IsSo : Status → Type 0) (asked reply : List ℕ) : Type 0 where
   pub ids : List Id
@@ -83,7 +83,7 @@ pub record ResponseHasStatuses (signs : Signs) (responder : Responder) (records 
   pub response : IsResponse signs responder records moment ids nonce reply
   pub told : AllZip (λ id answer. IsMatch records.issuer id serial → IsSo answer.status) ids response.of_records.answers
 
--- what bytes are replied: malformedRequest, to bytes that are no request; or internalError (RFC 6960 2.3); or such a
+-- the response to any bytes: malformedRequest if they are no request; or internalError (RFC 6960 2.3); or such a
 -- response, signed
 abbrev pub AnswersStatuses : Signs → Responder → Records → ℕ → ℕ → (Status → Type 0) → List ℕ → List ℕ → Type 0
 AnswersStatuses signs responder records moment serial IsSo asked reply =
@@ -91,13 +91,13 @@ AnswersStatuses signs responder records moment serial IsSo asked reply =
     ⊎ (reply ≡ refusal_response Internal)
     ⊎ ResponseHasStatuses signs responder records moment serial IsSo asked reply
 
--- WHAT CRLS TELL
+-- WHAT CRLS SHOW
 
 -- what is signed in a recorded CRL (RFC 5280 5.1.2)
 abbrev pub signed_in : Records → Crl → CertList
 signed_in records crl = cert_list records crl.number crl.this_update
 
--- the entry of a serial number in it, where it has one (RFC 5280 5.1.2.6)
+-- the entry of a serial number in a CRL, if it has one (RFC 5280 5.1.2.6)
 abbrev pub entry_in : Records → Crl → ℕ → Option Entry
 entry_in records crl serial = find (λ entry. entry.serial == serial) (signed_in records crl).entries
 
@@ -112,46 +112,46 @@ ListedThroughFirstPast records entry not_after (crl ∷ rest) =
     (AllByRecursion (λ later. entry_in records later entry.serial ≡ None) rest)
     (ListedThroughFirstPast records entry not_after rest)
 
--- each recorded CRL is signed over its entries, by the signer, or sealed by the digest where its number is below this one
+-- each recorded CRL is signed over its entries by the signer, or has the placeholder digest if its number is below `since`
 abbrev pub AreSignedSo : ℕ → Signs → Identity → Records → Type 0
 AreSignedSo since signs identity records =
     AllByRecursion (λ crl. sealed_until since signs identity (signed_in records crl) crl.bytes) records.crls
 
 -- A REVOKED CERTIFICATE IS SHOWN AS REVOKED EVERYWHERE
 
--- the status that a certificate revoked at a moment by a request is shown with: that moment, and the reason of the
+-- the status of a certificate that was revoked at a moment by a request: revoked at that moment, with the reason of the
 -- request's ground
 abbrev pub revoked_at : ℕ → RequestRow → Status
 revoked_at at request = Revoked at (reason_of request.ground)
 
--- and the entry of a CRL
+-- the entry of such a certificate in CRLs
 abbrev pub entry_at : ℕ → RequestRow → Entry
 entry_at at request = record { serial = request.serial; at = at; reason = reason_of request.ground }
 
 -- from the acceptance of a revocation on, it is shown everywhere
 pub record IsShownEverywhere {signs : Signs} {identity : Identity} {run : SoundRun signs identity}
     (its : AcceptedRevocation run) : Type 0 where
-  -- its request was recorded, of the serial number of a registered certificate, which had not ended
+  -- its request was recorded, for the serial number of a registered certificate that had not ended
   pub request : RequestRow
   pub requested : request_in its.before.requests its.id ≡ Some request
   pub certificate : CertRow
   pub registered : certificate_in run.after.certificates request.serial ≡ Some certificate
   pub not_ended : its.at ≤ certificate.not_after
-  -- at every moment reached, the status of the serial number is revoked, with the moment of the command that revoked it
-  -- and with the reason of its request's ground
+  -- at every moment after the run, the status of the serial number is revoked, with the moment of the command that revoked
+  -- it and with the reason of its request's ground
   pub by_status : (moment : ℕ)
       → IsReached run.after moment
       → status run.after request.serial moment ≡ revoked_at its.at request
-  -- however long after the certificate's end: it is never expired
+  -- the status is the same however long after the certificate's end: it is never expired
   pub past_its_end : (seconds : ℕ)
       → status run.after request.serial (certificate.not_after + seconds) ≡ revoked_at its.at request
-  -- a query for the status is answered so, or fails: out of memory, or a failure of the store
+  -- a query for the status is answered with it, or fails: out of memory, or a failure of the store
   pub when_asked : (moment : ℕ)
       → IsReached run.after moment
       → (outcome : Result Reply Fault)
       → IsAnswered run.after moment (AskStatus request.serial) outcome
       → (outcome ≡ Ok (StatusIs (revoked_at its.at request))) ⊎ (outcome ≡ Err Memory) ⊎ (outcome ≡ Err Store)
-  -- each CertID of an OCSP request that names the certificate is answered so, by any responder
+  -- each CertID of an OCSP request that names the certificate is answered with this status, by any responder
   pub by_ocsp : (moment : ℕ)
       → IsReached run.after moment
       → (responder : Responder)
@@ -162,12 +162,12 @@ pub record IsShownEverywhere {signs : Signs} {identity : Identity} {run : SoundR
   pub later : List Crl
   pub issued_later : run.after.crls ≡ its.before.crls ++ later
   pub by_crls : ListedThroughFirstPast run.after (entry_at its.at request) certificate.not_after later
-  -- and each CRL is signed over just these entries
+  -- and each CRL is signed over exactly its entries
   pub signed_so : AreSignedSo run.sound.since signs identity run.after
 
 -- NOTHING ELSE IS SHOWN AS REVOKED
 
--- a serial number was revoked: it stood so when the run began, or the run accepted a revocation by a request of it
+-- a serial number was revoked: when the run began, or by a revocation that the run accepted, by a request for it
 abbrev pub WasRevoked : {signs : Signs} {identity : Identity} → SoundRun signs identity → ℕ → Type 0
 WasRevoked run serial =
     IsSome (revocation_in run.start.revocations serial)
@@ -178,7 +178,7 @@ WasRevoked run serial =
 pub record IsNowhereShown {signs : Signs} {identity : Identity} (run : SoundRun signs identity) (serial : ℕ) : Type 0 where
   -- its status is never revoked
   pub by_status : (moment : ℕ) → IsFalse (is_revoked (status run.after serial moment))
-  -- a query for its status is answered by another
+  -- a query for its status is answered with one that is not revoked
   pub when_asked : (moment : ℕ)
       → (told : Status)
       → IsAnswered run.after moment (AskStatus serial) (Ok (StatusIs told))
@@ -190,7 +190,7 @@ pub record IsNowhereShown {signs : Signs} {identity : Identity} (run : SoundRun 
       → (asked reply : List ℕ)
       → IsOcspReply signs responder run.after moment asked reply
       → AnswersStatuses signs responder run.after moment serial (λ told. IsFalse (is_revoked told)) asked reply
-  -- no CRL has an entry of it
+  -- no CRL has an entry for it
   pub by_crls : AllByRecursion (λ crl. entry_in run.after crl serial ≡ None) run.after.crls
-  -- and each CRL is signed over just its entries
+  -- and each CRL is signed over exactly its entries
   pub signed_so : AreSignedSo run.sound.since signs identity run.after

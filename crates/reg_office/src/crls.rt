@@ -126,7 +126,7 @@ fn made_crl<C: Alter, S: Signer>(
     Ok((der, listed))
 }
 
-/// What would be signed in the next CRL at a moment.
+/// The tbsCertList of the next CRL at a moment (RFC 5280 5.1.2), as DER.
 pub(crate) fn next_message<C: Alter>(
     tables: &mut Tables<C>,
     alloc: Global,
@@ -167,7 +167,7 @@ pub(crate) fn issue_crl<C: Alter, S: Signer>(
     Ok(Reply::Crl { number, entries })
 }
 
-/// The bytes of the CRL with a number; `NoCrl` where there is none.
+/// The bytes of the CRL with a number; `NoCrl` if there is none.
 pub(crate) fn numbered<C: Alter>(tables: &mut Tables<C>, number: u64) -> Result<Vec<u8>, Fault>
     ensures looks { LooksUp C.Store tables.old tables.new (λ records.
         IsGiven records (Some number) (items_of result)) }
@@ -179,7 +179,7 @@ pub(crate) fn numbered<C: Alter>(tables: &mut Tables<C>, number: u64) -> Result<
     }
 }
 
-/// The bytes of the CRL that was issued last; `NoCrl` where there is none.
+/// The bytes of the CRL that was issued last; `NoCrl` if there is none.
 pub(crate) fn latest<C: Alter>(tables: &mut Tables<C>) -> Result<Vec<u8>, Fault>
     ensures looks { LooksUp C.Store tables.old tables.new (λ records.
         IsGiven records None (items_of result)) }

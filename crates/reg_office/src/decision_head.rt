@@ -1,4 +1,4 @@
-//! What the decisions look at, and what they come to.
+//! What decisions read of the tables, and what a decision returns.
 
 ghost use Rattle.std.specs.Prelude.{◌≡◌, ◌<◌, ◌^◌, option_map, IfOk, IfSome, IsTrue};
 ghost use Rattle.reg_core.specs.Calendar.{clock_end};
@@ -12,10 +12,10 @@ use reg_core::{CertRow, Change, CrlRow, Head, Moment, Policy, Reply, RevocationR
 use reg_store::{DatabaseFault, Table, Tables};
 use sqlite::Alter;
 
-/// What a command is answered that is accepted, and the one change that it makes.
+/// The reply to a command that is accepted, and the one change that it makes.
 pub(crate) type Decided = (Reply, Change<'static>);
 
-/// The head of a decision, for a table that would grow.
+/// The head of a decision, with the policy and the number of rows of the table to which a row would be added.
 pub(crate) fn head_at<C: Alter>(
     tables: &mut Tables<C>,
     now: Moment,
@@ -35,8 +35,8 @@ pub(crate) fn head_at<C: Alter>(
     })
 }
 
-/// The head of a decision that adds no row to a table with a cap. It goes by the clock alone, so neither the policy nor the size of a
-/// table is read.
+/// The head of a decision that adds no row to a table with a cap. Such a decision uses only the moments of its head, so neither the
+/// policy nor the size of a table is read.
 pub(crate) fn clock_head<C: Alter>(
     tables: &mut Tables<C>,
     now: Moment,
@@ -67,14 +67,14 @@ pub(crate) fn certificate_of<C: Alter>(
     Ok((certificate, revocation))
 }
 
-/// A CRL number and a thisUpdate that a register writes.
+/// Whether a register can have written this CRL number and this thisUpdate.
 fn is_within(crl: &CrlRow) -> bool
     ensures { IsTrue result → (crl.now.number < 10 ^ 18) × (crl.now.this_update < clock_end) }
 {
     crl.number < 1_000_000_000_000_000_000 && crl.this_update < Moment::CLOCK_END
 }
 
-/// The CRL that was issued last.
+/// The row of the CRL that was issued last; `Store` if no register can have written it.
 pub(crate) fn latest_crl<C: Alter>(tables: &mut Tables<C>) -> Result<Option<CrlRow>, DatabaseFault>
     ensures looks { Learns C.Store tables.old tables.new result (λ records row.
         row ≡ option_map row_of (latest records.crls)) }

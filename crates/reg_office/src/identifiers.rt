@@ -28,7 +28,7 @@ fn next_crl_number<C: Alter>(tables: &mut Tables<C>) -> Result<u64, DatabaseFaul
     number_behind(latest).ok_or(DatabaseFault::Store)
 }
 
-/// The number behind the one of the latest CRL, 1 where there is none; `None` where no number is behind it.
+/// The number of the next CRL, 1 if there is no CRL yet; `None` if the latest one has the greatest `u64`.
 fn number_behind(latest: Option<CrlRow>) -> Option<u64>
     ensures { IfSome result (λ number. number ≡ number_after latest) }
 {

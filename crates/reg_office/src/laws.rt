@@ -1,4 +1,4 @@
-//! Each function here does nothing when it runs: its contract is a law, and the check proves it.
+//! Each function here does nothing when it runs: its contract is a law, which `rt check` proves.
 
 ghost use Rattle.std.specs.Prelude.{ℕ};
 ghost use Rattle.reg_core_laws.specs.Headline.{CreatedSound, KeepsSound, RunsInParts, StandsInExactlyOne, CountsMoveExactly, ListsRevoked, RefusalsChangeNothing};
@@ -12,8 +12,8 @@ ghost use Rattle.reg_office.specs.Shown.{SoundRun, AcceptedRevocation, IsShownEv
 use reg_crl::{CrlSigner, Signer};
 use sqlite::Alter;
 
-/// The headline: what holds over every list of commands that an office runs from sound records, whoever signs (RFC 5280 3.3, RFC 6960 2.2).
-/// CRLs with numbers below `since` are sealed by the digest, which a key has followed.
+/// The headline: what holds for every list of commands that an office runs from sound records, with any signer (RFC 5280 3.3, RFC 6960 2.2).
+/// CRLs below any one number may have the placeholder digest: they were issued before the register had a key.
 pub fn headline<S: Signer>()
     ensures created { Sealed S.Signer CreatedSound }
     ensures since { (signer : S) → RunsSince S.signs (S.identity signer) }
@@ -31,7 +31,7 @@ pub fn headline<S: Signer>()
     statuses_agree();
 }
 
-/// A key follows the digest: records in which the digest alone has sealed stand for the next signer.
+/// A register can switch from the placeholder digest to a key: records that are sound for the digest are sound for any next signer.
 pub fn a_key_follows_the_digest<C: Alter, S: Signer>()
     ensures { FollowsSeal C.Store S.signs }
 {}
@@ -70,13 +70,13 @@ pub fn nothing_else_is_shown_as_revoked<S: Signer>()
     reg_core_laws::laws::revocations::<CrlSigner<S>>();
 }
 
-/// A register opened after a stop stands for the records before the command or for those after it, whole and sound.
+/// A register that is opened after a stop in a command shows the records before the command, or those after its acceptance; they are sound.
 pub fn a_register_opened_after_a_stop_stands_before_or_after<C: Alter, S: Signer>()
     ensures { OpensBeforeOrAfter C.Store S.signs }
 {}
 
-/// A register opened after a stop stands for the records after a prefix of the commands, which has at least those whose
-/// replies were given.
+/// A register that is opened after a stop in a run shows the records after a prefix of the commands. The prefix includes
+/// each command whose acceptance was replied.
 pub fn a_register_opened_after_a_stop_stands_after_a_prefix<C: Alter, S: Signer>()
     ensures { OpensAfterAPrefix C.Store S.signs }
 {}

@@ -1,4 +1,4 @@
-//! The office: commands, queries and CRLs over a register's store, with a signer.
+//! The office: commands, queries, lists, CRLs and OCSP responses over a register's store, with its signers.
 #![tactic(auto)]
 
 mod certificates;

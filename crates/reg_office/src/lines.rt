@@ -1,4 +1,4 @@
-//! The fields of one record in lists, from what is looked up for it.
+//! The rows of lists: the fields of one record, and what is looked up for it.
 
 ghost use Rattle.std.specs.Prelude.{◌≡◌, ◌-◌, Some, None, cond, nat_lt, option_map, IfOk};
 ghost use Rattle.reg_core.specs.Due.{deadline};
@@ -17,7 +17,7 @@ use reg_core_lists::{CertificateLine, OrderLine, RequestHistory, RequestLine, Re
 use reg_store::{DatabaseFault, Tables};
 use sqlite::Alter;
 
-// ---- records that are there; `Store` where one is not, which no register has
+// ---- records to which others refer; `Store` if one is missing, as none is in a register
 
 pub(crate) fn subscriber_at<C: Alter>(
     tables: &mut Tables<C>,
@@ -60,7 +60,7 @@ pub(crate) fn request_at<C: Alter>(
     request.ok_or(DatabaseFault::Store)
 }
 
-/// The subscriber whose order has this id.
+/// The subscriber of the order with this id.
 fn subscriber_of<C: Alter>(tables: &mut Tables<C>, id: u64) -> Result<SubscriberRow, DatabaseFault>
     ensures { Learns C.Store tables.old tables.new result (λ records subscriber.
         Some subscriber ≡ subscriber_of_order records id) }
@@ -181,7 +181,7 @@ fn row_where_good(line: CertificateLine) -> Option<Row>
     }
 }
 
-/// The row of a revocation in the list of what is revoked: its certificate, and the request that led to it.
+/// The row of a revocation in the list of revoked certificates: its certificate, and the request that led to it.
 pub(crate) fn revoked_row<C: Alter>(
     tables: &mut Tables<C>,
     now: Moment,
@@ -204,7 +204,7 @@ pub(crate) fn revoked_row<C: Alter>(
 
 // ---- requests
 
-/// The row of a request in the list of those that are neither declined nor settled.
+/// The row of a request in the list of open ones: it is not declined, and its certificate is good.
 pub(crate) fn open_row<C: Alter>(
     tables: &mut Tables<C>,
     now: Moment,
@@ -251,7 +251,7 @@ fn request_line<C: Alter>(
     })
 }
 
-/// The deadline of a request. `Store` where it was received past the clock's end, as no request of a register was.
+/// The deadline of a request. `Store` if it was received at or past the clock's end, as no request of a register is.
 fn due_of(request: &RequestRow) -> Result<Moment, DatabaseFault>
     ensures due { IfOk result (λ due. due ≡ deadline request.now) }
 {
@@ -305,7 +305,7 @@ pub(crate) fn history_row<C: Alter>(
     })))
 }
 
-/// For how many seconds a request was open behind its deadline, where it was not declined. `Store` as of [`due_of`].
+/// For how many seconds a request was open past its deadline; `None` if it was declined. `Store` as in [`due_of`].
 fn lateness_of(
     now: Moment,
     request: &RequestRow,

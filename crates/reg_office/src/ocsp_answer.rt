@@ -1,4 +1,4 @@
-//! The response to an OCSP request: it is begun over the register, and then signed or left to be signed.
+//! The response to an OCSP request: its ResponseData is read from the register, and then signed, here or later.
 
 ghost use Rattle.std.specs.Prelude.{◌≡◌, ◌^◌, ◌≤◌, ◌↔◌, None, length, IfOk, IfSome, option_copied, unwrap_or};
 ghost use Rattle.reg_ocsp.specs.Request.{CanBeAnswered};
@@ -26,8 +26,8 @@ use reg_store::Tables;
 use sqlite::Alter;
 use std::alloc::Global;
 
-/// The response (RFC 6960 4.2.1) to the bytes of a request at a moment, or what is left to be signed of it where its signer has a key. No
-/// table changes.
+/// The response (RFC 6960 4.2.1) to the bytes of a request at a moment. If it needs a signature, and its signer has a key, it is a draft
+/// without the signature. No table changes.
 pub(crate) fn begin_ocsp<C: Alter, S: Signer>(
     alloc: Global,
     tables: &mut Tables<C>,
@@ -55,7 +55,7 @@ pub(crate) fn begin_ocsp<C: Alter, S: Signer>(
     }
 }
 
-/// The bytes of the response of which this was left to be signed, by the signer of OCSP responses; internalError where the signer fails.
+/// Signs a draft with the signer of OCSP responses, and returns the bytes of the response: internalError if the signer fails.
 pub(crate) fn sign_draft<S: Signer>(
     alloc: Global,
     signer: &mut S,
@@ -75,7 +75,7 @@ pub(crate) fn sign_draft<S: Signer>(
     draft.response(alloc, slice_of(&signature))
 }
 
-/// The same by one who answers.
+/// [`begin_ocsp`] by one signer, with the key and certificate of `naming`.
 fn begin<C: Alter, S: Signer>(
     alloc: Global,
     tables: &mut Tables<C>,
@@ -123,7 +123,7 @@ fn refused(
     Ok(Begun::Ready(OcspResponse { bytes, kind }))
 }
 
-/// The ResponseData to what a request asks, by a key of the responder's own, or else by the issuer's.
+/// The ResponseData for a request. Its ResponderID is by the responder's own key, or else by the issuer's.
 fn ocsp_data<C: Alter>(
     alloc: Global,
     tables: &mut Tables<C>,
@@ -152,7 +152,7 @@ fn key_of<'a>(own: Option<&'a [u8]>, issuer: &'a Issuer) -> &'a [u8]
     }
 }
 
-/// The issuer, and the moment up to which an answer of this moment holds, where the clock takes this moment.
+/// The issuer, and the nextUpdate of an answer at this moment; `Clock` if the clock checks refuse the moment.
 fn responding<C: Alter>(
     tables: &mut Tables<C>,
     now: Moment,
@@ -164,7 +164,7 @@ fn responding<C: Alter>(
     Ok((issuer, now.plus(life)))
 }
 
-/// The response over a ResponseData; or what is left to be signed of it, where its signer has a key that others can ask.
+/// The response with a ResponseData: a draft if the signer has a public key; else signed, or internalError if the signer fails.
 fn respond<S: Signer>(
     alloc: Global,
     signer: &mut S,
@@ -195,7 +195,7 @@ fn respond<S: Signer>(
     }
 }
 
-/// A signature of what is signed in a response; `None` where the signer failed, and counted that.
+/// A signature of a ResponseData; `None` if the signer failed, and counted the failure.
 fn signature_by<S: Signer>(
     alloc: Global,
     signer: &mut S,

@@ -1,4 +1,4 @@
-//! Why a request that was read gets no response.
+//! Why no ResponseData is made for a request that was read.
 
 ghost use Rattle.std.specs.Prelude.{◌≡◌, ◌⊎◌};
 ghost use Rattle.reg_office.specs.declared.ocsp_faults.ResponseFault.TheVariants as to;
@@ -7,7 +7,7 @@ use reg_core::{Memory, Refusal};
 use reg_store_tables::DatabaseFault;
 use std::alloc::AllocError;
 
-/// Why a request that was read gets no response.
+/// Why no ResponseData is made for a request that was read.
 #[derive(Clone, Copy, PartialEq, Eq)]
 pub(crate) enum ResponseFault {
     Clock,

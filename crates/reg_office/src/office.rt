@@ -21,20 +21,20 @@ use reg_store::Store;
 use sqlite::Alter;
 use std::alloc::Global;
 
-/// A register in a store, the signer of its CRLs, and the responder to OCSP requests. Nothing is kept between them but what the store's
-/// tables show.
+/// A register in a store, the signer of its CRLs, and the responder to OCSP requests. The office keeps its records only in the store's
+/// tables.
 #[derive(Drop)]
 pub struct Office<C: Alter, S: Signer> {
     /// The register's tables.
     pub store: Store<C>,
-    /// Who signs the CRLs.
+    /// The signer of the CRLs.
     pub signer: S,
-    /// The responder to OCSP requests: who signs the CRLs, or another one.
+    /// The responder to OCSP requests: the signer of the CRLs, or another one.
     pub responder: Responder<S>,
 }
 
 impl<C: Alter, S: Signer + Drop> Office<C, S> {
-    /// The store and the signer, as they are.
+    /// The store and the signer of CRLs, unchanged. The responder is dropped.
     pub fn into_parts(self) -> (Store<C>, S)
         ensures store { result.0 ≡ self.store }
         ensures signer { result.1 ≡ self.signer }
@@ -49,7 +49,7 @@ impl<C: Alter, S: Signer + Drop> Office<C, S> {
 }
 
 impl<C: Alter, S: Signer> Office<C, S> {
-    /// An office over a store and a signer, which also answers OCSP requests, with no certificate.
+    /// An office over a store and a signer, which also signs OCSP responses. These include no certificate.
     pub fn new(store: Store<C>, signer: S) -> Office<C, S>
         ensures store { result.store ≡ store }
         ensures signer { result.signer ≡ signer }
@@ -58,7 +58,7 @@ impl<C: Alter, S: Signer> Office<C, S> {
         Office::answering(store, signer, Responder::Issuer(None))
     }
 
-    /// An office over a store and a signer, with the responder to OCSP requests.
+    /// An office over a store and a signer, with this responder to OCSP requests.
     pub fn answering(store: Store<C>, signer: S, responder: Responder<S>) -> Office<C, S>
         ensures store { result.store ≡ store }
         ensures signer { result.signer ≡ signer }
@@ -110,8 +110,8 @@ impl<C: Alter, S: Signer> reg_office_api::Office for Office<C, S> {
 
     ghost answer_failures = { λ office. answer_failures_in S.Signer office };
 
-    /// Where the disk failed in the commit and shut the connection, the change stands whole or not at all in a register that is opened again
-    /// (`ran`, in its `changed`).
+    /// If the disk fails in the commit and this closes the connection, a register that is opened again has all of the change or none of it
+    /// (clause `ran`, in its `changed`).
     fn run_one(&mut self, alloc: Global, now: Moment, command: &Command) -> Outcome
         ensures runs { OfficeLeads C.Store S.Signer
             (CommandStep S.signs now command.now result) self.old self.new }
@@ -126,7 +126,7 @@ impl<C: Alter, S: Signer> reg_office_api::Office for Office<C, S> {
         }
         match *command {
             Command::Crl => issue_crl(&mut self.store, &mut self.signer, alloc, now),
-            // No `?` here: it has no rule for a change that holds a reference at `'static`.
+            // No `?` here: the prover has no rule for `?` on a change that holds a `'static` reference.
             _ => match decide(&mut self.store, now, command) {
                 Ok((reply, change)) => {
                     self.store.apply(now, &change)?;
@@ -153,8 +153,8 @@ impl<C: Alter, S: Signer> reg_office_api::Office for Office<C, S> {
         Err(Fault::Refused(Refusal::ClockEnd))
     }
 
-    /// The OCSPResponse (RFC 6960 4.2.1): malformedRequest exactly where the bytes are no request; else internalError where the store or the
-    /// signer fails; or tryLater where the moment is refused; or a signed one.
+    /// The OCSPResponse (RFC 6960 4.2.1): malformedRequest exactly if the bytes are no request; else internalError if the store or the
+    /// signer fails, tryLater if the clock checks refuse the moment, or a signed response.
     fn ocsp(&mut self, alloc: Global, now: Moment, request: &[u8]) -> Result<Vec<u8>, Memory>
         ensures answers { OfficeLeads C.Store S.Signer
             (OcspStep S.signs now request.now (items_of result)) self.old self.new }
@@ -265,7 +265,7 @@ impl<C: Alter, S: Signer> reg_office_api::Office for Office<C, S> {
         ensures err { OnErr result (Stays (state C.Store self.old.store) (state C.Store self.new.store)) }
         ensures untouched { SignsNothing self.old self.new }
     {
-        // Only its contract matters here: these are a schedule's steps, as the schedule promises.
+        // Called only for its contract, which says that these are the steps of a valid schedule.
         let _steps = schedule.steps();
         match self.store.set_schedule(schedule) {
             Ok(()) => Ok(()),

@@ -1,5 +1,5 @@
-//! Pages of lists. A page looks at the first rows past a key, as many as it may, and has those of them that the list selects: so
-//! it costs no more than these, whatever the list.
+//! Pages of lists. A page reads the first rows past a key, at most as many as the caller allows, and returns those of them that the
+//! list selects. So the cost of a page is bounded, even if the list selects few rows.
 
 ghost use Rattle.std.specs.Prelude.{◌≡◌, ℕ, ◌+◌, ◌++◌, ◌∷◌, ◌-◌, ◌==◌, ◌&&◌, nat_lt, [], Some, None, cond, filter_map, min, option_map, IfOk, OnOk};
 ghost use Rattle.reg_core_lists.specs.Lists.{revoked_row};
@@ -30,7 +30,7 @@ pub(crate) enum Numbered {
     Orders,
 }
 
-/// A page of a list from a key on, at a moment, over so many rows at most.
+/// A page of a list past a key, at a moment, over at most `most` rows.
 pub(crate) fn page<C: Alter>(
     tables: &mut Tables<C>,
     alloc: Global,
@@ -46,7 +46,7 @@ pub(crate) fn page<C: Alter>(
     Ok(page_of(tables, alloc, now, from, most)?)
 }
 
-/// The page, whatever the clock says to its moment.
+/// The page, without the clock checks.
 fn page_of<C: Alter>(
     tables: &mut Tables<C>,
     alloc: Global,
@@ -156,7 +156,7 @@ fn certificate_listed<C: Alter>(
     }
 }
 
-/// The serial number of the last of these certificates, where they are as many as a page may look at.
+/// The serial number of the last of these certificates, if they are `most`; `None` if there are no more pages.
 fn last_certificate(found: &[CertRow], most: u64) -> Option<Serial>
     ensures { result ≡ last_of_full (λ row. row.serial) most found.now }
 {
@@ -269,7 +269,7 @@ fn last_crl(found: &[CrlRow], most: u64) -> Option<u64>
 
 // ---- the lists by ids
 
-/// A page of a list whose rows are numbered: the next ids, up to the last that there is.
+/// A page of a list by ids: the next `most` ids, up to the last one of the table.
 fn page_by_ids<C: Alter>(
     tables: &mut Tables<C>,
     alloc: Global,
@@ -292,7 +292,7 @@ fn page_by_ids<C: Alter>(
     Ok(Page { rows, next })
 }
 
-/// Where a list goes on of which so many ids were looked at: behind the last of them, where they are as many as a page may look at.
+/// The cursor of the next page, past `end`, if this page read `most` ids; `None` if there are no more pages.
 fn next_of(list: Numbered, after: u64, end: u64, most: u64) -> Option<Cursor>
     ensures { result ≡ cond (nat_lt after end && ((end - after) == most)) (Some (cursor_of list end)) None }
 {
@@ -302,7 +302,7 @@ fn next_of(list: Numbered, after: u64, end: u64, most: u64) -> Option<Cursor>
     None
 }
 
-/// The last id that a page looks at, of so many rows.
+/// The last id that a page reads, of a table with `held` rows.
 fn end_of(held: u64, after: u64, most: u64) -> u64
     ensures { result ≡ min held (after + most) }
 {
@@ -337,7 +337,7 @@ fn cursor_of(list: Numbered, after: u64) -> Cursor
     }
 }
 
-/// The row of a list that the record with a number is, where the list has it.
+/// The list's row for the record with an id; `None` if the list does not select it.
 fn row_at<C: Alter>(
     tables: &mut Tables<C>,
     now: Moment,

@@ -29,7 +29,7 @@ pub(crate) fn answer<C: Alter>(
     reply_to(tables, now, query)
 }
 
-/// The reply to a query at a moment that the clock takes.
+/// The reply to a query at a moment that passed the clock checks.
 fn reply_to<C: Alter>(tables: &mut Tables<C>, now: Moment, query: &Query) -> Result<Reply, Fault>
     ensures { LooksAndDecides C.Store tables.old tables.new
         (λ records. first_of_all (query_checks records query.now))
@@ -45,7 +45,7 @@ fn reply_to<C: Alter>(tables: &mut Tables<C>, now: Moment, query: &Query) -> Res
     }
 }
 
-/// Which CRLs list a serial number, one that is registered.
+/// Which CRLs list a serial number; `UnknownSerial` if it is not registered.
 fn listing<C: Alter>(tables: &mut Tables<C>, serial: Serial) -> Result<Option<Listing>, Fault>
     ensures { LooksAndDecides C.Store tables.old tables.new
         (λ records. first_of_all (query_checks records (AskListing serial))) (λ records found.
@@ -57,7 +57,7 @@ fn listing<C: Alter>(tables: &mut Tables<C>, serial: Serial) -> Result<Option<Li
     }
 }
 
-/// The moment of the earliest revocation that no CRL can have listed yet.
+/// The moment of the earliest revocation whose first CRL has not been issued yet.
 fn earliest_unlisted<C: Alter>(tables: &mut Tables<C>) -> Result<Option<Moment>, DatabaseFault>
     ensures looks { Learns C.Store tables.old tables.new result (λ records at.
         at ≡ earliest (unlisted records)) }

@@ -1,4 +1,4 @@
-//! What stands in a store beside its counts.
+//! Summaries of a register: its sizes and latest CRL, its open requests, and the longest validity of an order.
 
 ghost use Rattle.std.specs.Prelude.{◌≡◌, ◌<◌, ◌^◌, IfErr};
 ghost use Rattle.reg_office_api.specs.LookUps.{HasIntake, HasLongest, HasOpen, HasStanding, IsOfStore, rows_in};

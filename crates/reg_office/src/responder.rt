@@ -6,25 +6,25 @@ ghost use Rattle.reg_office.specs.Answering.{failures_of};
 use reg_crl::Signer;
 use reg_ocsp::Certificate;
 
-/// Who answers the OCSP requests of an office (RFC 6960 2.2, 4.2.2.2).
+/// The signer of an office's OCSP responses (RFC 6960 2.2, 4.2.2.2).
 #[derive(Drop)]
 pub enum Responder<S> {
-    /// Who signs its CRLs. The certificate stands with each answer, where there is one.
+    /// The signer of its CRLs. Each response includes the certificate, if there is one.
     Issuer(Option<Certificate>),
-    /// Another one, by a certificate of its own, which stands with each answer.
+    /// Another signer, with a certificate of its own, which each response includes.
     Delegate(S, Certificate),
 }
 
-/// What an answer has of who gives it.
+/// What a response says of its responder.
 #[derive(Clone, Copy)]
 pub(crate) struct Naming<'a> {
-    /// The key by which the responder is named, where that is not the issuer's.
+    /// The key that names the responder in the ResponderID; `None` if it is the issuer's.
     pub(crate) own_key: Option<&'a [u8]>,
-    /// The certificate that stands with the answer, where one does.
+    /// The certificate that the response includes, if any.
     pub(crate) certificate: Option<&'a [u8]>,
 }
 
-/// What answers have of the issuer, with the certificate that stands with them.
+/// What responses say of the issuer as responder, with the certificate that they include.
 pub(crate) fn of_issuer(certificate: &Option<Certificate>) -> Naming<'_>
     ensures own { option_copied result.own_key ≡ None }
     ensures certificate { option_copied result.certificate ≡ option_map (λ it. it.der) certificate.now }
@@ -43,7 +43,7 @@ fn der_of(certificate: &Option<Certificate>) -> Option<&[u8]>
     Some(certificate.as_ref()?.der())
 }
 
-/// What answers have of one who has a certificate of its own.
+/// What responses say of a responder with a certificate of its own.
 pub(crate) fn of_delegate(certificate: &Certificate) -> Naming<'_>
     ensures own { option_copied result.own_key ≡ Some certificate.now.key }
     ensures certificate { option_copied result.certificate ≡ Some certificate.now.der }
@@ -55,7 +55,7 @@ pub(crate) fn of_delegate(certificate: &Certificate) -> Naming<'_>
     }
 }
 
-/// How many failures the signer of OCSP answers has counted, where the signer of CRLs has counted so many.
+/// How many failures the signer of OCSP answers has counted; `crls` is the count of the signer of CRLs.
 pub(crate) fn failures_in<S: Signer>(responder: &Responder<S>, crls: u64) -> u64
     ensures { result ≡ failures_of S.failure_count crls responder.now }
 {

@@ -19,7 +19,7 @@ use std::alloc::Global;
 
 impl<C: Alter, S: Signer> Office<C, S> {
     /// Runs commands in their order, each at its moment, and goes on after refusals and faults. One outcome for each is
-    /// appended; or `Memory` where there is no room for them, before any command ran.
+    /// appended. If there is no memory for them, it fails with `Memory` before any command runs.
     pub fn run(
         &mut self,
         alloc: Global,

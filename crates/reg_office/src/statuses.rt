@@ -37,7 +37,7 @@ pub(crate) fn answers<'a, C: Alter>(
     Ok(answers)
 }
 
-/// What a CertID is told at a moment: the status of the issuer's certificate that it names, `Unknown` where it names
+/// The status for a CertID at a moment: that of the issuer's certificate that it names; `Unknown` if it names
 /// none.
 fn told<C: Alter>(
     tables: &mut Tables<C>,

@@ -1,4 +1,4 @@
--- What queries are answered.
+-- The answers to queries, and to requests for the bytes of a CRL.
 use Rattle.std.specs.Prelude.{◌≡◌, ℕ, ◌<◌, List, Option, Some, None, option_map, Result, Ok, Err}
 use Rattle.reg_core.specs.Checks.{clock_end}
 use Rattle.reg_core.specs.Crls.{latest}
@@ -10,7 +10,7 @@ use Rattle.reg_core.specs.declared.refusal.Refusal.TheVariants.{NoCrl}
 use Rattle.reg_core.specs.declared.refusal.Fault.{Fault}
 use Rattle.reg_core.specs.declared.refusal.Fault.TheVariants.{Refused, Memory, Store, Signer, Read, Write}
 
--- a query's outcome: its answer; or, below the clock's end, out of memory or a failure of the store
+-- a query's outcome: the reply or the refusal of `answer`; or, before the clock's end, out of memory or a failure of the store
 abbrev pub IsAnswered : Records → ℕ → Query → Result Reply Fault → Type 0
 IsAnswered records now query (Ok reply) = answer records now query ≡ Ok reply
 IsAnswered records now query (Err (Refused refusal)) = answer records now query ≡ Err refusal
@@ -20,12 +20,12 @@ IsAnswered records now query (Err Signer) = ⊥
 IsAnswered records now query (Err Read) = ⊥
 IsAnswered records now query (Err Write) = ⊥
 
--- the CRL that is asked for: the one with a number, or the latest
+-- the requested CRL: the one with a number, or the latest
 abbrev pub crl_for_number : Records → Option ℕ → Option Crl
 crl_for_number records (Some number) = crl_in records.crls number
 crl_for_number records None = latest records.crls
 
--- what is given for it: its bytes, a refusal where there is none, or out of memory or a failure of the store
+-- the outcome of a request for a CRL: its bytes, the refusal NoCrl if there is none, or out of memory or a failure of the store
 abbrev pub IsGiven : Records → Option ℕ → Result (List ℕ) Fault → Type 0
 IsGiven records number (Ok bytes) = option_map (λ crl. crl.bytes) (crl_for_number records number) ≡ Some bytes
 IsGiven records number (Err (Refused refusal)) = (refusal ≡ NoCrl) × (crl_for_number records number ≡ None)

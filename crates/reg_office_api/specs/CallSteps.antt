@@ -1,4 +1,4 @@
--- What each call of an office comes to over the records that stand in it.
+-- The outcome of each call of an office, and the records after it.
 use Rattle.std.specs.Prelude.{◌≡◌, ℕ, List, Option, Result, Ok, Err}
 use Rattle.reg_core.specs.Records.{Records}
 use Rattle.reg_core.specs.declared.command.Command.{Command}
@@ -13,7 +13,7 @@ use Rattle.reg_office_api.specs.Ocsp.{IsOcspReply}
 use Rattle.reg_office_api.specs.Signatories.{Signatory}
 pub use Rattle.reg_office_api.specs.Signatories.{Signs}
 
--- a command: what it comes to by the rules, with CRLs that are signed by its signer
+-- a command: its outcome by the rules (`Happens`), with CRLs by the office's signer of CRLs
 abbrev pub Runs : Signs → Signatory → Records → ℕ → Command → Result Reply Fault → Records → Type 0
 Runs signs signatory = Happens (signed_by signs signatory.crls)
 
@@ -30,7 +30,7 @@ Ocsps signs signatory before now request (Err memory) after = after ≡ before
 abbrev pub Crls : Records → Option ℕ → Result (List ℕ) Fault → Records → Type 0
 Crls before number given after = IsGiven before number given × (after ≡ before)
 
--- ---- each as a step of the records, for the signers
+-- ---- each as a step from the records before it to those after it, given the signers
 
 abbrev pub CommandStep : Signs → ℕ → Command → Result Reply Fault → Signatory → Records → Records → Type 0
 CommandStep signs now command outcome = λ signatory before after. Runs signs signatory before now command outcome after

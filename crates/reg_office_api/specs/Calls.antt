@@ -1,4 +1,4 @@
--- The calls of an office as relations of it before and after them: each leads from records to records.
+-- Each call of an office as a relation between the office before it and the office after it.
 use Rattle.std.specs.Prelude.{ℕ, List, Option, Result}
 use Rattle.reg_core.specs.declared.command.Command.{Command}
 use Rattle.reg_core.specs.declared.command.Query.{Query}
@@ -22,15 +22,15 @@ module _ {O : Type 0} (office : Office O) where
   abbrev pub AsksIn : O → ℕ → Query → Result Reply Fault → O → Type 0
   AsksIn s now query outcome t = Leads office.is_clean office.stands (QueryStep now query outcome) s t
 
-  -- an OCSP request that is answered
+  -- an OCSP request, with the bytes of its response
   abbrev pub OcspsIn : O → ℕ → List ℕ → Result (List ℕ) Memory → O → Type 0
   OcspsIn s now request given t = Leads office.is_clean office.stands (OcspStep office.signs now request given) s t
 
-  -- the same with the kind of the response
+  -- an OCSP request, with the kind and the bytes of its response
   abbrev pub RepliesIn : O → ℕ → List ℕ → Result (ResponseKind × List ℕ) Memory → O → Type 0
   RepliesIn s now request given t = Leads office.is_clean office.stands (λ signatory before after. Replies office.signs signatory before now request given after) s t
 
-  -- an OCSP request whose answer is left to be signed
+  -- an OCSP request, with a draft of its response that is not signed yet
   abbrev pub DraftsIn : O → ℕ → List ℕ → Drafted → O → Type 0
   DraftsIn s now request draft t = Leads office.is_clean office.stands (λ signatory before after. Drafts signatory before now request draft after) s t
 

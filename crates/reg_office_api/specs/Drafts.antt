@@ -1,4 +1,4 @@
--- An OCSP answer that is left to be signed (RFC 6960 2.2, 4.2.1).
+-- Drafts: OCSP responses that are not signed yet (RFC 6960 2.2, 4.2.1).
 use Rattle.std.specs.Prelude.{◌≡◌, ℕ, List, Option, None, Result, Ok, Err}
 use Rattle.reg_core.specs.Checks.{clock_checks, first_of_all}
 use Rattle.reg_core.specs.Records.{Records}
@@ -14,18 +14,18 @@ use Rattle.reg_office_api.specs.declared.response.ResponseKind.TheVariants.{Sign
 use Rattle.reg_io.specs.declared.begun.Begun.{Begun}
 use Rattle.reg_io.specs.declared.begun.Begun.TheVariants.{Ready, Unsigned}
 
--- what is to be signed is to be signed by the responder, and the answer has its certificate, where one stands there
+-- the draft has the responder's algorithm and key, and its certificate if it has one
 pub record IsBy (responder : Responder) (draft : Drafted) : Type 0 where
   pub algorithm : draft.algorithm ≡ responder.identity.algorithm
   pub key : draft.key ≡ responder.identity.public_key
   pub certificate : draft.certificate ≡ responder.certificate
 
--- what is left to be signed for a request that was read: the ResponseData of the records at a moment that the clock takes
+-- the draft for a request that was read: the ResponseData of the records at a moment, for the responder to sign
 pub record IsReadDraft (responder : Responder) (records : Records) (now : ℕ) (ids : List Id) (nonce : Option (List ℕ)) (draft : Drafted) : Type 0 where
   pub of_records : IsOcspData (responder_key responder records) records now ids nonce draft.message
   pub by : IsBy responder draft
 
--- the same for the bytes of a request
+-- the draft for the bytes of a request, at a moment that the clock checks accept
 pub record IsDraft (responder : Responder) (records : Records) (now : ℕ) (request : List ℕ) (draft : Drafted) : Type 0 where
   pub ids : List Id
   pub nonce : Option (List ℕ)
@@ -33,22 +33,22 @@ pub record IsDraft (responder : Responder) (records : Records) (now : ℕ) (requ
   pub timely : first_of_all (clock_checks now records.last) ≡ None
   pub read : IsReadDraft responder records now ids nonce draft
 
--- what is left to be signed for a request, by the responder; the records stay
+-- the draft for a request, by the office's responder; the records don't change
 abbrev pub Drafts : Signatory → Records → ℕ → List ℕ → Drafted → Records → Type 0
 Drafts signatory before now request draft after = IsDraft signatory.answers before now request draft × (after ≡ before)
 
--- what a call comes to whose answer may be left to be signed, by what answers that are ready are and what is left
+-- the outcome of `begin_ocsp`: a ready response, of which `replies` holds, or a draft, of which `drafts` holds
 abbrev pub Begins : {S : Type 0} → (S → ℕ → List ℕ → Result (ResponseKind × List ℕ) Memory → S → Type 0)
     → (S → ℕ → List ℕ → Drafted → S → Type 0) → S → ℕ → List ℕ → Result (Begun OcspResponse Drafted) Memory → S → Type 0
 Begins replies drafts s now request (Ok (Ready response)) t = replies s now request (Ok (response.kind, response.bytes.items)) t
 Begins replies drafts s now request (Ok (Unsigned draft)) t = drafts s now request draft t
 Begins replies drafts s now request (Err memory) t = replies s now request (Err memory) t
 
--- the same, as a step of the records for the signers
+-- the outcome of `begin_ocsp` as a step of the records, given the signers
 abbrev pub BeginStep : Signs → ℕ → List ℕ → Result (Begun OcspResponse Drafted) Memory → Signatory → Records → Records → Type 0
 BeginStep signs now request begun = λ signatory before after. Begins (Replies signs signatory) (Drafts signatory) before now request begun after
 
--- the signer failed at it
+-- the response is internalError because the signer failed
 abbrev pub IsSignerFailure : {U : Type 0} → Begun OcspResponse U → Type 0
 IsSignerFailure (Ready response) = response.kind ≡ SignerFailure
 IsSignerFailure (Unsigned left) = ⊥

@@ -1,4 +1,4 @@
--- What a call gives, as bytes.
+-- The result of a call, as bytes.
 use Rattle.std.specs.Prelude.{ℕ, List, Result, Ok, Err, Vec}
 
 -- the bytes of a buffer, or the error

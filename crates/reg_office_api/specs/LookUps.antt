@@ -1,4 +1,4 @@
--- What an office shows of its records beside queries.
+-- What the calls of an office return of its records, besides the answers to queries.
 use Rattle.std.specs.Prelude.{◌≡◌, ℕ, ◌==◌, ◌&&◌, min, filter, length, Option, option_map, Result, IfOk}
 use Rattle.reg_core.specs.Crls.{latest, row_of}
 use Rattle.reg_core.specs.Due.{is_open}
@@ -36,11 +36,11 @@ IsStanding records standing =
     (standing.last ≡ records.last) × (standing.latest ≡ option_map row_of (latest records.crls)) × (standing.crl_life ≡ records.policy.crl_life)
     × (standing.cap ≡ records.policy.cap) × (standing.rows ≡ rows_in records)
 
--- the same, where it was had
+-- `IsStanding`, if the call succeeds
 abbrev pub HasStanding : Records → Result Standing Fault → Type 0
 HasStanding records result = IfOk result (IsStanding records)
 
--- how many requests for revocation are open, where that was had
+-- how many requests for revocation are open, if the call succeeds
 abbrev pub HasOpen : Records → ℕ → Result ℕ Fault → Type 0
 HasOpen records now result = IfOk result (λ count. count ≡ length (filter (is_open records now) records.requests))
 
@@ -54,18 +54,18 @@ intake_in records now serial most = record {
   waiting = min most (length (filter (λ row. (row.serial == serial) && is_open records now row) records.requests));
 }
 
--- the same, where the call succeeds
+-- `intake_in`, if the call succeeds
 abbrev pub HasIntake : Records → ℕ → ℕ → ℕ → Result Intake Fault → Type 0
 HasIntake records now serial most result = IfOk result (λ intake. intake ≡ intake_in records now serial most)
 
--- the longest validity in days that an order and the policy allow from a moment on; none where there is no such order
+-- the longest validity in days that an order and the policy allow from a moment on; none if there is no such order
 abbrev pub longest_allowed : Records → ℕ → ℕ → Option ℕ
 longest_allowed records order not_before = option_map (λ row. min row.days (longest_at records.policy.schedule not_before)) (order_in records.orders order)
 
--- the same, where it was had
+-- `longest_allowed`, if the call succeeds
 abbrev pub HasLongest : Records → ℕ → ℕ → Result (Option ℕ) Fault → Type 0
 HasLongest records order not_before result = IfOk result (λ days. days ≡ longest_allowed records order not_before)
 
--- a page of a list, as a step that leaves the records
+-- a page of a list, as a step that does not change the records
 abbrev pub PageStep : ℕ → ℕ → Cursor → Result Page Fault → Signatory → Records → Records → Type 0
 PageStep now most from given = λ signatory before after. Pages before now most from given after

@@ -1,4 +1,4 @@
--- What an OCSP request is answered from the register (RFC 6960 2.2, 2.3, 4.2.1).
+-- The response to an OCSP request, from the records of a register (RFC 6960 2.2, 2.3, 4.2.1).
 use Rattle.std.specs.Prelude.{◌≡◌, ℕ, ◌+◌, ◌⊎◌, List, Option, Some, None}
 use Rattle.std.specs.List.{AllZip}
 use Rattle.reg_core.specs.Checks.{clock_checks, first_of_all}
@@ -17,27 +17,27 @@ use Rattle.reg_office_api.specs.Signatories.{Responder, Signs, responder_key}
 abbrev pub HasNoReading : List ℕ → Type 0
 HasNoReading bytes = (ids : List Id) (nonce : Option (List ℕ)) → ¬ (IsOcspRequest bytes ids nonce)
 
--- the answer to a CertID: the status of the issuer's certificate that it names, and unknown where it names none
+-- the status for a CertID: that of the issuer's certificate that it names; unknown if it names none
 -- (RFC 6960 2.2)
 abbrev pub IsTold : Records → ℕ → Id → Status → Type 0
 IsTold records now id told =
     ((serial : ℕ) × IsMatch records.issuer id serial × (told ≡ status records serial now))
     ⊎ (((serial : ℕ) → ¬ (IsMatch records.issuer id serial)) × (told ≡ Unknown))
 
--- the answer to a CertID: it is repeated byte for byte, with its status (SingleResponse, RFC 6960 4.2.1)
+-- the answer to a CertID: the CertID, repeated byte for byte, and its status (SingleResponse, RFC 6960 4.2.1)
 pub record IsAnswer (records : Records) (now : ℕ) (id : Id) (answer : SingleAnswer) : Type 0 where
   pub repeated : answer.raw ≡ id.raw
   pub told : IsTold records now id answer.status
 
--- the ResponseData of the records at a moment, by the key of the responder: one answer for each CertID in the order asked, each
--- from this moment on for the life that the policy gives it, and the nonce (RFC 6960 4.2.1)
+-- the ResponseData of the records at a moment, with the key that names the responder: one answer for each CertID, in the order of the
+-- request, valid from this moment on for the policy's life of OCSP answers; and the nonce (RFC 6960 4.2.1)
 pub record IsOcspData (key : List ℕ) (records : Records) (now : ℕ) (ids : List Id) (nonce : Option (List ℕ)) (tbs : List ℕ) : Type 0 where
   pub answers : List SingleAnswer
   pub each : AllZip (IsAnswer records now) ids answers
   pub spelled : tbs ≡ response_data key now (now + records.policy.ocsp_life) answers nonce
 
--- The bytes are the response signed: there is a signature of the ResponseData by the responder, and the bytes are the OCSPResponse
--- of the ResponseData, the algorithm and the signature, with the certificate of the responder, where one stands there
+-- The bytes are a signed response: they are the OCSPResponse with the ResponseData, the responder's algorithm, a signature of the
+-- ResponseData by the responder, and the responder's certificate, if the responses include one
 -- (RFC 6960 4.2.1, 4.2.2.2).
 abbrev pub response_signed_by : Signs → Responder → List ℕ → List ℕ → Type 0
 response_signed_by signs responder tbs bytes =
@@ -45,26 +45,26 @@ response_signed_by signs responder tbs bytes =
     × signs responder.identity tbs signature
     × (bytes ≡ ocsp_response tbs responder.identity.algorithm signature responder.certificate)
 
--- the whole response: signed, over the ResponseData of the records
+-- the whole response: the ResponseData of the records, signed
 pub record IsResponse (signs : Signs) (responder : Responder) (records : Records) (now : ℕ)
     (ids : List Id) (nonce : Option (List ℕ)) (bytes : List ℕ) : Type 0 where
   pub tbs : List ℕ
   pub of_records : IsOcspData (responder_key responder records) records now ids nonce tbs
   pub signed : response_signed_by signs responder tbs bytes
 
--- tryLater where the clock refuses the moment, else a response of this kind
+-- tryLater if the clock checks refuse the moment, else a response of this kind
 abbrev pub IsTimely : Option Refusal → (List ℕ → Type 0) → List ℕ → Type 0
 IsTimely (Some refusal) IsWhole bytes = bytes ≡ refusal_response TryLater
 IsTimely None IsWhole bytes = IsWhole bytes
 
--- what a request that was read is answered: internalError; or tryLater exactly where the moment is from the clock's end
--- on or before the last accepted one, and else the whole response
+-- the response to a request that was read: internalError; or else tryLater if the moment is at or past the clock's end, or before
+-- the last accepted one; else the whole response
 abbrev pub IsReadReply : Signs → Responder → Records → ℕ → List Id → Option (List ℕ) → List ℕ → Type 0
 IsReadReply signs responder records now ids nonce bytes =
     (bytes ≡ refusal_response Internal)
     ⊎ IsTimely (first_of_all (clock_checks now records.last)) (IsResponse signs responder records now ids nonce) bytes
 
--- what bytes are answered: malformedRequest where they are no request, else what they ask
+-- the response to any bytes: malformedRequest if they are no request, else the response to the request
 abbrev pub IsOcspReply : Signs → Responder → Records → ℕ → List ℕ → List ℕ → Type 0
 IsOcspReply signs responder records now request bytes =
     (HasNoReading request × (bytes ≡ refusal_response Malformed))

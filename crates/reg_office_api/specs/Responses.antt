@@ -1,4 +1,4 @@
--- What an OCSP response is (RFC 6960 4.2.1), and what it says of its signature and of the store.
+-- OCSP responses by their kind (RFC 6960 4.2.1), and what a kind says of the signature and of the store.
 use Rattle.std.specs.Prelude.{◌≡◌, ◌⊎◌, ℕ, List, Option, Some, None, Result, Ok, Err}
 use Rattle.reg_core.specs.Checks.{clock_checks, first_of_all}
 use Rattle.reg_core.specs.Records.{Records}
@@ -29,7 +29,7 @@ IsReadResponse signs responder records now ids echo TryLater bytes =
 IsReadResponse signs responder records now ids echo StoreFailure bytes = bytes ≡ refusal_response status.Internal
 IsReadResponse signs responder records now ids echo SignerFailure bytes = bytes ≡ refusal_response status.Internal
 
--- a response of this kind to bytes: malformedRequest where they are no request, else to what they ask
+-- a response of this kind to any bytes: malformedRequest if they are no request, else the response to the request
 abbrev pub IsOcspResponse : Signs → Responder → Records → ℕ → List ℕ → ResponseKind → List ℕ → Type 0
 IsOcspResponse signs responder records now request kind bytes =
     (HasNoReading request × (kind ≡ Malformed) × (bytes ≡ refusal_response status.Malformed))
@@ -44,18 +44,18 @@ Replies signs signatory before now request (Ok response) after =
     IsOcspResponse signs signatory.answers before now request response.0 response.1 × (after ≡ before)
 Replies signs signatory before now request (Err memory) after = after ≡ before
 
--- what became of the signature
+-- whether the signature was requested, and the signer made it
 abbrev pub signature_of : ResponseKind → SignatureFate
 signature_of Signed = signature.Made
 signature_of SignerFailure = signature.Failed
 signature_of other = signature.NotAsked
 
--- what a response says of the store
+-- whether a response shows that the store failed
 abbrev pub store_of : ResponseKind → StoreEffect
 store_of StoreFailure = store.Failed
 store_of other = store.Unwritten
 
--- what a refusal or a fault says of it
+-- whether a refusal or a fault shows that the store failed
 abbrev pub store_of_fault : Fault → StoreEffect
 store_of_fault fault.Store = store.Failed
 store_of_fault other = store.Unwritten

@@ -1,4 +1,4 @@
--- What is set in a register by no command.
+-- The settings of a register that calls other than commands change.
 use Rattle.std.specs.Prelude.{◌≡◌, ℕ, List, Result, Ok, Err}
 use Rattle.reg_core.specs.Changes.{with_schedule}
 use Rattle.reg_core.specs.Records.{Records}
@@ -10,7 +10,7 @@ abbrev pub Reschedules : List (ℕ × ℕ) → Result (Unit {0}) Fault → Recor
 Reschedules steps (Ok done) before after = after ≡ with_schedule before steps
 Reschedules steps (Err fault) before after = after ≡ before
 
--- the records are as before but for the key identifier of the next CRL; at a fault they stay
+-- the records are as before but for the key identifier of the CRLs from the next one on; at a fault they stay
 abbrev pub Identifies : List ℕ → Result (Unit {0}) Fault → Records → Records → Type 0
 Identifies octets (Ok done) before after = after ≡ with_key_identifier before octets
 Identifies octets (Err fault) before after = after ≡ before

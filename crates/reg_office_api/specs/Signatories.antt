@@ -3,12 +3,12 @@ use Rattle.std.specs.Prelude.{ℕ, List, Option, None, unwrap_or}
 use Rattle.reg_core.specs.Records.{Records}
 use Rattle.reg_crl.specs.Signing.{Identity}
 
--- what is a signature, over what and by whom
+-- which bytes are a signature: `signs identity message signature`
 abbrev pub Signs : Type 1
 Signs = Identity → List ℕ → List ℕ → Type 0
 
--- The responder to OCSP requests for an issuer (RFC 6960 2.2, 4.2.2.2): under whose algorithm and key; the key of its own by which it is named,
--- or none where that is the issuer's; the certificate that stands with each answer, where one does.
+-- The responder to OCSP requests for an issuer (RFC 6960 2.2, 4.2.2.2): its algorithm and key; the key that names it in the ResponderID, or
+-- none if that is the issuer's; and the certificate that each response includes, if any.
 pub record Responder : Type 0 where
   pub identity : Identity
   pub own_key : Option (List ℕ)
@@ -18,12 +18,12 @@ pub record Responder : Type 0 where
 abbrev pub responder_key : Responder → Records → List ℕ
 responder_key responder records = unwrap_or responder.own_key records.issuer.key
 
--- the signers of an office: its CRLs, and its OCSP answers
+-- the signers of an office: of its CRLs, and of its OCSP answers
 pub record Signatory : Type 0 where
   pub crls : Identity
   pub answers : Responder
 
--- the issuer's key signs both, and no certificate stands with an answer
+-- one identity signs both, and responses include no certificate
 abbrev pub signs_both : Identity → Signatory
 signs_both identity = record {
   crls = identity;

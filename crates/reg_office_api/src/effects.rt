@@ -1,11 +1,11 @@
-//! What an exchange or a line came to, as it is counted: of its signature, and of the store.
+//! The effects of an HTTP exchange or a line on the signers and the store, as the metrics count them.
 
 ghost use Rattle.std.specs.Prelude.{◌≡◌};
 ghost use Rattle.reg_office_api.specs.Responses.{store_of_fault};
 
 use reg_core::Fault;
 
-/// What became of a signature.
+/// Whether an exchange or a line requested a signature, and the signer made it.
 #[derive(Clone, Copy, PartialEq, Eq)]
 pub enum SignatureFate {
     NotAsked,
@@ -14,10 +14,10 @@ pub enum SignatureFate {
     Failed,
 }
 
-/// What an exchange or a line says of the store.
+/// What an exchange or a line shows of the store: an accepted command was written, the store failed, or neither.
 #[derive(Clone, Copy, PartialEq, Eq)]
 pub enum StoreEffect {
-    /// Nothing: it entered no command, and met no failure.
+    /// It ran no accepted command, and the store did not fail.
     Unwritten,
     Written,
     Failed,
@@ -39,11 +39,11 @@ impl StoreEffect {
 pub enum LineReply {
     Accepted,
     Refused,
-    /// By a fault, or by nothing: there was no memory for a reply.
+    /// The reply is a fault, or there is none because there was no memory for it.
     Fault,
 }
 
-/// What a line came to, as it is counted.
+/// The effects of a line, as the metrics count them.
 #[derive(Clone, Copy, PartialEq, Eq)]
 pub struct LineEffects {
     pub reply: LineReply,

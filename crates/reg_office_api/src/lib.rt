@@ -1,4 +1,4 @@
-//! The office of a register, as its front ends call it: over any office, whatever keeps its records.
+//! The interface of a register's office for its front ends, whatever stores its records.
 #![tactic(auto)]
 
 mod effects;

@@ -1,8 +1,8 @@
-//! What stands in a register beside its counts.
+//! Summaries of a register for the front ends.
 
 use reg_core::{CrlRow, Moment};
 
-/// What stands in a register beside its counts.
+/// A summary of a register: its last accepted moment, its latest CRL, and how many rows its tables have.
 #[derive(Clone, Copy, PartialEq, Eq)]
 pub struct Standing {
     pub last: Moment,
@@ -33,6 +33,6 @@ pub struct Intake {
     pub cap: u64,
     /// How many requests there are.
     pub requests: u64,
-    /// How many requests for the serial number are open, at most as many as the caller counts.
+    /// How many requests for the serial number are open, counted up to the caller's limit.
     pub waiting: u64,
 }

@@ -1,11 +1,11 @@
-//! An OCSP response, and which it is.
+//! An OCSP response and its kind.
 
 ghost use Rattle.std.specs.Prelude.{◌≡◌};
 ghost use Rattle.reg_office_api.specs.Responses.{signature_of as signature_by, store_of as store_by};
 
 use crate::effects::{SignatureFate, StoreEffect};
 
-/// Which OCSP response it is (RFC 6960 4.2.1).
+/// The kind of an OCSP response (OCSPResponseStatus, RFC 6960 4.2.1). The two causes of internalError are kept apart.
 #[derive(Clone, Copy, PartialEq, Eq)]
 pub enum ResponseKind {
     Signed,
@@ -26,7 +26,7 @@ pub struct OcspResponse {
 }
 
 impl ResponseKind {
-    /// What became of the signature.
+    /// Whether the signature was requested, and the signer made it.
     pub fn signature(self) -> SignatureFate
         ensures { result ≡ signature_by self }
     {
@@ -37,7 +37,7 @@ impl ResponseKind {
         }
     }
 
-    /// What it says of the store.
+    /// Whether the response shows that the store failed.
     pub fn store(self) -> StoreEffect
         ensures { result ≡ store_by self }
     {

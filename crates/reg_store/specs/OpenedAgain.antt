@@ -17,23 +17,23 @@ use Rattle.reg_store_migration.specs.Older.{ShowsOlder}
 use Rattle.reg_store_migration.specs.declared.version.OlderVersion.{OlderVersion}
 use Rattle.reg_store_opening.specs.AfterStoppedOpening.{IsCreated, IsOpened}
 
--- the machine stopped, and the database was opened again from what it left: the disk had been honest till then, and the new connection, which
--- obeys the schema that it found, shows what a stop at that moment may leave
+-- the machine stopped, and the database was opened again from what the stop left: the disk had returned what was written until then, and the new
+-- connection obeys the schema that it found, and shows rows that a stop at that moment may leave
 pub record IsOpenedAgain {S : Type 0} (g : Ghosts S) (held again : Held S) : Type 0 where
   pub honest : HasCleanDisk (state g held)
   pub opens : Opens (state g again)
   pub live : IsLive (state g again)
   pub found : ∥ (state g held).may_leave (state g again).committed.trees ∥₁
 
--- a register that is made: after a stop, the database that is opened shows what was there, or the register with no records, whole
+-- after a stop while a register is made, the database that is opened shows what was there before, or the whole register, without records
 abbrev pub OpensEmptyOrMade : {S : Type 0} → Ghosts S → Type 0
 OpensEmptyOrMade {S = S} g =
     (old new again : Held S) (issuer : Issuer) (policy : Terms)
     → IsTrue (state g old).is_open → IsLive (state g old) → Survives (state g old) (state g new) (IsCreated old issuer policy) → IsOpenedAgain g new again
     → ∥ ((state g again).now ≡ (state g old).committed) ⊎ ((old.schema ≡ no_schema) × ShowsKept g again (no_records issuer policy)) ∥₁
 
--- a register that is opened: after a stop, one of the program's version is as it was, and shows what it showed; one of an older version, whose
--- records are sound, shows the same records, as its tables or as those of the program's version, with what is kept beside them
+-- After a stop while a register is opened: one of the program's version is as it was, and shows what it showed. One of an older version, with
+-- sound records, shows the same records, in the tables of that version or of the program's, with derived tables that match them.
 abbrev pub OpensWithTheSame : {S : Type 0} → Ghosts S → Type 0
 OpensWithTheSame {S = S} g =
     (old new again : Held S)
@@ -42,15 +42,15 @@ OpensWithTheSame {S = S} g =
     × ((records : Records) → ShowsKept g old records → ShowsKept g again records)
     × ((version : OlderVersion) (records : Records) → ShowsOlder version g old records → SoundRows records → ∥ ShowsOlder version g again records ⊎ ShowsKept g again records ∥₁)
 
--- a schedule that is set: after a stop, the register that is opened shows the records with the schedule before the call, or with the one that was set
+-- after a stop while a schedule is set, the register that is opened shows the records with the schedule before the call, or with the new one
 abbrev pub OpensWithASchedule : {S : Type 0} → Ghosts S → Type 0
 OpensWithASchedule {S = S} g =
     (old new again : Held S) (records : Records) (steps : List (ℕ × ℕ))
     → ShowsKept g old records → IsTrue (state g old).is_open → IsLive (state g old) → Survives (state g old) (state g new) (IsScheduled g old steps) → IsOpenedAgain g new again
     → ∥ ShowsKept g again records ⊎ ShowsKept g again (with_schedule records steps) ∥₁
 
--- an issuer that is set, with the key that there was: after a stop, the register that is opened shows the records with the issuer before the call,
--- or with the one that was set
+-- after a stop while an issuer with the same key as before is set, the register that is opened shows the records with the issuer before the call,
+-- or with the new one
 abbrev pub OpensWithAnIssuer : {S : Type 0} → Ghosts S → Type 0
 OpensWithAnIssuer {S = S} g =
     (old new again : Held S) (records : Records) (issuer : Issuer)

@@ -1,4 +1,4 @@
-//! Changes.
+//! The changes of a register.
 
 ghost use Rattle.reg_core.specs.declared.change.Change.TheVariants.{Touch, Subscriber, Order, Certificate, Request, Decline, Revocation, Crl};
 ghost use Rattle.reg_store_changes.specs.MadeChanges.{MakesChange, SetsIssuer, SetsSchedule};
@@ -12,7 +12,7 @@ use reg_store_tables::DatabaseFault;
 use sqlite::Alter;
 
 impl<S: Alter> Store<S> {
-    /// Makes a change at a moment, in one transaction. Errors: those of [`reg_store_changes::apply`], here and below.
+    /// Makes a change at a moment, in one transaction. Errors, here and of the methods below: those of [`reg_store_changes::apply`].
     pub fn apply(&mut self, now: Moment, change: &Change<'_>) -> Result<(), DatabaseFault>
         ensures { MakesChange S.Store self.old self.new now change.now result }
     {
@@ -40,7 +40,7 @@ impl<S: Alter> Store<S> {
         self.apply(now, &Change::Order(row))
     }
 
-    /// Adds a certificate, one that is good.
+    /// Adds a certificate, with the status good.
     pub fn add_cert(&mut self, now: Moment, row: CertRow) -> Result<(), DatabaseFault>
         ensures { MakesChange S.Store self.old self.new now (Certificate row) result }
     {
@@ -61,7 +61,7 @@ impl<S: Alter> Store<S> {
         self.apply(now, &Change::Decline(id))
     }
 
-    /// Adds a revocation, of a certificate that is registered with this notAfter and good: else `Store`.
+    /// Adds the revocation of a certificate, whose notAfter the caller gives. `Store` if the certificate is not good.
     pub fn add_revocation(
         &mut self,
         now: Moment,
@@ -73,22 +73,22 @@ impl<S: Alter> Store<S> {
         self.apply(now, &Change::Revocation(row, not_after))
     }
 
-    /// Adds a CRL, with its bytes: it is the last that lists the certificates that ended before it.
+    /// Adds a CRL, with its bytes. It becomes the last CRL of each revocation that has none yet and whose certificate ended before it.
     pub fn add_crl(&mut self, now: Moment, row: CrlRow, der: &[u8]) -> Result<(), DatabaseFault>
         ensures { MakesChange S.Store self.old self.new now (Crl row der.entry) result }
     {
         self.apply(now, &Change::Crl(row, der))
     }
 
-    /// Sets the schedule of longest validities, which is no command: nothing else changes.
+    /// Sets the schedule of longest validities. This is no command: nothing else changes.
     pub fn set_schedule(&mut self, schedule: Schedule) -> Result<(), DatabaseFault>
         ensures { SetsSchedule S.Store self.old self.new schedule result }
     {
         reg_store_changes::set_schedule(&mut self.tables.connection, &schedule)
     }
 
-    /// Sets the issuer, which has the key that it had: another Name, or other key identifiers of its own. It is no command:
-    /// nothing else changes.
+    /// Sets the issuer's Name and its own key identifiers. The issuer must have the same key as before; this is not checked. This is
+    /// no command: nothing else changes.
     pub fn set_issuer(&mut self, issuer: &Issuer) -> Result<(), DatabaseFault>
         ensures { SetsIssuer S.Store self.old self.new issuer.now result }
     {

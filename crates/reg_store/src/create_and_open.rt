@@ -1,4 +1,4 @@
-//! A register made in an empty database, and one that is there.
+//! Creates a register in an empty database, and opens an existing one.
 
 ghost use Rattle.std.specs.Prelude.{◌≡◌, false, IfOk, IfErr};
 ghost use Rattle.reg_store_opening.specs.Opens.{Opens, IsUnopened, Creates, IsUncreated};
@@ -10,7 +10,7 @@ use reg_store_tables::{StoreFault, Tables};
 use sqlite::{Alter, Connection};
 use std::alloc::Global;
 
-/// A connection over which no store was had, in no transaction and with its tables as they were, and why.
+/// A connection over which no store was created or opened, and why. It is in no transaction, and its tables are as they were.
 #[derive(Drop)]
 pub struct Unopened<S: Alter> {
     pub fault: StoreFault,
@@ -18,8 +18,8 @@ pub struct Unopened<S: Alter> {
 }
 
 impl<S: Alter> Store<S> {
-    /// Makes a register with no records in an empty database. Errors: `NotEmpty` where it has a table, an index or a view; `Memory`;
-    /// `Store` where the database fails.
+    /// Makes a register with no records in an empty database. Errors: `NotEmpty` if it has a table, an index or a view; `Memory`;
+    /// `Store` if the database fails.
     pub fn create(
         connection: Connection<S>,
         issuer: Issuer,
@@ -40,7 +40,7 @@ impl<S: Alter> Store<S> {
         }
     }
 
-    /// Opens the register that a database holds; tables of version 1 or 2 become those of the program's version, in one transaction, and
+    /// Opens the register in a database. Tables of version 1 or 2 are migrated to the program's version in one transaction; they then
     /// show the same records. Errors: those of [`reg_store_opening::open`].
     pub fn open(alloc: Global, connection: Connection<S>) -> Result<Store<S>, Unopened<S>>
         requires { connection.in_transaction ≡ false }

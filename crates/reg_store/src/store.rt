@@ -1,4 +1,4 @@
-//! The store: a register in a database, whose tables are looked up and changed.
+//! The store: a register in a database, with its look-ups and its changes.
 
 ghost use Rattle.std.specs.Prelude.{◌≡◌, false};
 
@@ -9,8 +9,8 @@ use std::ops::{Deref, DerefMut};
 
 /// A register in an SQL database. The look-ups are those of its [`Tables`]; the changes are its own.
 ///
-/// A contract sees it as its connection, which is in no transaction between the calls. So what a contract says of a connection, as
-/// `Shows` and `ShowsKept` do, is said of a store in the same words.
+/// Contracts see a store as its connection, which is in no transaction between the calls. So `Shows`, `ShowsKept` and other
+/// definitions for a connection apply to a store.
 #[derive(Drop)]
 pub struct Store<S: Alter> {
     pub(crate) tables: Tables<S>,
@@ -55,7 +55,7 @@ impl<S: Alter> DerefMut for Store<S> {
 }
 
 impl<S: Alter> Store<S> {
-    /// The connection. The tables stay as they are.
+    /// Closes the store and returns its connection. The tables don't change.
     pub fn into_connection(self) -> Connection<S>
         ensures same { result ≡ self }
         ensures idle { result.in_transaction ≡ false }

@@ -1,4 +1,4 @@
--- What a stop may find in a register's file once a change was begun.
+-- The rows that a stop may leave in a register's file after a change was begun.
 use Rattle.std.specs.Prelude.{◌≡◌, ◌≤◌, ℕ, List}
 use Rattle.sqlite_trees.specs.Tree.{Trees}
 use Rattle.sqlite_trees.specs.declared.store.Store.{Ghosts}
@@ -12,15 +12,15 @@ use Rattle.reg_store_tables.specs.Kept.{ShowsKept}
 use Rattle.reg_der.specs.Issuers.{with_issuer}
 use Rattle.reg_store_tables.specs.AfterStop.{IsAtRest}
 
--- the rows of the tables as a change leaves them: the records are those after it, with what follows from them
+-- the rows after a change: they show the records after it, with derived tables that match them
 abbrev pub IsChanged : {S : Type 0} → Ghosts S → Held S → ℕ → Change → Trees → Type 0
 IsChanged g old now change trees =
     (records : Records) → ShowsKept g old records → SoundRows records → records.last ≤ now → Fits records now change → IsAtRest (changed_by records now change) trees
 
--- the rows of the tables as a schedule that is set leaves them
+-- the rows after a schedule was set
 abbrev pub IsScheduled : {S : Type 0} → Ghosts S → Held S → List (ℕ × ℕ) → Trees → Type 0
 IsScheduled g old steps trees = (records : Records) → ShowsKept g old records → IsAtRest (with_schedule records steps) trees
 
--- the rows of the tables as another issuer with the same key leaves them
+-- the rows after an issuer with the same key was set
 abbrev pub IsNamed : {S : Type 0} → Ghosts S → Held S → Issuer → Trees → Type 0
 IsNamed g old issuer trees = (records : Records) → ShowsKept g old records → records.issuer.key ≡ issuer.key → IsAtRest (with_issuer records issuer) trees

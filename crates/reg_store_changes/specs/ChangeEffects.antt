@@ -1,4 +1,4 @@
--- What a change makes of what is kept beside the records.
+-- What a change does to the derived tables.
 use Rattle.std.specs.Prelude.{◌≡◌, ℕ, List}
 use Rattle.reg_core.specs.Records.{Crl}
 use Rattle.reg_core.specs.declared.change.Change.{Change}
@@ -11,29 +11,29 @@ use Rattle.reg_store_changes.specs.ColumnEffects.{swept, ended_by, with_revoked_
 abbrev pub crl_of : CrlRow → List ℕ → Crl
 crl_of row bytes = record { number = row.number; this_update = row.this_update; bytes = bytes }
 
--- how many good certificates it takes
+-- how many good certificates a change revokes
 abbrev pub lost : Change → ℕ
 lost (Revocation row not_after) = 1
 lost change = 0
 
--- how many it adds
+-- how many good certificates a change adds
 abbrev pub added : Change → ℕ
 added (Certificate row) = 1
 added change = 0
 
--- what it revokes has one good letter
+-- the serial number that a change revokes, if it does, has one good letter
 abbrev pub TurnsOne : Change → Columns → Type 0
 TurnsOne (Revocation row not_after) columns = good_at row.serial columns ≡ 1
 TurnsOne change columns = Unit {0}
 
--- the letters and the listings after it
+-- the state letters and the rows of `listed` after a change
 abbrev pub kept_rows_after : Change → Columns → Columns
 kept_rows_after (Certificate row) columns = with_good row.serial row.not_after columns
 kept_rows_after (Revocation row not_after) columns = with_unlisted row not_after (with_revoked_letter row.serial columns)
 kept_rows_after (NewCrl row der) columns = marked row.number row.this_update columns
 kept_rows_after change columns = columns
 
--- all that is kept after it, at a moment
+-- the derived tables after a change at a moment
 abbrev pub columns_after : ℕ → Change → Columns → Columns
 columns_after now change columns =
     with_counts (shifted columns.counts (ended_by now columns) (lost change) (added change)) (kept_rows_after change (swept now columns))

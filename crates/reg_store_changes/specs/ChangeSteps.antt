@@ -1,4 +1,4 @@
--- What the steps of a change lead to.
+-- What the steps of a change do to the database.
 use Rattle.std.specs.Prelude.{◌≡◌, ℕ, List, []}
 use Rattle.sqlite_trees.specs.Tree.{Trees}
 use Rattle.sqlite.specs.Effect.{Database, IsDatabase}
@@ -24,13 +24,13 @@ Revokes row not_after old new =
     (records : Records) (columns : Columns) → AreBoth old records columns
     → (good_at row.serial columns ≡ 1) × AreBoth new (with_revocation records records.last row) (with_unlisted row not_after (with_revoked_letter row.serial columns))
 
--- the rows of a change, and what is kept beside the records but for the counts
+-- the rows of a change, and the derived tables except the counts
 pub record Puts (change : Change) (old new : Database) : Type 0 where
   pub turns : (records : Records) (columns : Columns) (now : ℕ) → SoundRows records → Fits records now change → AreBoth old records columns
       → AreBoth new (changed_by records records.last change) (kept_rows_after change columns)
   pub one : (records : Records) (columns : Columns) → AreBoth old records columns → TurnsOne change columns
 
--- all of a change at a moment, where the counts are those that are kept
+-- a whole change at a moment, if these counts are the stored ones
 pub record Enters (now : ℕ) (change : Change) (counts : Counts) (old new : Database) : Type 0 where
   pub turns : (records : Records) (columns : Columns) → counts ≡ columns.counts → SoundRows records → Fits records now change → AreBoth old records columns
       → AreBoth new (changed_by records now change) (columns_after now change columns) × IsDatabase new
@@ -40,11 +40,11 @@ pub record Enters (now : ℕ) (change : Change) (counts : Counts) (old new : Dat
 abbrev pub Renames : Issuer → Database → Database → Type 0
 Renames issuer = TurnsWhere (λ records. records.issuer.key ≡ issuer.key) (λ records. with_issuer records issuer) (λ columns. columns)
 
--- no step of the schedule stays
+-- all steps of the schedule are deleted
 abbrev pub ClearsSteps : Database → Database → Type 0
 ClearsSteps old new = (base : Trees) (steps : List (ℕ × ℕ)) → IsStaged base steps old → IsStaged base [] new
 
--- these steps in place of those that there were
+-- these steps replace those before
 pub record WritesSchedule (steps : List (ℕ × ℕ)) (old new : Database) : Type 0 where
   pub sound : IsSchedule steps
   pub staged : (base : Trees) (before : List (ℕ × ℕ)) → IsStaged base before old → IsStaged base steps new × IsDatabase new

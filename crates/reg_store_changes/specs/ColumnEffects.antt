@@ -1,4 +1,4 @@
--- What the steps of a change make of what is kept beside the records.
+-- What the steps of a change do to the derived tables.
 use Rattle.std.specs.Prelude.{ℕ, ◌+◌, ◌-◌, Bool, ◌&&◌, ◌==◌, nat_lt, [], ◌∷◌, ◌++◌, map, filter, length, is_none, Some, None}
 use Rattle.reg_core.specs.declared.command.Counts.{Counts}
 use Rattle.reg_core.specs.declared.rows.RevocationRow.{RevocationRow}
@@ -8,51 +8,51 @@ use Rattle.reg_store_tables.specs.Columns.{Letter, good, revoked, expired, is_go
 abbrev pub lettered : Letter → Standing → Standing
 lettered letter row = record row { letter = letter }
 
--- the good certificates that ended before a moment have ended
+-- the letters of good certificates that ended before a moment become expired
 abbrev pub swept : ℕ → Columns → Columns
 swept now columns = record columns { letters = map (turned (ends_before now) (lettered expired)) columns.letters }
 
--- how many they are
+-- how many good certificates ended before a moment
 abbrev pub ended_by : ℕ → Columns → ℕ
 ended_by now columns = length (filter (ends_before now) columns.letters)
 
--- the good certificate with a serial number
+-- the row is that of a good certificate with this serial number
 abbrev pub is_good_at : ℕ → Standing → Bool
 is_good_at serial row = (row.serial == serial) && is_good_letter row.letter
 
--- the good certificate with a serial number is revoked
+-- the letter of the good certificate with a serial number becomes revoked
 abbrev pub with_revoked_letter : ℕ → Columns → Columns
 with_revoked_letter serial columns = record columns { letters = map (turned (is_good_at serial) (lettered revoked)) columns.letters }
 
--- how many they are
+-- how many good letters a serial number has
 abbrev pub good_at : ℕ → Columns → ℕ
 good_at serial columns = length (filter (is_good_at serial) columns.letters)
 
--- the letter of one certificate more, which is good
+-- the derived tables with the letter of one more certificate, which is good
 abbrev pub with_good : ℕ → ℕ → Columns → Columns
 with_good serial not_after columns =
     record columns { letters = columns.letters ++ (record { serial = serial; not_after = not_after; letter = good }) ∷ [] }
 
--- what CRLs list of one revocation more: none has been the last
+-- the derived tables with the `listed` row of one more revocation, without a last CRL
 abbrev pub with_unlisted : RevocationRow → ℕ → Columns → Columns
 with_unlisted row not_after columns =
     record columns {
       listed = columns.listed ++ (record { serial = row.serial; at = row.at; reason = row.reason; first = row.first; not_after = not_after; last = None }) ∷ [];
     }
 
--- no CRL has been the last that lists it, and its certificate ended before a moment
+-- the revocation has no last CRL yet, and its certificate ended before a moment
 abbrev pub has_passed : ℕ → Listed → Bool
 has_passed now row = is_none row.last && nat_lt row.not_after now
 
--- the last CRL that lists it is this one
+-- the row with this CRL as its last one
 abbrev pub with_last_listing : ℕ → Listed → Listed
 with_last_listing number row = record row { last = Some number }
 
--- a CRL is the last that lists what ended before it
+-- a CRL becomes the last one of each revocation that has none yet and whose certificate ended before it
 abbrev pub marked : ℕ → ℕ → Columns → Columns
 marked number now columns = record columns { listed = map (turned (has_passed now) (with_last_listing number)) columns.listed }
 
--- the counts once some good ones have ended, some are revoked, and some are new
+-- the counts after some good certificates ended, some were revoked, and some were added
 abbrev pub shifted : Counts → ℕ → ℕ → ℕ → Counts
 shifted counts ended lost added = record {
   good = counts.good + added - (ended + lost);

@@ -1,4 +1,4 @@
--- What a change comes to, whichever it is, and another schedule or issuer.
+-- What a change of any kind does, and what setting a schedule or an issuer does.
 use Rattle.std.specs.Prelude.{◌≡◌, ◌≤◌, ℕ, List, Result, OnOk, OnErr}
 use Rattle.sqlite_trees.specs.declared.store.Store.{Ghosts}
 use Rattle.sqlite.specs.Held.{Held, state}
@@ -17,14 +17,14 @@ use Rattle.reg_store_changes.specs.AfterStoppedChange.{IsChanged, IsNamed, IsSch
 use Rattle.reg_store_changes.specs.ChangeEffects.{TurnsOne}
 use Rattle.reg_store_changes.specs.ColumnEffects.{swept}
 
--- over tables that show records which the change fits, the office's row has the days that it had
+-- if the tables show records that the change fits, the office's row keeps its days
 abbrev pub LeavesOfficeDays : {S A E : Type 0} → Ghosts S → Held S → Held S → ℕ → Change → Result A E → Type 0
 LeavesOfficeDays g old new now change result =
     (records : Records) → ShowsKept g old records → SoundRows records → Fits records now change → OnOk result (KeepsOfficeDays g old new)
 
--- The change was made at a moment, or nothing has changed. Over sound records that allow it, the tables show the records after it, with
--- what follows from them; where it was made, what it revokes had one good letter, and the office keeps its days. An error leaves the
--- tables as they were, and a stop finds what it would have found before, or what the change makes.
+-- The change was made at a moment, or nothing has changed. If the records are sound and allow it, the tables show those after it, with derived
+-- tables that match them, and the office keeps its days. A serial number that it revoked had one good letter. An error leaves the tables as
+-- they were. A stop leaves what it would have left before, or the whole change.
 pub record MakesChange {S A E : Type 0} (g : Ghosts S) (old new : Held S) (now : ℕ) (change : Change) (result : Result A E) : Type 0 where
   pub ok : (records : Records) → ShowsKept g old records → SoundRows records → records.last ≤ now → Fits records now change
       → OnOk result (ShowsKept g new (changed_by records now change))
@@ -33,8 +33,8 @@ pub record MakesChange {S A E : Type 0} (g : Ghosts S) (old new : Held S) (now :
   pub days : LeavesOfficeDays g old new now change result
   pub changed : Changed g old new (IsChanged g old now change) result
 
--- Another schedule of longest validities was set, or nothing has changed: the records and what is kept beside them stay, and so do the
--- days of the office.
+-- A schedule of longest validities was set, or nothing has changed. The other records, the derived tables and the days of the office don't
+-- change.
 pub record SetsSchedule {S A E : Type 0} (g : Ghosts S) (old new : Held S) (steps : List (ℕ × ℕ)) (result : Result A E) : Type 0 where
   pub ok : (records : Records) → ShowsKept g old records → OnOk result (ShowsKept g new (with_schedule records steps))
   pub shown : (records : Records) → Shows g old records → OnOk result (Shows g new (with_schedule records steps))
@@ -42,8 +42,8 @@ pub record SetsSchedule {S A E : Type 0} (g : Ghosts S) (old new : Held S) (step
   pub changed : Changed g old new (IsScheduled g old steps) result
   pub err : OnErr result (Stays (state g old) (state g new))
 
--- Another issuer with the same key was set, or nothing has changed: the other records and what is kept beside them stay, and so do the
--- days of the office.
+-- An issuer with the same key was set, or nothing has changed. The other records, the derived tables and the days of the office don't
+-- change.
 pub record SetsIssuer {S A E : Type 0} (g : Ghosts S) (old new : Held S) (issuer : Issuer) (result : Result A E) : Type 0 where
   pub ok : (records : Records) → ShowsKept g old records → (HasCleanDisk (state g new) → records.issuer.key ≡ issuer.key)
       → OnOk result (ShowsKept g new (with_issuer records issuer))

@@ -1,4 +1,4 @@
-//! What a change does inside its transaction.
+//! The steps of a change, inside its transaction.
 
 ghost use Rattle.std.specs.Prelude.{◌≡◌, ◌+◌, length, IfOk};
 ghost use Rattle.reg_core.specs.Changes.{touched, with_certificate, with_crl};
@@ -60,7 +60,7 @@ fn close<S: Alter>(
     set_last(tx, now)
 }
 
-/// One certificate more, with its letter, which is good.
+/// Adds a certificate, with the state letter `G` (good).
 fn register<S: Alter>(tx: &mut Transaction<'_, S>, row: CertRow) -> Result<(), DatabaseFault>
     ensures made { Makes S.Store tx.old tx.new result
         (Turns (λ records. with_certificate records records.last row) (with_good row.serial row.not_after)) }
@@ -71,7 +71,7 @@ fn register<S: Alter>(tx: &mut Transaction<'_, S>, row: CertRow) -> Result<(), D
     put_letter(tx, serial, not_after)
 }
 
-/// The revocation, what CRLs list of it, and the letter of its certificate, which was good: else `Store`.
+/// Adds a revocation and its row of `listed`, and sets its certificate's state letter. `Store` if the certificate was not good.
 fn revoke<S: Alter>(
     tx: &mut Transaction<'_, S>,
     row: RevocationRow,
@@ -104,7 +104,7 @@ fn issue<S: Alter>(
     mark_listed(tx, number, this_update)
 }
 
-/// The change itself, in a transaction that is under way: its rows, and what is kept beside the records but for the counts.
+/// Writes the rows of a change, and those of the derived tables except the counts, in a transaction that is under way.
 fn put<S: Alter>(tx: &mut Transaction<'_, S>, change: &Change<'_>) -> Result<(), DatabaseFault>
     ensures made { Continues S.Store tx.old tx.new result (Puts change.now) }
     ensures stepped { Stepped S.Store tx.old tx.new }
@@ -121,7 +121,7 @@ fn put<S: Alter>(tx: &mut Transaction<'_, S>, change: &Change<'_>) -> Result<(),
     }
 }
 
-/// A change: what ended by now has ended, the change is made, and the counts and the last accepted moment are set.
+/// Makes a change: sets the letters of certificates that ended before now, writes the change, and sets the counts and the last accepted moment.
 pub(crate) fn enter<S: Alter>(
     tx: &mut Transaction<'_, S>,
     now: Moment,

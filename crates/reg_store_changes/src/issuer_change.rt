@@ -1,4 +1,4 @@
-//! What is kept of the issuer's Name, written anew: the Name, and behind it the issuer's own key identifiers.
+//! Replaces the stored Name of the issuer, and the issuer's own key identifiers, which are stored after the Name.
 
 ghost use Rattle.std.specs.Prelude.{◌≡◌, false};
 ghost use Rattle.reg_store_tables.specs.Stays.{Stepped};
@@ -21,8 +21,8 @@ fn set_name<S: Alter>(tx: &mut Transaction<'_, S>, issuer: &Issuer) -> Result<()
     Ok(())
 }
 
-/// Sets the issuer, which has the key that it had: another Name, or other key identifiers of its own. It is no command: no
-/// record, nothing that is kept beside them and not the last accepted moment changes. Where it fails nothing has changed.
+/// Sets the issuer's Name and its own key identifiers. The issuer must have the same key as before; this is not checked. It is no
+/// command: other records, the derived tables and the last accepted moment don't change. An error changes nothing.
 pub fn set_issuer<S: Alter>(conn: &mut Connection<S>, issuer: &Issuer) -> Result<(), DatabaseFault>
     requires { conn.old.in_transaction ≡ false }
     ensures sets { SetsIssuer S.Store conn.old conn.new issuer.now result }

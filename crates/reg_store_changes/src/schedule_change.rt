@@ -1,4 +1,4 @@
-//! The schedule of longest validities, written anew.
+//! Replaces the schedule of longest validities.
 
 ghost use Rattle.std.specs.Prelude.{◌≡◌, false};
 ghost use Rattle.reg_store_tables.specs.Stays.{Stepped};
@@ -31,8 +31,8 @@ fn write_schedule<S: Alter>(
     put_schedule_steps(tx, schedule.steps())
 }
 
-/// Sets the schedule of longest validities. It is no command: no record, nothing that is kept beside them and not the
-/// last accepted moment changes; the office keeps the days that it was made with. Where it fails nothing has changed.
+/// Sets the schedule of longest validities. It is no command: other records, the derived tables, the last accepted moment and
+/// the column `days` of the office don't change. An error changes nothing.
 pub fn set_schedule<S: Alter>(
     conn: &mut Connection<S>,
     schedule: &Schedule,

@@ -18,7 +18,7 @@ use reg_store_tables::write_statements::{
 use sqlite::types::ValueRef;
 use sqlite::{Alter, Transaction};
 
-/// Turns the letter of each good certificate that ended before now, and answers how many.
+/// Sets the letter of each good certificate that ended before now to expired, and returns how many there were.
 pub fn sweep<S: Alter>(tx: &mut Transaction<'_, S>, now: Moment) -> Result<usize, DatabaseFault>
     ensures made { Yields S.Store tx.old tx.new result (TurnsCounted (swept now) (ended_by now)) }
     ensures stepped { Stepped S.Store tx.old tx.new }
@@ -26,7 +26,7 @@ pub fn sweep<S: Alter>(tx: &mut Transaction<'_, S>, now: Moment) -> Result<usize
     write(tx, sql::SWEEP, &[sql_moment(now)])
 }
 
-/// Turns the letter of the good certificate with the serial number, and answers how many they are.
+/// Sets the letter of the good certificate with this serial number to revoked, and returns how many there were.
 pub fn mark_revoked<S: Alter>(
     tx: &mut Transaction<'_, S>,
     serial: Serial,
@@ -39,7 +39,7 @@ pub fn mark_revoked<S: Alter>(
     write(tx, sql::MARK_REVOKED, &[ValueRef::Blob(&bytes)])
 }
 
-/// Sets what CRLs list: this one is the last that lists what ended before its moment.
+/// Records this CRL as the last one of the revocations that have none yet, and whose certificates ended before its thisUpdate.
 pub(crate) fn mark_listed<S: Alter>(
     tx: &mut Transaction<'_, S>,
     number: u64,
@@ -186,7 +186,7 @@ pub(crate) fn put_revocation<S: Alter>(
     Ok(())
 }
 
-/// Puts in what CRLs list of a revocation: no CRL is the last one yet.
+/// Adds the row of `listed` of a revocation, without a last CRL.
 pub(crate) fn put_listed<S: Alter>(
     tx: &mut Transaction<'_, S>,
     row: RevocationRow,

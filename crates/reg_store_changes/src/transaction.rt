@@ -1,5 +1,5 @@
-//! The one call for changes, which assumes nothing of the decision: that the decision allowed a change is a condition of what
-//! its contract says.
+//! The call that makes a change. It may be called with any change, but its contract says what the tables show afterwards only for
+//! a change that the records allow (`Fits`).
 
 ghost use Rattle.std.specs.Prelude.{◌≡◌, false};
 ghost use Rattle.reg_store_changes.specs.ChangeSteps.{Enters};
@@ -11,8 +11,8 @@ use reg_core::{Change, Counts, Moment};
 use reg_store_tables::{DatabaseFault, kept_counts, write_statements};
 use sqlite::{Alter, Connection};
 
-/// Makes a change at a moment, in one transaction. `Store` too where a count is missing or too small, or where what is revoked
-/// is not good. Nothing has changed then.
+/// Makes a change at a moment, in one transaction. Errors: `Memory`; `Store` if the database fails, a count is missing or too
+/// small, or the certificate to revoke is not good. An error changes nothing.
 pub fn apply<S: Alter>(
     conn: &mut Connection<S>,
     now: Moment,

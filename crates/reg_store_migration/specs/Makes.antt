@@ -1,4 +1,4 @@
--- The texts that make tables and indexes.
+-- The SQL statements that make tables and indexes.
 use Rattle.std.specs.Prelude.{◌≡◌, ℕ, false, List, [], slice_get, Some, Result, Ok, Err}
 use Rattle.sqlite_schema.specs.declared.command.Command.TheVariants.{CreateTable, CreateIndex}
 use Rattle.sqlite_schema.specs.declared.schema.Schema.{Schema}
@@ -19,7 +19,7 @@ abbrev pub statement_of : List ℕ → Result Compiled CompileError → List ℕ
 statement_of text (Ok compiled) = text_of text compiled
 statement_of text (Err error) = []
 
--- beside these tables the text is one statement, which makes this table
+-- in a database with this schema, the text is one statement, which makes this table
 pub record DefinesTable (schema : Schema) (text : List ℕ) (table : Table) : Type 0 where
   pub plain : IsPlain (understood schema text)
   pub is : command_of (understood schema text) ≡ CreateTable
@@ -27,7 +27,7 @@ pub record DefinesTable (schema : Schema) (text : List ℕ) (table : Table) : Ty
   pub defined : table_defined_by text ≡ Ok table
   pub uncounted : lacks_sequence (created schema table) ≡ false
 
--- beside these tables the text is one statement, which makes this index of the table at a place
+-- in a database with this schema, the text is one statement, which makes this index on the table with number `at`
 pub record DefinesIndex (schema : Schema) (text : List ℕ) (at : ℕ) (table : Table) (index : Index) : Type 0 where
   pub plain : IsPlain (understood schema text)
   pub is : command_of (understood schema text) ≡ CreateIndex at

@@ -1,4 +1,4 @@
--- Tables of any schema, and the texts that make them and take their rows out.
+-- The rows of the tables of any schema.
 use Rattle.std.specs.Prelude.{◌≡◌, ◌==◌, ℕ, ℤ, cond, nat_lt, List, []}
 use Rattle.std.specs.List.{AllByRecursion}
 use Rattle.sqlite_value.specs.declared.value.Value.TheVariants.{Int}
@@ -7,7 +7,7 @@ use Rattle.sqlite_trees.specs.Tree.{Trees, rowid}
 use Rattle.sqlite_schema.specs.declared.schema.Schema.{Schema}
 use Rattle.sqlite.specs.Effect.{Database}
 
--- a row has a number for its rowid, as each row of a table of SQL has
+-- the rowid of a row is a number, as in each SQL table
 abbrev pub IsNumbered : Row → Type 0
 IsNumbered row = (n : ℤ) × (rowid row ≡ Int n)
 
@@ -16,10 +16,10 @@ pub record HasRows (tables : Schema) (trees : Trees) (db : Database) : Type 0 wh
   pub schema : db.schema ≡ tables
   pub rows : AllByRecursion (λ table. db.trees table.tree ≡ trees table.tree) tables.tables
 
--- other rows in one table
+-- these trees, with other rows in one of them
 abbrev pub with_rows : ℕ → List Row → Trees → Trees
 with_rows tree those rows = λ n. cond (n == tree) those (rows n)
 
--- the rows of the tables of the records, which come first, and no others
+-- the rows of the tables of the records, whose trees come first, and no rows in any other table
 abbrev pub records_alone : Trees → Trees
 records_alone rows = λ n. cond (nat_lt n 12) (rows n) []

@@ -26,7 +26,7 @@ abbrev pub version_number : OlderVersion → ℕ
 version_number First = 1
 version_number Second = 2
 
--- version 1 has the tables of the records, version 2 also those beside them; neither has an index of its own
+-- version 1 has the tables of the records, version 2 also the derived tables; neither has the indexes of version 3
 abbrev pub older_schema : OlderVersion → Schema
 older_schema First = record_tables
 older_schema Second = kept_tables
@@ -52,12 +52,12 @@ pub record AreRecords (trees : Trees) (records : Records) : Type 0 where
   pub request_serials : HaveSerials (λ row. row.serial) records.requests
   pub revocation_serials : HaveSerials (λ row. row.serial) records.revocations
 
--- what version 2 keeps beside the records may be any rows with numbers for their rowids: they are made anew
+-- the derived tables of version 2 may have any rows whose rowids are numbers: they are rebuilt
 abbrev pub HasBeside : OlderVersion → Trees → Type 0
 HasBeside First trees = Unit {0}
 HasBeside Second trees = AllByRecursion IsNumbered (trees 12) × AllByRecursion IsNumbered (trees 14) × AllByRecursion IsNumbered (trees 15)
 
--- the tables of an older version, and they show the records, whose schedule has one step
+-- the database has the schema of an older version, and its tables show the records, whose schedule has one step
 pub record IsShownByOlder (version : OlderVersion) (db : Database) (records : Records) : Type 0 where
   pub schema : db.schema ≡ older_schema version
   pub days : ℕ
@@ -67,6 +67,6 @@ pub record IsShownByOlder (version : OlderVersion) (db : Database) (records : Re
   pub rows : AreRecords db.trees records
   pub beside : HasBeside version db.trees
 
--- while the disk is honest and the connection open, its tables of an older version show the records
+-- if the disk returned what was written, and the connection is open, its tables are of an older version, and show the records
 abbrev pub ShowsOlder : {S : Type 0} → OlderVersion → Ghosts S → Held S → Records → Type 0
 ShowsOlder version g h records = Holds g h (λ db. IsShownByOlder version db records)

@@ -13,10 +13,10 @@ use Rattle.reg_store_tables.specs.Shows.{AreBoth, IsShownBy}
 abbrev pub AreAnswer : List ℕ → Row → List Row → Database → Type 0
 AreAnswer text params rows db = db.schema ≡ register_schema → Reads (command_of (understood register_schema text)) db params rows
 
--- this holds of whatever records the tables show
+-- `Holds` holds of any records that the tables show
 abbrev pub OfRecords : (Records → Type 0) → Database → Type 0
 OfRecords Holds db = (records : Records) → IsShownBy db records → Holds records
 
--- and this of what is kept beside them, which has no more letters than a register may have
+-- `Holds` holds of the derived tables, if there are at most as many letters as a register may have
 abbrev pub OfColumns : (Columns → Type 0) → Database → Type 0
 OfColumns Holds db = (records : Records) (columns : Columns) → length columns.letters ≤ 1000000 → AreBoth db records columns → Holds columns

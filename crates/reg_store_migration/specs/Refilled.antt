@@ -1,4 +1,4 @@
--- What is kept beside the records, made anew from them.
+-- The derived tables while they are rebuilt from the records.
 use Rattle.std.specs.Prelude.{◌≡◌, ℕ, pos, ◌&&◌, nat_le, nat_lt, List, [], ◌∷◌, ◌++◌, map, take, find, Option, option_map, IsPermutation}
 use Rattle.sqlite.specs.Effect.{Database}
 use Rattle.reg_core.specs.Records.{Records}
@@ -16,11 +16,11 @@ use Rattle.reg_store_tables.specs.Shows.{AreBoth}
 abbrev pub no_counts : Counts
 no_counts = record { good = 0; revoked = 0; expired = 0 }
 
--- nothing is kept yet; the office's days are the greatest of a schedule
+-- empty derived tables, with counts of 0; the office's days are the greatest of a schedule
 abbrev pub no_columns : List (ℕ × ℕ) → Columns
 no_columns schedule = record { letters = []; counts = no_counts; listed = []; days = pos (greatest_of schedule) }
 
--- these letters
+-- the derived tables with these letters
 abbrev pub with_letters : List Standing → Columns → Columns
 with_letters letters columns = record columns { letters = letters }
 
@@ -36,7 +36,7 @@ AreIssued crls = NumberedFrom (λ crl. crl.number) 1 crls × NeverFalls (λ crl.
 abbrev pub last_in : List CrlRow → ℕ → ℕ → Option ℕ
 last_in crls first not_after = option_map (λ crl. crl.number) (find (λ crl. nat_le first crl.number && nat_lt not_after crl.this_update) crls)
 
--- what these CRLs list of a revocation whose certificate has this notAfter
+-- the row of `listed` of a revocation whose certificate has this notAfter, given these CRLs
 abbrev pub listed_by : List CrlRow → RevocationRow → ℕ → Listed
 listed_by crls revocation not_after = record {
   serial = revocation.serial;
@@ -47,17 +47,17 @@ listed_by crls revocation not_after = record {
   last = last_in crls revocation.first not_after;
 }
 
--- it is listed
+-- the derived tables with one more row of `listed`
 abbrev pub with_listed : Listed → Columns → Columns
 with_listed row columns = record columns { listed = columns.listed ++ row ∷ [] }
 
--- the letters stand for the records, the first of the revocations are listed, and the office's days are the greatest of the schedule
+-- the letters match the records, the first `n` revocations have their rows of `listed`, and the office's days are the greatest of the schedule
 abbrev pub HasRelisted : Database → Records → ℕ → Type 0
 HasRelisted db records n =
     (columns : Columns) × AreBoth db records columns × HasLetters columns records × (columns.listed ≡ map (listed_of records) (take n records.revocations))
     × (columns.days ≡ pos (greatest_of records.policy.schedule))
 
--- the records are shown, and what is kept beside them stands for them
+-- the tables show the records, with derived tables that match them
 abbrev pub HasKept : Database → Records → Type 0
 HasKept db records = (columns : Columns) × AreBoth db records columns × Kept columns records
 

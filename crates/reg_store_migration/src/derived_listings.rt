@@ -1,4 +1,4 @@
-//! What CRLs list of each revocation, made anew.
+//! Rebuilds the derived table `listed`.
 
 ghost use Rattle.std.specs.Prelude.{◌≡◌, ◌&&◌, nat_le, nat_lt, IfOk};
 ghost use Rattle.sqlite_value.specs.Value.{owned};
@@ -23,8 +23,8 @@ fn is_past(crl: &CrlRow, first: u64, not_after: Moment) -> bool
     first <= crl.number && not_after < crl.this_update
 }
 
-/// The number of the first CRL from a number on whose thisUpdate is past a moment. The numbers rise and the thisUpdates
-/// do not fall, so that it is found by halves.
+/// The number of the first CRL, from the number `first` on, whose thisUpdate is after `not_after`. The numbers rise and the
+/// thisUpdates do not fall, so a binary search finds it.
 fn last_listing(crls: &[CrlRow], first: u64, not_after: Moment) -> Option<u64>
     ensures { AreIssued crls.now → result ≡ last_in crls.now first not_after }
 {

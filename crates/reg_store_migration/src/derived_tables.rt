@@ -1,4 +1,4 @@
-//! What is kept beside the records, made anew from them.
+//! Rebuilds the derived tables from the records.
 
 ghost use Rattle.reg_store_tables.specs.Stays.{Stepped};
 ghost use Rattle.reg_store_tables.specs.Steps.{Makes, MakesRows};

@@ -20,7 +20,7 @@ fn set_version<S: Alter>(tx: &mut Transaction<'_, S>) -> Result<(), DatabaseFaul
     Ok(())
 }
 
-/// Writes the counts' row, of no certificates.
+/// Writes the row of the table `kept`, with counts of 0.
 pub fn put_counts<S: Alter>(tx: &mut Transaction<'_, S>) -> Result<(), DatabaseFault>
     ensures made { MakesRows S.Store tx.old tx.new result PutsCounts }
     ensures stepped { Stepped S.Store tx.old tx.new }
@@ -29,7 +29,7 @@ pub fn put_counts<S: Alter>(tx: &mut Transaction<'_, S>) -> Result<(), DatabaseF
     Ok(())
 }
 
-/// Makes the tables ones of the program's version, with nothing kept beside the records yet.
+/// Makes the tables those of the program's version. The derived tables are still empty, with counts of 0.
 pub(crate) fn begin<S: Alter>(
     tx: &mut Transaction<'_, S>,
     version: OlderVersion,

@@ -1,4 +1,4 @@
-//! A register's file of an older version, made one of the program's version.
+//! Migrates a register's file of an older version to the program's version.
 #![tactic(auto)]
 
 mod derived_listings;

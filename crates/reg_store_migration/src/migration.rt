@@ -1,4 +1,4 @@
-//! A register of an older version, made one of the program's version.
+//! The migration of a register of an older version to the program's version.
 
 ghost use Rattle.std.specs.Prelude.{◌≡◌, false};
 ghost use Rattle.reg_store_tables.specs.Stays.{Stepped};
@@ -27,9 +27,9 @@ fn make_newer<S: Alter>(
     refill(tx, last)
 }
 
-/// Makes a register of an older version one of the program's version, in one transaction: the records stay, and what is kept
-/// beside them is made anew. `Store` too where a table or an index of a newer version stands there already, or a row is one
-/// that no register writes. The tables are as they were then.
+/// Migrates a register of an older version to the program's version, in one transaction: the records stay, and the derived tables
+/// are rebuilt. `days` is its longest validity, `last` its last accepted moment. Errors: `Memory`; `Store` if the database fails, if it
+/// already has a table or an index of a newer version, or if a row is one that no register writes. An error changes nothing.
 pub fn migrate<S: Alter>(
     conn: &mut Connection<S>,
     version: OlderVersion,

@@ -12,7 +12,7 @@ use reg_store_tables::write_statements::write;
 use reg_store_tables::{DatabaseFault, schema};
 use sqlite::{Alter, Transaction};
 
-/// Makes one table or index. `Store` too where the database has the name already.
+/// Makes one table or index. `Store` too if the database already has that name.
 pub fn define<S: Alter>(tx: &mut Transaction<'_, S>, sql: &str) -> Result<(), DatabaseFault>
     ensures made { Makes S.Store tx.old tx.new result (Defines sql.now) }
     ensures stepped { Stepped S.Store tx.old tx.new }
@@ -21,7 +21,7 @@ pub fn define<S: Alter>(tx: &mut Transaction<'_, S>, sql: &str) -> Result<(), Da
     Ok(())
 }
 
-/// Makes the tables that are kept beside those of the records.
+/// Makes the derived tables.
 pub fn make_kept_tables<S: Alter>(tx: &mut Transaction<'_, S>) -> Result<(), DatabaseFault>
     ensures made { Makes S.Store tx.old tx.new result AddsKept }
     ensures stepped { Stepped S.Store tx.old tx.new }
@@ -41,7 +41,7 @@ fn clear_kept_tables<S: Alter>(tx: &mut Transaction<'_, S>) -> Result<(), Databa
     Ok(())
 }
 
-/// Makes the tables beside those of the records, or takes their rows out.
+/// Makes the derived tables (version 1), or deletes their rows (version 2).
 fn make_beside<S: Alter>(
     tx: &mut Transaction<'_, S>,
     version: OlderVersion,
@@ -65,7 +65,7 @@ pub fn make_schedule_and_indexes<S: Alter>(tx: &mut Transaction<'_, S>) -> Resul
     define(tx, schema::STANDING_DUE)
 }
 
-/// Makes all tables and indexes that the version lacks; what is kept beside the records is empty then.
+/// Makes all tables and indexes that the version lacks, with empty derived tables.
 pub(crate) fn make_missing<S: Alter>(
     tx: &mut Transaction<'_, S>,
     version: OlderVersion,

@@ -1,4 +1,4 @@
-//! What is read of the records while what is kept beside them is made anew.
+//! Reads the records from which the derived tables are rebuilt.
 
 ghost use Rattle.std.specs.Prelude.{◌≡◌, [], ◌∷◌, map, IsSomeAnd, IfOk};
 ghost use Rattle.sqlite_value.specs.Order.{Row as Values};
@@ -66,7 +66,7 @@ fn end_in(rows: &[Row]) -> Result<Moment, DatabaseFault>
     }
 }
 
-/// The end of the certificate with a serial number. `Store` where there is none.
+/// The notAfter of the certificate with a serial number. `Store` if there is none.
 pub(crate) fn end_of<S: Alter>(
     tx: &mut Transaction<'_, S>,
     serial: Serial,

@@ -5,6 +5,6 @@
 pub enum OlderVersion {
     /// Version 1: the tables of the records alone.
     First,
-    /// Version 2: letters, counts and last listings are kept beside the records.
+    /// Version 2: it also has the derived tables (letters, counts, entries of CRLs).
     Second,
 }

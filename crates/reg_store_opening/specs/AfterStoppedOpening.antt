@@ -1,4 +1,4 @@
--- What a stop may find while a register is made or opened.
+-- The rows that a stop may leave while a register is created or opened.
 use Rattle.std.specs.Prelude.{◌≡◌}
 use Rattle.sqlite_trees.specs.Tree.{Trees}
 use Rattle.sqlite_trees.specs.declared.store.Store.{Ghosts}
@@ -13,11 +13,11 @@ use Rattle.reg_store_migration.specs.Older.{ShowsOlder}
 use Rattle.reg_store_migration.specs.declared.version.OlderVersion.{OlderVersion}
 use Rattle.reg_store_opening.specs.Said.{IsOlder}
 
--- the rows of the tables as they are made: those of a register with no records, in a database that had no table, no index and no view
+-- the rows after a register was created: those of one with no records, in a database that had no table, no index and no view
 abbrev pub IsCreated : {S : Type 0} → Held S → Issuer → Terms → Trees → Type 0
 IsCreated old issuer policy trees = (old.schema ≡ no_schema) × IsAtRest (no_records issuer policy) trees
 
--- the rows of the tables as an opening leaves them that writes: those of an older version, made ones of the program's version that show
--- the same records, with what follows from them
+-- the rows after an opening that writes: tables of an older version were migrated to the program's version, and show the same
+-- records, with derived tables that match them
 abbrev pub IsOpened : {S : Type 0} → Ghosts S → Held S → Trees → Type 0
 IsOpened g old trees = IsOlder (state g old).now × ((version : OlderVersion) (records : Records) → ShowsOlder version g old records → SoundRows records → IsAtRest records trees)

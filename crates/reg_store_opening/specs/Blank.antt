@@ -26,15 +26,15 @@ IsBlank tables db = HasRows tables no_rows db
 abbrev pub entry_tables : Schema
 entry_tables = created (created (created (created no_schema office) subscriber) orders) cert
 
--- tables with no rows are made beside others with none
+-- empty tables are added to a database with empty tables
 abbrev pub Grows : Schema → Schema → Database → Database → Type 0
 Grows tables later old new = IsBlank tables old → IsBlank later new
 
--- the office's row, with the greatest days of the schedule and at moment 0
+-- only the office's row, with the greatest days of the schedule and 0 as last accepted moment
 abbrev pub office_alone : Issuer → Terms → Trees
 office_alone issuer policy = with_rows 0 (stored_office (pos (greatest_of policy.schedule)) issuer policy 0 ∷ []) no_rows
 
--- it is put into the tables of a register
+-- the office's row is inserted into the empty tables of a register
 abbrev pub PutsOffice : Issuer → Terms → Database → Database → Type 0
 PutsOffice issuer policy old new = IsBlank register_schema old → IsPolicy policy × HasRows register_schema (office_alone issuer policy) new
 

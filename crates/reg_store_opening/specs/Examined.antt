@@ -15,36 +15,36 @@ use Rattle.reg_store_migration.specs.declared.version.OlderVersion.{OlderVersion
 use Rattle.reg_store_opening.specs.Said.{HasVersion, InRange, IsCurrent, IsNewer, ReadsOlder}
 use Rattle.reg_store_opening.specs.declared.version_check.OlderOffice.{OlderOffice}
 
--- the tables say the program's version and an office, or an older version and its office
+-- the tables have the program's version and an office, or an older version and its office
 abbrev pub SaysFound : Database → Option OlderOffice → Type 0
 SaysFound db None = IsCurrent db
 SaysFound db (Some older) = HasVersion db (version_number older.version) × ReadsOlder db older.days older.last
 
--- what was found is of the records that tables of a version show: of an older one its schedule and the last accepted moment
+-- what was found matches the records that tables of a version show: for an older version, their schedule and their last accepted moment
 abbrev pub IsFoundOf : Option OlderVersion → Records → Option OlderOffice → Type 0
 IsFoundOf None records found = found ≡ None
 IsFoundOf (Some version) records None = ⊥
 IsFoundOf (Some version) records (Some older) =
     (older.version ≡ version) × (records.policy.schedule ≡ one_step older.days) × (records.last ≡ older.last)
 
--- the version that was found, which is none where it is the program's
+-- the older version that was found; none if it is the program's
 abbrev pub found_version : Option OlderOffice → Option OlderVersion
 found_version None = None
 found_version (Some older) = Some older.version
 
 module _ {S : Type 0} (g : Ghosts S) (old new : Held S) where
-  -- what an answer says of the database, which was open
+  -- `Told` holds of a result and of the database, which was open
   abbrev pub ReportsState : {T E : Type 0} → Result T E → (T → Database → Type 0) → Type 0
   ReportsState result Told = HasCleanDisk (state g new) → IfOk result (λ found. IsTrue (state g old).is_open × Told found (state g old).now)
 
-  -- what a refusal says of it: that it is newer, or this
+  -- a refusal is true of the database: it has a newer version; or `Refused` holds of it
   abbrev pub ReportsNewer : {T : Type 0} → Result T StoreFault → Type 0
   ReportsNewer result = HasCleanDisk (state g new) → result ≡ Err NewVersion → IsNewer (state g old).now
 
   abbrev pub ReportsNone : {T : Type 0} → Result T StoreFault → (Database → Type 0) → Type 0
   ReportsNone result Refused = HasCleanDisk (state g new) → result ≡ Err NotARegister → Refused (state g old).now
 
-  -- of tables that show records what was found is theirs, and if these are within their ranges, memory or the database alone refuses them
+  -- If the tables show records, what was found matches them; and if these are in their ranges, only a failure of memory or the database refuses them.
   abbrev pub Finds : {T : Type 0} → Result T StoreFault → (Database → Records → Type 0) → (T → Records → Type 0) → Type 0
   Finds result Shown Found =
       HasCleanDisk (state g new) → (records : Records) → WhileOpen (state g old) (λ db. Shown db records)

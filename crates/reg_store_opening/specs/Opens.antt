@@ -1,4 +1,4 @@
--- What a register's database is once it is opened or made, and what it is where it can't be.
+-- A register's database after it was opened or created, and after that failed.
 use Rattle.std.specs.Prelude.{◌≡◌, ◌≢◌, ◌⊎◌, ◌↔◌, Option}
 use Rattle.sqlite_trees.specs.declared.store.Store.{Ghosts}
 use Rattle.sqlite.specs.Held.{Held, state}
@@ -19,61 +19,61 @@ use Rattle.reg_store_migration.specs.declared.version.OlderVersion.{OlderVersion
 use Rattle.reg_store_opening.specs.AfterStoppedOpening.{IsCreated, IsOpened}
 use Rattle.reg_store_opening.specs.Said.{HoldsNoRegister, InRange, IsCurrent, IsNewer, IsNoRegister, IsOlder, ShowsAs}
 
--- A database that is opened. Tables of the program's version stay as they are; those of version 1 or 2 are made ones of it.
+-- A database that is opened. Tables of the program's version stay as they are; those of version 1 or 2 are migrated to it.
 pub record Opens {S : Type 0} (g : Ghosts S) (old new : Held S) : Type 0 where
-  -- the records that its tables showed are shown
+  -- the tables still show the records that they showed
   pub shows : (records : Records) → Shows g old records → Shows g new records
-  -- and what was kept beside them still stands for them
+  -- and the derived tables still match them
   pub kept : (records : Records) → ShowsKept g old records → ShowsKept g new records
-  -- sound records that older tables showed are shown, with what follows from them kept beside them
+  -- the tables show sound records that older tables showed, with derived tables that match them
   pub migrated : (version : OlderVersion) (records : Records) → ShowsOlder version g old records → SoundRows records → ShowsKept g new records
   -- the office's row keeps its days
   pub days : (records : Records) → Shows g old records → KeepsOfficeDays g old new
-  -- that of an older register gets the greatest days of the schedule
+  -- the office's row of an older register gets the greatest days of the schedule
   pub older_days : (version : OlderVersion) (records : Records) → ShowsOlder version g old records → SoundRows records
       → HasOfficeDays g new (greatest_of records.policy.schedule)
   -- the tables are those of a register
   pub registers : IsRegister (state g new)
-  -- they said the program's version and an office, and nothing has changed, or an older version and its office
+  -- they had the program's version and an office, and nothing has changed; or they had an older version and its office
   pub said : HasCleanDisk (state g new) → (Stays (state g old) (state g new) × IsCurrent (state g old).now) ⊎ IsOlder (state g old).now
-  -- a stop finds what it would have found before, or the tables made newer
+  -- a stop leaves what it would have left before, or the migrated tables
   pub survives : Survives (state g old) (state g new) (IsOpened g old)
 
 -- A database that can't be opened, and the fault that gives the reason.
 pub record IsUnopened {S : Type 0} (g : Ghosts S) (old new : Held S) (fault : StoreFault) : Type 0 where
   -- the tables are as they were
   pub same : Stays (state g old) (state g new)
-  -- a register whose values are within their ranges is refused where memory or the database fails, and nowhere else
+  -- a register whose values are within their ranges is refused only if memory or the database fails
   pub shown : (version : Option OlderVersion) (records : Records) → InRange records → ShowsAs version g old records
       → HasCleanDisk (state g new) → IsDatabaseFault fault
-  -- a newer version is reported where the tables say one
+  -- `NewVersion` is reported only if the tables have a newer version
   pub newer : HasCleanDisk (state g new) → fault ≡ NewVersion → IsNewer (state g old).now
-  -- no register is reported where the tables say none, or are others than those of the version that they say
+  -- `NotARegister` is reported only if the tables have no version or no office, or the schema is not that of the version
   pub none : HasCleanDisk (state g new) → fault ≡ NotARegister → IsNoRegister (state g old).now
-  -- and, over tables with no view, where none of any version stands
+  -- and, if there is no view, only if the database has no register of any version
   pub alone : HasCleanDisk (state g new) → fault ≡ NotARegister → HoldsNoRegister (state g old).now
-  -- that is a fault of a register that is made
+  -- `NotEmpty` is a fault of `create`
   pub never_empty : fault ≢ NotEmpty
-  -- a stop finds what it would have found before, or the tables made newer
+  -- a stop leaves what it would have left before, or the migrated tables
   pub survives : Survives (state g old) (state g new) (IsOpened g old)
 
--- A database with no table, no index and no view, in which a register is made that has no records.
+-- A database with no table, no index and no view, in which a register without records was created.
 pub record Creates {S : Type 0} (g : Ghosts S) (old new : Held S) (issuer : Issuer) (policy : Terms) : Type 0 where
-  -- it shows no records, and what is kept beside them stands for them
+  -- it shows no records, with derived tables that match them
   pub kept : ShowsKept g new (no_records issuer policy)
   -- the office's row has the greatest days of the schedule
   pub days : HasOfficeDays g new (greatest_of policy.schedule)
   pub empty : old.schema ≡ no_schema
-  -- a stop finds what it would have found before, or the whole register
+  -- a stop leaves what it would have left before, or the whole register
   pub survives : Survives (state g old) (state g new) (IsCreated old issuer policy)
 
--- A database in which no register can be made, and the fault that gives the reason.
+-- A database in which no register can be created, and the fault that gives the reason.
 pub record IsUncreated {S : Type 0} (g : Ghosts S) (old new : Held S) (issuer : Issuer) (policy : Terms) (fault : StoreFault) : Type 0 where
   -- the tables are as they were
   pub same : Stays (state g old) (state g new)
-  -- it is not empty where it has a table, an index or a view
+  -- `NotEmpty` is reported exactly if the database has a table, an index or a view
   pub not_empty : fault ≡ NotEmpty ↔ old.schema ≢ no_schema
-  -- else memory or the database has failed
+  -- otherwise memory or the database failed
   pub faults : (fault ≡ NotEmpty) ⊎ IsDatabaseFault fault
-  -- a stop finds what it would have found before, or the whole register
+  -- a stop leaves what it would have left before, or the whole register
   pub survives : Survives (state g old) (state g new) (IsCreated old issuer policy)

@@ -1,4 +1,4 @@
--- What the tables of an opened database say.
+-- The version and the office that the tables of an opened database have.
 use Rattle.std.specs.Prelude.{◌≡◌, ◌≢◌, ◌⊎◌, ◌<◌, ◌≤◌, ℕ, Bool, true, false, List, [], ◌∷◌, length, Option, None, Some, Ok, Err, IsTrue, ◌↔◌}
 use Rattle.std.specs.List.{AllByRecursion}
 use Rattle.sqlite_value.specs.declared.value.Value.TheVariants.{Blob}
@@ -34,7 +34,7 @@ use Rattle.reg_store_schema.specs.declared.versions.Version.{Version}
 use Rattle.reg_store_schema.specs.declared.versions.Version.TheVariants as version
 use Rattle.reg_store_migration.specs.declared.version.OlderVersion.TheVariants.{First, Second}
 
--- a failure of memory, of the disk, or of the limit on steps that the caller has set
+-- a failure of memory, of the disk or the connection, or by the limit on steps that the caller has set
 abbrev pub is_call_error : Error → Bool
 is_call_error (SqliteFailure code.OutOfMemory) = true
 is_call_error (SqliteFailure code.SystemIoFailure) = true
@@ -54,7 +54,7 @@ pub record NeverWrites (text : List ℕ) (compiled : Compiled) : Type 0 where
 abbrev pub IsQuery : List ℕ → Type 0
 IsQuery text = (schema : Schema) (compiled : Compiled) → understood schema text ≡ Ok compiled → NeverWrites text compiled
 
--- over the tables of a schema, only memory, the disk or the limit on steps refuses it
+-- over the tables of a schema, the statement fails only if memory or the disk does, or by the limit on steps
 pub record IsNeverRefused (schema : Schema) (text : List ℕ) : Type 0 where
   pub plain : IsPlain (understood schema text)
   pub unlisted : reads_listing schema text ≡ false
@@ -77,19 +77,19 @@ abbrev pub version_of : Option OlderVersion → ℕ
 version_of None = 3
 version_of (Some version) = version_number version
 
--- the tables of that version
+-- the schema of that version
 abbrev pub schema_of : Option OlderVersion → Schema
 schema_of None = register_schema
 schema_of (Some version) = older_schema version
 
--- the tables are of a version, which the one row of the office says too
+-- the schema is that of a version, and the one row of the office has the number of this version
 pub record IsOfVersion (version : Option OlderVersion) (db : Database) : Type 0 where
   pub schema : db.schema ≡ schema_of version
   pub row : Row
   pub office : db.trees 0 ≡ row ∷ []
   pub says : column row 2 ≡ number (version_of version)
 
--- the one row of this version
+-- one row, with this version
 abbrev pub AreVersionRows : ℕ → List Row → Type 0
 AreVersionRows version rows = IsOne (λ row. column row 0 ≡ number version) rows
 
@@ -97,7 +97,7 @@ AreVersionRows version rows = IsOne (λ row. column row 0 ≡ number version) ro
 abbrev pub HasVersion : Database → ℕ → Type 0
 HasVersion db version = (rows : List Row) × IsRead db VERSION.now rows × AreVersionRows version rows
 
--- it has a newer version than the program's
+-- the one row of the office has a newer version than the program's
 abbrev pub IsNewer : Database → Type 0
 IsNewer db = (n : ℕ) × (3 < n) × HasVersion db n
 
@@ -106,7 +106,7 @@ abbrev pub IsShownAs : Option OlderVersion → Database → Records → Type 0
 IsShownAs None db records = IsShownBy db records
 IsShownAs (Some version) db records = IsShownByOlder version db records
 
--- the same while the disk is honest and the connection open
+-- `IsShownAs`, if the disk returned what was written, and the connection is open
 abbrev pub ShowsAs : {S : Type 0} → Option OlderVersion → Ghosts S → Held S → Records → Type 0
 ShowsAs version g held records = Holds g held (λ db. IsShownAs version db records)
 
@@ -121,25 +121,25 @@ AreSteps (row ∷ rows) (step ∷ steps) = (column row 0 ≡ number step.0) × (
 abbrev pub HaveMoments : List (ℕ × ℕ) → Type 0
 HaveMoments steps = AllByRecursion (λ step. IsMoment step.0) steps
 
--- what the row of an office has: the policy of a schedule
+-- the row of an office has this policy, with this schedule
 abbrev pub HasPolicy : List (ℕ × ℕ) → Row → Terms → Type 0
 HasPolicy schedule row policy =
     IsPolicy policy × (policy.schedule ≡ schedule)
     × (column row 2 ≡ number policy.crl_life) × (column row 3 ≡ number policy.ocsp_life) × (column row 4 ≡ number policy.cap)
 
--- a last accepted moment that the clock lets pass
+-- it has this last accepted moment, which is before the clock's end
 abbrev pub HasLast : Row → ℕ → Type 0
 HasLast row last = (last < clock_end) × (column row 5 ≡ number last)
 
--- and an issuer within its limits
+-- it has this issuer, which is within its limits
 abbrev pub HasIssuer : Row → Issuer → Type 0
 HasIssuer row issuer = IsIssuer issuer × (column row 0 ≡ Blob issuer.name) × (column row 1 ≡ Blob issuer.key)
 
--- the row of an office that keeps to a schedule
+-- it has an issuer, a policy with this schedule, and a last accepted moment
 abbrev pub KeepsTo : List (ℕ × ℕ) → Row → Type 0
 KeepsTo schedule row = ((issuer : Issuer) × HasIssuer row issuer) × ((policy : Terms) × HasPolicy schedule row policy) × ((last : ℕ) × HasLast row last)
 
--- why rows are refused: memory has failed, or they are no register's, and this holds of them
+-- the fault for rows that are refused: out of memory; or they are no register's, and `Told` holds of them
 abbrev pub Refuses : Type 0 → StoreFault → Type 0
 Refuses Told fault = (fault ≡ Memory) ⊎ ((fault ≡ NotARegister) × Told)
 
@@ -155,7 +155,7 @@ HaveSteps rows steps = AreSteps rows steps × HaveMoments steps
 abbrev pub AreOfficeRows : List Row → List Row → Type 0
 AreOfficeRows rows steps = (schedule : List (ℕ × ℕ)) × HaveMoments schedule × AreSteps steps schedule × IsOne (KeepsTo schedule) rows
 
--- the tables say an office, each value within its range
+-- the tables have an office, each value within its range
 abbrev pub SaysOffice : Database → Type 0
 SaysOffice db = (rows : List Row) × (steps : List Row) × IsRead db OFFICE.now rows × IsRead db STEPS.now steps × AreOfficeRows rows steps
 
@@ -167,23 +167,23 @@ IsOlderRow days last row = (column row 6 ≡ number days) × (column row 5 ≡ n
 abbrev pub AreOlderOffice : ℕ → ℕ → List Row → Type 0
 AreOlderOffice days last rows = IsOne (IsOlderRow days last) rows
 
--- the tables say the program's version, and an office
+-- the tables have the program's version, and an office
 abbrev pub IsCurrent : Database → Type 0
 IsCurrent db = HasVersion db 3 × SaysOffice db
 
--- the tables say an older office of these days and this last accepted moment
+-- the tables have an older office, with these days and this last accepted moment
 abbrev pub ReadsOlder : Database → ℕ → ℕ → Type 0
 ReadsOlder db days last = (rows : List Row) × IsRead db OLDER_OFFICE.now rows × AreOlderOffice days last rows
 
--- the tables say an older office, each value within its range
+-- the tables have an older office, each value within its range
 abbrev pub SaysOlder : Database → Type 0
 SaysOlder db = (days : ℕ) × (last : ℕ) × ReadsOlder db days last
 
--- the tables are those of an older version, and say it and its office
+-- the schema is that of an older version, and the tables have its number and its office
 abbrev pub IsOlder : Database → Type 0
 IsOlder db = (version : OlderVersion) × (db.schema ≡ older_schema version) × HasVersion db (version_number version) × SaysOlder db
 
--- a text that is understood is refused over the rows that are there, and by no limit on steps
+-- a statement that compiles fails over these rows, even without a limit on steps
 pub record IsRefusedOverRows (db : Database) (text : List ℕ) : Type 0 where
   pub compiled : Compiled
   pub is : understood db.schema text ≡ Ok compiled
@@ -192,58 +192,58 @@ pub record IsRefusedOverRows (db : Database) (text : List ℕ) : Type 0 where
   pub error : Error
   pub refuses : RefusesToRead None compiled.command source [] error
 
--- the tables have no answer to a text: it is not understood over them, or it is refused
+-- a statement fails over these tables: it does not compile, or it fails over their rows
 abbrev pub IsRefusedText : Database → List ℕ → Type 0
 IsRefusedText db text = ((error : CompileError) × (understood db.schema text ≡ Err error)) ⊎ IsRefusedOverRows db text
 
--- the tables say no version: they have no answer to its text, or it is not one row of a number from 1 on
+-- the tables have no version: its statement fails, or does not return one row with a number from 1 on
 abbrev pub SaysNoVersion : Database → Type 0
 SaysNoVersion db = IsRefusedText db VERSION.now ⊎ ((rows : List Row) × IsRead db VERSION.now rows × ((n : ℕ) → 1 ≤ n → ¬ AreVersionRows n rows))
 
--- the tables say no office: they have no answer to its texts, or a value is out of its range
+-- the tables have no office: its statements fail, or a value is out of its range
 abbrev pub SaysNoOffice : Database → Type 0
 SaysNoOffice db =
     (IsRefusedText db OFFICE.now ⊎ IsRefusedText db STEPS.now)
     ⊎ ((rows : List Row) × (steps : List Row) × IsRead db OFFICE.now rows × IsRead db STEPS.now steps × (¬ AreOfficeRows rows steps))
 
--- the tables say no older office: they have no answer to its text, or a value is out of its range
+-- the tables have no older office: its statement fails, or a value is out of its range
 abbrev pub SaysNoOlder : Database → Type 0
 SaysNoOlder db = IsRefusedText db OLDER_OFFICE.now ⊎ ((rows : List Row) × IsRead db OLDER_OFFICE.now rows × ((days last : ℕ) → ¬ AreOlderOffice days last rows))
 
--- the tables say no register of any version: they say no version, or version 3 and no office, or an older version and no older office
+-- the tables have no register of any version: no version; or version 3, but no office; or an older version, but no older office
 abbrev pub SaysNoRegister : Database → Type 0
 SaysNoRegister db = SaysNoVersion db ⊎ ((HasVersion db 3 × SaysNoOffice db) ⊎ ((version : OlderVersion) × HasVersion db (version_number version) × SaysNoOlder db))
 
--- the tables say a version up to the program's, and they, or what stands beside them, are others than it has
+-- the tables have a version up to the program's, but the schema is not that of this version
 abbrev pub HasOthers : Database → Type 0
 HasOthers db = (version : Option OlderVersion) × HasVersion db (version_of version) × (db.schema ≢ schema_of version)
 
--- no register of any version stands there: the tables say none, or are others than those of the version that they say
+-- the database has no register: its tables have none, or its schema is not that of their version
 abbrev pub IsNoRegister : Database → Type 0
 IsNoRegister db = SaysNoRegister db ⊎ HasOthers db
 
--- the tables say the office of a version, each value within its range
+-- the tables have the office of a version, each value within its range
 abbrev pub SaysOfficeOf : Option OlderVersion → Database → Type 0
 SaysOfficeOf None db = SaysOffice db
 SaysOfficeOf (Some version) db = SaysOlder db
 
--- over tables with no view: no version from 1 on stands there but one up to the program's, with no office of its, or whose tables are others
+-- if there is no view: any version from 1 on that the tables have is one up to the program's, without its office, or not of this schema
 abbrev pub HoldsNoRegister : Database → Type 0
 HoldsNoRegister db =
     db.schema.views ≡ [] → (n : ℕ) → 1 ≤ n → HasVersion db n → (version : Option OlderVersion) × (n ≡ version_of version) × ((¬ SaysOfficeOf version db) ⊎ (db.schema ≢ schema_of version))
 
--- what a register's issuer, moments and last accepted moment always are
+-- the issuer, the moments of the schedule, and the last accepted moment are within their ranges, as those of a register always are
 pub record InRange (records : Records) : Type 0 where
   pub issuer : IsIssuer records.issuer
   pub moments : HaveMoments records.policy.schedule
   pub last : records.last < clock_end
 
--- a version, which is the program's where it is none
+-- a version; none stands for the program's
 abbrev pub version_or_ours : Option OlderVersion → Version
 version_or_ours None = version.Third
 version_or_ours (Some First) = version.First
 version_or_ours (Some Second) = version.Second
 
--- a schema is found to be a version's where it is
+-- a schema is found to be that of a version exactly if it is
 abbrev pub SchemaHasVersion : Option Version → Schema → Type 0
 SchemaHasVersion tables schema = (version : Option OlderVersion) → (tables ≡ Some (version_or_ours version)) ↔ (schema ≡ schema_of version)

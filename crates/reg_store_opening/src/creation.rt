@@ -1,4 +1,4 @@
-//! A register's tables, made new.
+//! Creates a register's tables.
 
 ghost use Rattle.std.specs.Prelude.{◌≡◌, ◌↔◌, false, IsTrue, OnOk, IfErr};
 ghost use Rattle.reg_store_tables.specs.Schema.{no_schema};
@@ -48,8 +48,8 @@ fn found<S: Alter>(
     commit(tx)
 }
 
-/// Makes the tables of a register with no records, of this issuer and under this policy, at moment 0.
-/// `NotEmpty` where the database has a table, an index or a view. Nothing has changed where it fails.
+/// Makes the tables of a register with no records, with this issuer, this policy, and 0 as last accepted moment. Errors: `NotEmpty`
+/// if the database has a table, an index or a view; `Memory`; `Store` if the database fails. An error changes nothing.
 pub fn create<S: Alter>(
     conn: &mut Connection<S>,
     issuer: &Issuer,

@@ -1,4 +1,4 @@
-//! The tables and indexes of a register, made with no rows.
+//! Makes the tables and indexes of a register, without rows.
 
 ghost use Rattle.reg_store_tables.specs.Schema.{no_schema, record_tables, register_schema};
 ghost use Rattle.reg_store_tables.specs.Stays.{Stepped};

@@ -1,4 +1,4 @@
-//! A register's tables, made new, and tested before they are used.
+//! Creates a register's tables, and checks the tables of a database before they are used.
 #![tactic(auto)]
 
 mod creation;

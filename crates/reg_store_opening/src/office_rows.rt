@@ -1,4 +1,4 @@
-//! Whether rows are those of a register's office.
+//! Checks that rows are those of a register's office.
 
 ghost use Rattle.std.specs.Prelude.{◌≡◌, ◌≢◌, ◌⊎◌, ◌<◌, ◌≤◌, ℕ, List, [], ◌∷◌, IfOk, IfErr, Err, MatchOption, MatchResult};
 ghost use Rattle.sqlite_value.specs.Order.{Row as Cells, column};
@@ -31,7 +31,7 @@ fn version_in(rows: &[Row]) -> Option<u64>
     number_at(only(rows)?, 0)
 }
 
-/// The version of the tables where it is older than the program's, and none where it is the program's.
+/// The version of the tables if it is older than the program's; `None` if it is the program's.
 pub(crate) fn judge_version(rows: &[Row]) -> Result<Option<OlderVersion>, StoreFault>
     ensures ok { IfOk result (λ found. AreVersionRows (version_of found) rows.now) }
     ensures newer { result ≡ Err StoreFault.NewVersion → (n : ℕ) × (3 < n) × AreVersionRows n rows.now }
@@ -90,7 +90,7 @@ fn policy_in(row: &Row, schedule: Schedule) -> Option<Policy>
     Policy::with(schedule, crl_life, ocsp_life, cap)
 }
 
-/// The last accepted moment, one that the register's clock lets pass.
+/// The last accepted moment; `None` if it is not before the clock's end.
 fn last_in(row: &Row) -> Option<Moment>
     ensures { MatchOption result ((last : ℕ) → ¬ HasLast row.now last) (HasLast row.now) }
 {
@@ -127,7 +127,7 @@ fn judge_row(alloc: Global, row: &Row, schedule: Schedule) -> Result<(), StoreFa
     }
 }
 
-/// Whether the rows are those of an office and of its schedule.
+/// Checks that the rows are those of an office and of its schedule.
 pub(crate) fn judge_office(rows: &Vec<Row>, steps: &Vec<Row>) -> Result<(), StoreFault>
     ensures { MatchResult result (λ _. AreOfficeRows rows.now.items steps.now.items)
         (Refuses (¬ AreOfficeRows rows.now.items steps.now.items)) }
@@ -139,7 +139,7 @@ pub(crate) fn judge_office(rows: &Vec<Row>, steps: &Vec<Row>) -> Result<(), Stor
     }
 }
 
-/// The days of an older office, and the schedule of that one step.
+/// The days of an older office, and the schedule with this one step.
 fn days_in(row: &Row) -> Option<(u64, Schedule)>
     ensures { MatchOption result ((days : ℕ) → IsSchedule (one_step days) → column row.now 6 ≢ number days)
         (λ found. (column row.now 6 ≡ number found.0) × (found.1 ≡ one_step found.0)) }
@@ -166,7 +166,7 @@ fn older_in(alloc: Global, row: &Row) -> Result<(u64, Moment), StoreFault>
     }
 }
 
-/// The days and the last accepted moment, where the rows are those of an older office.
+/// The days and the last accepted moment of an older office; `NotARegister` if the rows are not those of one.
 pub(crate) fn judge_older(rows: &Vec<Row>) -> Result<(u64, Moment), StoreFault>
     ensures { MatchResult result (λ found. AreOlderOffice found.0 found.1 rows.now.items)
         (Refuses ((days : ℕ) → (last : ℕ) → ¬ AreOlderOffice days last rows.now.items)) }

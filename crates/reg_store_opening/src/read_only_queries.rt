@@ -1,4 +1,4 @@
-//! Statements that only read, whatever the tables are.
+//! Runs statements that only read, whatever the tables are.
 
 ghost use Rattle.std.specs.Prelude.{◌≡◌, ◌⊎◌, false, IsTrue, IfErr};
 ghost use Rattle.sqlite.specs.Held.{state};
@@ -12,8 +12,8 @@ ghost use Rattle.reg_store_tables.specs.Steps.{Asks, WhileOpen};
 use reg_store_tables::StoreFault;
 use sqlite::{Alter, Error, ErrorCode, Row, Transaction};
 
-/// What a failed statement says of the tables: they are not a register's, but where memory, the disk or the limit on
-/// steps failed it.
+/// The fault for a statement that failed: the tables are not a register's, unless memory, the disk or the limit on
+/// steps is the cause.
 fn unread(error: Error) -> StoreFault
     ensures call { IsTrue (is_call_error error) → IsDatabaseFault result }
     ensures other { is_call_error error ≡ false → result ≡ StoreFault.NotARegister }
@@ -29,7 +29,7 @@ fn unread(error: Error) -> StoreFault
     }
 }
 
-/// The rows that a query answers.
+/// The rows that a query returns.
 pub(crate) fn peek<S: Alter>(tx: &mut Transaction<'_, S>, sql: &str) -> Result<Vec<Row>, StoreFault>
     requires { IsQuery sql.now }
     ensures asked { Asks S.Store tx.old tx.new result (λ rows db. IsRead db sql.now rows.items) }

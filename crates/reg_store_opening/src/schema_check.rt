@@ -1,4 +1,4 @@
-//! Whose tables stand in a database.
+//! Finds the version whose schema a database has.
 
 ghost use Rattle.std.specs.Prelude.{◌≡◌, ◌↔◌, Some, false, IfOk, IsTrue};
 ghost use Rattle.sqlite.specs.Held.{state};
@@ -9,7 +9,7 @@ use reg_store_schema::{Version, version_of};
 use sqlite::{Alter, Connection};
 use std::alloc::{AllocError, Global};
 
-/// Whether the tables of a version are those of this one, which is the program's where it is none.
+/// Whether the schema has this version; `None` stands for the program's version.
 pub(crate) fn is_same(tables: Option<Version>, version: Option<OlderVersion>) -> bool
     ensures { IsTrue result ↔ (tables ≡ Some (version_or_ours version)) }
 {
@@ -20,8 +20,8 @@ pub(crate) fn is_same(tables: Option<Version>, version: Option<OlderVersion>) ->
     }
 }
 
-/// The version whose tables stand there, if they are a version's, with all that stands beside them. No transaction is under way, so they
-/// are those that were committed last.
+/// The version whose schema the database has; `None` if it is that of no version. No transaction is under way, so it is the schema that
+/// was committed last.
 pub(crate) fn look<S: Alter>(
     alloc: Global,
     conn: &Connection<S>,

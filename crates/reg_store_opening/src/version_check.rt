@@ -1,4 +1,4 @@
-//! The tables of an opened database, tested before they are used, and made newer where they are of an older version.
+//! Checks the tables of an opened database before they are used, and migrates those of an older version.
 
 ghost use Rattle.std.specs.Prelude.{◌≡◌, ◌≢◌, ◌⊎◌, Option, Some, false, IsTrue, MatchResult, OnOk, IfOk, IfErr};
 ghost use Rattle.sqlite.specs.Held.{state};
@@ -25,7 +25,7 @@ use reg_store_tables::sql::STEPS;
 use sqlite::{Alter, Connection, Transaction};
 use std::alloc::Global;
 
-/// What the office of an older version says: its version, the longest validity in days, and the last accepted moment.
+/// What the office of an older version has: its version, the longest validity in days, and the last accepted moment.
 #[derive(Clone, Copy)]
 pub struct OlderOffice {
     version: OlderVersion,
@@ -33,7 +33,7 @@ pub struct OlderOffice {
     last: Moment,
 }
 
-/// The version of the tables where it is older than the program's, and none where it is the program's.
+/// The version of the tables if it is older than the program's; `None` if it is the program's.
 fn test_version<S: Alter>(tx: &mut Transaction<'_, S>) -> Result<Option<OlderVersion>, StoreFault>
     ensures asked { Asks S.Store tx.old tx.new result (λ found db. HasVersion db (version_of found)) }
     ensures newer { ReportsNewer S.Store tx.old.conn.now tx.new.conn.now result }
@@ -74,7 +74,7 @@ fn test_older<S: Alter>(tx: &mut Transaction<'_, S>) -> Result<(u64, Moment), St
     judge_older(&rows)
 }
 
-/// Tests the tables, the version first: what an older office says, or none where they are of the program's version.
+/// Checks the tables, the version first. Returns what an older office has; `None` if they are of the program's version.
 fn test_tables<S: Alter>(tx: &mut Transaction<'_, S>) -> Result<Option<OlderOffice>, StoreFault>
     ensures told { ReportsState S.Store tx.old.conn.now tx.new.conn.now result (λ found db. SaysFound db found) }
     ensures newer { ReportsNewer S.Store tx.old.conn.now tx.new.conn.now result }
@@ -102,12 +102,12 @@ fn test_tables<S: Alter>(tx: &mut Transaction<'_, S>) -> Result<Option<OlderOffi
     }
 }
 
-/// Tests whether the tables are a register's, and tells what an older office says; none where they are of the program's
-/// version. Nothing is changed, whatever they are.
+/// Checks that the tables are a register's, and returns what the office of an older version has; `None` if they are of the
+/// program's version. It changes nothing.
 ///
 /// # Errors
-/// `NotARegister` where the row of the office can't be read, or its version or other values are out of range; `NewVersion` above 3;
-/// `Memory`; `Store` where the database fails.
+/// `NotARegister` if the row of the office can't be read, or its version or other values are out of range; `NewVersion` if the version
+/// is above 3; `Memory`; `Store` if the database fails.
 pub fn examine<S: Alter>(conn: &mut Connection<S>) -> Result<Option<OlderOffice>, StoreFault>
     requires { conn.old.in_transaction ≡ false }
     ensures ok { HasCleanDisk (state S.Store conn.new)
@@ -152,13 +152,13 @@ fn test_schema(tables: Option<Version>, found: Option<OlderOffice>) -> Result<()
     Err(StoreFault::NotARegister)
 }
 
-/// Tests whether the tables are a register's, and changes nothing where they are of the program's version. Where they are
-/// of version 1 or 2 they are made ones of the program's version, in one transaction: the records stay, and what is kept
-/// beside them is made anew from them. The schema is looked at before the office is read: nothing is written in between.
+/// Checks that the tables are a register's. If they are of the program's version, it changes nothing. If they are of version
+/// 1 or 2, it migrates them to the program's version in one transaction: the records stay, and the derived tables are rebuilt
+/// from them. The schema is read before the office, and nothing is written in between.
 ///
 /// # Errors
-/// As of [`examine`]; `NotARegister` too where the tables, their columns, keys and indexes, or what stands beside them, are others
-/// than those of its version; `Store` too where an older register can't be made newer. The tables are as they were then.
+/// Those of [`examine`]; `NotARegister` too if the schema (tables with their columns and keys, indexes, views) is not that of
+/// the version; `Store` too if an older register can't be migrated. An error changes nothing.
 pub fn open<S: Alter>(alloc: Global, conn: &mut Connection<S>) -> Result<(), StoreFault>
     requires { conn.old.in_transaction ≡ false }
     ensures opens { OnOk result (Opens S.Store conn.old conn.new) }

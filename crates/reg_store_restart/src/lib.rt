@@ -1,4 +1,4 @@
-//! A machine that stops, and a register's files that are opened again.
+//! Stops a machine and opens a register's files again, for the laws about crashes.
 #![tactic(auto)]
 
 ghost use Rattle.std.specs.Prelude.{◌≡◌, false, IfOk};
@@ -10,10 +10,10 @@ use sqlite::{Connection, Error, FileStore, Leftover, Options};
 use sqlite_disk::Crash;
 use std::alloc::Global;
 
-/// The machine stops: the files are closed as they are, each loses what was not synced, and they are opened again.
+/// Stops the machine: closes the files as they are, takes from each what was not synced, and opens them again.
 ///
-/// The stop may lie within a call: the disk refused all from then on, as [`Fuse`](sqlite_disk::Fuse) does, and the call told a fault.
-/// `a_register_opened_after_a_stop_stands_before_or_after` says which register is opened. Errors are of [`Connection::open_files`].
+/// A stop in the middle of a call is a disk that fails each operation from then on, as [`Fuse`](sqlite_disk::Fuse) does; the call returns a fault.
+/// The law `a_register_opened_after_a_stop_stands_before_or_after` says what the register then shows. Errors: those of [`Connection::open_files`].
 pub fn restart<D: Crash + Drop>(
     alloc: Global,
     connection: Connection<FileStore<D>>,

@@ -1,4 +1,4 @@
-//! The schema of each version, made in memory by the very texts that make the tables of a register.
+//! The schema of each version, made in memory by the same SQL that creates the tables of a register.
 
 ghost use Rattle.std.specs.Prelude.{◌≡◌, ◌<◌, ◌+◌, [], ◌∷◌, ◌++◌, length, Some, Ok, slice_get, IfOk, OnOk};
 ghost use Rattle.sqlite_resolve.specs.Compile.{table_defined_by, index_defined_by};
@@ -13,9 +13,9 @@ use sqlite_resolve::{define_index, define_table};
 use sqlite_schema::schema::{Index, Schema, Table};
 use std::alloc::{AllocError, Global};
 
-// Nothing but memory fails here: each text defines what it makes, and each name is text.
+// Only memory can fail here: each statement is valid, and each name is UTF-8.
 
-/// Adds the index of the UNIQUE of a table at a place.
+/// Adds the automatic index of one UNIQUE of a table.
 fn add_key(
     alloc: Global,
     indexes: &mut Items<Index>,
@@ -34,7 +34,7 @@ fn add_key(
     indexes.push(index)
 }
 
-/// Adds the index of each UNIQUE of a table.
+/// Adds the automatic index of each UNIQUE of a table.
 fn add_keys(alloc: Global, indexes: &mut Items<Index>, table: &Table) -> Result<(), AllocError>
     ensures { OnOk result (indexes.new ≡ indexes.old ++ automatics table.now 0 (table.now.tree + 1) table.now.uniques) }
 {
@@ -47,14 +47,14 @@ fn add_keys(alloc: Global, indexes: &mut Items<Index>, table: &Table) -> Result<
     Ok(())
 }
 
-/// The tree that is made next.
+/// The number of the next B-tree.
 fn next_tree(made: &Schema) -> Result<u32, AllocError>
     ensures { IfOk result (λ tree. tree ≡ next_tree made.now) }
 {
     u32::try_from(layout::next_tree(made)).map_err(|_| AllocError)
 }
 
-/// Adds the table that a text makes.
+/// Adds the table that a CREATE TABLE defines.
 fn add_table(alloc: Global, made: &mut Schema, text: &str) -> Result<(), AllocError>
     ensures { (table : Table) → table_defined_by text.now ≡ Ok table → OnOk result (made.new ≡ created made.old table) }
 {
@@ -67,7 +67,7 @@ fn add_table(alloc: Global, made: &mut Schema, text: &str) -> Result<(), AllocEr
     made.tables.push(table)
 }
 
-/// Adds the index of the table at a place that a text makes.
+/// Adds the index that a CREATE INDEX defines, on the table with number `at`.
 fn add_index(alloc: Global, made: &mut Schema, at: usize, text: &str) -> Result<(), AllocError>
     ensures { (table : Table) → (index : Index) → slice_get made.old.tables at ≡ Some table → index_defined_by table text.now ≡ Ok index
         → OnOk result (made.new ≡ indexed made.old table index) }
@@ -83,7 +83,7 @@ fn add_index(alloc: Global, made: &mut Schema, at: usize, text: &str) -> Result<
     made.indexes.push(index)
 }
 
-/// Adds the tables of the records, where there is nothing.
+/// Adds the tables of the records to an empty schema.
 pub(crate) fn add_records(alloc: Global, made: &mut Schema) -> Result<(), AllocError>
     ensures { made.old ≡ no_schema → OnOk result (made.new ≡ record_tables) }
 {
@@ -96,7 +96,7 @@ pub(crate) fn add_records(alloc: Global, made: &mut Schema) -> Result<(), AllocE
     add_table(alloc, made, schema::CRL)
 }
 
-/// Adds the tables that are kept beside them.
+/// Adds the derived tables.
 pub(crate) fn add_kept(alloc: Global, made: &mut Schema) -> Result<(), AllocError>
     ensures { made.old ≡ record_tables → OnOk result (made.new ≡ kept_tables) }
 {

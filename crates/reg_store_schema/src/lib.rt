@@ -1,4 +1,4 @@
-//! Which version's a schema is: that of a register, of the program's version or of an older one.
+//! Finds the version of which a schema is: the program's, an older one, or none.
 #![tactic(auto)]
 
 mod expected_schema;

@@ -1,4 +1,4 @@
-//! Whether two schemas are the same, part by part.
+//! Compares two schemas, part by part.
 
 ghost use Rattle.std.specs.Prelude.{◌≡◌, ◌↔◌, IsTrue};
 
@@ -7,9 +7,9 @@ use sqlite_schema::schema::{Column, Index, Reference, Schema, Stamps, Table, Vie
 use sqlite_value::keys::Order;
 use sqlite_value::value::Bytes;
 
-/// What is compared, part by part.
+/// A part of a schema, which can be compared.
 pub(crate) trait Same {
-    /// Whether it is the same as another.
+    /// Whether two parts are the same.
     fn is_same(&self, other: &Self) -> bool
         ensures { IsTrue result ↔ (self.now ≡ other.now) };
 }
@@ -120,7 +120,7 @@ fn have_same_keys(left: &Table, right: &Table) -> bool
         && left.orders.is_same(&right.orders)
 }
 
-/// Whether two tables have the same CHECKs, references and defaults that are computed.
+/// Whether two tables have the same CHECKs, references and computed defaults.
 fn have_same_rules(left: &Table, right: &Table) -> bool
     ensures { IsTrue result ↔ ((left.now.checks ≡ right.now.checks) × (left.now.references ≡ right.now.references)
         × (left.now.computed ≡ right.now.computed) × (left.now.stamps ≡ right.now.stamps)) }

@@ -1,4 +1,4 @@
-//! Which version's a schema is.
+//! Finds the version of which a schema is.
 
 ghost use Rattle.std.specs.Prelude.{◌≡◌, ◌↔◌, Some, IfOk, IsTrue};
 ghost use Rattle.reg_store_tables.specs.Schema.{register_schema};
@@ -10,8 +10,8 @@ use crate::versions::Version;
 use sqlite_schema::schema::Schema;
 use std::alloc::{AllocError, Global};
 
-/// The version whose register has this schema: its tables with their columns, keys, CHECKs and references, its indexes, and nothing
-/// besides. None where no version has it.
+/// The version of which this is the schema: exactly its tables, with their columns, keys, CHECKs and references, its indexes, and no
+/// view. `None` if it is that of no version.
 ///
 /// # Errors
 /// There is not enough memory.

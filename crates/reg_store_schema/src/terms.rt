@@ -1,4 +1,4 @@
-//! Whether terms are the same, read node by node.
+//! Compares terms, node by node.
 
 ghost use Rattle.std.specs.Prelude.{◌≡◌, ◌<◌, ◌↔◌, IsTrue, IfSome, MatchOption};
 ghost use Rattle.sqlite_value.specs.declared.value.Value.TheVariants.{Null};
@@ -10,7 +10,7 @@ use sqlite_schema::code::{Op, Terms, lend_value};
 use sqlite_value::order;
 use sqlite_value::value::Value;
 
-/// A term: the nodes, the depth to which they are read, and the place of its first.
+/// A term: the nodes, the depth to which they are read, and the index of its root.
 #[derive(Clone, Copy)]
 struct Place<'a> {
     nodes: &'a [Op],
@@ -24,7 +24,7 @@ impl Same for Value {
     }
 }
 
-/// The node of a term, and the depth to which its operands are read.
+/// The root of a term, and the depth to which its operands are read; `None` if the term ends here, and so reads as NULL.
 fn node_at<'a>(term: Place<'a>) -> Option<(&'a Op, usize)>
     ensures falls { IfSome result (λ found. found.1 < term.entry.depth) }
     ensures is { MatchOption result (term_to term.entry.nodes.now term.entry.depth term.entry.at ≡ lit Null)
@@ -36,7 +36,7 @@ fn node_at<'a>(term: Place<'a>) -> Option<(&'a Op, usize)>
     Some((&term.nodes[term.at], term.depth - 1))
 }
 
-/// The term at a place among the nodes of another, read to a depth.
+/// The term with another root among the same nodes, read to a depth.
 fn operand(term: Place<'_>, depth: usize, at: usize) -> Place<'_>
     ensures { (result.nodes.now ≡ term.entry.nodes.now) × (result.depth ≡ depth) × (result.at ≡ at) }
 {
@@ -103,7 +103,7 @@ fn same_term(left: Place<'_>, right: Place<'_>) -> bool
     }
 }
 
-/// The term at a place among nodes, read as deep as they go.
+/// The term with this root, read to a depth that reaches all nodes.
 fn root(nodes: &[Op], at: usize) -> Place<'_>
     ensures { term_to result.nodes.now result.depth result.at ≡ term_in nodes.now at }
 {
@@ -114,7 +114,7 @@ fn root(nodes: &[Op], at: usize) -> Place<'_>
     }
 }
 
-/// Whether the terms at places among nodes are the same, one by one.
+/// Whether the terms with these roots are the same, one by one.
 fn are_same(left: &[Op], roots: &[usize], right: &[Op], others: &[usize]) -> bool
     ensures { IsTrue result ↔ (terms_in left.now roots.entry.now ≡ terms_in right.now others.entry.now) }
 {

@@ -5,8 +5,8 @@
 pub enum Version {
     /// Version 1: the tables of the records alone.
     First,
-    /// Version 2: letters, counts and last listings are kept beside the records.
+    /// Version 2: it also has the derived tables (letters, counts, entries of CRLs).
     Second,
-    /// Version 3: there are a schedule and two indexes besides.
+    /// Version 3: it also has the schedule and two indexes.
     Third,
 }

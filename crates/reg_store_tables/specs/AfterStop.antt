@@ -1,4 +1,4 @@
--- What a stop may find in a register's file.
+-- The rows that a stop may leave in a register's file.
 use Rattle.sqlite_trees.specs.Tree.{Trees}
 use Rattle.sqlite_catalog.specs.Listing.{IsSound}
 use Rattle.reg_core.specs.Records.{Records}
@@ -7,14 +7,14 @@ use Rattle.reg_store_tables.specs.Kept.{Kept}
 use Rattle.reg_store_tables.specs.Schema.{register_schema}
 use Rattle.reg_store_tables.specs.Shows.{AreBoth}
 
--- as a register's tables these rows show the records, and these columns beside them
+-- as the rows of a register's tables, these show the records, and the derived tables have these rows
 abbrev pub AreRowsOf : Records → Columns → Trees → Type 0
 AreRowsOf records columns trees = AreBoth (record { schema = register_schema; trees = trees }) records columns
 
--- the rows list a register's tables and indexes, and obey them: an opening finds the register's schema there
+-- the rows include the list of a register's tables and indexes, and obey that schema: an opening finds it there
 abbrev pub AreARegisters : Trees → Type 0
 AreARegisters trees = IsSound register_schema trees
 
--- as a register's tables these rows show the records, and what is kept beside them stands for these records
+-- as the rows of a register's tables, these show the records, with derived tables that match them
 abbrev pub IsAtRest : Records → Trees → Type 0
 IsAtRest records trees = (columns : Columns) × AreRowsOf records columns trees × Kept columns records × AreARegisters trees

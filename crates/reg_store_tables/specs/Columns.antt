@@ -1,4 +1,4 @@
--- What is kept beside the records: the state letters, their counts, what CRLs list, and the days that the office was made with.
+-- The derived tables: the state letters, their counts and the entries of CRLs; and the days in the office's row.
 use Rattle.std.specs.Prelude.{ℕ, ℤ, Bool, true, false, ◌&&◌, nat_lt, List, [], ◌∷◌, codes, filter, length, Option, Some, None, cond}
 use Rattle.sqlite_value.specs.declared.value.Value.{Value}
 use Rattle.sqlite_value.specs.declared.value.Value.TheVariants.{Null, Text}
@@ -50,7 +50,7 @@ letter_counts rows = record { good = with_letter is_good_letter rows; revoked = 
 abbrev pub ends_before : ℕ → Standing → Bool
 ends_before now row = is_good_letter row.letter && nat_lt row.not_after now
 
--- what CRLs list of a revocation: its certificate's notAfter, and the number of the last CRL that lists it, where that has been issued
+-- a revocation's entry in CRLs, with its certificate's notAfter, its first CRL, and the last CRL that lists it, if that has been issued
 pub record Listed : Type 0 where
   pub serial : ℕ
   pub at : ℕ
@@ -59,7 +59,7 @@ pub record Listed : Type 0 where
   pub not_after : ℕ
   pub last : Option ℕ
 
--- the rows of the three tables, and the days that stand in the office's row
+-- the rows of the three derived tables, and the days in the office's row
 pub record Columns : Type 0 where
   pub letters : List Standing
   pub counts : Counts
@@ -87,10 +87,10 @@ number_or_null (Some n) = number n
 abbrev pub stored_listed : Listed → Row
 stored_listed row = serial_value row.serial ∷ number row.at ∷ number row.reason ∷ number row.first ∷ number row.not_after ∷ number_or_null row.last ∷ []
 
--- what passes the test is turned, and all else stays
+-- a value that passes the test is changed, and any other stays
 abbrev pub turned : {A : Type 0} → (A → Bool) → (A → A) → A → A
 turned test turn x = cond (test x) (turn x) x
 
--- other counts
+-- the derived tables with other counts
 abbrev pub with_counts : Counts → Columns → Columns
 with_counts counts columns = record columns { counts = counts }

@@ -7,32 +7,32 @@ use Rattle.sqlite.specs.Held.{Held, state}
 use Rattle.sqlite.specs.State.{State, HasCleanDisk, IsRolledBack, Survives, Shows}
 use Rattle.reg_store_tables.specs.Stays.{Stays}
 
--- The end of a transaction that is to be committed.
+-- The call that commits a transaction.
 pub record Ends {S T E : Type 0} (g : Ghosts S) (entered ended : Held S) (result : Result T E) : Type 0 where
-  -- what was written is committed
+  -- if it succeeds, what was written is committed
   pub committed : HasCleanDisk (state g ended) → OnOk result (Shows (state g entered) (state g ended) (state g entered).now (state g entered).now false)
-  -- or undone
+  -- if it fails, what was written is rolled back
   pub undone : HasCleanDisk (state g ended) → OnErr result ((state g entered).in_transaction ≡ true → IsRolledBack (state g entered) (state g ended))
-  -- a stop finds what it would have found before, or what was written
+  -- a stop leaves what it would have left before, or all that was written
   pub survives : Survives (state g entered) (state g ended) (λ trees. trees ≡ (state g entered).now.trees)
   pub idle : ended.in_transaction ≡ false
 
--- the database of an open connection, all of it committed, to which the one before has led
+-- the database of an open connection, all of it committed; `Leads` relates the one before to it
 pub record IsMade (old new : State) (Leads : Database → Database → Type 0) : Type 0 where
   pub was_open : IsTrue old.is_open
   pub is_open : IsTrue new.is_open
   pub saved : new.now ≡ new.committed
   pub led : Leads old.now new.now
 
--- the rows of a database to which the one before has led
+-- the rows of a database to which `Leads` relates the one before
 abbrev pub AreLed : State → (Database → Database → Type 0) → Trees → Type 0
 AreLed old Leads trees = IsTrue old.is_open × (db : Database) × (trees ≡ db.trees) × Leads old.now db
 
--- One transaction, in which the database before leads to the one after.
+-- One transaction; `Leads` relates the database before it to the one after it.
 pub record Commits {S T E : Type 0} (g : Ghosts S) (old new : Held S) (result : Result T E) (Leads : Database → Database → Type 0) : Type 0 where
   pub made : HasCleanDisk (state g new) → OnOk result (IsMade (state g old) (state g new) Leads)
   -- an error leaves the tables as they were
   pub stays : OnErr result (Stays (state g old) (state g new))
-  -- a stop finds what it would have found before, or all of what was made
+  -- a stop leaves what it would have left before, or the whole transaction
   pub survives : Survives (state g old) (state g new) (AreLed (state g old) Leads)
   pub idle : new.in_transaction ≡ false

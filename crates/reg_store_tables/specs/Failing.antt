@@ -21,15 +21,15 @@ use Rattle.reg_store_tables.specs.ReadStatements.{command_of}
 use Rattle.reg_store_tables.specs.Schema.{register_schema}
 use Rattle.reg_store_tables.specs.RecordValues.{HasValues}
 
--- the database failed: its disk in the call, or the connection was shut, or the steps of a query are limited
+-- the database failed: its disk failed during the call, or the connection was closed, or the steps of a query are limited
 unfoldable pub HasFailed : State → State → Type 0
 HasFailed old new = MoreFaults old.faults new.faults ⊎ ((old.is_open ≡ false) ⊎ IsSome old.step_limit)
 
--- where a call reports this failure, the database failed
+-- if a call reports this failure, the database failed
 abbrev pub FailsWith : {T E : Type 0} → E → State → State → Result T E → Type 0
 FailsWith failure old new result = HasCleanDisk new → IfErr result (λ fault. fault ≡ failure → HasFailed old new)
 
--- the tables show records that a register writes, and what is kept beside them
+-- the tables show records that a register writes, with derived tables that match them
 pub record ShowsWritten {S : Type 0} (g : Ghosts S) (h : Held S) (records : Records) : Type 0 where
   pub kept : ShowsKept g h records
   pub sound : SoundRows records
@@ -38,12 +38,12 @@ pub record ShowsWritten {S : Type 0} (g : Ghosts S) (h : Held S) (records : Reco
   pub policy : IsPolicy records.policy
   pub steps : AllByRecursion (λ step. IsMoment step.0) records.policy.schedule
 
--- the text is one statement, which has as many parameters
+-- the text is one statement, with as many parameters as `params` has values
 abbrev pub IsTaken : Result Compiled CompileError → List ℕ → Row → Type 0
 IsTaken (Ok compiled) text params = (length text ≤ compiled.tail) × (length params ≡ length compiled.names)
 IsTaken (Err error) text params = ⊥
 
--- over the tables of a register, with these parameters, the text is refused for a limit on its steps alone
+-- over the tables of a register, the statement with these parameters fails only because of a limit on its steps
 pub record IsAsked (text : List ℕ) (params : Row) : Type 0 where
   pub taken : IsTaken (understood register_schema text) text params
   pub never : (limit : Option ℕ) (db : Database) (error : Error) → db.schema ≡ register_schema → RefusesToRead limit (command_of (understood register_schema text)) db params error → IsSome limit

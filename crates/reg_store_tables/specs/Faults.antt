@@ -1,4 +1,4 @@
--- What a failure of the database is to a call, and what a call's is to the store, to a command and to a query.
+-- How faults are converted: those of the database to those of a call, and these to those of the store, of commands and of queries.
 use Rattle.sqlite.specs.declared.error.Error.{Error}
 use Rattle.sqlite.specs.declared.error.Error.TheVariants.{SqliteFailure}
 use Rattle.sqlite.specs.declared.error.ErrorCode.TheVariants.{OutOfMemory}
@@ -13,28 +13,28 @@ use Rattle.reg_store_tables.specs.declared.fault.Unshown.TheVariants as rows
 use Rattle.reg_store_tables.specs.declared.fault.StoreFault.{StoreFault}
 use Rattle.reg_store_tables.specs.declared.fault.StoreFault.TheVariants.{Memory, Store}
 
--- the database lacked memory, or it failed otherwise
+-- the fault of a call if the database was out of memory, or failed otherwise
 abbrev pub database_fault_of : Error → DatabaseFault
 database_fault_of (SqliteFailure OutOfMemory) = call.Memory
 database_fault_of _ = call.Store
 
--- memory was lacking, or the bytes of a row are no issuer's
+-- the fault of a call if memory ran out, or the bytes of a row are no issuer's
 abbrev pub issuer_fault_of : IssuerFault → DatabaseFault
 issuer_fault_of issuer.Memory = call.Memory
 issuer_fault_of issuer.BadName = call.Store
 issuer_fault_of issuer.BadKey = call.Store
 
--- memory was lacking, or a row is one that no register writes
+-- the fault of a call if memory ran out, or a row is one that no register writes
 abbrev pub unshown_fault_of : Unshown → DatabaseFault
 unshown_fault_of rows.Memory = call.Memory
 unshown_fault_of (rows.At place) = call.Store
 
--- the fault of a call on an open register is one of the store's
+-- the fault of a call on an open register, as one of the store
 abbrev pub store_fault_of : DatabaseFault → StoreFault
 store_fault_of call.Memory = Memory
 store_fault_of call.Store = Store
 
--- and it is one of a command or a query
+-- the fault of a call, as one of a command or a query
 abbrev pub fault_of : DatabaseFault → Fault
 fault_of call.Memory = LackedMemory
 fault_of call.Store = StoreFailed

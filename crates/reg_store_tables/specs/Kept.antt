@@ -1,4 +1,4 @@
--- When the derived columns belong to the records.
+-- When the derived tables match the records.
 use Rattle.std.specs.Prelude.{◌≡◌, ℕ, map, unwrap_or, option_map, IsPermutation}
 use Rattle.sqlite_trees.specs.declared.store.Store.{Ghosts}
 use Rattle.sqlite.specs.Held.{Held}
@@ -12,14 +12,14 @@ use Rattle.reg_core.specs.declared.command.Status.TheVariants.{Unknown, Good, Ex
 use Rattle.reg_store_tables.specs.Columns.{Letter, good, revoked, expired, Standing, Listed, Columns}
 use Rattle.reg_store_tables.specs.Shows.{ShowsBoth}
 
--- the letter of a status; a registered certificate's is never unknown
+-- the letter of a status; a registered certificate never has the status unknown
 abbrev pub letter_of : Status → Letter
 letter_of Unknown = good
 letter_of Good = good
 letter_of Expired = expired
 letter_of (Revoked at reason) = revoked
 
--- a certificate's row: its status at the last accepted moment
+-- a certificate's row of `standing`: its status at the last accepted moment
 abbrev pub standing_of : Records → CertRow → Standing
 standing_of records certificate = record {
   serial = certificate.serial;
@@ -31,7 +31,7 @@ standing_of records certificate = record {
 abbrev pub not_after_of : Records → ℕ → ℕ
 not_after_of records serial = unwrap_or (option_map (λ certificate. certificate.not_after) (certificate_in records.certificates serial)) 0
 
--- a revocation's row: the last CRL that lists it, where that has been issued (RFC 5280 3.3)
+-- a revocation's row of `listed`: its entry, and the last CRL that lists it, if that has been issued (RFC 5280 3.3)
 abbrev pub listed_of : Records → RevocationRow → Listed
 listed_of records revocation = record {
   serial = revocation.serial;
@@ -48,6 +48,6 @@ pub record Kept (columns : Columns) (records : Records) : Type 0 where
   pub counts : columns.counts ≡ counts records records.last
   pub listed : IsPermutation (map (listed_of records) records.revocations) columns.listed
 
--- the tables show the records, and what is kept beside them stands for these records
+-- the tables show the records, with derived tables that match them
 abbrev pub ShowsKept : {S : Type 0} → Ghosts S → Held S → Records → Type 0
 ShowsKept g h records = (columns : Columns) × ShowsBoth g h records columns × Kept columns records

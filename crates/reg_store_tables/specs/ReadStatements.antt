@@ -30,8 +30,8 @@ command_of (Err error) = Nothing
 pub record NeverReturns (text : List ℕ) : Type 0 where
   pub none : (schema : Schema) (compiled : Compiled) → understood schema text ≡ Ok compiled → compiled.returning ≡ None
 
--- over the tables of a register the text is one statement, which reads no clock and no list of tables; over no tables it returns
--- anything of a write
+-- over the tables of a register, the text is one statement, which reads neither the clock nor the list of tables; over any tables, it has
+-- no RETURNING
 pub record IsReading (text : List ℕ) : Type 0 where
   pub plain : IsPlain (understood register_schema text)
   pub unlisted : reads_listing register_schema text ≡ false
@@ -42,7 +42,7 @@ pub record Answers (s : State) (text : List ℕ) (params : Row) (rows : List Row
   pub is_open : IsTrue s.is_open
   pub reads : Reads (command_of (understood register_schema text)) s.now params rows
 
--- how the rows are shown: each column in turn, the key with its number
+-- the columns that a statement returns for each kind of record, in order; an INTEGER PRIMARY KEY is its number
 abbrev pub shown_subscriber : SubscriberRow → Row
 shown_subscriber row = number row.id ∷ Text row.name ∷ []
 

@@ -1,5 +1,5 @@
--- How each record stands in a row. A row is its rowid and then the columns; the INTEGER PRIMARY KEY is the rowid, and NULL
--- in the place of its column.
+-- How each record is stored in a row. A row is its rowid and then the columns. An INTEGER PRIMARY KEY is the rowid, and its
+-- column is NULL.
 use Rattle.std.specs.Prelude.{ℕ, ◌+◌, ℤ, pos, cond, List, [], ◌∷◌}
 use Rattle.sqlite_value.specs.declared.value.Value.{Value}
 use Rattle.sqlite_value.specs.declared.value.Value.TheVariants.{Null, Int, Text, Blob}
@@ -16,15 +16,15 @@ use Rattle.reg_core.specs.declared.rows.CertRow.{CertRow}
 use Rattle.reg_core.specs.declared.rows.RequestRow.{RequestRow}
 use Rattle.reg_core.specs.declared.rows.RevocationRow.{RevocationRow}
 
--- a number as SQL has it
+-- a number as an SQL INTEGER
 abbrev pub number : ℕ → Value
 number n = Int (pos n)
 
--- a serial number: its 20 bytes, the highest first
+-- a serial number: its 20 bytes, in big-endian order
 abbrev pub serial_value : ℕ → Value
 serial_value serial = Blob (serial_bytes serial)
 
--- the columns behind rowids that rise by one
+-- rows of these columns, with rowids that rise by one
 abbrev pub behind_rowids : ℕ → List Row → List Row
 behind_rowids from [] = []
 behind_rowids from (columns ∷ rest) = (number from ∷ columns) ∷ behind_rowids (from + 1) rest
@@ -33,7 +33,7 @@ behind_rowids from (columns ∷ rest) = (number from ∷ columns) ∷ behind_row
 abbrev pub counted_rows : List Row → List Row
 counted_rows = behind_rowids 1
 
--- a ground is kept as its place in the list of grounds
+-- a ground is stored as its index in the list of grounds
 abbrev pub ground_index : Ground → ℕ
 ground_index Asked = 1
 ground_index Unauthorized = 2

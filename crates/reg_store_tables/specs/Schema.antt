@@ -28,7 +28,7 @@ required name kind = column_of name kind true
 abbrev pub key_column : List ℕ → Column
 key_column name = column_of name Integer false
 
--- the column at a place refers to the column of another table
+-- the column with this number refers to the column of another table
 abbrev pub refers : ℕ → List ℕ → List ℕ → Reference
 refers place parent parent_column = record {
   columns = place ∷ [];
@@ -39,7 +39,7 @@ refers place parent parent_column = record {
   is_deferred = false;
 }
 
--- a table: its columns, the column that is its rowid, the places of its PRIMARY KEY, of what is UNIQUE, its CHECKs and references
+-- a table: its columns, the column that is its rowid, the columns of its PRIMARY KEY and of each UNIQUE, its CHECKs and references
 abbrev pub table_of : List ℕ → ℕ → List Column → Option ℕ → List ℕ → List (List ℕ) → List Term → List Reference → Table
 table_of name tree columns key primary uniques checks references = record {
   name = name;
@@ -56,7 +56,7 @@ table_of name tree columns key primary uniques checks references = record {
   is_counted = false;
 }
 
--- the table has the one row with the key 1
+-- the CHECK that the only row has the key 1
 abbrev pub only_one : List Term
 only_one = op2 (Compare Eq Binary) (col 1 0) (lit (Int (pos 1))) ∷ []
 
@@ -146,7 +146,7 @@ longest = table_of (codes "longest") 17
     (key_column (codes "from_at") ∷ required (codes "days") Integer ∷ [])
     (Some 0) (0 ∷ []) [] [] []
 
--- crl (number, this_update) and standing (state, not_after), by their places
+-- the indexes crl (number, this_update) and standing (state, not_after), by the numbers of their columns
 abbrev pub index_of : List ℕ → Table → List ℕ → Index
 index_of name table places = record { name = name; tree = 0; table = table.tree; columns = places; order = plain; is_unique = false }
 
@@ -163,11 +163,11 @@ no_schema = record { tables = []; indexes = []; views = [] }
 abbrev pub record_tables : Schema
 record_tables = created (created (created (created (created (created (created no_schema office) subscriber) orders) cert) request) revocation) crl
 
--- and then those that are kept beside them
+-- and then the derived tables
 abbrev pub kept_tables : Schema
 kept_tables = created (created (created record_tables standing) kept) listed
 
--- then the tables that are kept beside them, then the schedule
+-- the tables of the records, then the derived tables, then the schedule
 abbrev pub all_tables : Schema
 all_tables = created (created (created (created record_tables standing) kept) listed) longest
 
@@ -175,6 +175,6 @@ all_tables = created (created (created (created record_tables standing) kept) li
 unfoldable pub register_schema : Schema
 register_schema = indexed (indexed all_tables crl crl_at) standing standing_due
 
--- the trees of its tables, in its order
+-- the numbers of the B-trees of a register's tables, in the order of the schema
 abbrev pub table_trees : List ℕ
 table_trees = 0 ∷ 1 ∷ 3 ∷ 4 ∷ 7 ∷ 8 ∷ 11 ∷ 12 ∷ 14 ∷ 15 ∷ 17 ∷ []

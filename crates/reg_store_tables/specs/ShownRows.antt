@@ -11,36 +11,36 @@ use Rattle.reg_store_tables.specs.Columns.{number_or_null}
 use Rattle.reg_store_tables.specs.Rows.{number}
 use Rattle.reg_store_tables.specs.ReadStatements.{Answers}
 
--- the columns from a place on have these values
+-- the columns from the one with number `at` on have these values
 abbrev pub HasCells : ℕ → Row → Row → Type 0
 HasCells at row [] = Unit {0}
 HasCells at row (value ∷ values) = (column row at ≡ value) × HasCells (at + 1) row values
 
--- a row shows what is looked for
+-- a row shows the wanted record
 pub record Found {A : Type 0} (P : A → Type 0) (view : A → Row) (wanted : Option A) (row : Row) : Type 0 where
   pub it : A
   pub first : Some it ≡ wanted
   pub holds : P it
   pub shown : row ≡ view it
 
--- where the rows are one, it shows what is looked for, and where there is none, nothing is
+-- one row shows the wanted record; if there is no row, no record is wanted
 pub record IsRowOf {A : Type 0} (P : A → Type 0) (view : A → Row) (rows : List Row) (wanted : Option A) : Type 0 where
   pub none : rows ≡ [] → None ≡ wanted
   pub one : (row : Row) → rows ≡ row ∷ [] → Found P view wanted row
 
--- each answer of the text shows so what is looked for
+-- every result of the statement shows the wanted record, or none if none is wanted
 abbrev pub ShowsRow : {A : Type 0} → (A → Type 0) → (A → Row) → State → List ℕ → Row → Option A → Type 0
 ShowsRow P view s text params wanted = (rows : List Row) → Answers s text params rows → IsRowOf P view rows wanted
 
--- and it has one row at most
+-- every result of the statement shows it, and has at most one row
 abbrev pub ShowsOneRow : {A : Type 0} → (A → Type 0) → (A → Row) → State → List ℕ → Row → Option A → Type 0
 ShowsOneRow P view s text params wanted = (rows : List Row) → Answers s text params rows → IsRowOf P view rows wanted × (length rows ≤ 1)
 
--- each answer of the text is the one row of this
+-- every result of the statement is the one row of this record
 abbrev pub ShowsOnly : {A : Type 0} → (A → Type 0) → (A → Row) → State → List ℕ → Row → A → Type 0
 ShowsOnly P view s text params wanted = (rows : List Row) → Answers s text params rows → P wanted × (rows ≡ view wanted ∷ [])
 
--- each answer of the text is the rows of these
+-- every result of the statement is the rows of these records
 abbrev pub ShowsAll : {A : Type 0} → (A → Type 0) → (A → Row) → State → List ℕ → Row → List A → Type 0
 ShowsAll P view s text params wanted = (rows : List Row) → Answers s text params rows → AllByRecursion P wanted × (rows ≡ map view wanted)
 
@@ -50,7 +50,7 @@ shown_number n = number n ∷ []
 abbrev pub shown_terms : ℕ × ℕ × ℕ → Row
 shown_terms terms = number terms.0 ∷ number terms.1 ∷ number terms.2 ∷ []
 
--- the last accepted moment, the issuer, and how long an answer lives
+-- the last accepted moment, the issuer, and the life of OCSP answers
 abbrev pub shown_responding : ℕ → Issuer → ℕ → Row
 shown_responding last issuer life = number last ∷ Blob issuer.name ∷ Blob issuer.key ∷ number life ∷ []
 

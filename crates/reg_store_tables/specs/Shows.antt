@@ -15,7 +15,7 @@ use Rattle.reg_store_tables.specs.Schema.{register_schema}
 use Rattle.reg_store_tables.specs.Rows.{number, counted_rows, stored_office, stored_subscriber, stored_order, stored_certificate, stored_request, stored_revocation, stored_crl, stored_step}
 use Rattle.reg_store_tables.specs.Columns.{Columns, office_days, stored_standing, stored_counts, stored_listed}
 
--- the serial numbers of the rows are serial numbers (RFC 5280 4.1.2.2)
+-- the serial numbers of the rows are valid (RFC 5280 4.1.2.2)
 abbrev pub HaveSerials : {A : Type 0} → (A → ℕ) → List A → Type 0
 HaveSerials serial rows = AllByRecursion (λ row. IsSerial (serial row)) rows
 
@@ -41,7 +41,7 @@ pub record AreRows (trees : Trees) (records : Records) : Type 0 where
   pub request_serials : HaveSerials (λ row. row.serial) records.requests
   pub revocation_serials : HaveSerials (λ row. row.serial) records.revocations
 
--- the tables that are kept beside the records have these rows, and the office these days
+-- the derived tables have these rows, and the office's row these days
 pub record AreColumns (trees : Trees) (columns : Columns) : Type 0 where
   pub letters : trees 12 ≡ counted_rows (map stored_standing columns.letters)
   pub counts : trees 14 ≡ stored_counts columns.counts ∷ []
@@ -50,17 +50,17 @@ pub record AreColumns (trees : Trees) (columns : Columns) : Type 0 where
   pub letter_serials : HaveSerials (λ row. row.serial) columns.letters
   pub listed_serials : HaveSerials (λ row. row.serial) columns.listed
 
--- a register's tables, and they show the records
+-- the database has a register's schema, and its tables show the records
 pub record IsShownBy (db : Database) (records : Records) : Type 0 where
   pub schema : db.schema ≡ register_schema
   pub rows : AreRows db.trees records
 
--- and beside them these columns
+-- and its derived tables have these rows
 pub record AreBoth (db : Database) (records : Records) (columns : Columns) : Type 0 where
   pub shown : IsShownBy db records
   pub kept : AreColumns db.trees columns
 
--- while the disk is honest and the connection open, its database has the property, and all of it is committed
+-- if the disk returned what was written, and the connection is open, its database has the property, and all of it is committed
 pub record Holds {S : Type 0} (g : Ghosts S) (h : Held S) (P : Database → Type 0) : Type 0 where
   pub saved : HasCleanDisk (state g h) → IsTrue (state g h).is_open → (state g h).now ≡ (state g h).committed
   pub tables : HasCleanDisk (state g h) → IsTrue (state g h).is_open → P (state g h).now
@@ -69,7 +69,7 @@ pub record Holds {S : Type 0} (g : Ghosts S) (h : Held S) (P : Database → Type
 abbrev pub Shows : {S : Type 0} → Ghosts S → Held S → Records → Type 0
 Shows g h records = Holds g h (λ db. IsShownBy db records)
 
--- the tables show the records, and these columns beside them
+-- the tables show the records, and the derived tables have these rows
 abbrev pub ShowsBoth : {S : Type 0} → Ghosts S → Held S → Records → Columns → Type 0
 ShowsBoth g h records columns = Holds g h (λ db. AreBoth db records columns)
 

@@ -1,4 +1,4 @@
--- Tables in which the schedule is being written anew.
+-- Tables in a transaction that replaces the schedule.
 use Rattle.std.specs.Prelude.{◌≡◌, ◌<◌, ◌==◌, ◌++◌, ◌∷◌, ℕ, true, false, List, [], map}
 use Rattle.std.specs.List.{AllByRecursion, list_any}
 use Rattle.sqlite_trees.specs.Tree.{Trees}
@@ -17,10 +17,10 @@ pub record IsStaged (base : Trees) (steps : List (ℕ × ℕ)) (db : Database) :
 abbrev pub AreBefore : ℕ → List (ℕ × ℕ) → Type 0
 AreBefore moment steps = AllByRecursion (λ step. step.0 < moment) steps
 
--- a step is put in, behind those that are before it
+-- a step is inserted after those with earlier moments
 abbrev pub AddsStep : ℕ → ℕ → Database → Database → Type 0
 AddsStep from days old new = (base : Trees) (steps : List (ℕ × ℕ)) → AreBefore from steps → IsStaged base steps old → IsStaged base (steps ++ (from, days) ∷ []) new
 
--- all steps are put in, where there are none
+-- all steps are inserted into an empty table
 abbrev pub AddsSteps : List (ℕ × ℕ) → Database → Database → Type 0
 AddsSteps steps old new = (base : Trees) → Ascends steps → IsStaged base [] old → IsStaged base steps new

@@ -1,4 +1,4 @@
--- What a look-up leaves, and what a step of a change leaves.
+-- What look-ups, steps of a transaction and changes leave as it was.
 use Rattle.std.specs.Prelude.{◌≡◌, ◌⊎◌, false, true, IsTrue, Result, OnOk, OnErr, ℕ, List, Ok}
 use Rattle.sqlite_trees.specs.Tree.{Trees}
 use Rattle.sqlite_trees.specs.declared.store.Store.{Ghosts}
@@ -11,7 +11,7 @@ use Rattle.reg_store_tables.specs.declared.fault.StoreFault.{StoreFault}
 use Rattle.reg_store_tables.specs.declared.fault.StoreFault.TheVariants.{Memory, Store}
 use Rattle.sqlite_value.specs.Order.{Row}
 
--- while the disk is honest and the connection open, its tables are those of a register, and were when it last committed
+-- if the disk returned what was written, and the connection is open, its tables are those of a register, and were at its last commit
 pub record IsRegister (s : State) : Type 0 where
   pub now : HasCleanDisk s → IsTrue s.is_open → s.now.schema ≡ register_schema
   pub committed : HasCleanDisk s → IsTrue s.is_open → s.committed.schema ≡ register_schema
@@ -22,8 +22,8 @@ pub record Stays (old new : State) : Type 0 where
   pub now : HasCleanDisk new → IsTrue new.is_open → (new.now ≡ old.now) ⊎ (new.now ≡ old.committed)
   pub committed : HasCleanDisk new → IsTrue new.is_open → new.committed ≡ old.committed
 
--- a call that commits nothing: a stop afterwards leaves what it left before, no fault of the disk is forgotten, only one shuts the
--- connection, and the limit on the steps of a query stays
+-- a call that commits nothing: a stop afterwards leaves what it would have left before, the count of disk faults does not fall, only a disk
+-- fault closes the connection, and the limit on the steps of a query stays
 abbrev pub LeavesNothing : State → State → Type 0
 LeavesNothing old new = Survives old new (λ _. ⊥)
 
@@ -34,14 +34,14 @@ pub record Looked {S : Type 0} (g : Ghosts S) (old new : Held S) : Type 0 where
   pub survives : LeavesNothing (state g old) (state g new)
   pub idle : old.in_transaction ≡ false → new.in_transaction ≡ false
 
--- A step of a transaction: whether it comes to an end or fails, nothing is committed by it.
+-- A step of a transaction: it commits nothing, even if it fails.
 pub record Stepped {S : Type 0} (g : Ghosts S) (old new : Transaction S) : Type 0 where
   pub same_reference : new.conn.ghost_name ≡ old.conn.ghost_name
   pub kept : HasCleanDisk (state g new.conn.now) → KeepsCommit (state g old.conn.now) (state g new.conn.now)
   pub survives : LeavesNothing (state g old.conn.now) (state g new.conn.now)
 
--- A change: where it is made the connection is open, an error leaves the tables as they were, and a stop finds what it would
--- have found before, or what the change makes.
+-- A change: if it succeeds, the connection is open; an error leaves the tables as they were; a stop leaves what it would have
+-- left before, or the whole change.
 pub record Changed {S T E : Type 0} (g : Ghosts S) (old new : Held S) (Made : Trees → Type 0) (result : Result T E) : Type 0 where
   pub live : HasCleanDisk (state g new) → OnOk result (IsTrue (state g new).is_open)
   pub err : IsRegister (state g old) → OnErr result (Stays (state g old) (state g new))
@@ -63,6 +63,6 @@ pub record Moves (old new : State) (P : Database → Type 0) : Type 0 where
   pub under_way : new.in_transaction ≡ true
   pub tables : P new.now
 
--- the faults of the store that a call on an open register has
+-- the faults of the store that a call on an open register can return
 abbrev pub IsDatabaseFault : StoreFault → Type 0
 IsDatabaseFault fault = (fault ≡ Memory) ⊎ (fault ≡ Store)

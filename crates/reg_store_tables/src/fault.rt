@@ -10,33 +10,33 @@ use std::alloc::{AllocError, AllocFailed};
 /// Why a call on an open register fails.
 #[derive(Clone, Copy, PartialEq, Eq)]
 pub enum DatabaseFault {
-    /// Memory could not be had.
+    /// Out of memory.
     Memory,
     /// The database failed, or a row is one that no register writes.
     Store,
 }
 
-/// Why a store fails: a call on it, or that it is made or opened.
+/// Why a register is not created or opened, or why a call on it fails.
 #[derive(Clone, Copy, PartialEq, Eq)]
 pub enum StoreFault {
-    /// Memory could not be had.
+    /// Out of memory.
     Memory,
     /// The database failed, or a row is one that no register writes.
     Store,
-    /// There is a table, an index or a view already.
+    /// The database is not empty: it has a table, an index or a view.
     NotEmpty,
     /// The tables are not those of a register.
     NotARegister,
-    /// The tables are of a newer version.
+    /// The tables are of a newer version than the program's.
     NewVersion,
 }
 
 /// Why rows are not read.
 #[derive(Clone, Copy, PartialEq, Eq)]
 pub enum Unshown {
-    /// Memory could not be had.
+    /// Out of memory.
     Memory,
-    /// The row at this place, counted from 0, has a value that no register writes.
+    /// The row with this index, counted from 0, has a value that no register writes.
     At(usize),
 }
 

@@ -1,4 +1,4 @@
-//! Look-ups of what CRLs list, from the rows that are kept for it alone.
+//! Look-ups of the entries of CRLs, in the derived table `listed`.
 
 ghost use Rattle.std.specs.Prelude.{◌≡◌, ◌<◌, ◌≤◌, ◌^◌, ◌↔◌, List, map, length, IsTrue, IfOk, IfErr};
 ghost use Rattle.std.specs.List.{AllByRecursion};
@@ -48,8 +48,8 @@ fn entries_of(rows: &Vec<Row>) -> Result<Vec<Entry>, DatabaseFault>
 }
 
 impl<S: Alter> Tables<S> {
-    /// The entries of the CRL with a number, issued or the next, in ascending order of serial number: at most 1,000,000.
-    /// `Store` too for more, and for a number above 2^63 - 1. It walks what is listed.
+    /// The entries of an issued CRL or of the next one, by its number, in ascending order of serial number: at most 1,000,000.
+    /// `Store` too if there are more, and for a number above 2^63 - 1. It walks the table `listed`.
     pub fn entries(&mut self, number: u64) -> Result<Vec<Entry>, DatabaseFault>
         ensures finds { FindsIf (λ _. number < 2 ^ 63) S.Store self.old self.new result (λ records found.
             ShowsKept S.Store self.old records → found.items ≡ entries records number) }
@@ -61,7 +61,7 @@ impl<S: Alter> Tables<S> {
         entries_of(&found)
     }
 
-    /// The first CRL that can list a revoked serial number and, where it has been issued, the last. `None` for one that is not revoked.
+    /// The first CRL that lists a revoked serial number (perhaps the next one) and, if it has been issued, the last. `None` if it is not revoked.
     pub fn listing(&mut self, serial: Serial) -> Result<Option<Listing>, DatabaseFault>
         ensures { Finds S.Store self.old self.new result (λ records found.
             ShowsKept S.Store self.old records → found ≡ listing records serial) }

@@ -42,7 +42,7 @@ impl<S: Alter> Tables<S> {
         policy(&mut self.connection)
     }
 
-    /// The last accepted moment, the issuer, and how many seconds an OCSP answer lives, read by one statement.
+    /// The last accepted moment, the issuer, and the life of OCSP answers in seconds, read by one statement.
     pub fn responding(&mut self) -> Result<(Moment, Issuer, u64), DatabaseFault>
         ensures finds { Finds S.Store self.old self.new result (λ records it.
             (it.0 ≡ records.last) × (it.1 ≡ records.issuer) × (it.2 ≡ records.policy.ocsp_life)) }

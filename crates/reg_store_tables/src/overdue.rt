@@ -1,4 +1,4 @@
-//! The look-up of the requests whose limit has passed.
+//! Look-ups of open requests, and of those that are overdue.
 
 ghost use Rattle.std.specs.Prelude.{◌≡◌, ◌≤◌, ◌+◌, ◌^◌, ◌&&◌, ◌<◌, ◌==◌, ◌++◌, List, [], ◌∷◌, length, min, not, filter, nat_lt, IfOk, IsSome, OnErr};
 ghost use Rattle.reg_core.specs.Due.{deadline, is_open, overdue, overdue_report};
@@ -39,7 +39,7 @@ fn undeclined_of<S: Alter>(
     Ok(newest.len() as u64)
 }
 
-/// The report with one request more, whose id is above those in it.
+/// The report with one more request, whose id is above those in it.
 fn one_more(report: Option<Overdue>, id: u64) -> Result<Option<Overdue>, DatabaseFault>
     ensures more { (requests : List RequestRow) → (request : RequestRow) → report ≡ overdue_report requests
         → request.id ≡ id → IfOk result (λ more. more ≡ overdue_report (requests ++ request ∷ [])) }
@@ -59,7 +59,7 @@ fn one_more(report: Option<Overdue>, id: u64) -> Result<Option<Overdue>, Databas
 }
 
 impl<S: Alter> Tables<S> {
-    /// Whether a registered certificate is good at a moment. `Store` where it is not registered.
+    /// Whether a registered certificate is good at a moment. `Store` if it is not registered.
     fn is_good_at(&mut self, serial: Serial, now: Moment) -> Result<bool, DatabaseFault>
         ensures { FindsIf (λ records. IsSome (certificate_in records.certificates serial))
             S.Store self.old self.new result (λ records good. good ≡ is_good (status records serial now)) }

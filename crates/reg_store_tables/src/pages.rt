@@ -1,4 +1,4 @@
-//! Look-ups of the first rows past a key, in the order of keys: as many as are wanted, or `Store` for more than 2^63 - 1.
+//! Look-ups of the first rows past a key, at most `most` of them, in the order of keys. `Store` too for a `most` above 2^63 - 1.
 
 ghost use Rattle.std.specs.Prelude.{◌≡◌, ◌<◌, ◌^◌, map, take};
 ghost use Rattle.reg_core.specs.Crls.{row_of};

@@ -12,7 +12,7 @@ use crate::rows::{ShownRow, row_in, rows_in};
 use sqlite::types::ValueRef;
 use sqlite::{Alter, Connection, Row};
 
-/// The rows that a query answers.
+/// The rows that a query returns.
 pub(crate) fn read<S: Alter>(
     conn: &mut Connection<S>,
     sql: &str,
@@ -25,7 +25,7 @@ pub(crate) fn read<S: Alter>(
     Ok(conn.query_all(sql, params)?)
 }
 
-/// What the one row shows that a query answers, or none where it answers none. `Store` for more.
+/// The record in the only row that a query returns; `None` if it returns no row. `Store` for more rows.
 pub(crate) fn look_up<S: Alter, T: ShownRow>(
     conn: &mut Connection<S>,
     sql: &str,
@@ -39,7 +39,7 @@ pub(crate) fn look_up<S: Alter, T: ShownRow>(
     row_in::<T>(&rows)
 }
 
-/// What the one row shows that a query answers. `Store` for none too.
+/// The record in the only row that a query returns. `Store` for no row and for more.
 pub(crate) fn look_up_one<S: Alter, T: ShownRow>(
     conn: &mut Connection<S>,
     sql: &str,
@@ -56,7 +56,7 @@ pub(crate) fn look_up_one<S: Alter, T: ShownRow>(
     }
 }
 
-/// What each row shows that a query answers.
+/// The record in each row that a query returns.
 pub(crate) fn look_up_all<S: Alter, T: ShownRow>(
     conn: &mut Connection<S>,
     sql: &str,

@@ -1,4 +1,4 @@
-//! The steps of the schedule of longest validities, put in inside a transaction.
+//! Inserts the steps of the schedule of longest validities, inside a transaction.
 
 ghost use Rattle.reg_store_tables.specs.Stays.{Stepped};
 ghost use Rattle.reg_store_tables.specs.Staged.{AddsStep, AddsSteps};
@@ -24,7 +24,7 @@ fn put_schedule_step<S: Alter>(
     Ok(())
 }
 
-/// Puts the steps in, into a table that has none.
+/// Inserts the steps into the table `longest`, which must be empty.
 pub fn put_schedule_steps<S: Alter>(
     tx: &mut Transaction<'_, S>,
     steps: &[(Moment, u64)],

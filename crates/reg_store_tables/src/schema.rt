@@ -1,5 +1,5 @@
-//! The tables of the register, as SQL makes them, in this order. All are STRICT. Moments are whole seconds, and a serial
-//! number is its 20 bytes with the highest first, so that its order is that of the numbers.
+//! The SQL statements that create a register's tables and indexes, in this order. All tables are STRICT. A moment is in whole
+//! seconds. A serial number is 20 bytes in big-endian order, so that SQL sorts it by its value.
 
 /// The one row of the office: its issuer, its policy but for the longest validities, and the last accepted moment.
 pub const OFFICE: &str =
@@ -37,7 +37,7 @@ pub const STANDING: &str =
 pub const KEPT: &str =
     "CREATE TABLE kept (one INTEGER PRIMARY KEY CHECK (one = 1), n_good INTEGER NOT NULL, n_revoked INTEGER NOT NULL, n_expired INTEGER NOT NULL) STRICT";
 
-/// What CRLs list of each revocation, and up to which number.
+/// The CRL entry of each revocation, with the numbers of the first and the last CRL that list it.
 pub const LISTED: &str =
     "CREATE TABLE listed (serial BLOB NOT NULL PRIMARY KEY REFERENCES revocation (serial), at INTEGER NOT NULL, reason INTEGER NOT NULL, first_crl INTEGER NOT NULL, not_after INTEGER NOT NULL, last_listed INTEGER) STRICT";
 
@@ -45,8 +45,8 @@ pub const LISTED: &str =
 pub const LONGEST: &str =
     "CREATE TABLE longest (from_at INTEGER PRIMARY KEY, days INTEGER NOT NULL) STRICT";
 
-/// The latest CRL is found in this index, without its bytes.
+/// The index in which CRLs are found without reading their bytes.
 pub const CRL_AT: &str = "CREATE INDEX crl_at ON crl (number, this_update)";
 
-/// The certificates that ended are found in this index.
+/// The index in which good certificates that ended are found.
 pub const STANDING_DUE: &str = "CREATE INDEX standing_due ON standing (state, not_after)";

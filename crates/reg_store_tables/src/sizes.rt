@@ -37,7 +37,7 @@ fn last_row(table: Table) -> &'static str
 }
 
 impl<S: Alter> Tables<S> {
-    /// How many rows a table has: it finds the last row alone.
+    /// How many rows a table has. It reads only the last row.
     pub fn held(&mut self, table: Table) -> Result<u64, DatabaseFault>
         ensures { Finds S.Store self.old self.new result (λ records rows. rows ≡ rows_of records table) }
     {
@@ -54,7 +54,7 @@ pub(crate) fn held<S: Alter>(conn: &mut Connection<S>, table: Table) -> Result<u
     Ok(last.unwrap_or(0))
 }
 
-/// What a table has at a number that SQL doesn't have: nothing, since the last row's number is below.
+/// The look-up of a number above 2^63 - 1, which SQL doesn't have. It finds nothing, since the number of the last row is lower.
 pub(crate) fn none_past<S: Alter, T>(
     conn: &mut Connection<S>,
     table: Table,

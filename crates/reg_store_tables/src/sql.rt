@@ -1,4 +1,4 @@
-//! The texts of the statements. Those that read do so by a key or an index but where they say that they walk a table.
+//! The SQL of the statements. Those that read use a key or an index, unless their comment says that they walk a table.
 
 pub(crate) const LAST: &str = "SELECT last_at FROM office";
 
@@ -40,7 +40,7 @@ pub(crate) const REQUEST_BY_ID: &str =
 /// The requests that are not declined, by their ids. It walks the requests.
 pub(crate) const UNDECLINED: &str =
     "SELECT id, serial, ground, received, declined FROM request WHERE declined = 0 ORDER BY id";
-/// The newest requests for a serial number that are not declined: at most as many as are wanted. It walks the requests from the last one back.
+/// The newest requests for a serial number that are not declined, at most `?2` of them. It walks the requests from the last one back.
 pub(crate) const UNDECLINED_OF: &str =
     "SELECT id FROM request WHERE declined = 0 AND serial = ?1 ORDER BY id DESC LIMIT ?2";
 
@@ -59,16 +59,16 @@ pub(crate) const ENDED_BEFORE: &str =
 
 pub(crate) const LISTED_BY_SERIAL: &str =
     "SELECT first_crl, last_listed FROM listed WHERE serial = ?1";
-/// What a CRL lists, by the serial numbers. It walks what is listed.
+/// The entries of a CRL, by their serial numbers. It walks the table `listed`.
 pub(crate) const ENTRIES: &str =
     "SELECT serial, at, reason FROM listed WHERE first_crl <= ?1 AND (last_listed IS NULL OR last_listed >= ?1) ORDER BY serial";
-/// The first certificates past a serial number, by the serial numbers: as many as are wanted. It stops at the last of them.
+/// The first certificates past a serial number, by their serial numbers, at most `?2` of them. It stops at the last of them.
 pub(crate) const CERTS_AFTER: &str =
     "SELECT serial, order_id, not_before, not_after FROM cert WHERE serial > ?1 ORDER BY serial LIMIT ?2";
 
 pub(crate) const REVOCATIONS_AFTER: &str =
     "SELECT serial, at, reason, request, first_crl FROM revocation WHERE serial > ?1 ORDER BY serial LIMIT ?2";
-/// The first CRLs past a number, without their bytes: as many as are wanted. The index `crl_at` has them.
+/// The first CRLs past a number, without their bytes, at most `?2` of them. It reads the index `crl_at`.
 pub(crate) const CRLS_AFTER: &str =
     "SELECT number, this_update FROM crl WHERE number > ?1 ORDER BY number LIMIT ?2";
 

@@ -1,5 +1,5 @@
-//! Values of SQL as values of the register, judged both ways: what a register writes is read as what it is, what is read stands
-//! in the column, and none is read where nothing of the kind stands there.
+//! Reads SQL values as values of the register. A value that a register writes is read as what it is (`read`). A value that is read
+//! is that of the column (`told`). The result is `None` if the column has another type or an invalid value.
 
 ghost use Rattle.std.specs.Prelude.{◌≡◌, ◌≢◌, ◌<◌, ◌≤◌, ◌^◌, ℕ, Bool, List, Option, cond, length, Some, OnOk, IfOk, IfErr, IfSome, IsSomeAnd, MatchOption};
 ghost use Rattle.sqlite_value.specs.declared.value.Value.TheVariants.{Text, Blob};
@@ -15,7 +15,7 @@ use reg_core::{Ground, Label, Moment, Serial};
 use sqlite::Row;
 use sqlite::types::{Value, ValueRef};
 
-/// The number as a key of SQL, which has none above 2^63 - 1.
+/// The number as a key of SQL; `None` above 2^63 - 1, the greatest INTEGER.
 pub(crate) fn sql_key(n: u64) -> Option<Value>
     ensures value { MatchOption result (2 ^ 63 ≤ n) (λ value. (n < 2 ^ 63) × (value ≡ number n)) }
 {
@@ -74,7 +74,7 @@ pub fn moment_at(row: &Row, at: usize) -> Option<Moment>
     Moment::of_secs(number_at(row, at)?)
 }
 
-/// The moment in a column, one that the register's clock lets pass.
+/// The moment in a column; `None` if it is not before the clock's end.
 pub fn clock_moment_at(row: &Row, at: usize) -> Option<Moment>
     ensures read { (n : ℕ) → column row.now at ≡ number n
         → MatchOption result (clock_end ≤ n) (λ read. read ≡ n) }
@@ -128,7 +128,7 @@ pub fn label_at(row: &Row, at: usize) -> Option<Label>
     }
 }
 
-/// The ground in a column, which has its place in the list of grounds.
+/// The ground in a column, which has its index in the list of grounds, from 1 on.
 pub fn ground_at(row: &Row, at: usize) -> Option<Ground>
     ensures read { (cause : Ground) → column row.now at ≡ number (ground_index cause) → result ≡ Some cause }
     ensures told { IfSome result (λ cause. column row.now at ≡ number (ground_index cause)) }

@@ -1,4 +1,4 @@
-//! The counts of certificates by their status, from the kept counts.
+//! The counts of certificates by their status, from the derived table `kept`.
 
 ghost use Rattle.std.specs.Prelude.{◌≡◌, ◌≤◌, length, filter, IsTrue};
 ghost use Rattle.sqlite.specs.Held.{state};
@@ -19,7 +19,7 @@ use reg_core::{Counts, Moment};
 use sqlite::{Alter, Connection, params};
 
 impl<S: Alter> Tables<S> {
-    /// How many registered certificates are good, revoked and expired at a moment, from the last accepted one on.
+    /// How many registered certificates are good, revoked and expired at a moment, which must not be before the last accepted one.
     pub fn counts(&mut self, now: Moment) -> Result<Counts, DatabaseFault>
         ensures { Finds S.Store self.old self.new result (λ records found.
             ShowsKept S.Store self.old records → SoundRows records → records.last ≤ now → found ≡ status.counts records now) }
@@ -34,7 +34,7 @@ impl<S: Alter> Tables<S> {
     }
 }
 
-/// The counts as they are kept, of the last accepted moment: one row is read.
+/// The counts in the table `kept`, as of the last accepted moment. It reads one row.
 pub fn kept_counts<S: Alter>(conn: &mut Connection<S>) -> Result<Counts, DatabaseFault>
     ensures { Finds S.Store conn.old conn.new result (λ records counts.
         (kept : Columns) → ShowsBoth S.Store conn.old records kept → counts ≡ kept.counts) }

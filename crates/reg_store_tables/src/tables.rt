@@ -1,13 +1,13 @@
-//! The tables of a register, which are looked up.
+//! The tables of a register, with their look-ups.
 
 use sqlite::{Alter, Connection};
 use std::marker::Model;
 
-/// The tables of a register in an SQL database. Its methods are the look-ups: they fail with `Memory`, or with `Store` where the
+/// The tables of a register in an SQL database. Its methods are the look-ups: they fail with `Memory`, or with `Store` if the
 /// database fails or a row is one that no register writes.
 ///
-/// A contract sees them as their connection, which is in no transaction between the calls. So what a contract says of a connection, as
-/// `Shows` and `ShowsKept` do, is said of the tables in the same words.
+/// Contracts see the tables as their connection, which is in no transaction between the calls. So `Shows`, `ShowsKept` and other
+/// definitions for a connection apply to the tables.
 #[derive(Drop)]
 pub struct Tables<S: Alter> {
     /// The connection. A call that changes the register borrows it, and leaves it in no transaction.

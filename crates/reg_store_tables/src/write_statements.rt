@@ -16,7 +16,7 @@ use reg_core::{Counts, Ground, Moment};
 use sqlite::types::ValueRef;
 use sqlite::{Alter, Transaction};
 
-/// The number as SQL has it. `Store` above 2^63 - 1, which SQL doesn't have.
+/// The number as an SQL INTEGER. `Store` above 2^63 - 1, the greatest one.
 pub fn sql_number(n: u64) -> Result<ValueRef<'static>, DatabaseFault>
     ensures value { IfOk result (λ value. value ≡ ValueRef.Int (pos n)) }
     ensures had { OnOk result (n < 2 ^ 63) }
@@ -28,28 +28,28 @@ pub fn sql_number(n: u64) -> Result<ValueRef<'static>, DatabaseFault>
     }
 }
 
-/// The moment as SQL has it, in whole seconds.
+/// The moment as an SQL INTEGER, in whole seconds.
 pub fn sql_moment(moment: Moment) -> ValueRef<'static>
     ensures { result ≡ ValueRef.Int (pos moment) }
 {
     ValueRef::Int(moment.secs() as i64)
 }
 
-/// The flag as SQL has it, 0 or 1.
+/// The flag as an SQL INTEGER, 0 or 1.
 pub fn sql_flag(flag: bool) -> ValueRef<'static>
     ensures { result ≡ ValueRef.Int (pos (cond flag 1 0)) }
 {
     ValueRef::Int(if flag { 1 } else { 0 })
 }
 
-/// The reasonCode as SQL has it (RFC 5280 5.3.1).
+/// The reasonCode as an SQL INTEGER (RFC 5280 5.3.1).
 pub fn sql_reason(reason: u8) -> ValueRef<'static>
     ensures { result ≡ ValueRef.Int (pos reason) }
 {
     ValueRef::Int(i64::from(reason))
 }
 
-/// The ground as its place in the list of grounds.
+/// The ground as an SQL INTEGER: its index in the list of grounds, from 1 on.
 pub fn sql_ground(ground: Ground) -> ValueRef<'static>
     ensures { result ≡ ValueRef.Int (pos (ground_index ground)) }
 {
@@ -68,7 +68,7 @@ pub fn sql_ground(ground: Ground) -> ValueRef<'static>
     })
 }
 
-/// How many rows the statement wrote, inside the transaction.
+/// Runs a statement inside the transaction, and returns how many rows it wrote.
 pub fn write<S: Alter>(
     tx: &mut Transaction<'_, S>,
     sql: &str,
@@ -81,14 +81,14 @@ pub fn write<S: Alter>(
     Ok(tx.execute(sql, params)?)
 }
 
-/// Commits the transaction. Nothing of it stays where that fails.
+/// Commits the transaction. If that fails, the transaction is rolled back.
 pub fn commit<S: Alter>(tx: Transaction<'_, S>) -> Result<(), DatabaseFault>
     ensures { Ends S.Store tx.entry.conn.now tx.exit.0.now result }
 {
     Ok(tx.commit()?)
 }
 
-/// Sets the counts.
+/// Sets the counts in the table `kept`.
 pub fn set_counts<S: Alter>(
     tx: &mut Transaction<'_, S>,
     counts: Counts,
