@@ -42,6 +42,14 @@ def a_register_whose_reply_can_not_be_printed_is_not_left(t):
 
 
 @test
+def a_log_that_may_be_there_is_left_alone(t):
+    """Whether a log lies beside the path can't be seen."""
+    ran = t.desk("init", "ca.db", *WORDS, faults=faults.environment(fail="stat:1", only="ca.db-wal"))
+    t.same((ran.status, ran.out, ran.err), (1, b"", b"F2 store\n"))
+    t.same(list(t.room.iterdir()), [], "what is left")
+
+
+@test
 def a_register_that_another_program_has_open_is_not_removed(t):
     """The program opened it before `desk init` finds that nobody reads its reply."""
     reads, writes = os.pipe()

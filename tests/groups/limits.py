@@ -221,6 +221,27 @@ def a_log_of_more_than_a_hundred_thousand_lines(t):
     t.same(t.done("replay", "counter", "ca.log"), "subscriber 1\n")
 
 
+@test(seconds=3)
+def the_last_answer_is_sent_whole_however_long_it_takes(t):
+    """Once `desk serve` has answered its last request, a client that still sends has the event loop go round."""
+    t.register(lines=f"{DAY} crl\n{DAY} crl\n")
+    t.sql("ca.db", "UPDATE crl SET der = zeroblob(12000000) WHERE number = 1")
+    t.clock(DAY)
+    (t.room / "passed").write_bytes(bytes(8))
+    desk = t.open("ca.db", "--requests", 2, command="serve", faults=faults.environment(passed=t.room / "passed"))
+    with desk.connect() as slow, desk.connect() as other:
+        slow.sendall(b"GET /crl/1 HTTP/1.1\r\n\r\n")
+        t.same(slow.recv(1), b"H", "its answer has begun")
+        other.sendall(COUNTS + b"more")
+        t.same(parted(read_all(other))[0], 200, "the last request")
+        for _ in range(300):
+            with contextlib.suppress(BrokenPipeError, ConnectionResetError):
+                other.sendall(b"x")
+            while not program.is_read(other) and desk.process.poll() is None:
+                pass
+        t.true(len(read_all(slow)) > 12_000_000, "the answer of the slow client is cut off")
+
+
 # File descriptors
 
 
@@ -664,3 +685,11 @@ def a_log_that_is_a_link_is_not_read(t):
     for words in (["audit", "ca.db"], ["copy", "ca.db", "copy.db"], ["crl", "ca.db"], ["open", "ca.db", "--port", free_port(), "--control", "counter", "--unsigned"]):
         ran = t.desk(*words)
         t.same((ran.status, ran.out, ran.err), (1, b"", b"F2 store\n"), program.shown(words))
+
+
+@test
+def a_job_leaves_nothing_in_the_log(t):
+    """At its end the log is copied into the file."""
+    t.register(lines=f"{DAY} subscriber acme\n{DAY} crl\n")
+    size = (t.room / "ca.db-wal").stat().st_size
+    t.true(size < 4_096, f"the log has {size} bytes, which are a page and more")

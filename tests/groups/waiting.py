@@ -126,7 +126,9 @@ def an_answer_whose_turn_comes_too_late_is_not_signed(t):
     t.true(held.signers.until(AT_ONCE), "all that may be asked for are")
     desk.advance(10_000)
     t.same([is_signed(program.parted(program.read_all(it))[2]) for it in clients], [False] * len(clients), "which answers are signed")
-    t.same(len(held.signers.asked), AT_ONCE, "signatures")
+    held.release.set()
+    t.true(is_signed(ocsp_answer(desk.desk, 0x2200)), "an answer behind them")
+    t.same(held.signers.connected, AT_ONCE + 1, "connections to the signer")
 
 
 @test(seconds=3)

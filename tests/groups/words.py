@@ -1,9 +1,10 @@
 """The command line: each word and option, the help, the refused words, and the effects of the accepted ones."""
 
 import re
+import subprocess
 
 from lib.documents import version
-from lib.program import KEY, NAME
+from lib.program import KEY, LONGEST, NAME, environment, program
 from lib.trial import each, test
 
 ISSUER = ("--name", NAME, "--key", KEY)
@@ -298,6 +299,13 @@ def help_is_printed_with_status_0(t, words, parts):
     told = t.done(*words.split())
     for it in (*parts, "Usage: "):
         t.has(told, it)
+
+
+@each({"help": "--help", "the version": "--version"})
+def a_text_that_can_t_be_printed_is_status_1(t, word):
+    with open("/dev/full", "wb") as full:
+        ran = subprocess.run([program(), word], cwd=t.room, stdout=full, stderr=subprocess.PIPE, env=environment(), timeout=LONGEST)
+    t.same((ran.returncode, ran.stderr != b""), (1, True), "status, and whether standard error tells of it")
 
 
 # Words that are taken: over a file that is not there they come to F2, which is status 1.
