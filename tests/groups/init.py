@@ -42,6 +42,12 @@ def a_register_whose_reply_can_not_be_printed_is_not_left(t):
 
 
 @test
+def a_read_only_file_system(t):
+    ran = t.desk("init", "ca.db", *WORDS, "--why", faults=faults.environment(fail="open:1=EROFS", only="ca.db"))
+    t.same((ran.status, ran.out, ran.err), (1, b"", b"F2 store\n  no right\n"))
+
+
+@test
 def a_log_that_may_be_there_is_left_alone(t):
     """Whether a log lies beside the path can't be seen."""
     ran = t.desk("init", "ca.db", *WORDS, faults=faults.environment(fail="stat:1", only="ca.db-wal"))

@@ -273,8 +273,11 @@ def a_signature_is_requested_again_once_there_is_a_descriptor(t, error):
     t.same(faults.counted(t.room / "count")["met"], 1, "faults that were met")
 
 
-@each({f"{error} at the {place}": (error, place) for error in ("EMFILE", "ENFILE") for place in ("port", "control socket")}, seconds=3)
-def a_client_is_accepted_once_there_is_a_descriptor(t, error, place):
+ACCEPTS = [*((error, place) for error in ("EMFILE", "ENFILE", "EINTR") for place in ("port", "control socket")), ("ECONNABORTED", "port")]
+
+
+@each({f"{error} at the {place}": (error, place) for error, place in ACCEPTS}, seconds=3)
+def a_client_is_accepted_although_accept_failed_once(t, error, place):
     t.register()
     # The second poll is behind the calls of accept(2) at the start.
     waits = lambda count: authority.until(lambda: faults.counted(t.room / count)["poll"] >= 2, "that the desk waits for clients")

@@ -132,6 +132,22 @@ def an_answer_whose_turn_comes_too_late_is_not_signed(t):
 
 
 @test(seconds=3)
+def clients_that_reset_make_room_for_others(t):
+    held = Held(t)
+    t.register(key=P256_KEY)
+    desk, body = Passing(t, *SIGNING), asked_for(0x1100)
+    request = b"POST /ocsp HTTP/1.1\r\nContent-Length: %d\r\n\r\n" % len(body) + body
+    clients = [desk.comes(request) for _ in range(AT_ONCE)]
+    t.true(held.signers.until(AT_ONCE), "all that may be asked for are")
+    for it in clients:
+        # Closing sends a reset.
+        it.setsockopt(socket.SOL_SOCKET, socket.SO_LINGER, b"\1\0\0\0\0\0\0\0")
+        it.close()
+    desk.comes(request)
+    authority.until(lambda: held.signers.connected == AT_ONCE + 1, "that the next signature is requested", seconds=10)
+
+
+@test(seconds=3)
 def a_disconnected_client_is_not_signed_for(t):
     held = Held(t)
     t.register(key=P256_KEY)
