@@ -3,6 +3,7 @@
 import hashlib
 import os
 import queue
+import signal
 import socket
 import threading
 import time
@@ -395,6 +396,21 @@ def replies_come_in_the_order_of_their_lines(t):
         held.release.set()
         told = [control.file.readline().decode().rstrip("\n") for _ in range(4)]
     t.same(told, ["crl 1 entries 0", "good", "crl 2 entries 0", "good 1 revoked 0 expired 0"])
+
+
+@test
+def lines_that_come_at_once_with_a_crl_are_answered(t):
+    t.register(key=P256_KEY)
+    t.enter_context(Signers(t.room / "ca.sign"))
+    desk = t.open("ca.db", *SIGNING)
+    clients = [t.control() for _ in range(3)]
+    t.same([it.ask("counts") for it in clients], ["good 0 revoked 0 expired 0"] * 3)
+    desk.process.send_signal(signal.SIGSTOP)
+    for it, line in zip(clients, (b"counts\n", b"crl\n", b"counts\n")):
+        it.peer.settimeout(20)
+        it.peer.sendall(line)
+    desk.process.send_signal(signal.SIGCONT)
+    t.same([it.file.readline() for it in clients], [b"good 0 revoked 0 expired 0\n", b"crl 1 entries 0\n", b"good 0 revoked 0 expired 0\n"])
 
 
 @test(seconds=3)
