@@ -48,8 +48,8 @@ def an_input_of_no_bytes_writes_nothing(t):
     t.same((ran.status, ran.out, ran.err, count["write"]), (0, b"", b"", 0))
 
 
-# Without help: if its write fails, it prints `Error: Os { .. }` with status 1 in place of `F5 write`.
 OUTPUTS = {
+    "help": ["--help"],
     "a schedule": ["schedule", "ca.db", "1970-01-01T00:00:00Z=200"],
     "an open desk": ["open", "ca.db", "--control", "counter", "--port", "0", "--unsigned"],
     "a desk that serves": ["serve", "ca.db", "--requests", "1", "--port", "0"],

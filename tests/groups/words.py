@@ -305,7 +305,7 @@ def help_is_printed_with_status_0(t, words, parts):
 def a_text_that_can_t_be_printed_is_status_1(t, word):
     with open("/dev/full", "wb") as full:
         ran = subprocess.run([program(), word], cwd=t.room, stdout=full, stderr=subprocess.PIPE, env=environment(), timeout=LONGEST)
-    t.same((ran.returncode, ran.stderr != b""), (1, True), "status, and whether standard error tells of it")
+    t.same((ran.returncode, ran.stderr), (1, b"F5 write\n"), "status and standard error")
 
 
 # Words that are taken: over a file that is not there they come to F2, which is status 1.

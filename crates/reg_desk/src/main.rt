@@ -3,23 +3,23 @@
 
 use reg_desk_cli::{Usage, no_text, read_words};
 use reg_desk_program::run_desk;
+use std::env;
 use std::io::ErrorKind;
 use std::process::ExitCode;
-use std::{env, io};
 
 /// Reads the command line, does its job, and returns the exit status: 0 if the job is done, or for help or the version; 1 after a fault, with its
 /// line on standard error, and the line of its cause if that is asked for and known; 2 if the command line can't be read, with the usage on
 /// standard error; 3 if a reply at a control socket, or in a strict script or import, was a refusal or a fault, or if the last line there has no
 /// line end.
-fn main(rt: HostRuntime) -> io::Result<ExitCode> {
+fn main(rt: HostRuntime) -> ExitCode {
     let status = match words_of(&rt) {
         Ok(words) => match read_words(rt.alloc(), words.as_slice()) {
             Ok(invocation) => run_desk(&rt, &invocation),
-            Err(usage) => print_usage(&rt, &usage)?,
+            Err(usage) => print_usage(&rt, &usage),
         },
-        Err(usage) => print_usage(&rt, &usage)?,
+        Err(usage) => print_usage(&rt, &usage),
     };
-    Ok(ExitCode::from(status))
+    ExitCode::from(status)
 }
 
 fn words_of(rt: &HostRuntime) -> Result<Vec<String>, Usage> {
@@ -30,12 +30,18 @@ fn words_of(rt: &HostRuntime) -> Result<Vec<String>, Usage> {
     }
 }
 
-/// Prints help or the version, or why the command line can't be read. Returns the exit status.
-fn print_usage(rt: &HostRuntime, usage: &Usage) -> io::Result<u8> {
-    match usage {
-        Usage::Help(text) | Usage::Version(text) => print!(rt; "{text}")?,
-        Usage::Bad(text) => eprint!(rt; "{text}")?,
-        Usage::Memory => eprintln!(rt; "F1 memory")?,
+/// Prints help or the version, or why the command line can't be read. Returns the exit status: 1 if the text can't be written.
+fn print_usage(rt: &HostRuntime, usage: &Usage) -> u8 {
+    let printed = match usage {
+        Usage::Help(text) | Usage::Version(text) => print!(rt; "{text}"),
+        Usage::Bad(text) => eprint!(rt; "{text}"),
+        Usage::Memory => eprintln!(rt; "F1 memory"),
+    };
+    match printed {
+        Ok(()) => usage.status(),
+        Err(_) => {
+            let _ = eprintln!(rt; "F5 write");
+            1
+        }
     }
-    Ok(usage.status())
 }

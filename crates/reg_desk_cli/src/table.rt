@@ -269,7 +269,7 @@ pub(crate) const RUNNING: &[CommandEntry] = &[
 pub(crate) const KEEPING: &[CommandEntry] = &[
     CommandEntry {
         name: "at",
-        about: "Tell the lines of standard input to an open desk, and write one reply line for each; a line has no moment.",
+        about: "Send the lines of standard input to an open desk, and write one reply line for each; a line has no moment.",
         example: "Examples:\n  echo counts | desk at ca.control\n  desk at ca.control --import certificates.csv\n  desk at ca.control --import new.csv --orders 1 398\n  desk at ca.control --revoke revocations.csv\n\nExit status 3 if a reply is a refusal or a fault, or if the last line has no end: that line does not run.",
         parts: &[
             Part::Must("counter", "SOCKET", AT_CONTROL),

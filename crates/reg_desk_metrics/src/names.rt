@@ -49,7 +49,7 @@ pub(crate) const CRL_AGE: &str =
     "# HELP desk_crl_age_seconds How long ago thisUpdate of the latest CRL was, by the desk's clock.\n# TYPE desk_crl_age_seconds gauge\ndesk_crl_age_seconds ";
 
 pub(crate) const CRL_DUE: &str =
-    "# HELP desk_crl_due_timestamp_seconds When the next CRL is due, 0 where there is none yet.\n# TYPE desk_crl_due_timestamp_seconds gauge\ndesk_crl_due_timestamp_seconds ";
+    "# HELP desk_crl_due_timestamp_seconds When the next CRL is due, 0 if it is due at once.\n# TYPE desk_crl_due_timestamp_seconds gauge\ndesk_crl_due_timestamp_seconds ";
 
 pub(crate) const OPEN: &str =
     "# HELP desk_requests_open Requests for revocation that wait for a decision.\n# TYPE desk_requests_open gauge\ndesk_requests_open ";
