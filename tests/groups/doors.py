@@ -1,14 +1,17 @@
 """The interfaces of an open desk: its port, its control socket, its clock, its log, and the replies that `at` and `script` print."""
 
 import contextlib
+import fcntl
 import os
 import re
 import socket
 import stat
 import time
+from concurrent.futures import ThreadPoolExecutor
 from pathlib import Path
 
-from lib.program import Control, free_port, moment_of, parted, read_all, seconds_of
+from lib.authority import until
+from lib.program import Control, Opened, free_port, moment_of, parted, read_all, seconds_of
 from lib.trial import Skipped, test
 
 DAY = "2026-01-01T00:00:00Z"
@@ -21,6 +24,16 @@ def listening_at(port):
     rows = [it.split() for name in ("tcp", "tcp6") for it in open(f"/proc/net/{name}").read().splitlines()[1:]]
     local = [row[1].split(":") for row in rows if row[3] == LISTENS]
     return [address for address, at in local if int(at, 16) == port]
+
+
+def is_open_elsewhere(folder):
+    """Whether another process has a folder open."""
+    found, path = set(), os.path.realpath(folder)
+    for process in Path("/proc").glob("[0-9]*"):
+        # A process, or a descriptor of it, may be gone by now.
+        with contextlib.suppress(OSError):
+            found |= {process.name for it in (process / "fd").iterdir() if os.readlink(it) == path}
+    return bool(found - {str(os.getpid())})
 
 
 @test
@@ -88,6 +101,43 @@ def a_stale_socket_is_taken_over_and_a_file_is_not(t):
     ran = t.desk("open", "ca.db", "--port", free_port(), "--control", "file", "--unsigned")
     t.same((ran.status, ran.out, ran.err), (1, b"", b"F4 read\n"), "a counter that is a file")
     t.same((t.room / "file").read_text(), "no socket", "the file")
+
+
+@test(seconds=30)
+def eight_desks_that_open_at_one_stale_socket(t):
+    """Forty times, eight desks open at one stale socket at once: one serves at it, and seven fail."""
+    files = [f"{at}.db" for at in range(8)]
+    for file in files:
+        t.register(file)
+    with ThreadPoolExecutor(len(files)) as pool:
+        for at in range(40):
+            path = t.room / f"{at}.control"
+            with socket.socket(socket.AF_UNIX) as stale:
+                stale.bind(str(path))
+            desks = list(pool.map(lambda file: t.enter_context(Opened(["open", file, "--control", path.name, "--unsigned"], cwd=t.room)), files))
+            serving = [it for it in desks if it.listens]
+            t.same(len(serving), 1, f"{at}: how many serve")
+            with Control(path) as control:
+                t.same(control.ask("status 05"), "unknown", f"{at}: the one that serves")
+            failed = [it.wait() for it in desks if it is not serving[0]]
+            t.same([(it.status, it.out, it.err) for it in failed], [(1, b"", b"F4 read\n")] * 7, f"{at}: the others")
+            serving[0].end()
+
+
+@test
+def the_lock_of_the_folder_of_a_control_socket(t):
+    """A desk waits while another program holds the lock, and releases it before it listens."""
+    t.register()
+    folder = os.open(t.room, os.O_RDONLY)
+    fcntl.flock(folder, fcntl.LOCK_EX)
+    with ThreadPoolExecutor(1) as pool:
+        opening = pool.submit(t.open)
+        until(lambda: is_open_elsewhere(t.room), "a desk that has the folder open", seconds=10)
+        t.same((t.room / "counter").exists(), False, "whether there is a socket")
+        fcntl.flock(folder, fcntl.LOCK_UN)
+        opening.result()
+    fcntl.flock(folder, fcntl.LOCK_EX | fcntl.LOCK_NB)
+    os.close(folder)
 
 
 @test

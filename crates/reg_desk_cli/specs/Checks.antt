@@ -36,7 +36,8 @@ IsNoIdentifier key_id why = (why ≡ failure.Fault fault.Memory)
 abbrev pub WritesIdentified : List ℕ → List ℕ → Option (List ℕ) → core.Issuer → Type 0
 WritesIdentified name key None issuer = WritesIssuer name key issuer
 WritesIdentified name key (Some key_id) issuer =
-    (plain : core.Issuer) × (octets : List ℕ) × WritesIssuer name key plain × WritesIdentifier key_id octets × (issuer ≡ with_identifier plain 1 octets)
+    (plain : core.Issuer) × (octets : List ℕ) × WritesIssuer name key plain × WritesIdentifier key_id octets
+    × (issuer ≡ with_identifier plain 1 octets)
 
 -- out of memory, or the words have no such issuer
 abbrev pub IsNotIdentified : List ℕ → List ℕ → Option (List ℕ) → Failure → Type 0

@@ -34,7 +34,11 @@ flag id = record (new_rule id) { long = Some id; action = Some SetTrue }
 
 -- one or more arguments: all that are left
 abbrev pub some : Text → Rule
-some id = record (new_rule id) { required = true; value_names = 1; range = Some (record { start_inclusive = 1; end_inclusive = usize_max }) }
+some id = record (new_rule id) {
+  required = true;
+  value_names = 1;
+  range = Some (record { start_inclusive = 1; end_inclusive = usize_max });
+}
 
 -- a command with arguments and options
 abbrev pub with_rules : App → List Rule → App
@@ -44,21 +48,29 @@ with_rules app (rule ∷ rest) = with_rules (with_rule app rule) rest
 -- `init FILE --name HEX --key HEX [--key-id HEX] [--days N] [--crl-life N] [--ocsp-life N] [--cap N] [--why]`
 abbrev pub init_app : App
 init_app = with_rules (new_app (codes "init"))
-    (must (codes "file") ∷ needs (codes "name") ∷ needs (codes "key") ∷ takes_value (codes "key-id") ∷ takes_value (codes "days")
-    ∷ takes_value (codes "crl-life") ∷ takes_value (codes "ocsp-life") ∷ takes_value (codes "cap") ∷ flag (codes "why") ∷ [])
+    (must (codes "file") ∷ needs (codes "name") ∷ needs (codes "key") ∷ takes_value (codes "key-id")
+    ∷ takes_value (codes "days")
+    ∷ takes_value (codes "crl-life") ∷ takes_value (codes "ocsp-life") ∷ takes_value (codes "cap")
+    ∷ flag (codes "why") ∷ [])
 
 -- `script [FILE] [--signer SOCKET --algorithm NAME] [--clock] [--accept-clock] [--strict] [--why]`
 abbrev pub script_app : App
 script_app = with_rules (new_app (codes "script"))
-    (may (codes "file") ∷ takes_value (codes "signer") ∷ takes_value (codes "algorithm") ∷ flag (codes "clock") ∷ flag (codes "accept-clock") ∷ flag (codes "strict") ∷ flag (codes "why") ∷ [])
+    (may (codes "file") ∷ takes_value (codes "signer") ∷ takes_value (codes "algorithm")
+    ∷ flag (codes "clock") ∷ flag (codes "accept-clock") ∷ flag (codes "strict") ∷ flag (codes "why") ∷ [])
 
 -- `import FILE [--now MOMENT] [--clock] [--accept-clock] [--strict] [--why]`; `Jobs.one_moment` states that one of `--now` and `--clock` is given
 abbrev pub import_app : App
-import_app = with_rules (new_app (codes "import")) (must (codes "file") ∷ takes_value (codes "now") ∷ flag (codes "clock") ∷ flag (codes "accept-clock") ∷ flag (codes "strict") ∷ flag (codes "why") ∷ [])
+import_app =
+    with_rules (new_app (codes "import"))
+    (must (codes "file") ∷ takes_value (codes "now") ∷ flag (codes "clock") ∷ flag (codes "accept-clock")
+    ∷ flag (codes "strict") ∷ flag (codes "why") ∷ [])
 
 -- `crl FILE [--number N] [--why]`
 abbrev pub crl_app : App
-crl_app = with_rules (new_app (codes "crl")) (must (codes "file") ∷ takes_value (codes "number") ∷ flag (codes "why") ∷ [])
+crl_app =
+    with_rules (new_app (codes "crl"))
+    (must (codes "file") ∷ takes_value (codes "number") ∷ flag (codes "why") ∷ [])
 
 -- `serve FILE --port N [--listen ADDRESS] --requests N [--signer SOCKET --algorithm NAME]
 -- [--responder CERT --responder-signer SOCKET --responder-algorithm NAME | --embed CERT] [--published CRL] [--log] [--log-file PATH] [--why]`
@@ -66,45 +78,60 @@ abbrev pub serve_app : App
 serve_app = with_rules (new_app (codes "serve"))
     (must (codes "file") ∷ needs (codes "port") ∷ takes_value (codes "listen") ∷ needs (codes "requests")
     ∷ takes_value (codes "signer") ∷ takes_value (codes "algorithm")
-    ∷ takes_value (codes "responder") ∷ takes_value (codes "responder-signer") ∷ takes_value (codes "responder-algorithm") ∷ takes_value (codes "embed")
-    ∷ takes_value (codes "published") ∷ flag (codes "log") ∷ takes_value (codes "log-file") ∷ flag (codes "why") ∷ [])
+    ∷ takes_value (codes "responder") ∷ takes_value (codes "responder-signer")
+    ∷ takes_value (codes "responder-algorithm") ∷ takes_value (codes "embed")
+    ∷ takes_value (codes "published") ∷ flag (codes "log") ∷ takes_value (codes "log-file")
+    ∷ flag (codes "why") ∷ [])
 
 -- `open FILE --port N [--listen ADDRESS] --control SOCKET [--signer SOCKET --algorithm NAME] [--unsigned]
 -- [--responder CERT --responder-signer SOCKET --responder-algorithm NAME | --embed CERT] [--published CRL] [--log] [--log-file PATH] [--why]`;
 -- `--counter` is an older name of `--control`; `Jobs.holder_chosen` states whether `--signer` or `--unsigned` must be given
 abbrev pub open_app : App
 open_app = with_rules (new_app (codes "open"))
-    (must (codes "file") ∷ needs (codes "port") ∷ takes_value (codes "listen") ∷ renamed (codes "control") (codes "counter")
+    (must (codes "file") ∷ needs (codes "port") ∷ takes_value (codes "listen")
+    ∷ renamed (codes "control") (codes "counter")
     ∷ takes_value (codes "signer") ∷ takes_value (codes "algorithm") ∷ flag (codes "unsigned")
-    ∷ takes_value (codes "responder") ∷ takes_value (codes "responder-signer") ∷ takes_value (codes "responder-algorithm") ∷ takes_value (codes "embed")
-    ∷ takes_value (codes "published") ∷ flag (codes "log") ∷ takes_value (codes "log-file") ∷ flag (codes "why") ∷ [])
+    ∷ takes_value (codes "responder") ∷ takes_value (codes "responder-signer")
+    ∷ takes_value (codes "responder-algorithm") ∷ takes_value (codes "embed")
+    ∷ takes_value (codes "published") ∷ flag (codes "log") ∷ takes_value (codes "log-file")
+    ∷ flag (codes "why") ∷ [])
 
 -- `at SOCKET [--import FILE [--orders SUBSCRIBER DAYS] | --revoke FILE] [--why]`
 abbrev pub at_app : App
 at_app = with_rules (new_app (codes "at"))
-    (must (codes "counter") ∷ takes_value (codes "import") ∷ takes_several (codes "orders") 2 ∷ takes_value (codes "revoke") ∷ flag (codes "why") ∷ [])
+    (must (codes "counter") ∷ takes_value (codes "import") ∷ takes_several (codes "orders") 2
+    ∷ takes_value (codes "revoke") ∷ flag (codes "why") ∷ [])
 
 -- `replay SOCKET LOG [--why]`
 abbrev pub replay_app : App
-replay_app = with_rules (new_app (codes "replay")) (must (codes "counter") ∷ must (codes "log") ∷ flag (codes "why") ∷ [])
+replay_app =
+    with_rules (new_app (codes "replay"))
+    (must (codes "counter") ∷ must (codes "log") ∷ flag (codes "why") ∷ [])
 
 -- `schedule FILE MOMENT=DAYS .. [--why]`
 abbrev pub schedule_app : App
-schedule_app = with_rules (new_app (codes "schedule")) (must (codes "file") ∷ some (codes "steps") ∷ flag (codes "why") ∷ [])
+schedule_app =
+    with_rules (new_app (codes "schedule"))
+    (must (codes "file") ∷ some (codes "steps") ∷ flag (codes "why") ∷ [])
 
 -- `key-id FILE HEX [--why]`
 abbrev pub key_id_app : App
-key_id_app = with_rules (new_app (codes "key-id")) (must (codes "file") ∷ must (codes "key-id") ∷ flag (codes "why") ∷ [])
+key_id_app =
+    with_rules (new_app (codes "key-id"))
+    (must (codes "file") ∷ must (codes "key-id") ∷ flag (codes "why") ∷ [])
 
 -- `list FILE LIST [--before MOMENT] [--now MOMENT] [--subscriber NAME] [--serial PREFIX] [--from MOMENT] [--to MOMENT] [--json] [--why]`
 abbrev pub list_app : App
 list_app = with_rules (new_app (codes "list"))
-    (must (codes "file") ∷ must (codes "list") ∷ takes_value (codes "before") ∷ takes_value (codes "now") ∷ takes_value (codes "subscriber")
-    ∷ takes_value (codes "serial") ∷ takes_value (codes "from") ∷ takes_value (codes "to") ∷ flag (codes "json") ∷ flag (codes "why") ∷ [])
+    (must (codes "file") ∷ must (codes "list") ∷ takes_value (codes "before") ∷ takes_value (codes "now")
+    ∷ takes_value (codes "subscriber")
+    ∷ takes_value (codes "serial") ∷ takes_value (codes "from") ∷ takes_value (codes "to")
+    ∷ flag (codes "json") ∷ flag (codes "why") ∷ [])
 
 -- `copy FILE PATH [--why]`
 abbrev pub copy_app : App
-copy_app = with_rules (new_app (codes "copy")) (must (codes "file") ∷ must (codes "path") ∷ flag (codes "why") ∷ [])
+copy_app =
+    with_rules (new_app (codes "copy")) (must (codes "file") ∷ must (codes "path") ∷ flag (codes "why") ∷ [])
 
 -- `audit FILE [--why]`
 abbrev pub audit_app : App
@@ -113,7 +140,11 @@ audit_app = with_rules (new_app (codes "audit")) (must (codes "file") ∷ flag (
 -- a command must be given, there is a version, and help is only `--help`
 abbrev pub bare_app : App
 bare_app = record (new_app (codes "desk")) {
-  top = record ((new_app (codes "desk")).top) { has_version = true; subcommand_required = true; disable_help_subcommand = true };
+  top = record ((new_app (codes "desk")).top) {
+    has_version = true;
+    subcommand_required = true;
+    disable_help_subcommand = true;
+  };
 }
 
 -- `desk [--why]`

@@ -38,11 +38,13 @@ value_or_usual usual id rows = option_map_or number_of (first_of id rows) (Some 
 
 -- the number of an option, if it is given
 abbrev pub given : Text → List Row → Option (Option ℕ)
-given id rows = option_map_or (λ text. option_map (λ n. Some n) (number_of text)) (first_of id rows) (Some None)
+given id rows =
+    option_map_or (λ text. option_map (λ n. Some n) (number_of text)) (first_of id rows) (Some None)
 
 -- the number of an option, within bounds
 abbrev pub number_in : ℕ → ℕ → Text → List Row → Option ℕ
-number_in least most id rows = option_and_then (within least most) (option_and_then number_of (first_of id rows))
+number_in least most id rows =
+    option_and_then (within least most) (option_and_then number_of (first_of id rows))
 
 -- the signer, with both options or neither; one option alone is an error, and so is an unknown name of an algorithm
 abbrev pub key_holder_of : Option Text → Option Text → Option (Option KeyHolder)
@@ -96,7 +98,9 @@ chosen None true true = None
 
 -- the signer of CRLs, from `--signer` with `--algorithm`; none with `--unsigned`, or with neither and a responder
 abbrev pub holder_chosen : Answerer → List Row → Option (Option KeyHolder)
-holder_chosen answerer rows = option_and_then (λ signer. chosen signer (has_flag (codes "unsigned") rows) (has_own_key answerer)) (holder_in rows)
+holder_chosen answerer rows =
+    option_and_then (λ signer. chosen signer (has_flag (codes "unsigned") rows) (has_own_key answerer))
+    (holder_in rows)
 
 -- how a script runs
 abbrev pub way_in : List Row → Way
@@ -109,7 +113,9 @@ way_in rows = record {
 -- the job of `script`; only a script over a register at a path can run line by line
 abbrev pub script_by : Option Text → Option KeyHolder → Way → Option Job
 script_by None signer way = if way.is_clocked || way.is_strict then None else Some (Script None signer)
-script_by (Some file) signer way = if way.is_clocked || way.is_strict then Some (Lines (record { file = file; signer = signer; way = way })) else Some (Script (Some file) signer)
+script_by (Some file) signer way =
+    if way.is_clocked || way.is_strict then Some (Lines (record { file = file; signer = signer; way = way }))
+    else Some (Script (Some file) signer)
 
 -- the address of `--listen`, which is one of the loopback interface
 abbrev pub loopback_named : Text → Option Loopback
@@ -157,7 +163,8 @@ script_of rows = do
 
 -- a moment that is given, if one is
 abbrev pub moment_given : Text → List Row → Option (Option ℕ)
-moment_given id rows = option_map_or (λ text. option_map (λ moment. Some moment) (moment_of text)) (first_of id rows) (Some None)
+moment_given id rows =
+    option_map_or (λ text. option_map (λ moment. Some moment) (moment_of text)) (first_of id rows) (Some None)
 
 -- the moment of an import, or `None` for that of the machine's clock: exactly one of `--now` and `--clock` is given
 abbrev pub one_moment : Option ℕ → Bool → Option (Option ℕ)
@@ -222,7 +229,9 @@ open_of rows = do
 
 -- the terms of the orders, if they are given
 abbrev pub order_terms_given : List Row → Option (Option OrderTerms)
-order_terms_given rows = option_map_or (λ texts. option_map (λ terms. Some terms) (order_terms_of texts)) (all_of (codes "orders") rows) (Some None)
+order_terms_given rows =
+    option_map_or (λ texts. option_map (λ terms. Some terms) (order_terms_of texts))
+    (all_of (codes "orders") rows) (Some None)
 
 -- lines; or the rows of a file that are to be registered, or revoked, but not both; `--orders` only with rows to be registered
 abbrev pub at_by : Text → Option Text → Option Text → Option OrderTerms → Option Job
@@ -263,10 +272,12 @@ form_in rows = if has_flag (codes "json") rows then Json else Csv
 
 -- the text of an option, if it is given, of 1 to 64 bytes; and of 1 to 40 hexadecimal digits
 abbrev pub label_given : Text → List Row → Option (Option Text)
-label_given id rows = option_map_or (λ text. option_map (λ label. Some label) (label_of text)) (first_of id rows) (Some None)
+label_given id rows =
+    option_map_or (λ text. option_map (λ label. Some label) (label_of text)) (first_of id rows) (Some None)
 
 abbrev pub prefix_given : Text → List Row → Option (Option Text)
-prefix_given id rows = option_map_or (λ text. option_map (λ digits. Some digits) (prefix_of text)) (first_of id rows) (Some None)
+prefix_given id rows =
+    option_map_or (λ text. option_map (λ digits. Some digits) (prefix_of text)) (first_of id rows) (Some None)
 
 -- the filter from the four options; none if the value of one can't be read
 unfoldable pub filter_in : List Row → Option Filter
@@ -354,12 +365,14 @@ ClapAccepts words = fault_of desk_app words ≡ []
 -- after it; and the log, by `--log` and `--log-file` after it
 abbrev pub IsInvocationIn : List Row → Option (Text × List Row) → Invocation → Type 0
 IsInvocationIn before found invocation = (job_found found ≡ Some invocation.job)
-    × (invocation.is_explained ≡ (has_flag (codes "why") before || has_flag_behind (codes "why") found)) × (invocation.has_log ≡ has_flag_behind (codes "log") found)
+    × (invocation.is_explained ≡ (has_flag (codes "why") before || has_flag_behind (codes "why") found))
+    × (invocation.has_log ≡ has_flag_behind (codes "log") found)
     × (invocation.log_file ≡ value_behind (codes "log-file") found)
 
 -- clap accepts the words, and this is their invocation
 abbrev pub IsInvocationOf : List Text → Invocation → Type 0
-IsInvocationOf words invocation = ClapAccepts words × IsInvocationIn (matches_of desk_app words) (subcommand_of desk_app words) invocation
+IsInvocationOf words invocation =
+    ClapAccepts words × IsInvocationIn (matches_of desk_app words) (subcommand_of desk_app words) invocation
 
 -- the usage for an error of a kind: help, the version, or bad words for any other kind; or out of memory
 abbrev pub PrintsUsage : ErrorKind → Usage → Type 0
@@ -374,7 +387,8 @@ abbrev pub IsUsageOf : List Text → Usage → Type 0
 IsUsageOf words (Help text) = IsAmong DisplayHelp (fault_of desk_app words)
 IsUsageOf words (Version text) = IsAmong DisplayVersion (fault_of desk_app words)
 IsUsageOf words (Bad text) =
-    ((kind : ErrorKind) × (kind ≢ DisplayHelp) × (kind ≢ DisplayVersion) × IsAmong kind (fault_of desk_app words))
+    ((kind : ErrorKind) × (kind ≢ DisplayHelp) × (kind ≢ DisplayVersion)
+    × IsAmong kind (fault_of desk_app words))
     ⊎ (ClapAccepts words × (job_of words ≡ None))
 IsUsageOf words Memory = Unit {0}
 

@@ -11,7 +11,8 @@ within least most n = if nat_le least n && nat_le n most then Some n else None
 
 -- the step with a moment and days, if the texts are these
 abbrev pub step_from : List ℕ → List ℕ → Option (ℕ × ℕ)
-step_from from days = option_and_then (λ days. option_map (λ from. (from, days)) (moment_of from)) (number_of days)
+step_from from days =
+    option_and_then (λ days. option_map (λ from. (from, days)) (moment_of from)) (number_of days)
 
 -- `MOMENT=DAYS` (61 is the code of `=`): a step of a schedule
 unfoldable pub step_of : List ℕ → Option (ℕ × ℕ)
@@ -20,7 +21,9 @@ step_of text = step_from (before_first (λ b. b == 61) text) (after_first (λ b.
 -- the terms of an order, if the texts are the subscriber's number and the days
 abbrev pub order_terms_of : List (List ℕ) → Option OrderTerms
 order_terms_of (subscriber ∷ days ∷ []) =
-    option_and_then (λ subscriber. option_map (λ days. record { subscriber = subscriber; days = days }) (number_of days)) (number_of subscriber)
+    option_and_then
+    (λ subscriber. option_map (λ days. record { subscriber = subscriber; days = days }) (number_of days))
+    (number_of subscriber)
 order_terms_of [] = None
 order_terms_of (text ∷ []) = None
 order_terms_of (first ∷ second ∷ third ∷ rest) = None
@@ -28,4 +31,5 @@ order_terms_of (first ∷ second ∷ third ∷ rest) = None
 -- each of the texts is a step
 abbrev pub steps_of : List (List ℕ) → Option (List (ℕ × ℕ))
 steps_of [] = Some []
-steps_of (text ∷ rest) = option_and_then (λ step. option_map (λ steps. step ∷ steps) (steps_of rest)) (step_of text)
+steps_of (text ∷ rest) =
+    option_and_then (λ step. option_map (λ steps. step ∷ steps) (steps_of rest)) (step_of text)

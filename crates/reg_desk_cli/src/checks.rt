@@ -83,7 +83,8 @@ fn bytes_of(alloc: Global, word: &Word<'_>) -> Result<Vec<u8>, Failure>
 /// The policy with one longest validity in days, the lives of CRLs and of OCSP responses in seconds, and the most rows of
 /// a table; `BadPolicy` if these make no policy.
 pub fn policy_of(days: u64, crl_life: u64, ocsp_life: u64, cap: u64) -> Result<Policy, Failure>
-    ensures ok { IfOk result (λ policy. (policy ≡ terms_of_days days crl_life ocsp_life cap) × IsPolicy policy) }
+    ensures ok { IfOk result (λ policy.
+        (policy ≡ terms_of_days days crl_life ocsp_life cap) × IsPolicy policy) }
     ensures err { IfErr result (IsNoPolicy (terms_of_days days crl_life ocsp_life cap)) }
 {
     match Policy::new(days, crl_life, ocsp_life, cap) {
@@ -106,7 +107,8 @@ pub fn office_of(
 ) -> Result<(Issuer, Policy), Failure>
     ensures ok { IfOk result (λ made. WritesIdentified name.now key.now key_id.now made.0
         × (made.1 ≡ terms_of_days days crl_life ocsp_life cap) × IsPolicy made.1) }
-    ensures err { IfErr result (IsNoOffice name.now key.now key_id.now (terms_of_days days crl_life ocsp_life cap)) }
+    ensures err { IfErr result
+        (IsNoOffice name.now key.now key_id.now (terms_of_days days crl_life ocsp_life cap)) }
 {
     let issuer = identified_issuer_of(alloc, name, key, key_id)?;
     let policy = policy_of(days, crl_life, ocsp_life, cap)?;

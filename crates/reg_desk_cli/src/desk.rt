@@ -41,7 +41,8 @@ fn add_commands<'a>(
     entries: &[CommandEntry],
 ) -> Result<(), AllocError>
     ensures app { OnOk result ((app : App)
-        → with_made app commands.new.items ≡ with_commands (with_made app commands.old.items) (map app_of_entry entries.now)) }
+        → with_made app commands.new.items
+        ≡ with_commands (with_made app commands.old.items) (map app_of_entry entries.now)) }
     ensures local { OnOk result (AreLocal commands.old.items → AreLocal commands.new.items) }
 {
     for entry in entries {
@@ -56,7 +57,8 @@ fn add_command<'a>(
     entry: &CommandEntry,
 ) -> Result<(), AllocError>
     ensures app { OnOk result ((app : App)
-        → with_made app commands.new.items ≡ with_subcommand (with_made app commands.old.items) (app_of_entry entry.now).top) }
+        → with_made app commands.new.items
+        ≡ with_subcommand (with_made app commands.old.items) (app_of_entry entry.now).top) }
     ensures local { OnOk result (AreLocal commands.old.items → AreLocal commands.new.items) }
 {
     commands.push(command(alloc, entry)?)?;
@@ -100,7 +102,8 @@ fn with_parts<'a>(
     parts: &[Part],
 ) -> Result<Command<'a>, AllocError>
     requires { (fields_of command).has_globals ≡ false }
-    ensures app { IfOk result (λ made. app_of made ≡ with_rules (app_of command.entry) (map rule_of_part parts.now)) }
+    ensures app { IfOk result (λ made.
+        app_of made ≡ with_rules (app_of command.entry) (map rule_of_part parts.now)) }
     ensures local { IfOk result (λ made. (fields_of made).has_globals ≡ false) }
 {
     let mut command = command;

@@ -28,7 +28,8 @@ pub(crate) fn text_of<'a>(matches: &ArgMatches<'a>, id: &str) -> Option<&'a str>
 }
 
 fn texts_of<'m, 'a>(matches: &'m ArgMatches<'a>, id: &str) -> Option<&'m [&'a str]>
-    ensures { option_map (λ texts. map (λ text. text.now) texts.now) result ≡ all_of id.now (rows_of (found_of matches.now)) }
+    ensures { option_map (λ texts. map (λ text. text.now) texts.now) result
+        ≡ all_of id.now (rows_of (found_of matches.now)) }
 {
     matches.get_strs(id)
 }
@@ -298,7 +299,8 @@ pub(crate) fn steps(
     matches: &ArgMatches<'_>,
     id: &str,
 ) -> Result<Option<Steps>, AllocError>
-    ensures { IfOk result (λ steps. steps ≡ option_and_then steps_of (all_of id.now (rows_of (found_of matches.now)))) }
+    ensures { IfOk result (λ steps.
+        steps ≡ option_and_then steps_of (all_of id.now (rows_of (found_of matches.now)))) }
 {
     match texts_of(matches, id) {
         Some(texts) => read_steps(alloc, texts),

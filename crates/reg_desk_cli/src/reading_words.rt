@@ -52,7 +52,8 @@ fn read_invocation<'a>(
     desk: &mut Command<'_>,
     matches: &ArgMatches<'a>,
 ) -> Result<Invocation<'a>, Usage>
-    ensures invocation { IfOk result (IsInvocationIn (rows_of (found_of matches.now)) (subcommand_rows_of matches.now)) }
+    ensures invocation { IfOk result
+        (IsInvocationIn (rows_of (found_of matches.now)) (subcommand_rows_of matches.now)) }
     ensures usage { IfErr result (IsNoInvocation (subcommand_rows_of matches.now)) }
 {
     match read_job(alloc, matches) {

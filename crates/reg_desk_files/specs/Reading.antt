@@ -1,5 +1,10 @@
 -- Why files can't be opened for reading.
-use Rattle.std.specs.Prelude.{◌≡◌, ◌⊎◌}
+use Rattle.std.specs.Prelude.{◌≡◌, ◌⊎◌, IfOk, Result}
+use Rattle.sqlite.specs.Files.{image_of}
+use Rattle.sqlite_disk.specs.declared.Disk.{Ghosts as Disk}
+use Rattle.sqlite_disk.specs.declared.Files.{Files}
+use Rattle.sqlite_wal.specs.Reads.{AreClean}
+use Rattle.sqlite_wal.specs.Recovery.{Image}
 use Rattle.reg_core.specs.declared.refusal.Fault.TheVariants.{Memory, Store}
 use Rattle.reg_desk_files.specs.declared.file_fault.FileFault.{FileFault}
 use Rattle.reg_desk_files.specs.declared.read_only.Unread.{Unread}
@@ -13,3 +18,9 @@ IsFileFault why = (why.fault ≡ Memory) ⊎ (why.fault ≡ Store)
 abbrev pub IsUnread : Unread → Type 0
 IsUnread unread.Nothing = Unit {0}
 IsUnread (unread.Fault why) = IsFileFault why
+
+-- what was found in files, and the image that they held, if the disk returned all that was written
+abbrev pub TellsOfImage
+    : {D T E : Type 0} → Disk D → Files D → Files D → Result T E → (T → Image → Type 0) → Type 0
+TellsOfImage disk old new result Tells =
+    IfOk result (λ found. AreClean disk new.log new.db → Tells found (image_of disk old))

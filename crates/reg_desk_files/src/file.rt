@@ -38,7 +38,8 @@ pub fn open_file<S: Start>(
     start: S,
 ) -> Result<Connection<FileStore<FileFrom<S>>>, FileFault>
     ensures opened { IfOk result (λ connection. HasCleanDisk (file_state connection) → IsOpened connection) }
-    ensures found { IfOk result (λ connection. HasCleanDisk (file_state connection) → FindsIn (image_at S.Start) (file_state connection)) }
+    ensures found { IfOk result (λ connection.
+        HasCleanDisk (file_state connection) → FindsIn (image_at S.Start) (file_state connection)) }
     ensures fresh { IfOk result IsNew }
     ensures idle { IfOk result (λ connection. connection.in_transaction ≡ false) }
     ensures faults { IfErr result IsFileFault }

@@ -1,12 +1,12 @@
 //! Finds out what files hold before a database is opened in them.
 
-ghost use Rattle.std.specs.Prelude.{◌≡◌, ◌≢◌, ◌↔◌, false, IfErr, IfOk, IsTrue};
-ghost use Rattle.sqlite.specs.Files.{HoldsDatabase, IsBlankAs, IsNothing, image_of};
+ghost use Rattle.std.specs.Prelude.{◌≡◌, ◌≢◌, ◌↔◌, false, IfErr, IsTrue};
+ghost use Rattle.sqlite.specs.Files.{HoldsDatabase, IsBlankAs, IsNothing};
 ghost use Rattle.sqlite_pool.specs.Stored.{stored_size};
 ghost use Rattle.sqlite_trees.specs.Tree.{Trees};
 ghost use Rattle.sqlite_wal.specs.PageSize.{bytes_of};
-ghost use Rattle.sqlite_wal.specs.Reads.{AreClean, OnlyReads};
-ghost use Rattle.reg_desk_files.specs.Reading.{IsFileFault};
+ghost use Rattle.sqlite_wal.specs.Reads.{OnlyReads};
+ghost use Rattle.reg_desk_files.specs.Reading.{IsFileFault, TellsOfImage};
 
 use crate::file_fault::FileFault;
 use reg_core::Fault;
@@ -32,9 +32,10 @@ pub enum Found {
 pub fn look<D: Disk>(alloc: Global, files: &mut Files<D>) -> Result<Found, FileFault>
     requires log { IsTrue (D.Disk.is_usable files.old.log) }
     requires db { IsTrue (D.Disk.is_usable files.old.db) }
-    ensures nothing { IfOk result (λ found. AreClean D.Disk files.new.log files.new.db → (found ≡ Found.Nothing ↔ IsNothing (image_of D.Disk files.old))) }
-    ensures other { IfOk result (λ found. AreClean D.Disk files.new.log files.new.db → found ≡ Found.Other
-        → (db : Trees) → ¬ HoldsDatabase (image_of D.Disk files.old) db) }
+    ensures nothing { TellsOfImage D.Disk files.old files.new result
+        (λ found image. found ≡ Found.Nothing ↔ IsNothing image) }
+    ensures other { TellsOfImage D.Disk files.old files.new result
+        (λ found image. found ≡ Found.Other → (db : Trees) → ¬ HoldsDatabase image db) }
     ensures log { OnlyReads D.Disk files.old.log files.new.log }
     ensures db { OnlyReads D.Disk files.old.db files.new.db }
     ensures faults { IfErr result IsFileFault }
@@ -51,7 +52,8 @@ pub fn look<D: Disk>(alloc: Global, files: &mut Files<D>) -> Result<Found, FileF
 fn is_nothing<D: Disk>(alloc: Global, files: &mut Files<D>) -> Result<bool, Error>
     requires log { IsTrue (D.Disk.is_usable files.old.log) }
     requires db { IsTrue (D.Disk.is_usable files.old.db) }
-    ensures nothing { IfOk result (λ is. AreClean D.Disk files.new.log files.new.db → (IsTrue is ↔ IsNothing (image_of D.Disk files.old))) }
+    ensures nothing { TellsOfImage D.Disk files.old files.new result
+        (λ is image. IsTrue is ↔ IsNothing image) }
     ensures log { OnlyReads D.Disk files.old.log files.new.log }
     ensures db { OnlyReads D.Disk files.old.db files.new.db }
 {
@@ -64,7 +66,8 @@ fn is_nothing<D: Disk>(alloc: Global, files: &mut Files<D>) -> Result<bool, Erro
 fn is_blank<D: Disk>(alloc: Global, files: &mut Files<D>, has_sums: bool) -> Result<bool, Error>
     requires log { IsTrue (D.Disk.is_usable files.old.log) }
     requires db { IsTrue (D.Disk.is_usable files.old.db) }
-    ensures blank { IfOk result (λ is. AreClean D.Disk files.new.log files.new.db → (IsTrue is ↔ IsBlankAs has_sums (image_of D.Disk files.old))) }
+    ensures blank { TellsOfImage D.Disk files.old files.new result
+        (λ is image. IsTrue is ↔ IsBlankAs has_sums image) }
     ensures log { OnlyReads D.Disk files.old.log files.new.log }
     ensures db { OnlyReads D.Disk files.old.db files.new.db }
 {
@@ -81,7 +84,8 @@ fn new_page() -> PageSize
 fn begins<D: Disk>(alloc: Global, files: &mut Files<D>) -> Result<bool, Error>
     requires log { IsTrue (D.Disk.is_usable files.old.log) }
     requires db { IsTrue (D.Disk.is_usable files.old.db) }
-    ensures none { IfOk result (λ is. AreClean D.Disk files.new.log files.new.db → is ≡ false → (db : Trees) → ¬ HoldsDatabase (image_of D.Disk files.old) db) }
+    ensures none { TellsOfImage D.Disk files.old files.new result
+        (λ is image. is ≡ false → (db : Trees) → ¬ HoldsDatabase image db) }
     ensures log { OnlyReads D.Disk files.old.log files.new.log }
     ensures db { OnlyReads D.Disk files.old.db files.new.db }
 {
@@ -96,7 +100,8 @@ fn begins<D: Disk>(alloc: Global, files: &mut Files<D>) -> Result<bool, Error>
 fn begins_with<D: Disk>(alloc: Global, files: &mut Files<D>, size: PageSize) -> Result<bool, Error>
     requires log { IsTrue (D.Disk.is_usable files.old.log) }
     requires db { IsTrue (D.Disk.is_usable files.old.db) }
-    ensures none { IfOk result (λ is. AreClean D.Disk files.new.log files.new.db → is ≡ false → (db : Trees) → (held : HoldsDatabase (image_of D.Disk files.old) db)
+    ensures none { TellsOfImage D.Disk files.old files.new result
+        (λ is image. is ≡ false → (db : Trees) → (held : HoldsDatabase image db)
         → stored_size held.0 ≢ bytes_of size) }
     ensures log { OnlyReads D.Disk files.old.log files.new.log }
     ensures db { OnlyReads D.Disk files.old.db files.new.db }

@@ -116,8 +116,10 @@ fn of_opening(error: &OpenError) -> Option<Cause>
 }
 
 fn of_database(error: &Error) -> Option<Cause>
-    ensures no_database { error.now ≡ Error.SqliteFailure ErrorCode.NotADatabase → result ≡ Some Cause.Damaged }
-    ensures corrupt { error.now ≡ Error.SqliteFailure ErrorCode.DatabaseCorrupt → result ≡ Some Cause.Damaged }
+    ensures no_database { error.now ≡ Error.SqliteFailure ErrorCode.NotADatabase
+        → result ≡ Some Cause.Damaged }
+    ensures corrupt { error.now ≡ Error.SqliteFailure ErrorCode.DatabaseCorrupt
+        → result ≡ Some Cause.Damaged }
     ensures busy { error.now ≡ Error.SqliteFailure ErrorCode.DatabaseBusy → result ≡ Some Cause.InUse }
     ensures full { error.now ≡ Error.SqliteFailure ErrorCode.DiskFull → result ≡ Some Cause.DiskFull }
     ensures memory { error.now ≡ Error.SqliteFailure ErrorCode.OutOfMemory → result ≡ None }

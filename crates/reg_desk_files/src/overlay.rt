@@ -77,7 +77,8 @@ impl<F: Source> Overlay<F> {
 
 /// The files that a database gets: a log that was copied into memory, and a database file that is only read.
 pub fn overlaid<F: Source>(alloc: Global, log: Vec<u8>, db: F, key: u64) -> Files<Overlay<F>>
-    ensures image { seen_image ⟦<Overlay<F> as Disk>⟧ result.log result.db ≡ image log.items (F.Source.bytes db) }
+    ensures image { seen_image ⟦<Overlay<F> as Disk>⟧ result.log result.db
+        ≡ image log.items (F.Source.bytes db) }
     ensures below { file_below result.db ≡ Some db }
     ensures alone { file_below result.log ≡ None }
 {

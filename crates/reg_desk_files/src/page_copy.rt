@@ -80,7 +80,9 @@ pub fn recovered<D: Disk + Drop>(
 ) -> Result<Pager<D>, Unread>
     requires log { IsTrue (D.Disk.is_usable files.log) }
     requires db { IsTrue (D.Disk.is_usable files.db) }
-    ensures found { IfOk result (λ pager. IsTrue (state pager).is_clean → Recovers (state pager).page_size (image_of D.Disk files) (visible pager)) }
+    ensures found { IfOk result (λ pager.
+        IsTrue (state pager).is_clean
+        → Recovers (state pager).page_size (image_of D.Disk files) (visible pager)) }
     ensures faults { IfErr result IsUnread }
 {
     is_begun(alloc, &mut files)?;
@@ -110,7 +112,9 @@ fn recovered_by<D: Disk + Drop>(
 ) -> Result<Pager<D>, Unread>
     requires log { IsTrue (D.Disk.is_usable files.log) }
     requires db { IsTrue (D.Disk.is_usable files.db) }
-    ensures found { IfOk result (λ pager. IsTrue (state pager).is_clean → Recovers (state pager).page_size (image_of D.Disk files) (visible pager)) }
+    ensures found { IfOk result (λ pager.
+        IsTrue (state pager).is_clean
+        → Recovers (state pager).page_size (image_of D.Disk files) (visible pager)) }
     ensures faults { IfErr result IsUnread }
 {
     let Ok(mut pager) = Pager::new(alloc, files, size, options) else {
@@ -125,8 +129,10 @@ fn recovered_by<D: Disk + Drop>(
 /// Writes all pages in order, and returns how many bytes those are. Errors: `Memory`; `Store` if a page can't be read or written.
 pub fn put_pages<D: Disk, W: Write>(pager: &mut Pager<D>, writer: &mut W) -> Result<u64, FileFault>
     ensures whole { IfOk result (λ bytes. IsTrue (state pager.new).is_clean
-        → Appends (W.contents writer.old) (W.contents writer.new) (pages_in_order (visible pager.old) (page_count pager.old))) }
-    ensures bytes { IfOk result (λ bytes. bytes ≡ min (page_count pager.old * (state pager.old).page_size) 18446744073709551615) }
+        → Appends (W.contents writer.old) (W.contents writer.new)
+        (pages_in_order (visible pager.old) (page_count pager.old))) }
+    ensures bytes { IfOk result (λ bytes.
+        bytes ≡ min (page_count pager.old * (state pager.old).page_size) 18446744073709551615) }
     ensures faults { IfErr result IsFileFault }
 {
     let count = pager.page_count();

@@ -111,7 +111,9 @@ pub fn open_sources<F: Source + Drop>(
     ensures opened { IfOk result (λ connection. HasCleanDisk (file_state connection) → IsOpened connection) }
     ensures found { IfOk result (λ connection. HasCleanDisk (file_state connection)
         → FindsIn (image sources.log.items (F.Source.bytes sources.db)) (file_state connection)) }
-    ensures begun { IfOk result (λ connection. HasCleanDisk (file_state connection) → ¬ IsNothing (image sources.log.items (F.Source.bytes sources.db))) }
+    ensures begun { IfOk result (λ connection.
+        HasCleanDisk (file_state connection)
+        → ¬ IsNothing (image sources.log.items (F.Source.bytes sources.db))) }
     ensures fresh { IfOk result IsNew }
     ensures idle { IfOk result (λ connection. connection.in_transaction ≡ false) }
     ensures faults { IfErr result IsUnread }
@@ -130,8 +132,10 @@ pub fn open_begun<D: Disk + Drop>(
     requires log { IsTrue (D.Disk.is_usable files.log) }
     requires db { IsTrue (D.Disk.is_usable files.db) }
     ensures opened { IfOk result (λ connection. HasCleanDisk (file_state connection) → IsOpened connection) }
-    ensures found { IfOk result (λ connection. HasCleanDisk (file_state connection) → FindsIn (image_of D.Disk files) (file_state connection)) }
-    ensures begun { IfOk result (λ connection. HasCleanDisk (file_state connection) → ¬ IsNothing (image_of D.Disk files)) }
+    ensures found { IfOk result (λ connection.
+        HasCleanDisk (file_state connection) → FindsIn (image_of D.Disk files) (file_state connection)) }
+    ensures begun { IfOk result (λ connection.
+        HasCleanDisk (file_state connection) → ¬ IsNothing (image_of D.Disk files)) }
     ensures fresh { IfOk result IsNew }
     ensures idle { IfOk result (λ connection. connection.in_transaction ≡ false) }
     ensures faults { IfErr result IsUnread }
@@ -146,7 +150,8 @@ pub fn open_begun<D: Disk + Drop>(
 pub(crate) fn is_begun<D: Disk>(alloc: Global, files: &mut Files<D>) -> Result<(), Unread>
     requires log { IsTrue (D.Disk.is_usable files.old.log) }
     requires db { IsTrue (D.Disk.is_usable files.old.db) }
-    ensures begun { OnOk result (AreClean D.Disk files.new.log files.new.db → ¬ IsNothing (image_of D.Disk files.old)) }
+    ensures begun { OnOk result
+        (AreClean D.Disk files.new.log files.new.db → ¬ IsNothing (image_of D.Disk files.old)) }
     ensures log { OnlyReads D.Disk files.old.log files.new.log }
     ensures db { OnlyReads D.Disk files.old.db files.new.db }
     ensures faults { IfErr result IsUnread }
@@ -160,7 +165,8 @@ pub(crate) fn is_begun<D: Disk>(alloc: Global, files: &mut Files<D>) -> Result<(
 
 /// A copy of all bytes of a file, with capacity for those that opening appends. Errors: `Memory`; `Store` if a call failed.
 pub fn copy_of<F: Source>(alloc: Global, file: &F) -> Result<Vec<u8>, FileFault>
-    ensures bytes { IfOk result (λ copy. IsTrue (F.Source.is_honest file.now) → copy.items ≡ F.Source.bytes file.now) }
+    ensures bytes { IfOk result (λ copy.
+        IsTrue (F.Source.is_honest file.now) → copy.items ≡ F.Source.bytes file.now) }
     ensures faults { IfErr result IsFileFault }
 {
     let size = file.size()?;

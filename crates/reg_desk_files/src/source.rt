@@ -19,7 +19,8 @@ pub trait Source {
 
     /// Fills a buffer with the bytes from an offset on. Errors: the file ends before that, or the call of the system failed.
     fn fill(&self, at: usize, buf: &mut [u8]) -> io::Result<()>
-        ensures { OnOk result (IsTrue (is_honest self.now) → 0 < length buf.old → Holds (bytes self.now) at buf.new) };
+        ensures { OnOk result
+            (IsTrue (is_honest self.now) → 0 < length buf.old → Holds (bytes self.now) at buf.new) };
 }
 
 impl Source for Vec<u8> {

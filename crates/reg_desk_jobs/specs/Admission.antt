@@ -36,7 +36,8 @@ is_rate_reached now recent = is_recent now (slice_index_or recent.moments (recen
 
 -- one more request, which replaces the oldest
 abbrev pub after_one_more : ℕ → RecentRequests → RecentRequests
-after_one_more now recent = record { moments = slice_set recent.moments (recent.next % 100) (Some now); next = recent.next % 100 + 1 }
+after_one_more now recent =
+    record { moments = slice_set recent.moments (recent.next % 100) (Some now); next = recent.next % 100 + 1 }
 
 -- a request for a serial number is counted, unless there were a hundred within the minute
 abbrev pub after_request : ℕ → Admission → Admission
@@ -73,8 +74,10 @@ IsWithin admission records now (Some serial) = limit_at admission records now se
 -- a request for a serial number is refused: with the status of a limit, or with the fault of a store that could not be read
 abbrev pub RefusesSerial : Admission → Records → ℕ → ℕ → AnswerEffects → Type 0
 RefusesSerial admission records now serial it =
-    ((status : ℕ) × (limit_at admission records now serial ≡ Some status) × (it ≡ plain (http_refusal status)))
-    ⊎ ((fault : Fault) × IsOfStore fault × (is_rate_reached now admission.recent ≡ false) × (it ≡ fault_effects fault))
+    ((status : ℕ) × (limit_at admission records now serial ≡ Some status)
+    × (it ≡ plain (http_refusal status)))
+    ⊎ ((fault : Fault) × IsOfStore fault × (is_rate_reached now admission.recent ≡ false)
+    × (it ≡ fault_effects fault))
 
 abbrev pub RefusesAtLimit : Admission → Records → ℕ → Option ℕ → AnswerEffects → Type 0
 RefusesAtLimit admission records now None it = ⊥
@@ -82,7 +85,8 @@ RefusesAtLimit admission records now (Some serial) it = RefusesSerial admission 
 
 -- how a request for a serial number is refused, or that it is within the limits
 abbrev pub MeetsLimits : Admission → Records → ℕ → ℕ → Option Answered → Type 0
-MeetsLimits admission records now serial (Some answered) = RefusesSerial admission records now serial (answer_effects answered)
+MeetsLimits admission records now serial (Some answered) =
+    RefusesSerial admission records now serial (answer_effects answered)
 MeetsLimits admission records now serial None = limit_at admission records now serial ≡ None
 
 abbrev pub IsRefusedBy : ℕ → Option Answered → Type 0
@@ -90,19 +94,26 @@ IsRefusedBy status (Some answered) = answer_effects answered ≡ plain (http_ref
 IsRefusedBy status None = ⊥
 
 -- the register answers a request within the limits; any other is refused, and no record changes
-abbrev pub AnswersAdmitted : Admission → Signs → ℕ → Signatory → Records → RoutedRequest → AnswerEffects → Records → Type 0
+abbrev pub AnswersAdmitted
+    : Admission → Signs → ℕ → Signatory → Records → RoutedRequest → AnswerEffects → Records → Type 0
 AnswersAdmitted admission signs now signatory before what it after =
-    (IsWithin admission before now (requested_serial what) × Answers (Runs signs signatory) Asks (Replies signs signatory) Crls now before what it after)
+    (IsWithin admission before now (requested_serial what)
+    × Answers (Runs signs signatory) Asks (Replies signs signatory) Crls now before what it after)
     ⊎ (RefusesAtLimit admission before now (requested_serial what) it × (after ≡ before))
 
 -- the same when the answer is begun, and may be left to be signed
-abbrev pub BeginsAdmitted : Admission → Signs → ℕ → Signatory → Records → RoutedRequest → Result (Begun Answered Drafted) Memory → Records → Type 0
+abbrev pub BeginsAdmitted
+    : Admission → Signs → ℕ → Signatory → Records → RoutedRequest → Result (Begun Answered Drafted) Memory
+    → Records → Type 0
 BeginsAdmitted admission signs now signatory before what (Ok (Ready answered)) after =
-    AnswersAdmitted admission signs now signatory before what (answer_effects answered) after × AddsARequestAtMost now before after
+    AnswersAdmitted admission signs now signatory before what (answer_effects answered) after
+    × AddsARequestAtMost now before after
 BeginsAdmitted admission signs now signatory before what (Ok (Unsigned draft)) after =
-    BeginsTo (Runs signs signatory) Asks (Replies signs signatory) Crls (Drafts signatory) now before what (Unsigned draft) after
+    BeginsTo (Runs signs signatory) Asks (Replies signs signatory) Crls (Drafts signatory) now before what
+    (Unsigned draft) after
 BeginsAdmitted admission signs now signatory before what (Err memory) after = after ≡ before
 
 -- the same for some state of the limits
 abbrev pub AnswersLimited : Signs → ℕ → Signatory → Records → RoutedRequest → AnswerEffects → Records → Type 0
-AnswersLimited signs now signatory before what it after = (admission : Admission) × AnswersAdmitted admission signs now signatory before what it after
+AnswersLimited signs now signatory before what it after =
+    (admission : Admission) × AnswersAdmitted admission signs now signatory before what it after

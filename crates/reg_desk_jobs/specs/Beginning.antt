@@ -34,22 +34,27 @@ MayLeave other = ⊥
 
 -- the outcome of a request that was read: an answer; or, only by the register, a response to be signed; or out of memory
 abbrev pub BeginsAt
-    : Bool → Signs → ℕ → Signatory → Records → List ℕ → List ℕ → List ℕ → Result (Begun Answered Drafted) Memory → Records → Type 0
+    : Bool → Signs → ℕ → Signatory → Records → List ℕ → List ℕ → List ℕ
+    → Result (Begun Answered Drafted) Memory → Records → Type 0
 BeginsAt is_open signs now signatory before method target body (Ok (Ready answered)) after =
-    Says signs now signatory before (answer_effects answered) after is_open (asked method target body) × AddsARequestAtMost now before after
+    Says signs now signatory before (answer_effects answered) after is_open (asked method target body)
+    × AddsARequestAtMost now before after
 BeginsAt is_open signs now signatory before method target body (Ok (Unsigned draft)) after =
     MayLeave (dispatch is_open (route_at (path_of target)))
-    × ((request : List ℕ) × (asks_for method target body ≡ ocsp_of request) × Drafts signatory before now request draft after)
+    × ((request : List ℕ) × (asks_for method target body ≡ ocsp_of request)
+    × Drafts signatory before now request draft after)
 BeginsAt is_open signs now signatory before method target body (Err memory) after = after ≡ before
 
 -- the answer to the bytes that came: an exchange that is ready; or a response to be signed, such that any text that finishes it is that of an
 -- exchange. The records gain at most one request for revocation.
 abbrev pub AnswersBegun
-    : (List ℕ → List ℕ → Type 0) → Bool → Signs → ℕ → Signatory → Records → List ℕ → Begun Exchange UnsignedResponse → Records → Type 0
+    : (List ℕ → List ℕ → Type 0) → Bool → Signs → ℕ → Signatory → Records → List ℕ
+    → Begun Exchange UnsignedResponse → Records → Type 0
 AnswersBegun signer_answered is_open signs now signatory before request (Ready exchange) after =
     IsExchange is_open signs now signatory before request exchange after × AddsARequestAtMost now before after
 AnswersBegun signer_answered is_open signs now signatory before request (Unsigned left) after =
-    ((text : List ℕ) → FinishesAt signer_answered left.draft now text → AnswersAt is_open signs now signatory before request text after) × AddsARequestAtMost now before after
+    ((text : List ℕ) → FinishesAt signer_answered left.draft now text
+    → AnswersAt is_open signs now signatory before request text after) × AddsARequestAtMost now before after
 
 -- the route under which the exchange is counted
 abbrev pub IsBegunRoute : List ℕ → Begun Exchange UnsignedResponse → Type 0

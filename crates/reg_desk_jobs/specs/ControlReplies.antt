@@ -19,6 +19,7 @@ use Rattle.reg_lines.specs.Replies.{outcome_line, with_lf}
 use Rattle.reg_lines.specs.declared.answered.Answered.{Answered}
 use Rattle.reg_lines.specs.declared.answered.Answered.TheVariants as answered
 use Rattle.reg_lines.specs.declared.answered.LineKind.TheVariants.{Command, Ocsp}
+use Rattle.reg_desk_jobs.specs.declared.control_reply.ControlReply.{ControlReply}
 use Rattle.reg_desk_jobs.specs.declared.control_reply.LineOutcome.{LineOutcome}
 use Rattle.reg_desk_jobs.specs.declared.control_reply.LineOutcome.TheVariants.{CameTo, Response, Done, Failed, Silent, Uncopied}
 
@@ -39,7 +40,8 @@ line_outcome_of (answered.Response reply) = Response reply.is_refusal
 abbrev pub ReportsLineOutcome : LineOutcome → List ℕ → Type 0
 ReportsLineOutcome (CameTo what outcome) text = text ≡ with_lf (outcome_line outcome)
 ReportsLineOutcome (Response refuses) text =
-    (response : List ℕ) × (text ≡ with_lf (codes "ocsp " ++ encode_lower response)) × (refuses ≡ (length response == 5))
+    (response : List ℕ) × (text ≡ with_lf (codes "ocsp " ++ encode_lower response))
+    × (refuses ≡ (length response == 5))
 ReportsLineOutcome Done text = IsAccepted text × (0 < length text)
 ReportsLineOutcome (Failed why) text = text ≡ failure_line why ++ 10 ∷ []
 ReportsLineOutcome (Uncopied why) text = text ≡ fault_line why ++ 10 ∷ []
@@ -48,6 +50,10 @@ ReportsLineOutcome Silent text = text ≡ []
 -- the reply is these bytes, with the result `came`; or there was no memory for it
 abbrev pub IsOf : List ℕ → LineOutcome → List ℕ → LineOutcome → Type 0
 IsOf bytes came text told = ((text ≡ bytes) × (told ≡ came)) ⊎ ((text ≡ []) × (told ≡ Silent))
+
+-- the same of a reply with this line
+abbrev pub IsLineReply : List ℕ → LineOutcome → ControlReply → Type 0
+IsLineReply line came reply = IsOf (line ++ 10 ∷ []) came reply.text.items reply.came
 
 -- ---- what is counted
 

@@ -63,8 +63,10 @@ shown_in (word ∷ rest) = if bytes_eq word (codes "show") then shown_by rest el
 -- the decision of a request, by its word
 abbrev pub serial_decision_by : List ℕ → ℕ → ℕ → Option SerialDecision
 serial_decision_by word request serial =
-    if bytes_eq word (codes "revoke") then Some (record { command = Revoke request; request = request; serial = serial })
-    else if bytes_eq word (codes "decline") then Some (record { command = Decline request; request = request; serial = serial })
+    if bytes_eq word (codes "revoke")
+    then Some (record { command = Revoke request; request = request; serial = serial })
+    else if bytes_eq word (codes "decline")
+    then Some (record { command = Decline request; request = request; serial = serial })
     else None
 
 -- `revoke N SERIAL` or `decline N SERIAL`
@@ -119,7 +121,8 @@ IsWord line (Line command) = (said_in line ≡ commands)
 -- a command line at a moment, without its end, and its reply; or there was no memory for that, and nothing ran
 abbrev pub CommandAt : Signs → ℕ → Signatory → Records → List ℕ → List ℕ → Records → Type 0
 CommandAt signs now identity before line text after =
-    Replied (ComesTo (Lines signs identity) now) before line text after ⊎ (ReportsFault fault.Memory text × (after ≡ before))
+    Replied (ComesTo (Lines signs identity) now) before line text after
+    ⊎ (ReportsFault fault.Memory text × (after ≡ before))
 
 -- a command is refused, because the clock is too far past both the last accepted moment and the moment that the operator accepted
 abbrev pub RefusesClock : Option ℕ → ℕ → Records → List ℕ → Type 0
@@ -140,7 +143,8 @@ AtClock accepted now before Runs text after =
 -- whether a command is refused before it runs
 abbrev pub MeetsClock : Option ℕ → ℕ → Records → Option ControlReply → Type 0
 MeetsClock accepted now before None = IsFalse (is_ahead now before.last accepted)
-MeetsClock accepted now before (Some reply) = RefusesClock accepted now before reply.text.items ⊎ RepliesStoreFault reply.text.items
+MeetsClock accepted now before (Some reply) =
+    RefusesClock accepted now before reply.text.items ⊎ RepliesStoreFault reply.text.items
 
 -- a line has a command, not a query
 abbrev pub HasCommand : List ℕ → Type 0
@@ -149,7 +153,8 @@ HasCommand line = (command : Command) × LineMeans line (means_command command)
 -- a command line without its line end: a command is checked against the clock; a query is not
 abbrev pub LineAt : Option ℕ → Signs → ℕ → Signatory → Records → List ℕ → List ℕ → Records → Type 0
 LineAt accepted signs now identity before line text after =
-    (HasCommand line × AtClock accepted now before (CommandAt signs now identity before line text after) text after)
+    (HasCommand line
+    × AtClock accepted now before (CommandAt signs now identity before line text after) text after)
     ⊎ ((¬ HasCommand line) × CommandAt signs now identity before line text after)
 
 -- a command line with its line end; or it has too many bytes, and nothing ran
@@ -160,16 +165,23 @@ EntryAt accepted signs now identity before line text after =
 
 -- the reply to each word: for `help`, `why`, `copy`, `show` and `accept-clock`, and no record changes; to a decision; to a schedule
 -- that is set; and to a command line
-abbrev pub AnswersWord : Option ℕ → Signs → ℕ → Signatory → Records → List ℕ → Saying → List ℕ → Records → Type 0
-AnswersWord accepted signs now identity before line helps text after = IsReplyText (help_text ++ 10 ∷ []) text × (after ≡ before)
+abbrev pub AnswersWord
+    : Option ℕ → Signs → ℕ → Signatory → Records → List ℕ → Saying → List ℕ → Records → Type 0
+AnswersWord accepted signs now identity before line helps text after =
+    IsReplyText (help_text ++ 10 ∷ []) text × (after ≡ before)
 AnswersWord accepted signs now identity before line why text after = after ≡ before
-AnswersWord accepted signs now identity before line copies text after = AnswersCopy (λ bytes. Unit {0}) text × (after ≡ before)
-AnswersWord accepted signs now identity before line (shows shown) text after = AnswersShown before now shown text × (after ≡ before)
+AnswersWord accepted signs now identity before line copies text after =
+    AnswersCopy (λ bytes. Unit {0}) text × (after ≡ before)
+AnswersWord accepted signs now identity before line (shows shown) text after =
+    AnswersShown before now shown text × (after ≡ before)
 AnswersWord accepted signs now identity before line (settles serial_decision) text after =
     AtClock accepted now before (SettlesAt signs now identity before serial_decision text after) text after
-AnswersWord accepted signs now identity before line (accepts moment) text after = IsReplyText (codes "clock accepted\n") text × (after ≡ before)
-AnswersWord accepted signs now identity before line (schedules steps) text after = SetAt steps before text after
-AnswersWord accepted signs now identity before line commands text after = EntryAt accepted signs now identity before line text after
+AnswersWord accepted signs now identity before line (accepts moment) text after =
+    IsReplyText (codes "clock accepted\n") text × (after ≡ before)
+AnswersWord accepted signs now identity before line (schedules steps) text after =
+    SetAt steps before text after
+AnswersWord accepted signs now identity before line commands text after =
+    EntryAt accepted signs now identity before line text after
 
 -- the moment that the operator has accepted after a line; it stays if there was no memory to read the line
 abbrev pub accepted_by : Saying → Option ℕ → Option ℕ
@@ -177,13 +189,17 @@ accepted_by (accepts moment) accepted = Some moment
 accepted_by other accepted = accepted
 
 abbrev pub IsAcceptedAfter : List ℕ → Option ℕ → Option ℕ → Type 0
-IsAcceptedAfter line accepted accepted' = (accepted' ≡ accepted_by (said_in line) accepted) ⊎ (accepted' ≡ accepted)
+IsAcceptedAfter line accepted accepted' =
+    (accepted' ≡ accepted_by (said_in line) accepted) ⊎ (accepted' ≡ accepted)
 
 -- a line of an open register at a moment; or there was no memory to read it: the reply says so, and no record changes
 abbrev pub WordAt : Option ℕ → Signs → ℕ → Signatory → Records → List ℕ → List ℕ → Records → Type 0
 WordAt accepted signs now identity before line text after =
-    AnswersWord accepted signs now identity before line (said_in line) text after ⊎ (ReportsFault fault.Memory text × (after ≡ before))
+    AnswersWord accepted signs now identity before line (said_in line) text after
+    ⊎ (ReportsFault fault.Memory text × (after ≡ before))
 
 -- the same at a moment of the clock, with any accepted moment or none
 abbrev pub Word : Signs → (ℕ → Type 0) → Signatory → Records → List ℕ → List ℕ → Records → Type 0
-Word signs clock_reached identity before line text after = (accepted : Option ℕ) × (now : ℕ) × clock_reached now × WordAt accepted signs now identity before line text after
+Word signs clock_reached identity before line text after =
+    (accepted : Option ℕ) × (now : ℕ) × clock_reached now
+    × WordAt accepted signs now identity before line text after

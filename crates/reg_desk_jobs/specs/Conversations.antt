@@ -29,7 +29,9 @@ IsInput input bytes = IfSome input (λ all. all ≡ bytes)
 
 -- the failures that end a conversation early: a read or a write failed, or out of memory
 abbrev pub IsOfTalk : Failure → Type 0
-IsOfTalk why = (why ≡ failure.Fault fault.Read) ⊎ ((why ≡ failure.Fault fault.Write) ⊎ (why ≡ failure.Fault fault.Memory))
+IsOfTalk why =
+    (why ≡ failure.Fault fault.Read)
+    ⊎ ((why ≡ failure.Fault fault.Write) ⊎ (why ≡ failure.Fault fault.Memory))
 
 -- what bytes are that were read up to and including the first LF, or to the end
 abbrev pub IsReadAs : List ℕ → Next → Type 0
@@ -44,7 +46,8 @@ NextIs input input' next.Cut = (left : List ℕ) × IsCutOff left × IsInput inp
 NextIs input input' next.End = IsInput input []
 
 -- these lines were sent, one after the other; for each, one reply was received and written
-pub record Talked (sent sent' incoming incoming' out out' : Option (List ℕ)) (lines replies : List (List ℕ)) : Type 0 where
+pub record Talked (sent sent' incoming incoming' out out' : Option (List ℕ))
+    (lines replies : List (List ℕ)) : Type 0 where
   pub whole : AreWhole lines
   pub told : Appends sent sent' (concat lines)
   pub received : Consumes incoming incoming' (concat replies)
@@ -70,33 +73,44 @@ module _ (sent sent' incoming incoming' out out' : Option (List ℕ)) where
   TalksOnce input input' (Ok (step.Replied accepted)) =
       (line reply : List ℕ) × IsWholeLine line × Consumes input input' line × TalksLine line reply
       × (IsTrue accepted ↔ IsAccepted reply)
-  TalksOnce input input' (Ok step.Cut) = (left : List ℕ) × IsCutOff left × IsInput input left × (sent' ≡ sent) × (incoming' ≡ incoming) × (out' ≡ out)
-  TalksOnce input input' (Ok step.End) = IsInput input [] × (sent' ≡ sent) × (incoming' ≡ incoming) × (out' ≡ out)
+  TalksOnce input input' (Ok step.Cut) =
+      (left : List ℕ) × IsCutOff left × IsInput input left × (sent' ≡ sent) × (incoming' ≡ incoming)
+      × (out' ≡ out)
+  TalksOnce input input' (Ok step.End) =
+      IsInput input [] × (sent' ≡ sent) × (incoming' ≡ incoming) × (out' ≡ out)
   TalksOnce input input' (Err why) = IsOfTalk why
 
   -- all lines of an input: each reply was accepted; or one was not, or a last line without its line end was not sent. If the conversation
   -- ended early, nothing is stated about how far it got
   abbrev pub Talks : Option (List ℕ) → Result (Unit {0}) Failure → Type 0
   Talks input (Ok done) =
-      (lines replies : List (List ℕ)) × Talked sent sent' incoming incoming' out out' lines replies × IsInput input (concat lines) × AllByRecursion IsAccepted replies
+      (lines replies : List (List ℕ)) × Talked sent sent' incoming incoming' out out' lines replies
+      × IsInput input (concat lines) × AllByRecursion IsAccepted replies
   Talks input (Err why) = IsOfTalk why
-      ⊎ ((lines replies : List (List ℕ)) × (left : List ℕ) × Talked sent sent' incoming incoming' out out' lines replies
+      ⊎ ((lines replies : List (List ℕ)) × (left : List ℕ)
+      × Talked sent sent' incoming incoming' out out' lines replies
       × IsInput input (concat lines ++ left) × IsWhyBy IsAccepted replies left why)
 
 -- a conversation over a connection about which nothing else is known: it ended early with nothing written, or as `Talks` states
-abbrev pub TalksOver : Option (List ℕ) → Option (List ℕ) → Option (List ℕ) → Result (Unit {0}) Failure → Type 0
+abbrev pub TalksOver
+    : Option (List ℕ) → Option (List ℕ) → Option (List ℕ) → Result (Unit {0}) Failure → Type 0
 TalksOver input out out' result =
     ((why : Failure) × (result ≡ Err why) × IsOfTalk why × (out' ≡ out))
-    ⊎ ((sent sent' incoming incoming' : Option (List ℕ)) × Talks sent sent' incoming incoming' out out' input result)
+    ⊎ ((sent sent' incoming incoming' : Option (List ℕ))
+    × Talks sent sent' incoming incoming' out out' input result)
 
 -- lines at the control socket at a path: no program listened there, or the lines were sent to it
-abbrev pub AtControlSocket : Type 0 → Option (List ℕ) → Option (List ℕ) → Option (List ℕ) → Result (Unit {0}) Failure → Type 0
+abbrev pub AtControlSocket
+    : Type 0 → Option (List ℕ) → Option (List ℕ) → Option (List ℕ) → Result (Unit {0}) Failure → Type 0
 AtControlSocket met input out out' result =
     ((result ≡ Err (failure.Fault fault.Read)) × (out' ≡ out))
     ⊎ (met × TalksOver input out out' result)
 
 -- rows at the control socket at a path: the input could not be read to its end, and nothing is sent; or the lines of its rows are sent there
-abbrev pub RowsAtControlSocket : Type 0 → Option (List ℕ) → Option (List ℕ) → Option (List ℕ) → Option (List ℕ) → Result (Unit {0}) Failure → Type 0
+abbrev pub RowsAtControlSocket
+    : Type 0 → Option (List ℕ) → Option (List ℕ) → Option (List ℕ) → Option (List ℕ)
+    → Result (Unit {0}) Failure → Type 0
 RowsAtControlSocket met input input' out out' result =
     ((why : Fault) × (result ≡ Err (failure.Fault why)) × ListingEnds input input' (Err why) × (out' ≡ out))
-    ⊎ ((lines : List ℕ) × ListingEnds input input' (Ok lines) × AtControlSocket met (Some lines) out out' result)
+    ⊎ ((lines : List ℕ) × ListingEnds input input' (Ok lines)
+    × AtControlSocket met (Some lines) out out' result)

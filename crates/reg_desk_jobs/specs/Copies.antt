@@ -11,7 +11,8 @@ is_copy_line line = starts_with (λ a b. a == b) line (codes "copy ")
 
 -- the reply after a copy: how many bytes it has, and in how many milliseconds it was created
 unfoldable pub copied_text : ℕ → ℕ → List ℕ
-copied_text bytes millis = codes "copied " ++ decimal bytes ++ codes " bytes in " ++ decimal millis ++ codes " ms\n"
+copied_text bytes millis =
+    codes "copied " ++ decimal bytes ++ codes " bytes in " ++ decimal millis ++ codes " ms\n"
 
 -- the reply: that a copy was created, or the fault because of which none was; or empty, if there was no memory for it
 abbrev pub AnswersCopy : (ℕ → Type 0) → List ℕ → Type 0

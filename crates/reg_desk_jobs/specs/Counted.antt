@@ -15,11 +15,14 @@ use Rattle.reg_io.specs.declared.begun.Begun.TheVariants as begun
 
 -- The outcome of a request at this moment. An exchange that is ready has its text, and is counted, with any duration. A response
 -- that is to be signed is not counted yet; it keeps the moment and the route under which it will be counted.
-abbrev pub CountsBegun : ℕ → List ℕ → Begun Exchange UnsignedResponse → Outcome Unsigned → Tally → Tally → Type 0
+abbrev pub CountsBegun
+    : ℕ → List ℕ → Begun Exchange UnsignedResponse → Outcome Unsigned → Tally → Tally → Type 0
 CountsBegun now request (begun.Ready exchange) (said text) tally tally' =
-    (text ≡ exchange.text.items) × IsRouteOf request exchange.route × ((micros : ℕ) × (tally' ≡ with_exchange now exchange micros tally))
+    (text ≡ exchange.text.items) × IsRouteOf request exchange.route
+    × ((micros : ℕ) × (tally' ≡ with_exchange now exchange micros tally))
 CountsBegun now request (begun.Unsigned left) (pending unsigned) tally tally' =
-    (unsigned.draft ≡ left.draft) × (unsigned.moment ≡ now) × (unsigned.route ≡ left.route) × IsRouteOf request left.route × (tally' ≡ tally)
+    (unsigned.draft ≡ left.draft) × (unsigned.moment ≡ now) × (unsigned.route ≡ left.route)
+    × IsRouteOf request left.route × (tally' ≡ tally)
 CountsBegun now request begun outcome tally tally' = ⊥
 
 -- the text that finishes a response, which is counted by its moment and its route
@@ -35,5 +38,6 @@ SignatureFailed crls answers before after = (crls before < crls after) ⊎ (answ
 -- a line is counted by its result, which its reply shows
 abbrev pub CountsLine : Type 0 → ℕ → List ℕ → Tally → Tally → Type 0
 CountsLine failed now reply tally tally' =
-    (micros : ℕ) × (came : LineOutcome) × (is_unsigned : Bool) × ReportsLineOutcome came reply × (IsTrue is_unsigned ↔ failed)
+    (micros : ℕ) × (came : LineOutcome) × (is_unsigned : Bool) × ReportsLineOutcome came reply
+    × (IsTrue is_unsigned ↔ failed)
     × (tally' ≡ with_line now (effects_of is_unsigned came) micros tally)

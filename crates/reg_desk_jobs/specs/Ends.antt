@@ -46,15 +46,14 @@ use Rattle.reg_desk_jobs.specs.Digest.{digest_alone, digests}
 use Rattle.reg_desk_jobs.specs.RegisterFailures.{IsMaking, IsOpening, IsFileFailure}
 use Rattle.reg_office_api.specs.LookUps.{IsOfStore}
 use Rattle.reg_office_api.specs.Settings.{Identifies, Reschedules}
-use Rattle.reg_desk_jobs.specs.SignerAnswers.{AnsweredAtPath}
 use Rattle.reg_desk_jobs.specs.Published.{Compares, HasAll}
 use Rattle.reg_desk_jobs.specs.Sample.{sample_records}
 use Rattle.reg_desk_jobs.specs.Replays.{ReplaysAt}
 use Rattle.reg_desk_jobs.specs.RowTasks.{SendsRowsAt}
 use Rattle.reg_desk_jobs.specs.Registers.{Audits, Unaudited}
-use Rattle.reg_desk_jobs.specs.Serving.{IsBound, Serves, ServedAt}
+use Rattle.reg_desk_jobs.specs.Serving.{IsBoundOn, ServesOn, ServedAt}
 use Rattle.reg_desk_jobs.specs.FailureReports.{Explains}
-use Rattle.reg_desk_jobs.specs.Signers.{Signing, answer_socket, by_itself, signing_with, unsigned}
+use Rattle.reg_desk_jobs.specs.Signers.{Signing, by_itself, signing_with, unsigned}
 use Rattle.reg_desk_jobs.specs.RegisterUses.{UsesRegister, NotMade, NotOpened, Makes, exit_of, exit_of_run}
 use Rattle.reg_desk_jobs.specs.declared.unsigned_responses.Unsigned.{Unsigned}
 use Rattle.reg_desk_jobs.specs.declared.machine.Machine.{Ghosts as Machine}
@@ -65,34 +64,50 @@ PrintsText text out out' (Ok done) = Appends out out' text
 PrintsText text out out' (Err why) = (why ≡ failure.Fault fault.Write) × AppendsPrefix out out' text
 
 -- the result is written, or its fault ends the job
-abbrev pub PrintsResult : {W : Type 0} → (W → Option (List ℕ)) → W → W → Result (List ℕ) Fault → Result (Unit {0}) Failure → Type 0
-PrintsResult contents writer writer' (Ok text) result = PrintsText text (contents writer) (contents writer') result
-PrintsResult contents writer writer' (Err why) result = (result ≡ Err (failure.Fault why)) × (writer' ≡ writer)
+abbrev pub PrintsResult
+    : {W : Type 0} → (W → Option (List ℕ)) → W → W → Result (List ℕ) Fault → Result (Unit {0}) Failure
+    → Type 0
+PrintsResult contents writer writer' (Ok text) result =
+    PrintsText text (contents writer) (contents writer') result
+PrintsResult contents writer writer' (Err why) result =
+    (result ≡ Err (failure.Fault why)) × (writer' ≡ writer)
 
 -- a text is written after something was set; or a fault ends the job
-abbrev pub PrintsSetResult : {W : Type 0} → List ℕ → (W → Option (List ℕ)) → W → W → Result (Unit {0}) Fault → Result (Unit {0}) Failure → Type 0
-PrintsSetResult text contents writer writer' (Ok done) result = PrintsText text (contents writer) (contents writer') result
-PrintsSetResult text contents writer writer' (Err why) result = (result ≡ Err (failure.Fault why)) × IsOfStore why × (writer' ≡ writer)
+abbrev pub PrintsSetResult
+    : {W : Type 0} → List ℕ → (W → Option (List ℕ)) → W → W → Result (Unit {0}) Fault
+    → Result (Unit {0}) Failure → Type 0
+PrintsSetResult text contents writer writer' (Ok done) result =
+    PrintsText text (contents writer) (contents writer') result
+PrintsSetResult text contents writer writer' (Err why) result =
+    (result ≡ Err (failure.Fault why)) × IsOfStore why × (writer' ≡ writer)
 
 -- the text of a line is written, or there was no memory for it
-abbrev pub PrintsLine : {W : Type 0} → List ℕ → (W → Option (List ℕ)) → W → W → Result (Unit {0}) Failure → Type 0
+abbrev pub PrintsLine
+    : {W : Type 0} → List ℕ → (W → Option (List ℕ)) → W → W → Result (Unit {0}) Failure → Type 0
 PrintsLine text contents writer writer' result =
-    PrintsText text (contents writer) (contents writer') result ⊎ ((result ≡ Err (failure.Fault fault.Memory)) × (writer' ≡ writer))
+    PrintsText text (contents writer) (contents writer') result
+    ⊎ ((result ≡ Err (failure.Fault fault.Memory)) × (writer' ≡ writer))
 
 -- the text of an audit that found a broken row is written, and the job fails; or a prefix of it, if the writer fails; or there was no
 -- memory for it
-abbrev pub PrintsBroken : {W : Type 0} → List ℕ → (W → Option (List ℕ)) → W → W → Result (Unit {0}) Failure → Type 0
+abbrev pub PrintsBroken
+    : {W : Type 0} → List ℕ → (W → Option (List ℕ)) → W → W → Result (Unit {0}) Failure → Type 0
 PrintsBroken text contents writer writer' result =
     ((result ≡ Err failure.Broken) × Appends (contents writer) (contents writer') text)
     ⊎ (((result ≡ Err (failure.Fault fault.Write)) × AppendsPrefix (contents writer) (contents writer') text)
     ⊎ ((result ≡ Err (failure.Fault fault.Memory)) × (writer' ≡ writer)))
 
 -- the report of an audit
-abbrev pub ReportsAuditResult : {W : Type 0} → (W → Option (List ℕ)) → W → W → AuditResult → Result (Unit {0}) Failure → Type 0
-ReportsAuditResult contents writer writer' (audit_result.Sound found) result = PrintsLine (sound_text found) contents writer writer' result
-ReportsAuditResult contents writer writer' (audit_result.Broken broken) result = PrintsBroken (broken_text broken) contents writer writer' result
-ReportsAuditResult contents writer writer' audit_result.OtherSchema result = PrintsBroken OTHER_SCHEMA.now contents writer writer' result
-ReportsAuditResult contents writer writer' audit_result.Older result = (result ≡ Err failure.OldVersion) × (writer' ≡ writer)
+abbrev pub ReportsAuditResult
+    : {W : Type 0} → (W → Option (List ℕ)) → W → W → AuditResult → Result (Unit {0}) Failure → Type 0
+ReportsAuditResult contents writer writer' (audit_result.Sound found) result =
+    PrintsLine (sound_text found) contents writer writer' result
+ReportsAuditResult contents writer writer' (audit_result.Broken broken) result =
+    PrintsBroken (broken_text broken) contents writer writer' result
+ReportsAuditResult contents writer writer' audit_result.OtherSchema result =
+    PrintsBroken OTHER_SCHEMA.now contents writer writer' result
+ReportsAuditResult contents writer writer' audit_result.Older result =
+    (result ≡ Err failure.OldVersion) × (writer' ≡ writer)
 
 -- the given moment, or else one of the clock
 abbrev pub IsMomentOf : (ℕ → Type 0) → Option ℕ → ℕ → Type 0
@@ -104,7 +119,8 @@ abbrev pub terms_of_new : NewRegister → Terms
 terms_of_new new = terms_of_days new.days new.crl_life new.ocsp_life new.cap
 
 -- A job over a machine that writes: the machine before the job and after it, and the writer.
-module _ {M O D S R W : Type 0} (machines : Machine M O D S R) (offices : Office O) (contents : W → Option (List ℕ))
+module _ {M O D S R W : Type 0} (machines : Machine M O D S R) (offices : Office O)
+    (contents : W → Option (List ℕ))
     (machine machine' : M) (writer writer' : W) where
   -- a new register at a path, which has no records
   abbrev pub MakesAt : List ℕ → Issuer → Terms → Result (Unit {0}) Failure → Type 0
@@ -115,12 +131,14 @@ module _ {M O D S R W : Type 0} (machines : Machine M O D S R) (offices : Office
 
   -- over the register at a path: it could not be opened, and nothing was written; or `Done`
   abbrev pub Over : List ℕ → Signing → Result (Unit {0}) Failure → Type 0 → Type 0
-  Over path signing result Done = (NotOpened machines machine machine' path signing result × (writer' ≡ writer)) ⊎ Done
+  Over path signing result Done =
+      (NotOpened machines machine machine' path signing result × (writer' ≡ writer)) ⊎ Done
 
   -- the bytes of a CRL of the register at a path (RFC 5280 5); no record changes
   abbrev pub CrlAt : List ℕ → Option ℕ → Result (Unit {0}) Failure → Type 0
   CrlAt path number result = Over path unsigned result ((given : Result (List ℕ) Fault)
-      × UsesRegister machines offices machine machine' path unsigned (λ identity before after. Crls before number given after)
+      × UsesRegister machines offices machine machine' path unsigned (λ identity before after.
+      Crls before number given after)
       × PrintsResult contents writer writer' given result)
 
   -- a list of the register at a path, at a moment: all rows that are wanted are written, each once and in order, or none; no record changes. If the
@@ -128,7 +146,8 @@ module _ {M O D S R W : Type 0} (machines : Machine M O D S R) (offices : Office
   abbrev pub ListAt : ListToWrite → Result (Unit {0}) Failure → Type 0
   ListAt it result =
       ((result ≡ Err (failure.Fault fault.Read)) × (writer' ≡ writer) × (machine' ≡ machine))
-      ⊎ ((now : ℕ) × IsMomentOf machines.clock_reached it.moment now × Over it.file unsigned result ((given : Result (List ℕ) Fault)
+      ⊎ ((now : ℕ) × IsMomentOf machines.clock_reached it.moment now
+      × Over it.file unsigned result ((given : Result (List ℕ) Fault)
       × UsesRegister machines offices machine machine' it.file unsigned
       (λ identity before after. GivesWholeList before now it.form it.filter it.from given after)
       × PrintsResult contents writer writer' given result))
@@ -137,21 +156,25 @@ module _ {M O D S R W : Type 0} (machines : Machine M O D S R) (offices : Office
   abbrev pub AuditAt : List ℕ → Result (Unit {0}) Failure → Type 0
   AuditAt path result =
       (machine' ≡ machine)
-      × (((why : Failure) × (result ≡ Err why) × Unaudited machines machine path why × IsOpening why × (writer' ≡ writer))
-      ⊎ ((found : AuditResult) × Audits machines machine path found × ReportsAuditResult contents writer writer' found result))
+      × (((why : Failure) × (result ≡ Err why) × Unaudited machines machine path why × IsOpening why
+      × (writer' ≡ writer))
+      ⊎ ((found : AuditResult) × Audits machines machine path found
+      × ReportsAuditResult contents writer writer' found result))
 
   -- a copy of the register at a path, to a path that had no file: none was created; or one was, and the reply has its bytes and how many
   -- milliseconds it took
   abbrev pub CopyAt : List ℕ → List ℕ → Result (Unit {0}) Failure → Type 0
   CopyAt path to result =
-      ((why : Failure) × (result ≡ Err why) × machines.uncopied machine path to why machine' × IsFileFailure why × (writer' ≡ writer))
+      ((why : Failure) × (result ≡ Err why) × machines.uncopied machine path to why machine'
+      × IsFileFailure why × (writer' ≡ writer))
       ⊎ ((bytes millis : ℕ) × machines.copied machine path to bytes machine'
       × PrintsLine (copied_text bytes millis) contents writer writer' result)
 
   -- another schedule for the register at a path: its steps are checked before the path is opened
   abbrev pub ScheduleAt : List ℕ → List (ℕ × ℕ) → Result (Unit {0}) Failure → Type 0
   ScheduleAt path steps result =
-      ((why : Failure) × (result ≡ Err why) × IsNoSchedule steps why × (writer' ≡ writer) × (machine' ≡ machine))
+      ((why : Failure) × (result ≡ Err why) × IsNoSchedule steps why × (writer' ≡ writer)
+      × (machine' ≡ machine))
       ⊎ (IsSchedule steps × Over path unsigned result ((set : Result (Unit {0}) Fault)
       × UsesRegister machines offices machine machine' path unsigned (λ identity. Reschedules steps set)
       × PrintsSetResult (codes "schedule set\n") contents writer writer' set result))
@@ -159,13 +182,16 @@ module _ {M O D S R W : Type 0} (machines : Machine M O D S R) (offices : Office
   -- a key identifier for the issuer of the register at a path (RFC 5280 5.2.1): the word is checked before the path is opened
   abbrev pub KeyIdAt : List ℕ → List ℕ → Result (Unit {0}) Failure → Type 0
   KeyIdAt path key_id result =
-      ((why : Failure) × (result ≡ Err why) × IsNoIdentifier key_id why × (writer' ≡ writer) × (machine' ≡ machine))
-      ⊎ ((octets : List ℕ) × WritesIdentifier key_id octets × Over path unsigned result ((set : Result (Unit {0}) Fault)
+      ((why : Failure) × (result ≡ Err why) × IsNoIdentifier key_id why × (writer' ≡ writer)
+      × (machine' ≡ machine))
+      ⊎ ((octets : List ℕ) × WritesIdentifier key_id octets
+      × Over path unsigned result ((set : Result (Unit {0}) Fault)
       × UsesRegister machines offices machine machine' path unsigned (λ identity. Identifies octets set)
       × PrintsSetResult (codes "key-id set\n") contents writer writer' set result))
 
 -- A new register at a path.
-module _ {M O D S R W : Type 0} (machines : Machine M O D S R) (offices : Office O) (contents : W → Option (List ℕ))
+module _ {M O D S R W : Type 0} (machines : Machine M O D S R) (offices : Office O)
+    (contents : W → Option (List ℕ))
     (machine machine' : M) (writer writer' : W) where
   -- a path with no file was claimed, with the machine after that; or there was a file, and the machine did not change
   abbrev pub Claims : List ℕ → M → Type 0
@@ -177,7 +203,8 @@ module _ {M O D S R W : Type 0} (machines : Machine M O D S R) (offices : Office
   Leaves path start between (Ok done) = machine' ≡ between
   Leaves path start between (Err why) =
       (((why ≡ failure.NotEmpty) ⊎ (machines.lies machine path × (start ≡ machine))) × (machine' ≡ between))
-      ⊎ (machines.claimed machine path start × (why ≢ failure.NotEmpty) × machines.removed between path machine')
+      ⊎ (machines.claimed machine path start × (why ≢ failure.NotEmpty)
+      × machines.removed between path machine')
 
   -- a new register at a path, with the given issuer and policy, which are checked before the path is used
   abbrev pub InitAt : NewRegister → Result (Unit {0}) Failure → Type 0
@@ -186,49 +213,59 @@ module _ {M O D S R W : Type 0} (machines : Machine M O D S R) (offices : Office
       × (writer' ≡ writer) × (machine' ≡ machine))
       ⊎ ((issuer : Issuer) × WritesIdentified new.name new.key new.key_id issuer × IsPolicy (terms_of_new new)
       × ((start between : M) × Claims new.file start
-      × MakesAt machines offices contents start between writer writer' new.file issuer (terms_of_new new) result
+      × MakesAt machines offices contents start between writer writer'
+      new.file issuer (terms_of_new new) result
       × Leaves new.file start between result))
 
 -- a script without FILE: no register could be created in memory, or the script ran over it
 abbrev pub ScriptInMemory
-    : {E W : Type 0} → (E → Option (List ℕ)) → (W → Option (List ℕ)) → E → E → W → W → Result (Unit {0}) Failure → Type 0
+    : {E W : Type 0} → (E → Option (List ℕ)) → (W → Option (List ℕ)) → E → E → W → W
+    → Result (Unit {0}) Failure → Type 0
 ScriptInMemory remaining contents reader reader' writer writer' result =
     ((why : Failure) × (result ≡ Err why) × IsMaking why × (reader' ≡ reader) × (writer' ≡ writer))
     ⊎ ((ran : Result (Unit {0}) Fault) × (result ≡ exit_of ran) × ((after : Records)
-    × ScriptEnds (Lines digests digest_alone) remaining contents sample_records after reader reader' writer writer' ran))
+    × ScriptEnds (Lines digests digest_alone) remaining contents sample_records after
+    reader reader' writer writer' ran))
 
 -- lines run at the machine's clock, which is too far ahead, and the operator does not accept that
 abbrev pub IsClockRefused : Way → (ℕ → Type 0) → Records → Type 0
 IsClockRefused way clock_reached records =
-    IsTrue way.is_clocked × IsFalse way.accepts_clock × ((now : ℕ) × clock_reached now × IsTrue (is_ahead now records.last None))
+    IsTrue way.is_clocked × IsFalse way.accepts_clock
+    × ((now : ℕ) × clock_reached now × IsTrue (is_ahead now records.last None))
 
 -- A job over a machine that reads and writes.
 module _ {M O D S R E W : Type 0} (machines : Machine M O D S R) (offices : Office O)
     (remaining : E → Option (List ℕ)) (contents : W → Option (List ℕ))
     (machine machine' : M) (reader reader' : E) (writer writer' : W) where
   -- a run over the register at a path, and how the job ends: it could not be opened, or the run led from its records to others
-  abbrev pub RunsAt : {A : Type 0} → (A → Result (Unit {0}) Failure) → List ℕ → Signing → (A → Signatory → Records → Records → Type 0)
+  abbrev pub RunsAt
+      : {A : Type 0} → (A → Result (Unit {0}) Failure) → List ℕ → Signing
+      → (A → Signatory → Records → Records → Type 0)
       → Result (Unit {0}) Failure → Type 0
-  RunsAt {A = A} ending path signing Ran result = (NotOpened machines machine machine' path signing result × (reader' ≡ reader) × (writer' ≡ writer))
-      ⊎ ((ran : A) × (result ≡ ending ran) × UsesRegister machines offices machine machine' path signing (Ran ran))
+  RunsAt {A = A} ending path signing Ran result =
+      (NotOpened machines machine machine' path signing result × (reader' ≡ reader) × (writer' ≡ writer))
+      ⊎ ((ran : A) × (result ≡ ending ran)
+      × UsesRegister machines offices machine machine' path signing (Ran ran))
 
   -- a script over the register at a path
   abbrev pub ScriptAt : List ℕ → Option KeyHolder → Result (Unit {0}) Failure → Type 0
   ScriptAt path signer = RunsAt exit_of path (signing_with signer by_itself) (λ ran identity before after.
-      ScriptEnds (Lines offices.signs identity) remaining contents before after reader reader' writer writer' ran)
+      ScriptEnds (Lines offices.signs identity) remaining contents before after
+      reader reader' writer writer' ran)
 
   -- no line of a script runs, because the clock is too far ahead
   abbrev pub ClockRefusedAt : LinedScript → Result (Unit {0}) Failure → Type 0
   ClockRefusedAt it result =
       (result ≡ Err failure.BadClock) × (reader' ≡ reader) × (writer' ≡ writer)
-      × UsesRegister machines offices machine machine' it.file (signing_with it.signer by_itself) (λ identity before after.
+      × UsesRegister machines offices machine machine' it.file (signing_with it.signer by_itself)
+      (λ identity before after.
       IsClockRefused it.way machines.clock_reached before × (after ≡ before))
 
   -- the lines of a script run over the register at a path
   abbrev pub LinesRunAt : LinedScript → Result (Unit {0}) Failure → Type 0
   LinesRunAt it = RunsAt exit_of_run it.file (signing_with it.signer by_itself) (λ ran identity before after.
-      LinesEnd (Lines offices.signs identity) remaining contents before after reader reader' writer writer' machines.clock_reached
-      it.way.is_clocked it.way.is_strict ran)
+      LinesEnd (Lines offices.signs identity) remaining contents before after
+      reader reader' writer writer' machines.clock_reached it.way.is_clocked it.way.is_strict ran)
 
   -- a script over the register at a path, run line by line
   abbrev pub LinesAt : LinedScript → Result (Unit {0}) Failure → Type 0
@@ -238,31 +275,37 @@ module _ {M O D S R E W : Type 0} (machines : Machine M O D S R) (offices : Offi
   abbrev pub ImportRan : Bool → List ℕ → ℕ → Result (Unit {0}) Failure → Type 0
   ImportRan false path now result = (ran : Result (Unit {0}) Fault) × (result ≡ exit_of ran)
       × UsesRegister machines offices machine machine' path unsigned (λ identity before after.
-      ImportEnds (Lines offices.signs identity) remaining contents now before after reader reader' writer writer' ran)
+      ImportEnds (Lines offices.signs identity) remaining contents now before after
+      reader reader' writer writer' ran)
   ImportRan true path now result = (ran : Result Ended Fault) × (result ≡ exit_of_run ran)
       × UsesRegister machines offices machine machine' path unsigned (λ identity before after.
-      StrictEnds (Lines offices.signs identity) remaining contents now before after reader reader' writer writer' ran)
+      StrictEnds (Lines offices.signs identity) remaining contents now before after
+      reader reader' writer writer' ran)
 
   -- an import into the register at a path: it could not be opened, or the rows ran
   abbrev pub ImportAt : Bool → List ℕ → ℕ → Result (Unit {0}) Failure → Type 0
   ImportAt is_strict path now result =
-      (NotOpened machines machine machine' path unsigned result × (reader' ≡ reader) × (writer' ≡ writer)) ⊎ ImportRan is_strict path now result
+      (NotOpened machines machine machine' path unsigned result × (reader' ≡ reader) × (writer' ≡ writer))
+      ⊎ ImportRan is_strict path now result
 
   -- no row is imported at a moment, because that is too far ahead
   abbrev pub ImportRefusedAt : List ℕ → ℕ → Result (Unit {0}) Failure → Type 0
   ImportRefusedAt path now result =
       (result ≡ Err failure.BadClock) × (reader' ≡ reader) × (writer' ≡ writer)
-      × UsesRegister machines offices machine machine' path unsigned (λ identity before after. IsTrue (is_ahead now before.last None) × (after ≡ before))
+      × UsesRegister machines offices machine machine' path unsigned (λ identity before after.
+      IsTrue (is_ahead now before.last None) × (after ≡ before))
 
   -- an import at a moment; only a moment that is checked can be refused
   abbrev pub ImportChecked : Bool → Bool → List ℕ → ℕ → Result (Unit {0}) Failure → Type 0
-  ImportChecked is_checked is_strict path now result = (IsTrue is_checked × ImportRefusedAt path now result) ⊎ ImportAt is_strict path now result
+  ImportChecked is_checked is_strict path now result =
+      (IsTrue is_checked × ImportRefusedAt path now result) ⊎ ImportAt is_strict path now result
 
   -- the same at the given moment, or else at one of the clock at the start; if the clock can't be read, nothing is done
   abbrev pub ImportAtMoment : Option ℕ → Bool → Bool → List ℕ → Result (Unit {0}) Failure → Type 0
   ImportAtMoment (Some now) accepts is_strict path result = ImportAt is_strict path now result
   ImportAtMoment None accepts is_strict path result =
-      ((result ≡ Err (failure.Fault fault.Read)) × (machine' ≡ machine) × (reader' ≡ reader) × (writer' ≡ writer))
+      ((result ≡ Err (failure.Fault fault.Read)) × (machine' ≡ machine) × (reader' ≡ reader)
+      × (writer' ≡ writer))
       ⊎ ((now : ℕ) × machines.clock_reached now × ImportChecked (not accepts) is_strict path now result)
 
   abbrev pub ImportByClock : RowsToImport → Result (Unit {0}) Failure → Type 0
@@ -272,16 +315,21 @@ module _ {M O D S R E W : Type 0} (machines : Machine M O D S R) (offices : Offi
   -- published CRL is given and can't be compared, or the register lacks any of it, nothing is served. Else the register has all of it, and `inputs`
   -- and their outcomes are in this order. A signature that was awaited came from the signer at the responder's path. Without a published CRL, no
   -- input is read.
-  abbrev pub AtPort : List ℕ → Option KeyHolder → Answerer → Option (List ℕ) → Endpoint → Option (List ℕ) → ℕ → Result (Unit {0}) Failure → Type 0
+  abbrev pub AtPort
+      : List ℕ → Option KeyHolder → Answerer → Option (List ℕ) → Endpoint → Option (List ℕ) → ℕ
+      → Result (Unit {0}) Failure → Type 0
   AtPort path signer answerer published endpoint control requests result =
       let UsesThatRegister = UsesRegister machines offices machine machine' path (signing_with signer answerer) in
-      (IsFalse (is_some published) → reader' ≡ reader) × Over machines offices contents machine machine' writer writer' path (signing_with signer answerer) result
+      (IsFalse (is_some published) → reader' ≡ reader)
+      × Over machines offices contents machine machine' writer writer' path (signing_with signer answerer) result
       (((why : Failure) × (result ≡ Err why) × IsTrue (is_some published) × UsesThatRegister
-      (λ identity before after. Compares before (remaining reader) (contents writer) (contents writer') (Err why) × (after ≡ before)))
+      (λ identity before after.
+      Compares before (remaining reader) (contents writer) (contents writer') (Err why) × (after ≡ before)))
       ⊎ ((inputs : List Input) × (outcomes : List (Outcome Unsigned)) × UsesThatRegister
       (λ identity before after. (IsTrue (is_some published) → HasAll before (remaining reader))
-      × Serves (is_some control) offices.signs (AnsweredAtPath machines.signer_answered (answer_socket signer answerer)) machines.clock_reached inputs outcomes identity before after)
-      × ServedAt contents writer writer' (IsBound machines.bound machines.socket_created machines.has_mode endpoint control) endpoint.port requests inputs result))
+      × ServesOn machines offices signer answerer (is_some control) inputs outcomes identity before after)
+      × ServedAt contents writer writer' (IsBoundOn machines endpoint control)
+      endpoint.port requests inputs result))
 
   -- that many requests
   abbrev pub ServeAt : Serving → Result (Unit {0}) Failure → Type 0
@@ -289,7 +337,8 @@ module _ {M O D S R E W : Type 0} (machines : Machine M O D S R) (offices : Offi
 
   -- requests and lines, up to the greatest count: the program ends before
   abbrev pub OpenAt : KeptOpen → Result (Unit {0}) Failure → Type 0
-  OpenAt it = AtPort it.file it.signer it.answerer it.published it.endpoint (Some it.control) 18446744073709551615
+  OpenAt it =
+      AtPort it.file it.signer it.answerer it.published it.endpoint (Some it.control) 18446744073709551615
 
   -- a job that reads no input
   abbrev pub Writes : (Result (Unit {0}) Failure → Type 0) → Result (Unit {0}) Failure → Type 0
@@ -300,30 +349,42 @@ module _ {M O D S R E W : Type 0} (machines : Machine M O D S R) (offices : Offi
   abbrev pub Ends : Job → Result (Unit {0}) Failure → Type 0
   Ends (job.Init it) = Writes (InitAt machines offices contents machine machine' writer writer' it)
   Ends (job.Script (Some file) signer) = ScriptAt file signer
-  Ends (job.Script None None) = λ result. (machine' ≡ machine) × ScriptInMemory remaining contents reader reader' writer writer' result
+  Ends (job.Script None None) =
+      λ result. (machine' ≡ machine) × ScriptInMemory remaining contents reader reader' writer writer' result
   Ends (job.Script None (Some holder)) = λ result.
       (machine' ≡ machine) × (reader' ≡ reader) × (writer' ≡ writer) × (result ≡ Err failure.BadSigner)
   Ends (job.Lines it) = LinesAt it
   Ends (job.Import it) = ImportByClock it
-  Ends (job.Crl file number) = Writes (CrlAt machines offices contents machine machine' writer writer' file number)
-  Ends (job.Schedule file steps) = Writes (ScheduleAt machines offices contents machine machine' writer writer' file steps)
-  Ends (job.KeyId file key_id) = Writes (KeyIdAt machines offices contents machine machine' writer writer' file key_id)
+  Ends (job.Crl file number) =
+      Writes (CrlAt machines offices contents machine machine' writer writer' file number)
+  Ends (job.Schedule file steps) =
+      Writes (ScheduleAt machines offices contents machine machine' writer writer' file steps)
+  Ends (job.KeyId file key_id) =
+      Writes (KeyIdAt machines offices contents machine machine' writer writer' file key_id)
   Ends (job.Serve it) = ServeAt it
   Ends (job.Open it) = OpenAt it
   Ends (job.Listing it) = Writes (ListAt machines offices contents machine machine' writer writer' it)
   Ends (job.Copy file to) = Writes (CopyAt machines offices contents machine machine' writer writer' file to)
   Ends (job.Audit file) = Writes (AuditAt machines offices contents machine machine' writer writer' file)
   Ends (job.At control_path None) = λ result.
-      (machine' ≡ machine) × AtControlSocket (machines.socket_connected control_path) (remaining reader) (contents writer) (contents writer') result
+      (machine' ≡ machine)
+      × AtControlSocket (machines.socket_connected control_path) (remaining reader) (contents writer)
+      (contents writer') result
   Ends (job.At control_path (Some file)) = λ result. (machine' ≡ machine)
-      × RowsAtControlSocket (machines.socket_connected control_path) (remaining reader) (remaining reader') (contents writer) (contents writer') result
+      × RowsAtControlSocket (machines.socket_connected control_path) (remaining reader) (remaining reader')
+      (contents writer) (contents writer') result
   Ends (job.EachRow control_path rows task) = λ result.
-      (machine' ≡ machine) × SendsRowsAt task (machines.socket_connected control_path) (remaining reader) (contents writer) (contents writer') result
+      (machine' ≡ machine)
+      × SendsRowsAt task (machines.socket_connected control_path) (remaining reader) (contents writer)
+      (contents writer') result
   Ends (job.Replay control_path log) = λ result.
-      (machine' ≡ machine) × ReplaysAt (machines.socket_connected control_path) (remaining reader) (contents writer) (contents writer') result
+      (machine' ≡ machine)
+      × ReplaysAt (machines.socket_connected control_path) (remaining reader) (contents writer)
+      (contents writer') result
 
   -- A job and its report: how it ended, its exit status, and what it wrote to standard error, with the cause if that is asked for.
-  pub record Performs (job : Job) (is_why_asked : Bool) (errors errors' : Option (List ℕ)) (status : ℕ) : Type 0 where
+  pub record Performs (job : Job) (is_why_asked : Bool) (errors errors' : Option (List ℕ))
+      (status : ℕ) : Type 0 where
     pub ending : Result (Unit {0}) Failure
     pub ends : Ends job ending
     pub exits : status ≡ exit_status ending

@@ -35,35 +35,45 @@ dispatch true _ = ToRegister
 dispatch false _ = ToRegister
 
 -- The answer to a request that was read. The register is asked at most once, and the records gain at most one request for revocation.
-module _ (signs : Signs) (now : ℕ) (signatory : Signatory) (before : Records) (it : AnswerEffects) (after : Records) where
+module _ (signs : Signs) (now : ℕ) (signatory : Signatory) (before : Records) (it : AnswerEffects)
+    (after : Records) where
   -- by the part that answers
   abbrev pub AnswersAtRoute : Dispatch → List ℕ → List ℕ → List ℕ → Type 0
-  AnswersAtRoute ToRegister method target body = Answers (Runs signs signatory) Asks (Replies signs signatory) Crls now before (asks_for method target body) it after
-  AnswersAtRoute ToLimits method target body = AnswersLimited signs now signatory before (asks_for method target body) it after
-  AnswersAtRoute ToList method target body = RespondsList before now (list_request method target) it × (after ≡ before)
+  AnswersAtRoute ToRegister method target body =
+      Answers (Runs signs signatory) Asks (Replies signs signatory) Crls now before
+      (asks_for method target body) it after
+  AnswersAtRoute ToLimits method target body =
+      AnswersLimited signs now signatory before (asks_for method target body) it after
+  AnswersAtRoute ToList method target body =
+      RespondsList before now (list_request method target) it × (after ≡ before)
   AnswersAtRoute ToHealth method target body = ByGet method (AnswersHealth now before) it × (after ≡ before)
   AnswersAtRoute ToMetrics method target body = ByGet method (AnswersMetrics now before) it × (after ≡ before)
 
   -- by a desk that is open or not
   abbrev pub Says : Bool → Part → Type 0
   Says is_open (refused status) = (it ≡ plain (http_refusal status)) × (after ≡ before)
-  Says is_open (asked method target body) = AnswersAtRoute (dispatch is_open (route_at (path_of target))) method target body
+  Says is_open (asked method target body) =
+      AnswersAtRoute (dispatch is_open (route_at (path_of target))) method target body
 
 -- the route under which a request is counted: that of its target, or the one that its first line names
 abbrev pub IsRouteOf : List ℕ → Route → Type 0
 IsRouteOf request route =
     (route ≡ named_route request)
-    ⊎ ((method target body : List ℕ) × ∥ HoldsRequest request (asked method target body) ∥₁ × (route ≡ route_at (path_of target)))
+    ⊎ ((method target body : List ℕ) × ∥ HoldsRequest request (asked method target body) ∥₁
+    × (route ≡ route_at (path_of target)))
 
 -- One HTTP exchange (RFC 9112) of a desk at a moment, over the bytes that came on a connection. Either they begin with a whole request, which the desk
 -- answered; or they do not, and it got none; or there was no memory for the exchange, and no record changed.
 abbrev pub IsExchange : Bool → Signs → ℕ → Signatory → Records → List ℕ → HttpExchange → Records → Type 0
 IsExchange is_open signs now signatory before request exchange after =
-    ((part : Part) × (it : AnswerEffects) × ∥ HoldsRequest request part ∥₁ × Says signs now signatory before it after is_open part × HasEffects now it exchange)
-    ⊎ (HasNoEffects exchange × ((∥ IsUnfinished request ∥₁ × IsEmpty exchange) ⊎ IsMemoryAnswer exchange) × (after ≡ before))
+    ((part : Part) × (it : AnswerEffects) × ∥ HoldsRequest request part ∥₁
+    × Says signs now signatory before it after is_open part × HasEffects now it exchange)
+    ⊎ (HasNoEffects exchange × ((∥ IsUnfinished request ∥₁ × IsEmpty exchange) ⊎ IsMemoryAnswer exchange)
+    × (after ≡ before))
 
 -- the same for the text alone; the records gain at most one request for revocation, and no count changes
-pub record AnswersAt (is_open : Bool) (signs : Signs) (now : ℕ) (signatory : Signatory) (before : Records) (request text : List ℕ) (after : Records) : Type 0 where
+pub record AnswersAt (is_open : Bool) (signs : Signs) (now : ℕ) (signatory : Signatory) (before : Records)
+    (request text : List ℕ) (after : Records) : Type 0 where
   pub exchange : HttpExchange
   pub is_exchange : IsExchange is_open signs now signatory before request exchange after
   pub text_is : text ≡ exchange.text.items
@@ -71,7 +81,8 @@ pub record AnswersAt (is_open : Bool) (signs : Signs) (now : ℕ) (signatory : S
 
 -- the same at a moment of a clock
 abbrev pub AnswersBy : Bool → Signs → (ℕ → Type 0) → Signatory → Records → List ℕ → List ℕ → Records → Type 0
-AnswersBy is_open signs clock_reached signatory before request text after = (now : ℕ) × clock_reached now × AnswersAt is_open signs now signatory before request text after
+AnswersBy is_open signs clock_reached signatory before request text after =
+    (now : ℕ) × clock_reached now × AnswersAt is_open signs now signatory before request text after
 
 -- ---- lines
 

@@ -26,15 +26,19 @@ ReportsExit (Err why) old new = IsReportedLine old new (failure_line why)
 
 -- nothing is written, or why a registration was refused
 abbrev pub ReportsReason : Option (List ℕ) → Option (List ℕ) → Type 0
-ReportsReason old new = (new ≡ old) ⊎ ((reason : Reason) × IsReportedLine old new (codes "  " ++ reason_text reason))
+ReportsReason old new =
+    (new ≡ old) ⊎ ((reason : Reason) × IsReportedLine old new (codes "  " ++ reason_text reason))
 
 -- nothing more is written; or, if that is asked for, a cause for exit status 1, or why a registration was refused for exit status 3
 abbrev pub Adds : Bool → ℕ → Option (List ℕ) → Option (List ℕ) → Type 0
 Adds is_asked exit_status old new =
     (new ≡ old)
-    ⊎ (IsTrue is_asked × (((exit_status ≡ 1) × ((cause : Cause) × IsReportedLine old new (cause_line cause))) ⊎ ((exit_status ≡ 3) × ReportsReason old new)))
+    ⊎ (IsTrue is_asked
+    × (((exit_status ≡ 1) × ((cause : Cause) × IsReportedLine old new (cause_line cause)))
+    ⊎ ((exit_status ≡ 3) × ReportsReason old new)))
 
 -- what standard error gets at the end of a job, by whether more is asked for: the failure's line, and then perhaps one more line
 abbrev pub Explains : Bool → Result (Unit {0}) Failure → Option (List ℕ) → Option (List ℕ) → Type 0
 Explains is_asked ending old new =
-    (between : Option (List ℕ)) × ReportsExit ending old between × Adds is_asked (exit_status ending) between new
+    (between : Option (List ℕ)) × ReportsExit ending old between
+    × Adds is_asked (exit_status ending) between new

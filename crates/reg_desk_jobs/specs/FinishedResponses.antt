@@ -15,7 +15,8 @@ use Rattle.reg_desk_jobs.specs.declared.unsigned_responses.Unsigned.{Unsigned}
 -- the signer gave this for the message, and it has the form of a signature by that signer; or there is none
 abbrev pub IsSignatureOf : (List ℕ → List ℕ → Type 0) → Drafted → Option (List ℕ) → Type 0
 IsSignatureOf signer_answered draft (Some signature) =
-    signer_answered draft.message signature × HasForm (record { algorithm = draft.algorithm; public_key = draft.key }) signature
+    signer_answered draft.message signature
+    × HasForm (record { algorithm = draft.algorithm; public_key = draft.key }) signature
 IsSignatureOf signer_answered draft None = Unit {0}
 
 -- whether a signature was made
@@ -24,7 +25,8 @@ fate_of (Some signature) = Made
 fate_of None = Failed
 
 -- this exchange at a moment has the response with this signature, or internalError without one; or there was no memory for it
-pub record IsFinished (draft : Drafted) (moment : ℕ) (signature : Option (List ℕ)) (exchange : Exchange) : Type 0 where
+pub record IsFinished (draft : Drafted) (moment : ℕ) (signature : Option (List ℕ))
+    (exchange : Exchange) : Type 0 where
   pub given : Result (List ℕ) Memory
   pub made : IfOk given (λ bytes. bytes ≡ drafted_response draft signature)
   pub tells : AnswersText moment (ocsp_reply given) exchange
@@ -32,7 +34,8 @@ pub record IsFinished (draft : Drafted) (moment : ℕ) (signature : Option (List
   pub store : exchange.store ≡ Unwritten
 
 -- this text finishes a response of a moment: with a signature that the signer gave, or without one
-pub record FinishesAt (signer_answered : List ℕ → List ℕ → Type 0) (draft : Drafted) (moment : ℕ) (text : List ℕ) : Type 0 where
+pub record FinishesAt (signer_answered : List ℕ → List ℕ → Type 0) (draft : Drafted) (moment : ℕ)
+    (text : List ℕ) : Type 0 where
   pub signature : Option (List ℕ)
   pub signed : IsSignatureOf signer_answered draft signature
   pub exchange : Exchange
@@ -40,7 +43,8 @@ pub record FinishesAt (signer_answered : List ℕ → List ℕ → Type 0) (draf
   pub text_is : text ≡ exchange.text.items
 
 abbrev pub FinishesUnsigned : (List ℕ → List ℕ → Type 0) → Unsigned → List ℕ → Type 0
-FinishesUnsigned signer_answered unsigned text = FinishesAt signer_answered unsigned.draft unsigned.moment text
+FinishesUnsigned signer_answered unsigned text =
+    FinishesAt signer_answered unsigned.draft unsigned.moment text
 
 -- the outcome of a request is a text that meets `wanted`; or a response to be signed, such that any text that finishes it does
 abbrev pub Meets : {T : Type 0} → (T → List ℕ → Type 0) → (List ℕ → Type 0) → Outcome T → Type 0

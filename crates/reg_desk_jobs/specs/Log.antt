@@ -38,13 +38,16 @@ unsigned_end is_unsigned = cond is_unsigned (codes " signer") []
 -- what the line of an exchange names of a request that was entered or decided: its number and serial number; and its ground, if it was entered
 abbrev pub named_end : Option NamedRequest → List ℕ
 named_end None = []
-named_end (Some named) = codes " request" ++ (32 ∷ decimal named.id) ++ (32 ∷ serial_text named.serial) ++ option_map_or (λ word. 32 ∷ word) named.ground []
+named_end (Some named) =
+    codes " request" ++ (32 ∷ decimal named.id) ++ (32 ∷ serial_text named.serial)
+    ++ option_map_or (λ word. 32 ∷ word) named.ground []
 
 -- the line of an exchange, without its LF: the moment, the client, the request and the answer, the bytes of the answer, the microseconds that it
 -- took, the request for revocation that it entered or decided, and whether a signature failed
 abbrev pub exchange_line : ℕ → List ℕ → List ℕ → List ℕ → ℕ → Option NamedRequest → Bool → List ℕ
 exchange_line now signatory asked answered micros named is_unsigned =
-    moment_text now ++ (32 ∷ signatory) ++ (32 ∷ quoted_text asked) ++ (32 ∷ quoted_text answered) ++ (32 ∷ decimal (length answered)) ++ (32 ∷ decimal micros)
+    moment_text now ++ (32 ∷ signatory) ++ (32 ∷ quoted_text asked) ++ (32 ∷ quoted_text answered)
+    ++ (32 ∷ decimal (length answered)) ++ (32 ∷ decimal micros)
     ++ named_end named ++ unsigned_end is_unsigned
 
 -- the line of a connection that ended by a fault, without its LF

@@ -33,7 +33,12 @@ pub record LoggedExchange : Type 0 where
   pub behind : List ℕ
 
 abbrev pub exchange_of : ExchangeText → LoggedExchange
-exchange_of logged_exchange = record { client = logged_exchange.client.now; asked = logged_exchange.asked.now; answered = logged_exchange.answered.now; behind = logged_exchange.behind.now }
+exchange_of logged_exchange = record {
+  client = logged_exchange.client.now;
+  asked = logged_exchange.asked.now;
+  answered = logged_exchange.answered.now;
+  behind = logged_exchange.behind.now;
+}
 
 -- the exchange of a line of the log: the request and the answer stand in quotation marks
 unfoldable pub exchange_in : List ℕ → Option LoggedExchange
@@ -81,15 +86,18 @@ named_in (front ∷ []) = None
 named_in (front ∷ bytes ∷ []) = None
 named_in (front ∷ bytes ∷ micros ∷ []) = None
 named_in (front ∷ bytes ∷ micros ∷ word ∷ rest) =
-    if bytes_eq word (codes "request") then Some (option_map_or Command (request_named rest) Unknown) else None
+    if bytes_eq word (codes "request") then Some (option_map_or Command (request_named rest) Unknown)
+    else None
 
 -- the words of lines that change the register: those whose request the log names, and the others
 abbrev pub is_of_request : List ℕ → Bool
-is_of_request word = bytes_eq word (codes "request") || bytes_eq word (codes "revoke") || bytes_eq word (codes "decline")
+is_of_request word =
+    bytes_eq word (codes "request") || bytes_eq word (codes "revoke") || bytes_eq word (codes "decline")
 
 abbrev pub enters : List ℕ → Bool
 enters word =
-    bytes_eq word (codes "subscriber") || bytes_eq word (codes "order") || bytes_eq word (codes "register") || bytes_eq word (codes "crl")
+    bytes_eq word (codes "subscriber") || bytes_eq word (codes "order") || bytes_eq word (codes "register")
+    || bytes_eq word (codes "crl")
     || bytes_eq word (codes "schedule")
 
 -- the log has all bytes of a text unchanged: it was not cut off (it keeps 256 bytes), and no byte was escaped with a backslash
@@ -107,7 +115,8 @@ is_control client = bytes_eq client (codes "control") || bytes_eq client (codes 
 
 -- a line at the control socket was accepted
 abbrev pub was_accepted : LoggedExchange → Bool
-was_accepted logged_exchange = is_control (second_word logged_exchange.client) && accepted logged_exchange.answered
+was_accepted logged_exchange =
+    is_control (second_word logged_exchange.client) && accepted logged_exchange.answered
 
 -- what follows from an exchange that names no request: it counts only at the control socket
 unfoldable pub unnamed : LoggedExchange → Logged
@@ -120,16 +129,21 @@ unnamed logged_exchange =
 
 -- the meaning of a logged exchange; one with another quotation mark is made of two lines, of which the first was not written whole
 unfoldable pub logged_of : LoggedExchange → Logged
-logged_of logged_exchange = if has_mark logged_exchange.behind then Unknown else unwrap_or (named_in (fields_of logged_exchange.behind)) (unnamed logged_exchange)
+logged_of logged_exchange =
+    if has_mark logged_exchange.behind then Unknown
+    else unwrap_or (named_in (fields_of logged_exchange.behind)) (unnamed logged_exchange)
 
 -- what a line of the log has: no accepted command; or one of which it has only a part; or one, with its exchange
 abbrev pub LogsNothing : List ℕ → Type 0
 LogsNothing line = ((exchange_in (line_of line) ≡ None) × IsFalse (has_mark (line_of line)))
-    ⊎ ((logged_exchange : LoggedExchange) × (exchange_in (line_of line) ≡ Some logged_exchange) × (logged_of logged_exchange ≡ Nothing))
+    ⊎ ((logged_exchange : LoggedExchange) × (exchange_in (line_of line) ≡ Some logged_exchange)
+    × (logged_of logged_exchange ≡ Nothing))
 
 abbrev pub LogsPart : List ℕ → Type 0
 LogsPart line = ((exchange_in (line_of line) ≡ None) × IsTrue (has_mark (line_of line)))
-    ⊎ ((logged_exchange : LoggedExchange) × (exchange_in (line_of line) ≡ Some logged_exchange) × (logged_of logged_exchange ≡ Unknown))
+    ⊎ ((logged_exchange : LoggedExchange) × (exchange_in (line_of line) ≡ Some logged_exchange)
+    × (logged_of logged_exchange ≡ Unknown))
 
 abbrev pub LogsEntry : List ℕ → LoggedExchange → Entry → Type 0
-LogsEntry line logged_exchange entry = (exchange_in (line_of line) ≡ Some logged_exchange) × (logged_of logged_exchange ≡ Command entry)
+LogsEntry line logged_exchange entry =
+    (exchange_in (line_of line) ≡ Some logged_exchange) × (logged_of logged_exchange ≡ Command entry)

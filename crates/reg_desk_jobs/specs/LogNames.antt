@@ -17,8 +17,10 @@ use Rattle.reg_desk_jobs.specs.declared.control_reply.LineOutcome.TheVariants.{C
 -- a line decides the request with a number: by number and serial number, or by number alone
 abbrev pub Decides : List ℕ → ℕ → Type 0
 Decides line id =
-    IsSomeAnd (serial_decision_in (fields_of (line_of line))) (λ serial_decision. serial_decision.request ≡ id)
-    ⊎ (LineMeans (line_of line) (means_command (Revoke id)) ⊎ LineMeans (line_of line) (means_command (Decline id)))
+    IsSomeAnd (serial_decision_in (fields_of (line_of line))) (λ serial_decision.
+    serial_decision.request ≡ id)
+    ⊎ (LineMeans (line_of line) (means_command (Revoke id))
+    ⊎ LineMeans (line_of line) (means_command (Decline id)))
 
 -- what is named of the request that a line decides: its number, and its serial number in the records
 abbrev pub NamesDecided : Records → List ℕ → NamedRequest → Type 0
@@ -38,5 +40,6 @@ NamesAccepted other reply before named = named ≡ None
 
 -- what is named by the result of a line
 abbrev pub NamesRequest : LineOutcome → Option NamedRequest → Option NamedRequest → Type 0
-NamesRequest (CameTo (asked.Command command) (Ok reply)) before named = NamesAccepted command reply before named
+NamesRequest (CameTo (asked.Command command) (Ok reply)) before named =
+    NamesAccepted command reply before named
 NamesRequest other before named = named ≡ None

@@ -21,11 +21,13 @@ latest_number (Some crl) = crl.number
 
 -- the line for a published CRL with a higher number
 abbrev pub missing_crl : Option CrlRow → ℕ → List ℕ
-missing_crl latest number = cond (nat_lt (latest_number latest) number) (codes "missing crl " ++ decimal number ++ 10 ∷ []) []
+missing_crl latest number =
+    cond (nat_lt (latest_number latest) number) (codes "missing crl " ++ decimal number ++ 10 ∷ []) []
 
 -- the line for a listed serial number that is not revoked
 abbrev pub missing_revocation : Bool → ℕ → List ℕ
-missing_revocation is_revoked serial = cond is_revoked [] (codes "missing revocation " ++ serial_text serial ++ 10 ∷ [])
+missing_revocation is_revoked serial =
+    cond is_revoked [] (codes "missing revocation " ++ serial_text serial ++ 10 ∷ [])
 
 -- the same by the records at a moment
 abbrev pub missing_at : Records → ℕ → ℕ → List ℕ
@@ -34,7 +36,8 @@ missing_at records moment serial = missing_revocation (is_revoked (status record
 -- what a published CRL has and the records lack at their last moment, a line each
 abbrev pub missing_text : Records → ℕ → List ℕ → List ℕ
 missing_text records number serials =
-    missing_crl (option_map row_of (latest records.crls)) number ++ flat_map (missing_at records records.last) serials
+    missing_crl (option_map row_of (latest records.crls)) number
+    ++ flat_map (missing_at records records.last) serials
 
 -- nothing is found, because this is no CRL, or because of a fault
 abbrev pub FindsNothing : Type 0 → Failure → Type 0
@@ -45,14 +48,18 @@ FindsNothing NoCrl other = ⊥
 -- the lines for the serial numbers of entries were added
 abbrev pub AppendsMissing : Records → ℕ → List ℕ → List ℕ → List ℕ → Result (Unit {0}) Failure → Type 0
 AppendsMissing records moment entries old new (Ok done) =
-    (serials : List ℕ) × AreEntries entries serials [] × (new ≡ old ++ flat_map (missing_at records moment) serials)
-AppendsMissing records moment entries old new (Err why) = FindsNothing ((serials : List ℕ) → ¬ AreEntries entries serials []) why
+    (serials : List ℕ) × AreEntries entries serials []
+    × (new ≡ old ++ flat_map (missing_at records moment) serials)
+AppendsMissing records moment entries old new (Err why) =
+    FindsNothing ((serials : List ℕ) → ¬ AreEntries entries serials []) why
 
 -- the lines of what the CRL in these bytes has and the records lack
 abbrev pub FindsMissing : Records → List ℕ → Result (List ℕ) Failure → Type 0
 FindsMissing records bytes (Ok lines) =
-    (number : ℕ) × (serials : List ℕ) × IsPublished bytes number serials × (lines ≡ missing_text records number serials)
-FindsMissing records bytes (Err why) = FindsNothing ((number : ℕ) → (serials : List ℕ) → ¬ IsPublished bytes number serials) why
+    (number : ℕ) × (serials : List ℕ) × IsPublished bytes number serials
+    × (lines ≡ missing_text records number serials)
+FindsMissing records bytes (Err why) =
+    FindsNothing ((number : ℕ) → (serials : List ℕ) → ¬ IsPublished bytes number serials) why
 
 -- the same for the bytes of an input
 abbrev pub FindsIn : Records → Option (List ℕ) → Result (List ℕ) Failure → Type 0
@@ -61,13 +68,15 @@ FindsIn records input found = (bytes : List ℕ) × IsInput input bytes × Finds
 -- the records have all of the CRL in an input: a latest CRL with its number or a higher one, and each serial number that it lists is revoked
 abbrev pub HasAll : Records → Option (List ℕ) → Type 0
 HasAll records input =
-    (bytes : List ℕ) × (number : ℕ) × (serials : List ℕ) × IsInput input bytes × IsPublished bytes number serials
+    (bytes : List ℕ) × (number : ℕ) × (serials : List ℕ) × IsInput input bytes
+    × IsPublished bytes number serials
     × (number ≤ latest_number (option_map row_of (latest records.crls)))
     × AllByRecursion (λ serial. IsTrue (is_revoked (status records serial records.last))) serials
 
 -- nothing is missing, and nothing is written; or what is missing is written, and the job fails with `LacksPublished`; or a prefix of that, if the
 -- writer fails; or nothing was found
-abbrev pub ReportsMissing : Option (List ℕ) → Option (List ℕ) → Result (List ℕ) Failure → Result (Unit {0}) Failure → Type 0
+abbrev pub ReportsMissing
+    : Option (List ℕ) → Option (List ℕ) → Result (List ℕ) Failure → Result (Unit {0}) Failure → Type 0
 ReportsMissing out out' (Ok []) result = (result ≡ Ok tt) × (out' ≡ out)
 ReportsMissing out out' (Ok (first ∷ rest)) result =
     ((result ≡ Err failure.LacksPublished) × Appends out out' (first ∷ rest))
@@ -75,5 +84,7 @@ ReportsMissing out out' (Ok (first ∷ rest)) result =
 ReportsMissing out out' (Err why) result = (result ≡ Err why) × (out' ≡ out)
 
 -- the CRL in an input is compared with the records, and what they lack of it is reported
-abbrev pub Compares : Records → Option (List ℕ) → Option (List ℕ) → Option (List ℕ) → Result (Unit {0}) Failure → Type 0
-Compares records input out out' result = (found : Result (List ℕ) Failure) × FindsIn records input found × ReportsMissing out out' found result
+abbrev pub Compares
+    : Records → Option (List ℕ) → Option (List ℕ) → Option (List ℕ) → Result (Unit {0}) Failure → Type 0
+Compares records input out out' result =
+    (found : Result (List ℕ) Failure) × FindsIn records input found × ReportsMissing out out' found result

@@ -39,7 +39,8 @@ reason_text (Latest at) = latest_text at
 reason_text (OtherSerial request serial) = other_text request serial
 reason_text (ClockAhead last) = ahead_text last
 reason_text (Wrong wrong) = wrong_text wrong
-reason_text (Unsigned number) = order_text (codes "CRL ") number (codes " has a placeholder digest: the next one is due at once")
+reason_text (Unsigned number) =
+    order_text (codes "CRL ") number (codes " has a placeholder digest: the next one is due at once")
 
 -- a prefix, the text of a reason, and an LF
 abbrev pub IsReasonLine : List ℕ → Option Reason → List ℕ → Type 0

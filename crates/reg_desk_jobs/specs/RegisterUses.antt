@@ -30,7 +30,8 @@ exit_of_run (Err fault) = Err (failure.Fault fault)
 module _ {M O D S R : Type 0} (machines : Machine M O D S R) (offices : Office O) (machine machine' : M) where
   -- The register at a path was opened for these signatures, and then closed. `step` relates any records that stood in it to those that stand
   -- in it afterwards, if the disk returned all that was written.
-  pub record UsesRegister (path : List ℕ) (signing : Signing) (step : Signatory → Records → Records → Type 0) : Type 0 where
+  pub record UsesRegister (path : List ℕ) (signing : Signing)
+      (step : Signatory → Records → Records → Type 0) : Type 0 where
     pub first : O
     pub last : O
     pub between : M
@@ -51,8 +52,10 @@ module _ {M O D S R : Type 0} (machines : Machine M O D S R) (machine machine' :
   -- the register at a path could not be opened, and that is how the job ends
   abbrev pub NotOpened : List ℕ → Signing → Result (Unit {0}) Failure → Type 0
   NotOpened path signing result =
-      (why : Failure) × (result ≡ Err why) × Unopened machines machine path signing why machine' × IsOpening why
+      (why : Failure) × (result ≡ Err why) × Unopened machines machine path signing why machine'
+      × IsOpening why
 
   -- no register could be created at a path, and that is how the job ends
   abbrev pub NotMade : List ℕ → Result (Unit {0}) Failure → Type 0
-  NotMade path result = (why : Failure) × (result ≡ Err why) × Unmade machines machine path why machine' × IsMaking why
+  NotMade path result =
+      (why : Failure) × (result ≡ Err why) × Unmade machines machine path why machine' × IsMaking why

@@ -19,14 +19,17 @@ use Rattle.reg_desk_jobs.specs.declared.replay_job.Renumbered.{Renumbered}
 
 -- the number that a request has now: the last one that a reply gave it, or that of the log
 abbrev pub number_now : List Renumbered → ℕ → ℕ
-number_now numbers logged = fold (λ number one. if one.logged == logged then one.given else number) logged numbers
+number_now numbers logged =
+    fold (λ number one. if one.logged == logged then one.given else number) logged numbers
 
 -- what is sent: the logged line; a request with its serial number and ground; a decision with its word, the number that the request has now, and
 -- its serial number
 abbrev pub text_to_send : List Renumbered → LoggedExchange → Entry → List ℕ
 text_to_send numbers logged_exchange Line = logged_exchange.asked
-text_to_send numbers logged_exchange (Request id serial label) = codes "request" ++ (32 ∷ serial_text serial) ++ (32 ∷ label)
-text_to_send numbers logged_exchange (Decision id serial) = first_word logged_exchange.asked ++ (32 ∷ decimal (number_now numbers id)) ++ (32 ∷ serial_text serial)
+text_to_send numbers logged_exchange (Request id serial label) =
+    codes "request" ++ (32 ∷ serial_text serial) ++ (32 ∷ label)
+text_to_send numbers logged_exchange (Decision id serial) =
+    first_word logged_exchange.asked ++ (32 ∷ decimal (number_now numbers id)) ++ (32 ∷ serial_text serial)
 
 abbrev pub line_to_send : List Renumbered → LoggedExchange → Entry → List ℕ
 line_to_send numbers logged_exchange entry = text_to_send numbers logged_exchange entry ++ 10 ∷ []
@@ -34,9 +37,12 @@ line_to_send numbers logged_exchange entry = text_to_send numbers logged_exchang
 -- whether a reply agrees with that of the log: in its first two words; for a decision, which may be late now, in the first one; for a request, which
 -- may have come over HTTP, it must say that it was entered
 abbrev pub agrees : LoggedExchange → Entry → List ℕ → Bool
-agrees logged_exchange Line reply = bytes_eq (first_word reply) (first_word logged_exchange.answered) && bytes_eq (second_word reply) (second_word logged_exchange.answered)
+agrees logged_exchange Line reply =
+    bytes_eq (first_word reply) (first_word logged_exchange.answered)
+    && bytes_eq (second_word reply) (second_word logged_exchange.answered)
 agrees logged_exchange (Request id serial label) reply = bytes_eq (first_word reply) (codes "request")
-agrees logged_exchange (Decision id serial) reply = bytes_eq (first_word reply) (first_word logged_exchange.answered)
+agrees logged_exchange (Decision id serial) reply =
+    bytes_eq (first_word reply) (first_word logged_exchange.answered)
 
 -- the number that a reply gives to a request
 abbrev pub renumbered : Entry → List ℕ → List Renumbered
@@ -65,29 +71,38 @@ state_of sent incoming out numbers = record { sent = sent; incoming = incoming; 
 -- the command of an entry is sent; its reply agrees, and the number that it gives is kept
 abbrev pub ReplyAgrees : ReplayState → LoggedExchange → Entry → ReplayState → Type 0
 ReplyAgrees s logged_exchange entry t = (reply : List ℕ)
-    × TalksLine s.sent t.sent s.incoming t.incoming s.out t.out (line_to_send s.numbers logged_exchange entry) reply
-    × IsTrue (agrees logged_exchange entry (line_of reply)) × (t.numbers ≡ s.numbers ++ renumbered entry (line_of reply))
+    × TalksLine s.sent t.sent s.incoming t.incoming s.out t.out (line_to_send s.numbers logged_exchange entry)
+    reply
+    × IsTrue (agrees logged_exchange entry (line_of reply))
+    × (t.numbers ≡ s.numbers ++ renumbered entry (line_of reply))
 
 -- the command of an entry is sent; its reply differs, and the line of the log is written after it
 abbrev pub ReplyDiffers : ReplayState → LoggedExchange → Entry → List ℕ → ReplayState → Type 0
 ReplyDiffers s logged_exchange entry line t = (reply : List ℕ) × (out : Option (List ℕ))
-    × TalksLine s.sent t.sent s.incoming t.incoming s.out out (line_to_send s.numbers logged_exchange entry) reply
+    × TalksLine s.sent t.sent s.incoming t.incoming s.out out (line_to_send s.numbers logged_exchange entry)
+    reply
     × IsFalse (agrees logged_exchange entry (line_of reply)) × Appends out t.out line
 
 -- how the replay of an entry of the log ends
-abbrev pub EntryEnds : ReplayState → LoggedExchange → Entry → List ℕ → ReplayState → Result (Unit {0}) Failure → Type 0
+abbrev pub EntryEnds
+    : ReplayState → LoggedExchange → Entry → List ℕ → ReplayState → Result (Unit {0}) Failure → Type 0
 EntryEnds s logged_exchange entry line t (Ok done) = ReplyAgrees s logged_exchange entry t
-EntryEnds s logged_exchange entry line t (Err why) = IsOfTalk why ⊎ ((why ≡ failure.Refused) × ReplyDiffers s logged_exchange entry line t)
+EntryEnds s logged_exchange entry line t (Err why) =
+    IsOfTalk why ⊎ ((why ≡ failure.Refused) × ReplyDiffers s logged_exchange entry line t)
 
 -- a line of the log is replayed: it has no accepted command, or one whose reply agrees
 abbrev pub LineReplayed : ReplayState → List ℕ → ReplayState → Type 0
-LineReplayed s line t = (LogsNothing line × (t ≡ s)) ⊎ ((logged_exchange : LoggedExchange) × (entry : Entry) × LogsEntry line logged_exchange entry × ReplyAgrees s logged_exchange entry t)
+LineReplayed s line t =
+    (LogsNothing line × (t ≡ s))
+    ⊎ ((logged_exchange : LoggedExchange) × (entry : Entry) × LogsEntry line logged_exchange entry
+    × ReplyAgrees s logged_exchange entry t)
 
 -- a replay stops at a line of the log, which is written: it has only a part of a command, and nothing is sent; or the reply differs
 abbrev pub LineStops : ReplayState → List ℕ → ReplayState → Type 0
 LineStops s line t =
     (LogsPart line × (t.sent ≡ s.sent) × (t.incoming ≡ s.incoming) × Appends s.out t.out line)
-    ⊎ ((logged_exchange : LoggedExchange) × (entry : Entry) × LogsEntry line logged_exchange entry × ReplyDiffers s logged_exchange entry line t)
+    ⊎ ((logged_exchange : LoggedExchange) × (entry : Entry) × LogsEntry line logged_exchange entry
+    × ReplyDiffers s logged_exchange entry line t)
 
 -- how the replay of a line of the log ends
 abbrev pub LineEnds : ReplayState → List ℕ → ReplayState → Result (Unit {0}) Failure → Type 0
@@ -102,27 +117,37 @@ Replayed s (line ∷ log) t = (m : ReplayState) × LineReplayed s line m × Repl
 -- why a replay stops before the end of the log, with these bytes left: at the next line, or because the last one has no line end
 abbrev pub Stops : ReplayState → List ℕ → ReplayState → Failure → Type 0
 Stops s left t why =
-    ((why ≡ failure.Refused) × (line rest : List ℕ) × (left ≡ line ++ rest) × IsWholeLine line × LineStops s line t)
+    ((why ≡ failure.Refused) × (line rest : List ℕ) × (left ≡ line ++ rest) × IsWholeLine line
+    × LineStops s line t)
     ⊎ ((why ≡ failure.NoLineEnd) × IsCutOff left × (t ≡ s))
 
 -- a log is replayed: each of its lines; or those before the one at which it stops. After a fault, nothing is stated about how far it got
 abbrev pub ReplaysLog : Option (List ℕ) → ReplayState → ReplayState → Result (Unit {0}) Failure → Type 0
-ReplaysLog input s t (Ok done) = (log : List (List ℕ)) × AreWhole log × IsInput input (concat log) × Replayed s log t
+ReplaysLog input s t (Ok done) =
+    (log : List (List ℕ)) × AreWhole log × IsInput input (concat log) × Replayed s log t
 ReplaysLog input s t (Err why) = IsOfTalk why
-    ⊎ ((log : List (List ℕ)) × (m : ReplayState) × (left : List ℕ) × AreWhole log × Replayed s log m × IsInput input (concat log ++ left) × Stops m left t why)
+    ⊎ ((log : List (List ℕ)) × (m : ReplayState) × (left : List ℕ) × AreWhole log × Replayed s log m
+    × IsInput input (concat log ++ left) × Stops m left t why)
 
 -- the same, with no numbers at the start
-abbrev pub Replays : Option (List ℕ) → Option (List ℕ) → Option (List ℕ) → Option (List ℕ) → Option (List ℕ) → Option (List ℕ) → Option (List ℕ)
+abbrev pub Replays
+    : Option (List ℕ) → Option (List ℕ) → Option (List ℕ) → Option (List ℕ) → Option (List ℕ)
+    → Option (List ℕ) → Option (List ℕ)
     → Result (Unit {0}) Failure → Type 0
 Replays input sent sent' incoming incoming' out out' result =
-    (numbers : List Renumbered) × ReplaysLog input (state_of sent incoming out []) (state_of sent' incoming' out' numbers) result
+    (numbers : List Renumbered)
+    × ReplaysLog input (state_of sent incoming out []) (state_of sent' incoming' out' numbers) result
 
 -- over a connection about which nothing else is known: it ended early with nothing written, or as `Replays` states
-abbrev pub ReplaysOver : Option (List ℕ) → Option (List ℕ) → Option (List ℕ) → Result (Unit {0}) Failure → Type 0
+abbrev pub ReplaysOver
+    : Option (List ℕ) → Option (List ℕ) → Option (List ℕ) → Result (Unit {0}) Failure → Type 0
 ReplaysOver input out out' result =
     ((why : Failure) × (result ≡ Err why) × IsOfTalk why × (out' ≡ out))
-    ⊎ ((sent sent' incoming incoming' : Option (List ℕ)) × Replays input sent sent' incoming incoming' out out' result)
+    ⊎ ((sent sent' incoming incoming' : Option (List ℕ))
+    × Replays input sent sent' incoming incoming' out out' result)
 
 -- at the control socket at a path: no program listened there, or the log was replayed to the one that did
-abbrev pub ReplaysAt : Type 0 → Option (List ℕ) → Option (List ℕ) → Option (List ℕ) → Result (Unit {0}) Failure → Type 0
-ReplaysAt met input out out' result = ((result ≡ Err (failure.Fault fault.Read)) × (out' ≡ out)) ⊎ (met × ReplaysOver input out out' result)
+abbrev pub ReplaysAt
+    : Type 0 → Option (List ℕ) → Option (List ℕ) → Option (List ℕ) → Result (Unit {0}) Failure → Type 0
+ReplaysAt met input out out' result =
+    ((result ≡ Err (failure.Fault fault.Read)) × (out' ≡ out)) ⊎ (met × ReplaysOver input out out' result)

@@ -26,9 +26,12 @@ is_shown shown other = false
 
 -- the row to be shown, as its list has it at a moment
 abbrev pub row_shown : Records → ℕ → Shown → Option Row
-row_shown records now (Request id) = option_and_then (history_row records now) (request_in records.requests id)
-row_shown records now (Certificate serial) = option_and_then (certificate_row records now) (certificate_in records.certificates serial)
-row_shown records now (Subscriber name) = option_map (λ row. kind.Subscriber row) (subscriber_named records.subscribers name)
+row_shown records now (Request id) =
+    option_and_then (history_row records now) (request_in records.requests id)
+row_shown records now (Certificate serial) =
+    option_and_then (certificate_row records now) (certificate_in records.certificates serial)
+row_shown records now (Subscriber name) =
+    option_map (λ row. kind.Subscriber row) (subscriber_named records.subscribers name)
 
 -- the refusal if there is none
 abbrev pub refusal_of : Shown → Refusal
@@ -47,12 +50,14 @@ FailsAt records now Write = ⊥
 
 -- a look-up gives what the records have, if its moment is allowed; or it fails
 abbrev pub IsLookedUp : {A : Type 0} → Records → ℕ → A → Result A Fault → Type 0
-IsLookedUp records now known (Ok found) = (first_of_all (clock_checks now records.last) ≡ None) × (found ≡ known)
+IsLookedUp records now known (Ok found) =
+    (first_of_all (clock_checks now records.last) ≡ None) × (found ≡ known)
 IsLookedUp records now known (Err why) = FailsAt records now why
 
 -- the same over sound records
 abbrev pub IsSeen : {A : Type 0} → Records → ℕ → A → Result A Fault → Type 0
-IsSeen records now known result = IfOk result (λ found. SoundRows records) × IsLookedUp records now known result
+IsSeen records now known result =
+    IfOk result (λ found. SoundRows records) × IsLookedUp records now known result
 
 -- the reply to a look-up: the row in the form of `list --json`, that there is none, or why it failed
 abbrev pub found_text : Shown → Result (Option Row) Fault → List ℕ
@@ -63,8 +68,10 @@ found_text shown (Err why) = fault_line why ++ 10 ∷ []
 -- the reply to `show`
 abbrev pub AnswersShown : Records → ℕ → Shown → List ℕ → Type 0
 AnswersShown records now shown text =
-    (found : Result (Option Row) Fault) × IsLookedUp records now (row_shown records now shown) found × IsReplyText (found_text shown found) text
+    (found : Result (Option Row) Fault) × IsLookedUp records now (row_shown records now shown) found
+    × IsReplyText (found_text shown found) text
 
 -- the words of the control socket, in one line
 unfoldable pub help_text : List ℕ
-help_text = codes "help: subscriber NAME | order SUBSCRIBER DAYS | register ORDER SERIAL NOTBEFORE NOTAFTER | request SERIAL GROUND | decline REQUEST [SERIAL] | revoke REQUEST [SERIAL] | crl | status SERIAL | counts | listing SERIAL | overdue | next-crl | ocsp HEX | show request REQUEST | show SERIAL | show subscriber NAME | why | accept-clock MOMENT | schedule MOMENT=DAYS .. | copy PATH | help"
+help_text =
+    codes "help: subscriber NAME | order SUBSCRIBER DAYS | register ORDER SERIAL NOTBEFORE NOTAFTER | request SERIAL GROUND | decline REQUEST [SERIAL] | revoke REQUEST [SERIAL] | crl | status SERIAL | counts | listing SERIAL | overdue | next-crl | ocsp HEX | show request REQUEST | show SERIAL | show subscriber NAME | why | accept-clock MOMENT | schedule MOMENT=DAYS .. | copy PATH | help"

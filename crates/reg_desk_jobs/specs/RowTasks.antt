@@ -32,7 +32,8 @@ is_passed_over task text = bytes_eq text [] || bytes_eq text (header_of task)
 
 -- the text before the first comma, and the text after it
 unfoldable pub parted_by_comma : List ℕ → Option (List ℕ × List ℕ)
-parted_by_comma text = option_map (λ comma. (take comma text, drop (comma + 1) text)) (position (λ byte. byte == 44) text)
+parted_by_comma text =
+    option_map (λ comma. (take comma text, drop (comma + 1) text)) (position (λ byte. byte == 44) text)
 
 -- the row `SERIAL,GROUND`
 unfoldable pub revocation_row_in : List ℕ → Option RevocationRow
@@ -59,7 +60,8 @@ abbrev pub row_request : RevocationRow → List ℕ
 row_request row = codes "request" ++ (32 ∷ serial_text row.serial) ++ (32 ∷ row.word) ++ 10 ∷ []
 
 abbrev pub row_revocation : RevocationRow → List ℕ → List ℕ
-row_revocation row reply = codes "revoke" ++ (32 ∷ second_word (line_of reply)) ++ (32 ∷ serial_text row.serial) ++ 10 ∷ []
+row_revocation row reply =
+    codes "revoke" ++ (32 ∷ second_word (line_of reply)) ++ (32 ∷ serial_text row.serial) ++ 10 ∷ []
 
 -- the query of a row's status, its order, and its registration with the order's number from the reply
 abbrev pub row_status : RegistrationRow → List ℕ
@@ -70,7 +72,8 @@ row_order terms = codes "order" ++ (32 ∷ decimal terms.subscriber) ++ (32 ∷ 
 
 abbrev pub row_registration : RegistrationRow → List ℕ → List ℕ
 row_registration row reply =
-    codes "register" ++ (32 ∷ second_word (line_of reply)) ++ (32 ∷ serial_text row.serial) ++ (32 ∷ moment_text row.not_before)
+    codes "register" ++ (32 ∷ second_word (line_of reply)) ++ (32 ∷ serial_text row.serial)
+    ++ (32 ∷ moment_text row.not_before)
     ++ (32 ∷ moment_text row.not_after) ++ 10 ∷ []
 
 -- a connection to the control socket: what was sent, and the replies that are left
@@ -97,16 +100,19 @@ has_first_word reply word = bytes_eq (first_word (line_of reply)) word
 abbrev pub SendsThen : List ℕ → List ℕ → (List ℕ → Exchange) → Exchange
 SendsThen line word Next s t reply =
     (Sends line s t reply × IsFalse (has_first_word reply word))
-    ⊎ ((m : Link) × (first : List ℕ) × Sends line s m first × IsTrue (has_first_word first word) × Next first m t reply)
+    ⊎ ((m : Link) × (first : List ℕ) × Sends line s m first × IsTrue (has_first_word first word)
+    × Next first m t reply)
 
 -- a row's request, and its revocation if the request is entered; a line that is no row is sent as `request` alone
 abbrev pub RevokesRow : Option RevocationRow → Exchange
 RevokesRow None = Sends (codes "request\n")
-RevokesRow (Some row) = SendsThen (row_request row) (codes "request") (λ entered. Sends (row_revocation row entered))
+RevokesRow (Some row) =
+    SendsThen (row_request row) (codes "request") (λ entered. Sends (row_revocation row entered))
 
 -- a row's order, and its registration if the order is entered
 abbrev pub OrdersRow : OrderTerms → RegistrationRow → Exchange
-OrdersRow terms row = SendsThen (row_order terms) (codes "order") (λ ordered. Sends (row_registration row ordered))
+OrdersRow terms row =
+    SendsThen (row_order terms) (codes "order") (λ ordered. Sends (row_registration row ordered))
 
 -- a row's status, and its order if no certificate has the serial number; a line that is no row is sent as `register` alone
 abbrev pub RegistersRow : OrderTerms → Option RegistrationRow → Exchange
@@ -132,36 +138,45 @@ module _ (task : RowTask) where
 
   -- the same, with the reply written, and whether the line is done
   abbrev pub LineReplied : Link → Link → Option (List ℕ) → Option (List ℕ) → List ℕ → Bool → Type 0
-  LineReplied s t out out' line done = (reply : List ℕ) × LineAnswered s t line reply × Appends out out' reply × (IsTrue done ↔ IsRowDone reply)
+  LineReplied s t out out' line done =
+      (reply : List ℕ) × LineAnswered s t line reply × Appends out out' reply
+      × (IsTrue done ↔ IsRowDone reply)
 
   -- the replies to lines of the file, one for each, in their order
   abbrev pub LinesAnswered : Link → Link → List (List ℕ) → List (List ℕ) → Type 0
   LinesAnswered s t [] [] = t ≡ s
-  LinesAnswered s t (line ∷ lines) (reply ∷ replies) = (m : Link) × LineAnswered s m line reply × LinesAnswered m t lines replies
+  LinesAnswered s t (line ∷ lines) (reply ∷ replies) =
+      (m : Link) × LineAnswered s m line reply × LinesAnswered m t lines replies
   LinesAnswered s t [] (reply ∷ replies) = ⊥
   LinesAnswered s t (line ∷ lines) [] = ⊥
 
   -- these lines of the file were answered, and all their replies written
-  pub record RepliesWritten (s t : Link) (out out' : Option (List ℕ)) (lines replies : List (List ℕ)) : Type 0 where
+  pub record RepliesWritten (s t : Link) (out out' : Option (List ℕ))
+      (lines replies : List (List ℕ)) : Type 0 where
     pub whole : AreWhole lines
     pub answered : LinesAnswered s t lines replies
     pub wrote : Appends out out' (concat replies)
 
   -- the rows of an input: each is done; or one is not, or a last line without its line end is left, for which nothing was sent. If the connection,
   -- the input or the output failed, nothing is stated about how far it got
-  abbrev pub SendsRows : Option (List ℕ) → Link → Link → Option (List ℕ) → Option (List ℕ) → Result (Unit {0}) Failure → Type 0
+  abbrev pub SendsRows
+      : Option (List ℕ) → Link → Link → Option (List ℕ) → Option (List ℕ) → Result (Unit {0}) Failure → Type 0
   SendsRows input s t out out' (Ok done) =
-      (lines replies : List (List ℕ)) × RepliesWritten s t out out' lines replies × IsInput input (concat lines) × AllByRecursion IsRowDone replies
+      (lines replies : List (List ℕ)) × RepliesWritten s t out out' lines replies
+      × IsInput input (concat lines) × AllByRecursion IsRowDone replies
   SendsRows input s t out out' (Err why) = IsOfTalk why
       ⊎ ((lines replies : List (List ℕ)) × (left : List ℕ) × RepliesWritten s t out out' lines replies
       × IsInput input (concat lines ++ left) × IsWhyBy IsRowDone replies left why)
 
   -- over a connection about which nothing else is known: it ended early with nothing written, or as `SendsRows` states
-  abbrev pub SendsRowsOver : Option (List ℕ) → Option (List ℕ) → Option (List ℕ) → Result (Unit {0}) Failure → Type 0
+  abbrev pub SendsRowsOver
+      : Option (List ℕ) → Option (List ℕ) → Option (List ℕ) → Result (Unit {0}) Failure → Type 0
   SendsRowsOver input out out' result =
       ((why : Failure) × (result ≡ Err why) × IsOfTalk why × (out' ≡ out))
       ⊎ ((s t : Link) × SendsRows input s t out out' result)
 
   -- at the control socket at a path: no program listened there, or the rows were sent to the one that did
-  abbrev pub SendsRowsAt : Type 0 → Option (List ℕ) → Option (List ℕ) → Option (List ℕ) → Result (Unit {0}) Failure → Type 0
-  SendsRowsAt met input out out' result = ((result ≡ Err (failure.Fault fault.Read)) × (out' ≡ out)) ⊎ (met × SendsRowsOver input out out' result)
+  abbrev pub SendsRowsAt
+      : Type 0 → Option (List ℕ) → Option (List ℕ) → Option (List ℕ) → Result (Unit {0}) Failure → Type 0
+  SendsRowsAt met input out out' result =
+      ((result ≡ Err (failure.Fault fault.Read)) × (out' ≡ out)) ⊎ (met × SendsRowsOver input out out' result)

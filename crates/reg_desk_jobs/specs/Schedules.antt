@@ -13,7 +13,8 @@ use Rattle.reg_desk_jobs.specs.RegisterUses.{exit_of}
 abbrev pub SetsSteps : List (ℕ × ℕ) → Result (Unit {0}) Failure → Records → Records → Type 0
 SetsSteps steps result before after =
     ((why : Failure) × (result ≡ Err why) × IsNoSchedule steps why × (after ≡ before))
-    ⊎ (IsSchedule steps × (set : Result (Unit {0}) Fault) × (result ≡ exit_of set) × Reschedules steps set before after)
+    ⊎ (IsSchedule steps × (set : Result (Unit {0}) Fault) × (result ≡ exit_of set)
+    × Reschedules steps set before after)
 
 -- its reply, without its LF
 abbrev pub set_line : Result (Unit {0}) Failure → List ℕ
@@ -26,4 +27,5 @@ RepliesSetting set text = (text ≡ set_line set ++ 10 ∷ []) ⊎ (text ≡ [])
 
 -- a line at the control socket that sets steps
 abbrev pub SetAt : List (ℕ × ℕ) → Records → List ℕ → Records → Type 0
-SetAt steps before text after = (result : Result (Unit {0}) Failure) × SetsSteps steps result before after × RepliesSetting result text
+SetAt steps before text after =
+    (result : Result (Unit {0}) Failure) × SetsSteps steps result before after × RepliesSetting result text

@@ -11,4 +11,5 @@ IsFirstCrl answered = (what : LineKind) × (entries : ℕ) × (answered ≡ Came
 
 -- the warning that CRL 1 has no signature, with its LF
 unfoldable pub sealed_line : List ℕ
-sealed_line = codes "warning: CRL 1 has a placeholder digest instead of a signature; to sign: --signer SOCKET --algorithm NAME\n"
+sealed_line =
+    codes "warning: CRL 1 has a placeholder digest instead of a signature; to sign: --signer SOCKET --algorithm NAME\n"

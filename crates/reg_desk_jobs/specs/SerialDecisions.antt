@@ -25,17 +25,22 @@ request_of_row other = None
 
 -- the request with the number is for another serial number
 abbrev pub IsForOther : Records → SerialDecision → Type 0
-IsForOther records serial_decision = IsSomeAnd (request_in records.requests serial_decision.request) (λ request. request.serial ≢ serial_decision.serial)
+IsForOther records serial_decision =
+    IsSomeAnd (request_in records.requests serial_decision.request) (λ request.
+    request.serial ≢ serial_decision.serial)
 
 -- a command and its reply; or there was no memory for that, and nothing ran
 abbrev pub RunsAt : Signs → ℕ → Signatory → Records → Command → List ℕ → Records → Type 0
 RunsAt signs now identity before command text after =
-    ((answered : Answered) × OfficeAnswers (Lines signs identity) now before (means_command command) answered after × (text ≡ reply_of answered))
+    ((answered : Answered)
+    × OfficeAnswers (Lines signs identity) now before (means_command command) answered after
+    × (text ≡ reply_of answered))
     ⊎ (ReportsFault Memory text × (after ≡ before))
 
 -- a decision and its reply: that there is no such request, if it is for another serial number; else that of the command; or why the look-up failed
 abbrev pub SettlesAt : Signs → ℕ → Signatory → Records → SerialDecision → List ℕ → Records → Type 0
 SettlesAt signs now identity before serial_decision text after =
     (IsForOther before serial_decision × ReportsFault (Refused NoRequest) text × (after ≡ before))
-    ⊎ (((¬ IsForOther before serial_decision) × RunsAt signs now identity before serial_decision.command text after)
+    ⊎ (((¬ IsForOther before serial_decision)
+    × RunsAt signs now identity before serial_decision.command text after)
     ⊎ ((why : Fault) × FailsAt before now why × ReportsFault why text × (after ≡ before)))

@@ -6,7 +6,10 @@ use Rattle.reg_core.specs.declared.refusal.Fault.TheVariants as fault
 use Rattle.reg_office_api.specs.Signatories.{Signatory}
 use Rattle.reg_office_api.specs.CallSteps.{Signs}
 use Rattle.reg_desk_server.specs.Exchange.{Input, Outcome, Handles, requests_in}
+use Rattle.reg_office_api.specs.declared.office.Office.{Ghosts as Office}
+use Rattle.reg_desk_cli.specs.declared.job.Answerer.{Answerer}
 use Rattle.reg_desk_cli.specs.declared.job.Endpoint.{Endpoint}
+use Rattle.reg_desk_cli.specs.declared.job.KeyHolder.{KeyHolder}
 use Rattle.reg_desk_cli.specs.declared.job.Loopback.{Loopback}
 use Rattle.reg_desk_cli.specs.declared.job.Loopback.TheVariants.{V4, V6}
 use Rattle.reg_desk_cli.specs.declared.failure.Failure.{Failure}
@@ -14,6 +17,8 @@ use Rattle.reg_desk_cli.specs.declared.failure.Failure.TheVariants as failure
 use Rattle.reg_desk_jobs.specs.Exchanges.{AnswersBy, Unmoved}
 use Rattle.reg_desk_jobs.specs.FinishedResponses.{FinishesUnsigned, Meets}
 use Rattle.reg_desk_jobs.specs.ControlWords.{Word}
+use Rattle.reg_desk_jobs.specs.Signers.{AnsweredByOcspSigner}
+use Rattle.reg_desk_jobs.specs.declared.machine.Machine.{Ghosts as Machine}
 use Rattle.reg_desk_jobs.specs.declared.unsigned_responses.Unsigned.{Unsigned}
 use Rattle.reg_io.specs.Put.{AppendsPrefix}
 use Rattle.reg_io.specs.RunsOfAnswers.{Answered}
@@ -23,19 +28,32 @@ use Rattle.reg_io.specs.RunsOfAnswers.{Answered}
 -- between its request and its sending, and includes each revocation that was answered before. A signature that finishes it was given by the signer
 -- (`signer_answered`) for exactly the message that is signed.
 abbrev pub Exchanging
-    : Bool → Signs → (List ℕ → List ℕ → Type 0) → (ℕ → Type 0) → Signatory → Records → List ℕ → Outcome Unsigned → Records → Type 0
+    : Bool → Signs → (List ℕ → List ℕ → Type 0) → (ℕ → Type 0) → Signatory → Records → List ℕ
+    → Outcome Unsigned → Records → Type 0
 Exchanging is_open signs signer_answered clock_reached identity before request outcome after =
-    Meets (FinishesUnsigned signer_answered) (λ text. AnswersBy is_open signs clock_reached identity before request text after) outcome
+    Meets (FinishesUnsigned signer_answered)
+    (λ text. AnswersBy is_open signs clock_reached identity before request text after) outcome
 
 -- a line at the control socket, which only an open desk has
 abbrev pub OpenWord : Bool → Signs → (ℕ → Type 0) → Signatory → Records → List ℕ → List ℕ → Records → Type 0
-OpenWord is_open signs clock_reached identity before line text after = IsTrue is_open × Word signs clock_reached identity before line text after
+OpenWord is_open signs clock_reached identity before line text after =
+    IsTrue is_open × Word signs clock_reached identity before line text after
 
 -- what requests, and lines at an open desk, did to the records: one after the other, and nothing else changed them
 abbrev pub Serves
-    : Bool → Signs → (List ℕ → List ℕ → Type 0) → (ℕ → Type 0) → List Input → List (Outcome Unsigned) → Signatory → Records → Records → Type 0
+    : Bool → Signs → (List ℕ → List ℕ → Type 0) → (ℕ → Type 0) → List Input → List (Outcome Unsigned)
+    → Signatory → Records → Records → Type 0
 Serves is_open signs signer_answered clock_reached inputs outcomes identity before after =
-    Answered (Handles (Exchanging is_open signs signer_answered clock_reached identity) (OpenWord is_open signs clock_reached identity) Unmoved) before inputs outcomes after
+    Answered (Handles (Exchanging is_open signs signer_answered clock_reached identity)
+    (OpenWord is_open signs clock_reached identity) Unmoved) before inputs outcomes after
+
+-- the same at a desk with the options' signers, over the offices of a machine
+abbrev pub ServesOn
+    : {M O D S R : Type 0} → Machine M O D S R → Office O → Option KeyHolder → Answerer → Bool → List Input
+    → List (Outcome Unsigned) → Signatory → Records → Records → Type 0
+ServesOn machines offices signer answerer is_open =
+    Serves is_open offices.signs (AnsweredByOcspSigner machines.signer_answered signer answerer)
+    machines.clock_reached
 
 -- an address of the loopback interface (RFC 1122 3.2.1.3, RFC 4291 2.5.3)
 abbrev pub loopback : Loopback → List ℕ
@@ -48,26 +66,40 @@ listening port = codes "listening " ++ (decimal port ++ 10 ∷ [])
 
 -- nothing was answered: the port could not be bound, its connections could not be polled, or there was no memory for them
 abbrev pub Unbound : List Input → Result (Unit {0}) Failure → Type 0
-Unbound inputs result = (inputs ≡ []) × ((result ≡ Err (failure.Fault fault.Read)) ⊎ (result ≡ Err (failure.Fault fault.Memory)))
+Unbound inputs result =
+    (inputs ≡ []) × ((result ≡ Err (failure.Fault fault.Read)) ⊎ (result ≡ Err (failure.Fault fault.Memory)))
 
 -- Serving ended after these inputs were answered: it is done after all requests. `Read` means that the clock could not be read, or that
 -- the sockets failed; `Write`, that the line with the port was not written whole.
-abbrev pub Served : ℕ → ℕ → List Input → Option (List ℕ) → Option (List ℕ) → Result (Unit {0}) Failure → Type 0
-Served port requests inputs out out' (Ok done) = (requests_in inputs ≡ requests) × Appends out out' (listening port)
-Served port requests inputs out out' (Err (failure.Fault fault.Read)) = (requests_in inputs ≢ requests) × Appends out out' (listening port)
-Served port requests inputs out out' (Err (failure.Fault fault.Write)) = (inputs ≡ []) × AppendsPrefix out out' (listening port)
+abbrev pub Served
+    : ℕ → ℕ → List Input → Option (List ℕ) → Option (List ℕ) → Result (Unit {0}) Failure → Type 0
+Served port requests inputs out out' (Ok done) =
+    (requests_in inputs ≡ requests) × Appends out out' (listening port)
+Served port requests inputs out out' (Err (failure.Fault fault.Read)) =
+    (requests_in inputs ≢ requests) × Appends out out' (listening port)
+Served port requests inputs out out' (Err (failure.Fault fault.Write)) =
+    (inputs ≡ []) × AppendsPrefix out out' (listening port)
 Served port requests inputs out out' (Err other) = ⊥
 
 -- nothing was bound and nothing was written; or this was bound, and these inputs were served
-abbrev pub ServedAt : {W : Type 0} → (W → Option (List ℕ)) → W → W → Type 0 → ℕ → ℕ → List Input → Result (Unit {0}) Failure → Type 0
+abbrev pub ServedAt
+    : {W : Type 0} → (W → Option (List ℕ)) → W → W → Type 0 → ℕ → ℕ → List Input → Result (Unit {0}) Failure
+    → Type 0
 ServedAt contents writer writer' Bound port requests inputs result =
-    (Unbound inputs result × (writer' ≡ writer)) ⊎ (Bound × Served port requests inputs (contents writer) (contents writer') result)
+    (Unbound inputs result × (writer' ≡ writer))
+    ⊎ (Bound × Served port requests inputs (contents writer) (contents writer') result)
 
 -- a control socket was created at a path: a socket with the mode 0600
 abbrev pub IsControlSocket : (List ℕ → Type 0) → (List ℕ → ℕ → Type 0) → List ℕ → Type 0
 IsControlSocket socket_created has_mode path = socket_created path × has_mode path 384
 
 -- a port of the loopback interface was bound, and a control socket was created if one is given
-abbrev pub IsBound : (List ℕ → ℕ → Type 0) → (List ℕ → Type 0) → (List ℕ → ℕ → Type 0) → Endpoint → Option (List ℕ) → Type 0
+abbrev pub IsBound
+    : (List ℕ → ℕ → Type 0) → (List ℕ → Type 0) → (List ℕ → ℕ → Type 0) → Endpoint → Option (List ℕ) → Type 0
 IsBound bound socket_created has_mode at None = bound (loopback at.address) at.port
-IsBound bound socket_created has_mode at (Some control) = bound (loopback at.address) at.port × IsControlSocket socket_created has_mode control
+IsBound bound socket_created has_mode at (Some control) =
+    bound (loopback at.address) at.port × IsControlSocket socket_created has_mode control
+
+-- the same on a machine
+abbrev pub IsBoundOn : {M O D S R : Type 0} → Machine M O D S R → Endpoint → Option (List ℕ) → Type 0
+IsBoundOn machines = IsBound machines.bound machines.socket_created machines.has_mode

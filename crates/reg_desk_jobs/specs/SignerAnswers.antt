@@ -11,4 +11,5 @@ AnsweredAtSomePath signer_answered message answer = (path : List ℕ) × signer_
 
 -- the signer at the given path gave it
 abbrev pub AnsweredAtPath : (List ℕ → List ℕ → List ℕ → Type 0) → Option (List ℕ) → List ℕ → List ℕ → Type 0
-AnsweredAtPath signer_answered given_path message answer = AtGivenPath given_path (λ path. signer_answered path message answer)
+AnsweredAtPath signer_answered given_path message answer =
+    AtGivenPath given_path (λ path. signer_answered path message answer)

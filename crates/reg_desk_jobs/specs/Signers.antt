@@ -9,6 +9,7 @@ use Rattle.reg_crl_signer.specs.Algorithms.{key_identifier_of}
 use Rattle.reg_crl_signer.specs.Both.{digest}
 use Rattle.reg_crl_signer.specs.Forms.{identity_of}
 use Rattle.reg_crl_signer.specs.Signed.{IsCrlUnder}
+use Rattle.reg_desk_jobs.specs.SignerAnswers.{AnsweredAtPath}
 use Rattle.reg_desk_jobs.specs.declared.crl_signer.CrlSigner.{CrlSigner}
 use Rattle.reg_desk_jobs.specs.declared.crl_signer.CrlSigner.TheVariants.{Nobody, Digest, Holder}
 use Rattle.reg_desk_cli.specs.declared.job.Answerer.{Answerer}
@@ -52,6 +53,12 @@ abbrev pub answer_socket : Option KeyHolder → Answerer → Option (List ℕ)
 answer_socket signer (Issuer certificate) = crl_socket signer
 answer_socket signer (Delegate certificate holder) = Some holder.socket
 
+-- the signer of OCSP responses gave this answer for this message
+abbrev pub AnsweredByOcspSigner
+    : (List ℕ → List ℕ → List ℕ → Type 0) → Option KeyHolder → Answerer → List ℕ → List ℕ → Type 0
+AnsweredByOcspSigner signer_answered signer answerer =
+    AnsweredAtPath signer_answered (answer_socket signer answerer)
+
 -- the signer of an issuer's key (RFC 5280 4.1.2.7): with its algorithm, or the placeholder digest
 abbrev pub identity_of_holder : Option KeyHolder → List ℕ → Identity
 identity_of_holder None key = digest
@@ -69,20 +76,24 @@ pub record IsDelegate (holder : KeyHolder) (responder : Responder) : Type 0 wher
   pub certificate : List ℕ
   pub key : List ℕ
   pub certified : IsCertificateOf certificate (key_identifier_of holder.algorithm) key
-  pub is : responder ≡ record { identity = identity_of holder.algorithm key; own_key = Some key; certificate = Some certificate }
+  pub is : responder ≡ record { identity = identity_of holder.algorithm key; own_key = Some key;
+      certificate = Some certificate }
 
 -- the given responder, besides the signer of CRLs: it is that signer, perhaps with a certificate; or a delegated responder
 abbrev pub IsAnswering : Answerer → Signatory → Type 0
 IsAnswering (Issuer None) signatory = signatory ≡ signs_both signatory.crls
 IsAnswering (Issuer (Some path)) signatory =
-    (certificate : List ℕ) × (signatory.answers ≡ record { identity = signatory.crls; own_key = None; certificate = Some certificate })
+    (certificate : List ℕ)
+    × (signatory.answers ≡ record { identity = signatory.crls; own_key = None;
+    certificate = Some certificate })
 IsAnswering (Delegate path holder) signatory = IsDelegate holder signatory.answers
 
 -- a certificate in OCSP responses that the issuer's key signs has that key
 abbrev pub EmbedsOwn : List ℕ → Responder → Type 0
 EmbedsOwn key responder =
     MatchOption responder.own_key
-    (IfSome responder.certificate (λ certificate. (algorithm : List ℕ) × IsCertificateOf certificate algorithm key))
+    (IfSome responder.certificate (λ certificate.
+    (algorithm : List ℕ) × IsCertificateOf certificate algorithm key))
     (λ own. Unit {0})
 
 -- a CRL with an algorithm may follow one with an earlier algorithm: they are equal, or the earlier one is the placeholder digest, which a
@@ -93,4 +104,5 @@ MayFollow algorithm earlier = (earlier ≡ algorithm) ⊎ (earlier ≡ digest.al
 -- there is no CRL yet, or a CRL with this algorithm may follow the latest one
 abbrev pub Follows : Records → List ℕ → Type 0
 Follows records algorithm =
-    (crl : Crl) → latest records.crls ≡ Some crl → (other : List ℕ) → IsCrlUnder crl.bytes other → MayFollow algorithm other
+    (crl : Crl) → latest records.crls ≡ Some crl → (other : List ℕ) → IsCrlUnder crl.bytes other
+    → MayFollow algorithm other

@@ -16,7 +16,8 @@ fields_wanted word =
     else if bytes_eq word (codes "order") then Some (Subscriber ∷ Days ∷ [])
     else if bytes_eq word (codes "register") then Some (Order ∷ Serial ∷ NotBefore ∷ NotAfter ∷ [])
     else if bytes_eq word (codes "request") then Some (Serial ∷ Ground ∷ [])
-    else if bytes_eq word (codes "decline") || bytes_eq word (codes "revoke") then Some (Request ∷ Serial ∷ [])
+    else if bytes_eq word (codes "decline") || bytes_eq word (codes "revoke")
+    then Some (Request ∷ Serial ∷ [])
     else if bytes_eq word (codes "status") || bytes_eq word (codes "listing") then Some (Serial ∷ [])
     else None
 
@@ -37,7 +38,8 @@ abbrev pub first_wrong : List Field → List (List ℕ) → Option WrongField
 first_wrong [] [] = None
 first_wrong [] (text ∷ rest) = Some TooMany
 first_wrong (field ∷ wanted) [] = Some (Missing field)
-first_wrong (field ∷ wanted) (text ∷ rest) = if is_written field text then first_wrong wanted rest else Some (Form field)
+first_wrong (field ∷ wanted) (text ∷ rest) =
+    if is_written field text then first_wrong wanted rest else Some (Form field)
 
 abbrev pub wrong_in : List (List ℕ) → Option WrongField
 wrong_in [] = None

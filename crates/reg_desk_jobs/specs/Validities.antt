@@ -7,8 +7,10 @@ use Rattle.reg_der.specs.ValueReading.{value_at}
 -- a time as `YYYY-MM-DDTHH:MM:SSZ`, from its century and the digits after that
 abbrev pub dated : ℕ × ℕ → List ℕ → List ℕ
 dated century digits =
-    century.0 ∷ century.1 ∷ get_or digits 0 0 ∷ get_or digits 1 0 ∷ 45 ∷ get_or digits 2 0 ∷ get_or digits 3 0 ∷ 45 ∷ get_or digits 4 0 ∷ get_or digits 5 0
-    ∷ 84 ∷ get_or digits 6 0 ∷ get_or digits 7 0 ∷ 58 ∷ get_or digits 8 0 ∷ get_or digits 9 0 ∷ 58 ∷ get_or digits 10 0 ∷ get_or digits 11 0 ∷ get_or digits 12 0 ∷ []
+    century.0 ∷ century.1 ∷ get_or digits 0 0 ∷ get_or digits 1 0 ∷ 45 ∷ get_or digits 2 0 ∷ get_or digits 3 0
+    ∷ 45 ∷ get_or digits 4 0 ∷ get_or digits 5 0
+    ∷ 84 ∷ get_or digits 6 0 ∷ get_or digits 7 0 ∷ 58 ∷ get_or digits 8 0 ∷ get_or digits 9 0 ∷ 58
+    ∷ get_or digits 10 0 ∷ get_or digits 11 0 ∷ get_or digits 12 0 ∷ []
 
 -- the century of a UTCTime, by its first digit: 20 below 50, else 19
 abbrev pub century : ℕ → ℕ × ℕ
@@ -19,11 +21,13 @@ abbrev pub utc_time_text : List ℕ → Option (List ℕ)
 utc_time_text digits = if length digits == 13 then Some (dated (century (get_or digits 0 0)) digits) else None
 
 abbrev pub generalized_text : List ℕ → Option (List ℕ)
-generalized_text digits = if length digits == 15 then Some (dated (get_or digits 0 0, get_or digits 1 0) (drop 2 digits)) else None
+generalized_text digits =
+    if length digits == 15 then Some (dated (get_or digits 0 0, get_or digits 1 0) (drop 2 digits)) else None
 
 -- a Time, by its tag
 abbrev pub validity_time_at : ℕ → List ℕ → Option (List ℕ)
-validity_time_at tag digits = if tag == 0x17 then utc_time_text digits else if tag == 0x18 then generalized_text digits else None
+validity_time_at tag digits =
+    if tag == 0x17 then utc_time_text digits else if tag == 0x18 then generalized_text digits else None
 
 -- the contents of validity in those of a TBSCertificate: after version, serialNumber, signature and issuer (RFC 5280 4.1)
 unfoldable pub validity_at : List ℕ → Option (List ℕ)

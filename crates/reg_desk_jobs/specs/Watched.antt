@@ -48,7 +48,9 @@ many_in (Some overdue) = overdue.count
 many_in None = 0
 
 abbrev pub HasOverdue : Records → ℕ → Result ℕ Fault → Type 0
-HasOverdue records now (Ok count) = (overdue : Option Overdue) × (answer records now AskOverdue ≡ Ok (OverdueAre overdue)) × (count ≡ many_in overdue)
+HasOverdue records now (Ok count) =
+    (overdue : Option Overdue) × (answer records now AskOverdue ≡ Ok (OverdueAre overdue))
+    × (count ≡ many_in overdue)
 HasOverdue records now (Err fault) = Unit {0}
 
 -- how CRLs are signed, as the tally has it
@@ -59,7 +61,8 @@ signing_by signer.Nobody = signing.Nobody
 
 -- whether a CRL has a placeholder digest instead of a signature, by its signatureAlgorithm (RFC 5280 5.1.1.2)
 abbrev pub IsUnsigned : List ℕ → Bool → Type 0
-IsUnsigned crl is_unsigned = (algorithm : List ℕ) → IsCrlUnder crl algorithm → (IsTrue is_unsigned ↔ (algorithm ≡ sha1_algorithm))
+IsUnsigned crl is_unsigned =
+    (algorithm : List ℕ) → IsCrlUnder crl algorithm → (IsTrue is_unsigned ↔ (algorithm ≡ sha1_algorithm))
 
 -- what is read in a CRL
 abbrev pub IsReadIn : Crl → ReadCrl → Type 0
@@ -67,12 +70,14 @@ IsReadIn crl read = (read.number ≡ crl.number) × IsUnsigned crl.bytes read.is
 
 -- what is read in the latest CRL, which has this number
 abbrev pub IsReadAt : Records → ℕ → ReadCrl → Type 0
-IsReadAt records number read = (crl : Crl) → latest records.crls ≡ Some crl → number ≡ crl.number → IsReadIn crl read
+IsReadAt records number read =
+    (crl : Crl) → latest records.crls ≡ Some crl → number ≡ crl.number → IsReadIn crl read
 
 -- what was read in the latest CRL, now or before in the CRL with its number; nothing if no signer has the key for the next one, or there is no CRL
 abbrev pub IsLatestRead : Tally → Records → Option ReadCrl → Type 0
 IsLatestRead tally records (Some read) = (has_crl_key tally ≡ true)
-    × ((crl : Crl) × (latest records.crls ≡ Some crl) × ((read_of crl.number tally ≡ Some read) ⊎ IsReadIn crl read))
+    × ((crl : Crl) × (latest records.crls ≡ Some crl)
+    × ((read_of crl.number tally ≡ Some read) ⊎ IsReadIn crl read))
 IsLatestRead tally records None = (has_crl_key tally ≡ false) ⊎ (latest records.crls ≡ None)
 
 -- at once after a CRL without a signature, else as the query gives it
@@ -86,37 +91,48 @@ due_behind (Some read) asked = due_after read asked
 -- when the next CRL is due at a moment: as the query gives it, or at once if a signer has the key and the latest CRL has no signature
 abbrev pub HasDue : Tally → Records → ℕ → Result (Option ℕ) Fault → Type 0
 HasDue tally records now (Ok due) = (asked : Option ℕ) × (read : Option ReadCrl)
-    × Has AskNextCrl NextCrlIs records now (Ok asked) × IsLatestRead tally records read × (due ≡ due_behind read asked)
+    × Has AskNextCrl NextCrlIs records now (Ok asked) × IsLatestRead tally records read
+    × (due ≡ due_behind read asked)
 HasDue tally records now (Err (Refused refusal)) = answer records now AskNextCrl ≡ Err refusal
 HasDue tally records now (Err other) = Unit {0}
 
 -- what was read in the latest CRL is kept, or the tally does not change
 abbrev pub KeepsRead : Tally → Records → Tally → Type 0
-KeepsRead tally records tally' = (tally' ≡ tally) ⊎ ((read : ReadCrl) × IsLatestRead tally records (Some read) × (tally' ≡ with_read read tally))
+KeepsRead tally records tally' =
+    (tally' ≡ tally)
+    ⊎ ((read : ReadCrl) × IsLatestRead tally records (Some read) × (tally' ≡ with_read read tally))
 
 -- why the next CRL is due at once: the latest one has no signature
 abbrev pub IsDueUnsigned : Tally → Records → Option Reason → Type 0
-IsDueUnsigned tally records (Some (Unsigned number)) = (read : ReadCrl) × IsLatestRead tally records (Some read) × IsTrue read.is_unsigned × (number ≡ read.number)
+IsDueUnsigned tally records (Some (Unsigned number)) =
+    (read : ReadCrl) × IsLatestRead tally records (Some read) × IsTrue read.is_unsigned
+    × (number ≡ read.number)
 IsDueUnsigned tally records (Some other) = ⊥
-IsDueUnsigned tally records None = (read : Option ReadCrl) × IsLatestRead tally records read × ((asked : Option ℕ) → due_behind read asked ≡ asked)
+IsDueUnsigned tally records None =
+    (read : Option ReadCrl) × IsLatestRead tally records read
+    × ((asked : Option ℕ) → due_behind read asked ≡ asked)
 
 -- the numbers of a register at a moment: its counts, when its next CRL is due, and its standing; or why they can't be read
 abbrev pub HasFound : Tally → Records → ℕ → Result Numbers Fault → Type 0
 HasFound tally records now (Ok numbers) =
-    Has AskCounts CountsAre records now (Ok numbers.counts) × HasDue tally records now (Ok numbers.due) × IsStanding records numbers.standing
-HasFound tally records now (Err (Refused refusal)) = (answer records now AskCounts ≡ Err refusal) ⊎ (answer records now AskNextCrl ≡ Err refusal)
+    Has AskCounts CountsAre records now (Ok numbers.counts) × HasDue tally records now (Ok numbers.due)
+    × IsStanding records numbers.standing
+HasFound tally records now (Err (Refused refusal)) =
+    (answer records now AskCounts ≡ Err refusal) ⊎ (answer records now AskNextCrl ≡ Err refusal)
 HasFound tally records now (Err other) = Unit {0}
 
 -- its requests for revocation at a moment
 abbrev pub HasRequests : Records → ℕ → Result Requests Fault → Type 0
 HasRequests records now (Ok requests) =
-    (requests.at ≡ now) × HasOpen records now (Ok requests.waiting) × HasOverdue records now (Ok requests.overdue)
+    (requests.at ≡ now) × HasOpen records now (Ok requests.waiting)
+    × HasOverdue records now (Ok requests.overdue)
 HasRequests records now (Err fault) = Unit {0}
 
 -- the requests for revocation were counted anew, or the old count stays
 abbrev pub Recounts : Records → ℕ → Tally → Tally → Type 0
 Recounts records now tally tally' =
-    (tally' ≡ tally) ⊎ ((requests : Requests) × HasRequests records now (Ok requests) × (tally' ≡ with_counted requests tally))
+    (tally' ≡ tally)
+    ⊎ ((requests : Requests) × HasRequests records now (Ok requests) × (tally' ≡ with_counted requests tally))
 
 -- the requests for revocation were counted anew, and a CRL was read, or not: the rest of the tally stays
 abbrev pub IsCounted : Tally → Tally → Type 0
@@ -126,7 +142,8 @@ abbrev pub IsCrlRead : Tally → Tally → Type 0
 IsCrlRead tally tally' = (tally' ≡ tally) ⊎ ((read : ReadCrl) × (tally' ≡ with_read read tally))
 
 abbrev pub IsRecounted : Tally → Tally → Type 0
-IsRecounted tally tally' = (tally' ≡ tally) ⊎ ((counted : Tally) × IsCounted tally counted × IsCrlRead counted tally')
+IsRecounted tally tally' =
+    (tally' ≡ tally) ⊎ ((counted : Tally) × IsCounted tally counted × IsCrlRead counted tally')
 
 -- ---- the answers
 
@@ -140,7 +157,12 @@ health_response health = json (health_status (is_well health)) (health_text heal
 
 -- 200 with the text form of Prometheus
 abbrev pub metrics_response : List ℕ → Response
-metrics_response text = record { status = 200; kind = codes "text/plain; version=0.0.4; charset=utf-8"; allow = None; body = text }
+metrics_response text = record {
+  status = 200;
+  kind = codes "text/plain; version=0.0.4; charset=utf-8";
+  allow = None;
+  body = text;
+}
 
 -- these routes allow only GET (RFC 9110 15.5.6)
 abbrev pub ByGet : List ℕ → (AnswerEffects → Type 0) → AnswerEffects → Type 0
@@ -148,10 +170,14 @@ ByGet method Says it = MatchBool (bytes_eq method (codes "GET")) (Says it) (it �
 
 -- the health: from the register's numbers at a moment, the tally, and the moment that the operator accepted
 abbrev pub AnswersHealth : ℕ → Records → AnswerEffects → Type 0
-AnswersHealth now records it = (tally : Tally) × (found : Result Numbers Fault) × HasFound tally records now found
-    × ((tally' : Tally) × (accepted : Option ℕ) × (it ≡ plain (health_response (health_of now found tally' accepted))))
+AnswersHealth now records it =
+    (tally : Tally) × (found : Result Numbers Fault) × HasFound tally records now found
+    × ((tally' : Tally) × (accepted : Option ℕ)
+    × (it ≡ plain (health_response (health_of now found tally' accepted))))
 
 -- the metrics: from the register's numbers at a moment, the tally, and the totals of connections
 abbrev pub AnswersMetrics : ℕ → Records → AnswerEffects → Type 0
-AnswersMetrics now records it = (tally : Tally) × (found : Result Numbers Fault) × HasFound tally records now found
-    × ((tally' : Tally) × (connection_totals : ConnectionTotals) × (it ≡ plain (metrics_response (metrics_text VERSION.now now found tally' connection_totals))))
+AnswersMetrics now records it =
+    (tally : Tally) × (found : Result Numbers Fault) × HasFound tally records now found
+    × ((tally' : Tally) × (connection_totals : ConnectionTotals)
+    × (it ≡ plain (metrics_response (metrics_text VERSION.now now found tally' connection_totals))))

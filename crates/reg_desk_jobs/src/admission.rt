@@ -2,7 +2,7 @@
 //! revoke while clients flood the port.
 
 ghost use Rattle.std.specs.Prelude.{◌≡◌, IfOk, None, replicate};
-ghost use Rattle.reg_office_api.specs.Leads.{Leads, Looks};
+ghost use Rattle.reg_office_api.specs.Calls.{LeadsIn, LooksIn};
 ghost use Rattle.reg_http.specs.RoutedRequests.{asked, requested_serial};
 ghost use Rattle.reg_desk_jobs.specs.Admission.{BeginsAdmitted, IsRefusedBy, MeetsLimits, after_request, after_request_if, is_rate_reached as reached_at, limit_by, after_one_more};
 
@@ -83,10 +83,14 @@ pub(crate) fn begin_admitted<M: Machine>(
     target: &str,
     body: &[u8],
 ) -> Result<Begun<Answered, Draft>, Memory>
-    ensures moves { Leads M.Office.is_clean M.Office.stands
-        (λ signatory before after. BeginsAdmitted admission.old M.Office.signs now signatory before (asked method.now target.now body.now) result after)
+    ensures moves { LeadsIn M.Office.Office
+        (λ signatory before after.
+        BeginsAdmitted admission.old M.Office.signs now signatory before
+        (asked method.now target.now body.now) result after)
         office.old office.new }
-    ensures counted { IfOk result (λ begun. admission.new ≡ after_request_if now (requested_serial (asked method.now target.now body.now)) admission.old) }
+    ensures counted { IfOk result (λ begun.
+        admission.new ≡ after_request_if now (requested_serial (asked method.now target.now body.now))
+        admission.old) }
 {
     let Some(serial) = serial_of(alloc, method, target, body)? else {
         return begin(alloc, method, target, body, now, office);
@@ -105,7 +109,7 @@ fn refusal_of<M: Machine>(
     now: Moment,
     serial: Serial,
 ) -> Result<Option<Answered>, Memory>
-    ensures looks { Looks M.Office.is_clean M.Office.stands
+    ensures looks { LooksIn M.Office.Office
         (λ records. IfOk result (MeetsLimits admission.old records now serial)) office.old office.new }
     ensures counted { admission.new ≡ after_request now admission.old }
 {

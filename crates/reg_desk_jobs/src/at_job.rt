@@ -45,7 +45,8 @@ pub fn at<M: Machine, R: Read, W: Write>(
     reader: &mut R,
     writer: &mut W,
 ) -> Result<(), Failure>
-    ensures { AtControlSocket (M.socket_connected control_path.now) (R.remaining reader.old) (W.contents writer.old) (W.contents writer.new) result }
+    ensures { AtControlSocket (M.socket_connected control_path.now) (R.remaining reader.old)
+        (W.contents writer.old) (W.contents writer.new) result }
 {
     match machine.connect_to_socket(control_path) {
         Ok(link) => talk_over(alloc, &link, reader, writer),
@@ -61,7 +62,9 @@ pub fn at_rows<M: Machine, R: Read, W: Write>(
     reader: &mut R,
     writer: &mut W,
 ) -> Result<(), Failure>
-    ensures { RowsAtControlSocket (M.socket_connected control_path.now) (R.remaining reader.old) (R.remaining reader.new) (W.contents writer.old) (W.contents writer.new) result }
+    ensures { RowsAtControlSocket (M.socket_connected control_path.now)
+        (R.remaining reader.old) (R.remaining reader.new) (W.contents writer.old) (W.contents writer.new)
+        result }
 {
     match lines_of_rows(alloc, reader) {
         Ok(lines) => at(alloc, machine, control_path, &mut lines.as_slice(), writer),
@@ -98,7 +101,8 @@ pub fn talk<R: BufRead, W: Write, C: BufRead, S: Write>(
     incoming: &mut C,
     sent: &mut S,
 ) -> Result<(), Failure>
-    ensures { Talks (S.contents sent.old) (S.contents sent.new) (C.remaining incoming.old) (C.remaining incoming.new)
+    ensures { Talks (S.contents sent.old) (S.contents sent.new)
+        (C.remaining incoming.old) (C.remaining incoming.new)
         (W.contents writer.old) (W.contents writer.new) (R.remaining input.old) result }
 {
     let mut is_accepted = true;
@@ -123,7 +127,8 @@ pub(crate) fn both(first: bool, second: bool) -> bool
 }
 
 pub(crate) fn ended(is_accepted: bool) -> Result<(), Failure>
-    ensures { MatchResult result (λ done. IsTrue is_accepted) (λ why. (why ≡ Failure.Refused) × IsFalse is_accepted) }
+    ensures { MatchResult result (λ done. IsTrue is_accepted)
+        (λ why. (why ≡ Failure.Refused) × IsFalse is_accepted) }
 {
     if is_accepted {
         Ok(())
@@ -133,7 +138,8 @@ pub(crate) fn ended(is_accepted: bool) -> Result<(), Failure>
 }
 
 pub(crate) fn cut_off(is_accepted: bool) -> Failure
-    ensures { ((result ≡ Failure.NoLineEnd) × IsTrue is_accepted) ⊎ ((result ≡ Failure.RefusedNoLineEnd) × IsFalse is_accepted) }
+    ensures { ((result ≡ Failure.NoLineEnd) × IsTrue is_accepted)
+        ⊎ ((result ≡ Failure.RefusedNoLineEnd) × IsFalse is_accepted) }
 {
     if is_accepted {
         Failure::NoLineEnd
@@ -149,8 +155,10 @@ fn talk_once<R: BufRead, W: Write, C: BufRead, S: Write>(
     incoming: &mut C,
     sent: &mut S,
 ) -> Result<Step, Failure>
-    ensures { TalksOnce (S.contents sent.old) (S.contents sent.new) (C.remaining incoming.old) (C.remaining incoming.new)
-        (W.contents writer.old) (W.contents writer.new) (R.remaining input.old) (R.remaining input.new) result }
+    ensures { TalksOnce (S.contents sent.old) (S.contents sent.new)
+        (C.remaining incoming.old) (C.remaining incoming.new)
+        (W.contents writer.old) (W.contents writer.new) (R.remaining input.old) (R.remaining input.new)
+        result }
 {
     let next = next_line(alloc, input)?;
     let line = match next {
@@ -170,7 +178,9 @@ pub(crate) fn exchange<W: Write, C: BufRead, S: Write>(
     incoming: &mut C,
     sent: &mut S,
 ) -> Result<Vec<u8>, Failure>
-    ensures ok { IfOk result (λ reply. TalksLine (S.contents sent.old) (S.contents sent.new) (C.remaining incoming.old) (C.remaining incoming.new)
+    ensures ok { IfOk result (λ reply.
+        TalksLine (S.contents sent.old) (S.contents sent.new)
+        (C.remaining incoming.old) (C.remaining incoming.new)
         (W.contents writer.old) (W.contents writer.new) line.now reply.items) }
     ensures err { IfErr result IsOfTalk }
 {
@@ -187,7 +197,8 @@ pub(crate) fn request_reply<C: BufRead, S: Write>(
     sent: &mut S,
 ) -> Result<Vec<u8>, Failure>
     ensures sent { IfOk result (λ reply. Appends (S.contents sent.old) (S.contents sent.new) line.now) }
-    ensures incoming { IfOk result (λ reply. Consumes (C.remaining incoming.old) (C.remaining incoming.new) reply.items) }
+    ensures incoming { IfOk result (λ reply.
+        Consumes (C.remaining incoming.old) (C.remaining incoming.new) reply.items) }
     ensures err { IfErr result IsOfTalk }
 {
     print_text(sent, line)?;
@@ -226,7 +237,8 @@ fn has_end(line: &[u8]) -> bool
 }
 
 fn next_reply<C: BufRead>(alloc: Global, incoming: &mut C) -> Result<Vec<u8>, Failure>
-    ensures ok { IfOk result (λ reply. Consumes (C.remaining incoming.old) (C.remaining incoming.new) reply.items) }
+    ensures ok { IfOk result (λ reply.
+        Consumes (C.remaining incoming.old) (C.remaining incoming.new) reply.items) }
     ensures err { IfErr result IsOfTalk }
 {
     let mut reply = Vec::new(alloc);

@@ -2,7 +2,7 @@
 
 ghost use Rattle.std.specs.Prelude.{◌≡◌, ◌⊎◌, ◌↔◌, ◌<◌, ◌≤◌, [], IfSome, IsTrue, Some, codes, vec_capacity};
 ghost use Rattle.reg_lines.specs.Answer.{reply_of};
-ghost use Rattle.reg_office_api.specs.Leads.{Leads, Looks};
+ghost use Rattle.reg_office_api.specs.Calls.{KeepsIn, LeadsIn, LooksIn};
 ghost use Rattle.reg_desk_jobs.specs.ControlReplies.{IsReplyText, ReportsLineOutcome, line_outcome_of};
 ghost use Rattle.reg_desk_jobs.specs.Counted.{CountsLine, SignatureFailed};
 ghost use Rattle.reg_desk_jobs.specs.ControlWords.{AtClock, CommandAt, HasCommand, IsAcceptedAfter, LineAt, MeetsClock, WordAt};
@@ -43,11 +43,13 @@ pub(crate) fn answer_counted<M: Machine>(
     line: &[u8],
     last_reason: &mut Vec<u8>,
 ) -> Vec<u8>
-    ensures moves { Leads M.Office.is_clean M.Office.stands
-        (λ identity before after. WordAt accepted.old M.Office.signs now identity before line.now result.items after)
+    ensures moves { LeadsIn M.Office.Office
+        (λ identity before after.
+        WordAt accepted.old M.Office.signs now identity before line.now result.items after)
         office.old office.new }
     ensures accepted { IsAcceptedAfter line.now accepted.old accepted.new }
-    ensures counted { CountsLine (SignatureFailed M.Office.failures M.Office.answer_failures office.old office.new)
+    ensures counted { CountsLine (SignatureFailed M.Office.failures M.Office.answer_failures
+        office.old office.new)
         now result.items tally.old tally.new }
 {
     let failures = office.failure_counts();
@@ -90,8 +92,9 @@ fn answer_word<M: Machine>(
     line: &[u8],
     last_reason: &mut Vec<u8>,
 ) -> ControlReply
-    ensures moves { Leads M.Office.is_clean M.Office.stands
-        (λ identity before after. WordAt accepted.old M.Office.signs now identity before line.now result.text.items after)
+    ensures moves { LeadsIn M.Office.Office
+        (λ identity before after.
+        WordAt accepted.old M.Office.signs now identity before line.now result.text.items after)
         office.old office.new }
     ensures accepted { IsAcceptedAfter line.now accepted.old accepted.new }
     ensures came { ReportsLineOutcome result.came result.text.items }
@@ -136,7 +139,8 @@ fn refusal_by_clock<M: Machine>(
     now: Moment,
     last_reason: &mut Vec<u8>,
 ) -> Option<ControlReply>
-    ensures looks { Looks M.Office.is_clean M.Office.stands (λ records. MeetsClock accepted now records result) office.old office.new }
+    ensures looks { LooksIn M.Office.Office (λ records. MeetsClock accepted now records result)
+        office.old office.new }
     ensures came { IfSome result (λ reply. ReportsLineOutcome reply.came reply.text.items) }
 {
     match office.standing() {
@@ -166,8 +170,9 @@ fn settle_by_clock<M: Machine>(
     serial_decision: SerialDecision,
     last_reason: &mut Vec<u8>,
 ) -> ControlReply
-    ensures moves { Leads M.Office.is_clean M.Office.stands (λ identity before after. AtClock accepted now before
-        (SettlesAt M.Office.signs now identity before serial_decision result.text.items after) result.text.items after)
+    ensures moves { LeadsIn M.Office.Office (λ identity before after. AtClock accepted now before
+        (SettlesAt M.Office.signs now identity before serial_decision result.text.items after)
+        result.text.items after)
         office.old office.new }
     ensures came { ReportsLineOutcome result.came result.text.items }
 {
@@ -185,8 +190,9 @@ fn answer_by_clock<M: Machine>(
     line: &[u8],
     last_reason: &mut Vec<u8>,
 ) -> ControlReply
-    ensures moves { Leads M.Office.is_clean M.Office.stands
-        (λ identity before after. LineAt accepted M.Office.signs now identity before line.now result.text.items after)
+    ensures moves { LeadsIn M.Office.Office
+        (λ identity before after.
+        LineAt accepted M.Office.signs now identity before line.now result.text.items after)
         office.old office.new }
     ensures came { ReportsLineOutcome result.came result.text.items }
 {
@@ -218,8 +224,9 @@ fn answer_command_line<M: Machine>(
     line: &[u8],
     last_reason: &mut Vec<u8>,
 ) -> ControlReply
-    ensures moves { Leads M.Office.is_clean M.Office.stands
-        (λ identity before after. CommandAt M.Office.signs now identity before line.now result.text.items after)
+    ensures moves { LeadsIn M.Office.Office
+        (λ identity before after.
+        CommandAt M.Office.signs now identity before line.now result.text.items after)
         office.old office.new }
     ensures came { ReportsLineOutcome result.came result.text.items }
 {
@@ -242,7 +249,7 @@ pub(crate) fn answer_command<M: Machine>(
 ) -> ControlReply
     requires empty { room.items ≡ [] }
     requires room { 84 ≤ vec_capacity room }
-    ensures stays { Leads M.Office.is_clean M.Office.stands (λ identity before after. after ≡ before) office.old office.new }
+    ensures stays { KeepsIn M.Office.Office office.old office.new }
     ensures text { result.text.items ≡ reply_of answered }
     ensures came { result.came ≡ line_outcome_of answered }
 {
@@ -260,7 +267,7 @@ fn answer_schedule<M: Machine>(
     steps: &Steps,
     last_reason: &mut Vec<u8>,
 ) -> ControlReply
-    ensures moves { Leads M.Office.is_clean M.Office.stands
+    ensures moves { LeadsIn M.Office.Office
         (λ identity before after. SetAt steps.now before result.text.items after) office.old office.new }
     ensures came { ReportsLineOutcome result.came result.text.items }
 {
@@ -277,7 +284,7 @@ fn set_steps<M: Machine>(
     office: &mut M::Office,
     steps: &Steps,
 ) -> Result<(), Failure>
-    ensures { Leads M.Office.is_clean M.Office.stands
+    ensures { LeadsIn M.Office.Office
         (λ identity before after. SetsSteps steps.now result before after) office.old office.new }
 {
     let schedule = match schedule_of(steps) {
@@ -298,7 +305,8 @@ fn set_reply(alloc: Global, set: Result<(), Failure>) -> ControlReply
 }
 
 fn has_failed<M: Machine>(office: &M::Office, failures: (u64, u64)) -> bool
-    ensures { IsTrue result ↔ ((failures.0 < M.Office.failures office.now) ⊎ (failures.1 < M.Office.answer_failures office.now)) }
+    ensures { IsTrue result
+        ↔ ((failures.0 < M.Office.failures office.now) ⊎ (failures.1 < M.Office.answer_failures office.now)) }
 {
     let (crls, answers) = office.failure_counts();
     failures.0 < crls || failures.1 < answers

@@ -3,7 +3,7 @@
 ghost use Rattle.std.specs.Prelude.{◌≡◌, ◌≤◌, ◌++◌, ◌∷◌, [], ℕ, List, IfOk, vec_capacity};
 ghost use Rattle.reg_core.specs.Lines.{fault_line};
 ghost use Rattle.reg_lines.specs.Answer.{reply_of};
-ghost use Rattle.reg_desk_jobs.specs.ControlReplies.{IsOf, line_outcome_of, crl_fate, effects_of, failed_if as failed_where, kind_of, kind_of_fault as kind_by_fault, ocsp_fate, store_effect};
+ghost use Rattle.reg_desk_jobs.specs.ControlReplies.{IsLineReply, IsOf, line_outcome_of, crl_fate, effects_of, failed_if as failed_where, kind_of, kind_of_fault as kind_by_fault, ocsp_fate, store_effect};
 
 use reg_core::{Command, Fault, Outcome};
 use reg_desk_cli::Failure;
@@ -143,13 +143,13 @@ impl ControlReply {
 
     /// A reply of one line, with the result `came`; empty if there is no memory for it.
     pub(crate) fn line(alloc: Global, line: &[u8], came: LineOutcome) -> ControlReply
-        ensures { IsOf (line.now ++ 10 ∷ []) came result.text.items result.came }
+        ensures { IsLineReply line.now came result }
     {
         ControlReply::made(alloc, with_lf(alloc, line), came)
     }
 
     pub(crate) fn fault(alloc: Global, fault: Fault) -> ControlReply
-        ensures { IsOf (fault_line fault ++ 10 ∷ []) (LineOutcome.Failed (Failure.Fault fault)) result.text.items result.came }
+        ensures { IsLineReply (fault_line fault) (LineOutcome.Failed (Failure.Fault fault)) result }
     {
         let line = fault.line();
         ControlReply::line(
@@ -161,7 +161,7 @@ impl ControlReply {
 
     /// The reply for a fault because of which no copy was created.
     pub(crate) fn uncopied(alloc: Global, fault: Fault) -> ControlReply
-        ensures { IsOf (fault_line fault ++ 10 ∷ []) (LineOutcome.Uncopied fault) result.text.items result.came }
+        ensures { IsLineReply (fault_line fault) (LineOutcome.Uncopied fault) result }
     {
         let line = fault.line();
         ControlReply::line(alloc, line.as_bytes(), LineOutcome::Uncopied(fault))
@@ -173,7 +173,8 @@ impl ControlReply {
         text: Result<Vec<u8>, AllocError>,
         came: LineOutcome,
     ) -> ControlReply
-        ensures { (bytes : List ℕ) → IfOk text (λ made. made.items ≡ bytes) → IsOf bytes came result.text.items result.came }
+        ensures { (bytes : List ℕ) → IfOk text (λ made. made.items ≡ bytes)
+            → IsOf bytes came result.text.items result.came }
     {
         match text {
             Ok(text) => ControlReply { text, came },

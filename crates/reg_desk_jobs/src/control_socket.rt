@@ -6,6 +6,7 @@ ghost use Rattle.reg_desk_jobs.specs.Serving.{IsControlSocket};
 use crate::machine::Machine;
 use mio::net::UnixListener;
 use reg_core::of_io;
+use std::fs::File;
 use std::io;
 use std::io::ErrorKind;
 
@@ -15,7 +16,8 @@ const OWNER_ALONE: u32 = 0o600;
 const MOST_WAITING: usize = 4_096;
 
 /// Creates a Unix socket at a path to which only its owner may connect, and listens on it without blocking. A stale socket, on which no program
-/// listens, is replaced. Errors: `AddrInUse` if a program listens there, `AlreadyExists` if the path is not a socket.
+/// listens, is replaced, by exactly one of the desks that try at once. Errors: `AddrInUse` if a program listens there, or keeps the folder locked
+/// for ten seconds; `AlreadyExists` if the path is not a socket.
 pub(crate) fn create_control_socket<M: Machine>(machine: &M, path: &str) -> io::Result<UnixListener>
     ensures { OnOk result (IsControlSocket M.socket_created M.has_mode path.now) }
 {
@@ -31,33 +33,41 @@ pub(crate) fn create_control_socket<M: Machine>(machine: &M, path: &str) -> io::
 fn create_for_owner<M: Machine>(machine: &M, path: &str) -> io::Result<UnixListener>
     ensures { OnOk result (IsControlSocket M.socket_created M.has_mode path.now) }
 {
-    let listener = replace_stale_socket(machine, path)?;
+    let lock = machine.lock_folder(path)?;
+    let listener = replace_stale_socket(machine, &lock, path)?;
     machine.set_mode(path, OWNER_ALONE)?;
     drop_waiting(&listener);
     Ok(listener)
 }
 
-fn replace_stale_socket<M: Machine>(machine: &M, path: &str) -> io::Result<UnixListener>
+fn replace_stale_socket<M: Machine>(
+    machine: &M,
+    lock: &File,
+    path: &str,
+) -> io::Result<UnixListener>
+    requires { M.locked lock.now path.now }
     ensures { OnOk result (M.socket_created path.now) }
 {
-    match machine.create_socket(path) {
+    match machine.create_socket(lock, path) {
         Ok(listener) => Ok(listener),
         Err(error) if error.kind() == ErrorKind::AddrInUse => {
-            remove_stale(machine, path)?;
-            machine.create_socket(path)
+            remove_stale(machine, lock, path)?;
+            machine.create_socket(lock, path)
         }
         Err(error) => Err(error),
     }
 }
 
-fn remove_stale<M: Machine>(machine: &M, path: &str) -> io::Result<()> {
+fn remove_stale<M: Machine>(machine: &M, lock: &File, path: &str) -> io::Result<()>
+    requires { M.locked lock.now path.now }
+{
     if !machine.is_socket(path)? {
         return Err(io::Error::from(ErrorKind::AlreadyExists));
     }
-    if !machine.is_stale(path) {
+    if !machine.is_stale(lock, path) {
         return Err(io::Error::from(ErrorKind::AddrInUse));
     }
-    machine.unlink(path)
+    machine.unlink(lock, path)
 }
 
 /// Closes the connections that clients opened before the mode was set.

@@ -2,7 +2,7 @@
 
 ghost use Rattle.std.specs.Prelude.{◌≡◌, ◌++◌, ◌∷◌, [], IfErr, IfOk};
 ghost use Rattle.reg_core.specs.Lines.{fault_line};
-ghost use Rattle.reg_desk_jobs.specs.ControlReplies.{IsOf, ReportsLineOutcome};
+ghost use Rattle.reg_desk_jobs.specs.ControlReplies.{IsLineReply, IsOf, ReportsLineOutcome};
 ghost use Rattle.reg_desk_jobs.specs.Copies.{AnswersCopy, is_copy_line as asks, copied_text};
 ghost use Rattle.reg_desk_jobs.specs.Ends.{CopyAt};
 ghost use Rattle.reg_office_api.specs.LookUps.{IsOfStore};
@@ -95,7 +95,7 @@ fn copied_line(alloc: Global, bytes: u64, millis: u64) -> Result<Vec<u8>, AllocE
 }
 
 fn uncopied_reply(alloc: Global, why: Uncopied, last_reason: &mut Vec<u8>) -> ControlReply
-    ensures { IsOf (fault_line why.fault ++ 10 ∷ []) (LineOutcome.Uncopied why.fault) result.text.items result.came }
+    ensures { IsLineReply (fault_line why.fault) (LineOutcome.Uncopied why.fault) result }
 {
     let reply = ControlReply::uncopied(alloc, why.fault);
     keep_reason_text(cause_text(alloc, why.cause), &reply.text, last_reason);
@@ -115,7 +115,8 @@ pub fn copy<M: Machine, W: Write>(
     to: &str,
     writer: &mut W,
 ) -> Result<(), Failure>
-    ensures { CopyAt M.Machine M.Office.Office W.contents machine.old machine.new writer.old writer.new file.now to.now
+    ensures { CopyAt M.Machine M.Office.Office W.contents machine.old machine.new writer.old writer.new
+        file.now to.now
         result }
 {
     let began = machine.micros();

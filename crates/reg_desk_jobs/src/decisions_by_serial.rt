@@ -2,7 +2,7 @@
 
 ghost use Rattle.std.specs.Prelude.{◌≡◌, IfSome};
 ghost use Rattle.reg_core.specs.Records.{request_in};
-ghost use Rattle.reg_office_api.specs.Leads.{Leads};
+ghost use Rattle.reg_office_api.specs.Calls.{LeadsIn, LooksIn};
 ghost use Rattle.reg_desk_jobs.specs.ControlReplies.{ReportsLineOutcome, ReportsFault};
 ghost use Rattle.reg_desk_jobs.specs.LogNames.{Decides, NamesRequest, NamesAccepted, NamesDecided};
 ghost use Rattle.reg_desk_jobs.specs.SerialDecisions.{RunsAt, SettlesAt, request_of_row};
@@ -31,8 +31,9 @@ pub(crate) fn answer_serial_decision<M: Machine>(
     serial_decision: SerialDecision,
     last_reason: &mut Vec<u8>,
 ) -> ControlReply
-    ensures moves { Leads M.Office.is_clean M.Office.stands
-        (λ identity before after. SettlesAt M.Office.signs now identity before serial_decision result.text.items after)
+    ensures moves { LeadsIn M.Office.Office
+        (λ identity before after.
+        SettlesAt M.Office.signs now identity before serial_decision result.text.items after)
         office.old office.new }
     ensures came { ReportsLineOutcome result.came result.text.items }
 {
@@ -54,7 +55,7 @@ fn answer_run<M: Machine>(
     command: Command,
     last_reason: &mut Vec<u8>,
 ) -> ControlReply
-    ensures moves { Leads M.Office.is_clean M.Office.stands
+    ensures moves { LeadsIn M.Office.Office
         (λ identity before after. RunsAt M.Office.signs now identity before command result.text.items after)
         office.old office.new }
     ensures came { ReportsLineOutcome result.came result.text.items }
@@ -89,8 +90,8 @@ fn find_request<O: Office>(
     now: Moment,
     id: u64,
 ) -> Result<Option<RequestRow>, Fault>
-    ensures { Leads O.is_clean O.stands
-        (λ identity before after. IsLookedUp before now (request_in before.requests id) result × (after ≡ before))
+    ensures { LooksIn O.Office
+        (λ records. IsLookedUp records now (request_in records.requests id) result)
         office.old office.new }
 {
     let found = find(alloc, office, now, &Shown::Request(id))?;
@@ -114,8 +115,8 @@ pub(crate) fn named_before<M: Machine>(
     now: Moment,
     line: &[u8],
 ) -> Option<NamedRequest>
-    ensures { Leads M.Office.is_clean M.Office.stands
-        (λ identity before after. IfSome result (NamesDecided before line.now) × (after ≡ before))
+    ensures { LooksIn M.Office.Office
+        (λ records. IfSome result (NamesDecided records line.now))
         office.old office.new }
 {
     if !machine.has_log() {

@@ -1,9 +1,8 @@
 //! Lines at the control socket that need a signature: the desk makes the message, has it signed, and then runs the line, once.
 
 ghost use Rattle.std.specs.Prelude.{◌≡◌, IfOk, IfSome, OnErr, option_copied};
-ghost use Rattle.reg_office_api.specs.Leads.{Leads};
-ghost use Rattle.reg_desk_jobs.specs.Deferring.{IsKnown, socket_for};
-ghost use Rattle.reg_desk_jobs.specs.SignerAnswers.{AnsweredAtPath};
+ghost use Rattle.reg_office_api.specs.Calls.{KeepsIn, LeadsIn};
+ghost use Rattle.reg_desk_jobs.specs.Deferring.{AnsweredBySigner, IsKnown, socket_for};
 ghost use Rattle.reg_desk_jobs.specs.Signers.{crl_socket};
 ghost use Rattle.reg_desk_jobs.specs.ControlWords.{Word};
 
@@ -66,7 +65,7 @@ fn look_at<M: Machine>(
     looked: Looked,
     said: &CommandLine<'_>,
 ) -> Option<Deferred<Looked>>
-    ensures { Leads M.Office.is_clean M.Office.stands (λ identity before after. after ≡ before) office.old office.new }
+    ensures { KeepsIn M.Office.Office office.old office.new }
 {
     match *said {
         CommandLine::Ocsp(digits) => look_at_request(alloc, office, looked, digits),
@@ -83,7 +82,7 @@ fn look_at_request<O: Office>(
     looked: Looked,
     digits: &[u8],
 ) -> Option<Deferred<Looked>>
-    ensures { Leads O.is_clean O.stands (λ identity before after. after ≡ before) office.old office.new }
+    ensures { KeepsIn O.Office office.old office.new }
 {
     let Ok(request) = hex::decode(alloc, digits) else {
         return None;
@@ -141,8 +140,10 @@ pub(crate) fn known_of<M: Machine>(
     message: Vec<u8>,
     link: Option<SignatureRequest>,
 ) -> Result<Option<Known>, EventLoopFault>
-    ensures moves { Leads M.Office.is_clean M.Office.stands (λ identity before after. after ≡ before) office.old office.new }
-    ensures known { IfOk result (λ found. IfSome found (IsKnown (AnsweredAtPath M.signer_answered (socket_for signer.now answerer.now looked.wanted)) M.clock_reached)) }
+    ensures moves { KeepsIn M.Office.Office office.old office.new }
+    ensures known { IfOk result (λ found.
+        IfSome found (IsKnown (AnsweredBySigner M.signer_answered signer.now answerer.now looked.wanted)
+        M.clock_reached)) }
     ensures err { OnErr result (office.new ≡ office.old) }
 {
     let Some(link) = link else {
@@ -174,8 +175,9 @@ fn recalled<M: Machine>(
     message: Vec<u8>,
     link: SignatureRequest,
 ) -> Option<Known>
-    ensures moves { Leads M.Office.is_clean M.Office.stands (λ identity before after. after ≡ before) office.old office.new }
-    ensures known { IfSome result (IsKnown (AnsweredAtPath M.signer_answered (socket_for signer.now answerer.now looked.wanted)) M.clock_reached) }
+    ensures moves { KeepsIn M.Office.Office office.old office.new }
+    ensures known { IfSome result
+        (IsKnown (AnsweredBySigner M.signer_answered signer.now answerer.now looked.wanted) M.clock_reached) }
 {
     if is_past(office, looked.moment) {
         return None;
@@ -191,7 +193,7 @@ fn recalled<M: Machine>(
 
 /// Whether a command was accepted at a later moment than this; `false` if the register can't be read.
 fn is_past<O: Office>(office: &mut O, moment: Moment) -> bool
-    ensures { Leads O.is_clean O.stands (λ identity before after. after ≡ before) office.old office.new }
+    ensures { KeepsIn O.Office office.old office.new }
 {
     match office.standing() {
         Ok(standing) => moment < standing.last,
@@ -203,7 +205,7 @@ impl<'a, 'w, M: Machine> Desk<'a, 'w, M> {
     /// What is to be signed before a line can be answered; `None` if nothing is, or if there is no signer for it.
     pub(crate) fn look_for(&mut self, said: &CommandLine<'_>) -> Option<Deferred<Looked>>
         ensures open { self.new.is_open ≡ self.old.is_open }
-        ensures moves { Leads M.Office.is_clean M.Office.stands (λ identity before after. after ≡ before)
+        ensures moves { KeepsIn M.Office.Office
             self.old.office self.new.office }
     {
         let wanted = wanted_by(said)?;
@@ -239,7 +241,7 @@ impl<'a, 'w, M: Machine> Desk<'a, 'w, M> {
     /// Whether commands are refused at a moment, because the clock is too far ahead.
     fn is_ahead(&mut self, moment: Moment) -> bool
         ensures open { self.new.is_open ≡ self.old.is_open }
-        ensures moves { Leads M.Office.is_clean M.Office.stands (λ identity before after. after ≡ before)
+        ensures moves { KeepsIn M.Office.Office
             self.old.office self.new.office }
     {
         match self.office.standing() {
@@ -273,10 +275,13 @@ impl<'a, 'w, M: Machine> Desk<'a, 'w, M> {
         looked: Looked,
         known: Known,
     ) -> Vec<u8>
-        requires { IsKnown (AnsweredAtPath M.signer_answered (socket_for self.old.signer.now self.old.answerer.now looked.wanted)) M.clock_reached known }
+        requires { IsKnown (AnsweredBySigner M.signer_answered self.old.signer.now self.old.answerer.now
+            looked.wanted) M.clock_reached known }
         ensures open { self.new.is_open ≡ self.old.is_open }
-        ensures moves { Leads M.Office.is_clean M.Office.stands
-            (λ identity before after. Word M.Office.signs M.clock_reached identity before line.now result.items after) self.old.office self.new.office }
+        ensures moves { LeadsIn M.Office.Office
+            (λ identity before after.
+            Word M.Office.signs M.clock_reached identity before line.now result.items after) self.old.office
+            self.new.office }
     {
         let Known {
             moment,

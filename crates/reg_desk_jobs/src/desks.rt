@@ -45,32 +45,32 @@ pub(crate) struct Desk<'a, 'w, M: Machine> {
 
 impl<'a, 'w, M: Machine> Handler for Desk<'a, 'w, M> {
     ghost use Rattle.std.specs.Prelude.{[], IsTrue};
-    ghost use Rattle.reg_office_api.specs.Leads.{Leads};
+    ghost use Rattle.reg_office_api.specs.Calls.{KeepsIn, LeadsIn};
     ghost use Rattle.reg_desk_jobs.specs.ControlWords.{Word};
     ghost use Rattle.reg_desk_jobs.specs.Deferring.{socket_for};
     ghost use Rattle.reg_desk_jobs.specs.Exchanges.{AnswersBy};
-    ghost use Rattle.reg_desk_jobs.specs.SignerAnswers.{AtGivenPath, AnsweredAtPath, AnsweredAtSomePath};
+    ghost use Rattle.reg_desk_jobs.specs.SignerAnswers.{AtGivenPath, AnsweredAtSomePath};
     ghost use Rattle.reg_desk_jobs.specs.FinishedResponses.{FinishesUnsigned, Meets};
-    ghost use Rattle.reg_desk_jobs.specs.Signers.{answer_socket};
+    ghost use Rattle.reg_desk_jobs.specs.Signers.{AnsweredByOcspSigner, answer_socket};
     ghost use Rattle.reg_crl_signer.specs.SignatureRequest.{IsSignatureRequest};
 
     type Ticket = Unsigned;
 
     type Line = Looked;
 
-    ghost answers = { λ s request outcome t. (t.is_open ≡ s.is_open) × Leads M.Office.is_clean M.Office.stands
+    ghost answers = { λ s request outcome t. (t.is_open ≡ s.is_open) × LeadsIn M.Office.Office
         (λ identity before after. Meets (FinishesUnsigned (AnsweredAtSomePath M.signer_answered))
         (λ text. AnswersBy s.is_open M.Office.signs M.clock_reached identity before request text after) outcome)
         s.office t.office };
 
     // only an open desk has a control socket
-    ghost answers_line = { λ s line text t. IsTrue s.is_open × IsTrue t.is_open × Leads M.Office.is_clean M.Office.stands
+    ghost answers_line = { λ s line text t. IsTrue s.is_open × IsTrue t.is_open × LeadsIn M.Office.Office
         (λ identity before after. Word M.Office.signs M.clock_reached identity before line text after) s.office t.office };
 
     ghost defers = { λ s line t. (t.is_open ≡ s.is_open)
-        × Leads M.Office.is_clean M.Office.stands (λ identity before after. after ≡ before) s.office t.office };
+        × KeepsIn M.Office.Office s.office t.office };
 
-    ghost finishes = { λ s. FinishesUnsigned (AnsweredAtPath M.signer_answered (answer_socket s.signer.now s.answerer.now)) };
+    ghost finishes = { λ s. FinishesUnsigned (AnsweredByOcspSigner M.signer_answered s.signer.now s.answerer.now) };
 
     fn answer(
         &mut self,
@@ -98,8 +98,10 @@ impl<'a, 'w, M: Machine> Handler for Desk<'a, 'w, M> {
     }
 
     fn request_signature(&self, ticket: &Unsigned) -> io::Result<SignatureRequest>
-        ensures { IfOk result (λ sent_request. AtGivenPath (answer_socket self.now.signer.now self.now.answerer.now)
-            (λ path. M.signature_requested path ticket.now.draft.message × IsSignatureRequest path ticket.now.draft.message sent_request)) }
+        ensures { IfOk result (λ sent_request.
+            AtGivenPath (answer_socket self.now.signer.now self.now.answerer.now)
+            (λ path. M.signature_requested path ticket.now.draft.message
+            × IsSignatureRequest path ticket.now.draft.message sent_request)) }
     {
         match socket_of(self.signer, self.answerer, Wanted::Answer) {
             Some(socket) => self
@@ -161,7 +163,8 @@ impl<'a, 'w, M: Machine> Handler for Desk<'a, 'w, M> {
     }
 
     fn reach(&self, ticket: &Looked) -> io::Result<SignatureRequest>
-        ensures { IfOk result (λ sent_request. AtGivenPath (socket_for self.now.signer.now self.now.answerer.now ticket.now.wanted)
+        ensures { IfOk result (λ sent_request.
+            AtGivenPath (socket_for self.now.signer.now self.now.answerer.now ticket.now.wanted)
             (λ path. M.reached path × IsSignatureRequest path [] sent_request)) }
     {
         match socket_of(self.signer, self.answerer, ticket.wanted) {
@@ -179,9 +182,11 @@ impl<'a, 'w, M: Machine> Handler for Desk<'a, 'w, M> {
     ) -> Result<Option<Vec<u8>>, EventLoopFault>
         ensures ok { IfOk result (λ answered. MatchOption answered
             ((self.new.is_open ≡ self.old.is_open)
-            × Leads M.Office.is_clean M.Office.stands (λ identity before after. after ≡ before) self.old.office self.new.office)
-            (λ text. IsTrue self.old.is_open × IsTrue self.new.is_open × Leads M.Office.is_clean M.Office.stands
-            (λ identity before after. Word M.Office.signs M.clock_reached identity before line.now text.items after) self.old.office self.new.office)) }
+            × KeepsIn M.Office.Office self.old.office self.new.office)
+            (λ text. IsTrue self.old.is_open × IsTrue self.new.is_open × LeadsIn M.Office.Office
+            (λ identity before after.
+            Word M.Office.signs M.clock_reached identity before line.now text.items after) self.old.office
+            self.new.office)) }
         ensures err { OnErr result ((self.new ≡ self.old) × (last_reason.new ≡ last_reason.old)) }
     {
         if !self.is_open {

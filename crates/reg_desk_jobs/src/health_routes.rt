@@ -6,7 +6,7 @@ ghost use Rattle.reg_core.specs.Records.{Records};
 ghost use Rattle.reg_core.specs.declared.command.Query.TheVariants.{Counts as AskCounts, NextCrl as AskNextCrl, Overdue as AskOverdue};
 ghost use Rattle.reg_core.specs.declared.command.Reply.TheVariants.{Counts as CountsAre, NextCrl as NextCrlIs};
 ghost use Rattle.reg_office_api.specs.Answered.{IsAnswered};
-ghost use Rattle.reg_office_api.specs.Leads.{Leads, Looks};
+ghost use Rattle.reg_office_api.specs.Calls.{KeepsIn, LooksIn};
 ghost use Rattle.reg_office_api.specs.LookUps.{IsOfStore};
 ghost use Rattle.reg_http.specs.AnswerEffects.{plain, answer_effects};
 ghost use Rattle.reg_crl.specs.Signing.{sha1_algorithm};
@@ -46,8 +46,10 @@ pub(crate) fn answer_health<M: Machine>(
     tally: &mut Tally,
     accepted: Option<Moment>,
 ) -> Result<Answered, Memory>
-    ensures moves { Looks M.Office.is_clean M.Office.stands
-        (λ records. IfOk result (λ answered. ByGet method.now (AnswersHealth now records) (answer_effects answered))) office.old office.new }
+    ensures moves { LooksIn M.Office.Office
+        (λ records.
+        IfOk result (λ answered. ByGet method.now (AnswersHealth now records) (answer_effects answered)))
+        office.old office.new }
     ensures recounted { IsRecounted tally.old tally.new }
 {
     if method.as_str() != "GET" {
@@ -63,8 +65,9 @@ fn health_at<M: Machine>(
     tally: &mut Tally,
     accepted: Option<Moment>,
 ) -> Result<Answered, Memory>
-    ensures moves { Looks M.Office.is_clean M.Office.stands
-        (λ records. IfOk result (λ answered. AnswersHealth now records (answer_effects answered))) office.old office.new }
+    ensures moves { LooksIn M.Office.Office
+        (λ records. IfOk result (λ answered. AnswersHealth now records (answer_effects answered)))
+        office.old office.new }
     ensures recounted { IsRecounted tally.old tally.new }
 {
     let found = found_at::<M>(alloc, office, now, tally);
@@ -80,8 +83,10 @@ pub(crate) fn answer_metrics<M: Machine>(
     tally: &mut Tally,
     connection_totals: ConnectionTotals,
 ) -> Result<Answered, Memory>
-    ensures moves { Looks M.Office.is_clean M.Office.stands
-        (λ records. IfOk result (λ answered. ByGet method.now (AnswersMetrics now records) (answer_effects answered))) office.old office.new }
+    ensures moves { LooksIn M.Office.Office
+        (λ records.
+        IfOk result (λ answered. ByGet method.now (AnswersMetrics now records) (answer_effects answered)))
+        office.old office.new }
     ensures recounted { IsRecounted tally.old tally.new }
 {
     if method.as_str() != "GET" {
@@ -97,8 +102,9 @@ fn metrics_at<M: Machine>(
     tally: &mut Tally,
     connection_totals: ConnectionTotals,
 ) -> Result<Answered, Memory>
-    ensures moves { Looks M.Office.is_clean M.Office.stands
-        (λ records. IfOk result (λ answered. AnswersMetrics now records (answer_effects answered))) office.old office.new }
+    ensures moves { LooksIn M.Office.Office
+        (λ records. IfOk result (λ answered. AnswersMetrics now records (answer_effects answered)))
+        office.old office.new }
     ensures recounted { IsRecounted tally.old tally.new }
 {
     recount::<M>(alloc, office, now, tally);
@@ -112,7 +118,8 @@ fn found_at<M: Machine>(
     now: Moment,
     tally: &mut Tally,
 ) -> Found
-    ensures moves { Looks M.Office.is_clean M.Office.stands (λ records. HasFound tally.old records now result) office.old office.new }
+    ensures moves { LooksIn M.Office.Office (λ records. HasFound tally.old records now result)
+        office.old office.new }
     ensures read { IsCrlRead tally.old tally.new }
 {
     let counted = office.ask(alloc, now, &Query::Counts);
@@ -142,8 +149,10 @@ fn due_at<M: Machine>(
     latest: Option<CrlRow>,
     tally: &mut Tally,
 ) -> Result<Option<Moment>, Fault>
-    ensures moves { Looks M.Office.is_clean M.Office.stands
-        (λ records. latest ≡ option_map row_of (latest_in records.crls) → (HasDue tally.old records now result × KeepsRead tally.old records tally.new))
+    ensures moves { LooksIn M.Office.Office
+        (λ records.
+        latest ≡ option_map row_of (latest_in records.crls)
+        → (HasDue tally.old records now result × KeepsRead tally.old records tally.new))
         office.old office.new }
     ensures read { IsCrlRead tally.old tally.new }
 {
@@ -175,8 +184,9 @@ fn latest_read<M: Machine>(
     latest: Option<CrlRow>,
     tally: &Tally,
 ) -> Result<Option<ReadCrl>, Fault>
-    ensures looks { Looks M.Office.is_clean M.Office.stands
-        (λ records. latest ≡ option_map row_of (latest_in records.crls) → IfOk result (IsLatestRead tally.now records)) office.old office.new }
+    ensures looks { LooksIn M.Office.Office
+        (λ records. latest ≡ option_map row_of (latest_in records.crls)
+        → IfOk result (IsLatestRead tally.now records)) office.old office.new }
     ensures faults { IfErr result IsOfStore }
 {
     let Some(crl) = latest else {
@@ -196,7 +206,8 @@ fn read_latest<M: Machine>(
     office: &mut M::Office,
     number: u64,
 ) -> Result<ReadCrl, Fault>
-    ensures looks { Looks M.Office.is_clean M.Office.stands (λ records. IfOk result (IsReadAt records number)) office.old office.new }
+    ensures looks { LooksIn M.Office.Office (λ records. IfOk result (IsReadAt records number))
+        office.old office.new }
     ensures faults { IfErr result IsOfStore }
 {
     match office.crl_bytes(alloc, None) {
@@ -234,7 +245,7 @@ pub(crate) fn keep_due_reason<M: Machine>(
     came: &LineOutcome,
     last_reason: &mut Vec<u8>,
 )
-    ensures { Leads M.Office.is_clean M.Office.stands (λ identity before after. after ≡ before) office.old office.new }
+    ensures { KeepsIn M.Office.Office office.old office.new }
 {
     match came {
         LineOutcome::CameTo(LineKind::Query(Query::NextCrl), Ok(_)) => {
@@ -253,7 +264,8 @@ fn why_at_once<M: Machine>(
     office: &mut M::Office,
     tally: &Tally,
 ) -> Result<Option<Reason>, Fault>
-    ensures { Looks M.Office.is_clean M.Office.stands (λ records. IfOk result (IsDueUnsigned tally.now records)) office.old office.new }
+    ensures { LooksIn M.Office.Office (λ records. IfOk result (IsDueUnsigned tally.now records))
+        office.old office.new }
 {
     let standing = office.standing()?;
     match latest_read::<M>(alloc, office, standing.latest, tally)? {
@@ -274,7 +286,8 @@ pub(crate) fn signing_of(crls: &CrlSigner<'_>) -> CrlSigning
 }
 
 fn counts_of(outcome: Outcome) -> Result<Counts, Fault>
-    ensures { (records : Records) (now : ℕ) → IsAnswered records now AskCounts outcome → Has AskCounts CountsAre records now result }
+    ensures { (records : Records) (now : ℕ) → IsAnswered records now AskCounts outcome
+        → Has AskCounts CountsAre records now result }
 {
     match outcome {
         Ok(Reply::Counts(counts)) => Ok(counts),
@@ -284,7 +297,8 @@ fn counts_of(outcome: Outcome) -> Result<Counts, Fault>
 }
 
 fn due_of(outcome: Outcome) -> Result<Option<Moment>, Fault>
-    ensures { (records : Records) (now : ℕ) → IsAnswered records now AskNextCrl outcome → Has AskNextCrl NextCrlIs records now result }
+    ensures { (records : Records) (now : ℕ) → IsAnswered records now AskNextCrl outcome
+        → Has AskNextCrl NextCrlIs records now result }
 {
     match outcome {
         Ok(Reply::NextCrl(due)) => Ok(due),
@@ -294,7 +308,8 @@ fn due_of(outcome: Outcome) -> Result<Option<Moment>, Fault>
 }
 
 fn overdue_of(outcome: Outcome) -> Result<u64, Fault>
-    ensures { (records : Records) (now : ℕ) → IsAnswered records now AskOverdue outcome → HasOverdue records now result }
+    ensures { (records : Records) (now : ℕ) → IsAnswered records now AskOverdue outcome
+        → HasOverdue records now result }
 {
     match outcome {
         Ok(Reply::Overdue(overdue)) => Ok(many_of(overdue)),
@@ -314,7 +329,8 @@ fn many_of(overdue: Option<Overdue>) -> u64
 
 /// Counts the requests for revocation anew, unless they were counted less than a minute before.
 fn recount<M: Machine>(alloc: Global, office: &mut M::Office, now: Moment, tally: &mut Tally)
-    ensures moves { Looks M.Office.is_clean M.Office.stands (λ records. Recounts records now tally.old tally.new) office.old office.new }
+    ensures moves { LooksIn M.Office.Office (λ records. Recounts records now tally.old tally.new)
+        office.old office.new }
     ensures recounted { IsCounted tally.old tally.new }
 {
     if !tally.wants_requests(now) {
@@ -331,7 +347,7 @@ fn requests_at<M: Machine>(
     office: &mut M::Office,
     now: Moment,
 ) -> Result<Requests, Fault>
-    ensures { Looks M.Office.is_clean M.Office.stands (λ records. HasRequests records now result) office.old office.new }
+    ensures { LooksIn M.Office.Office (λ records. HasRequests records now result) office.old office.new }
 {
     let asked = office.ask(alloc, now, &Query::Overdue);
     let overdue = overdue_of(asked)?;
@@ -369,7 +385,9 @@ fn metrics_answer(
     tally: &Tally,
     connection_totals: ConnectionTotals,
 ) -> Result<Answered, Memory>
-    ensures { IfOk result (λ answered. answer_effects answered ≡ plain (metrics_response (metrics_text VERSION.now now found.now tally.now connection_totals))) }
+    ensures { IfOk result (λ answered.
+        answer_effects answered
+        ≡ plain (metrics_response (metrics_text VERSION.now now found.now tally.now connection_totals))) }
 {
     match metrics(alloc, VERSION, now, found, tally, connection_totals) {
         Ok(body) => Ok(Answered::plain(Answer {

@@ -1,7 +1,7 @@
 //! Answers the bytes that came on an HTTP connection: the register does, or an open desk itself.
 
 ghost use Rattle.std.specs.Prelude.{◌≡◌};
-ghost use Rattle.reg_office_api.specs.Leads.{Leads};
+ghost use Rattle.reg_office_api.specs.Calls.{LeadsIn};
 ghost use Rattle.reg_http_head.specs.Bytes.{collected_bytes};
 ghost use Rattle.reg_http.specs.RoutedRequests.{path_of};
 ghost use Rattle.reg_http.specs.Exchanges.{IsEmpty, HasNoEffects};
@@ -81,9 +81,12 @@ pub(crate) fn answer_http<M: Machine>(
     client: SocketAddr,
     request: &Collected,
 ) -> Begun<Vec<u8>, Unsigned>
-    ensures { (begun : BegunOf HttpExchange UnsignedResponses) × (asked : Tallies) × IsRecounted tally.old asked
-        × Leads M.Office.is_clean M.Office.stands
-        (λ signatory before after. AnswersBegun (AnsweredAtSomePath M.signer_answered) is_open M.Office.signs now signatory before (collected_bytes request.now) begun after)
+    ensures { (begun : BegunOf HttpExchange UnsignedResponses) × (asked : Tallies)
+        × IsRecounted tally.old asked
+        × LeadsIn M.Office.Office
+        (λ signatory before after.
+        AnswersBegun (AnsweredAtSomePath M.signer_answered) is_open M.Office.signs now signatory before
+        (collected_bytes request.now) begun after)
         office.old office.new
         × CountsBegun now (collected_bytes request.now) begun (outcome_of result) asked tally.new }
 {
@@ -129,8 +132,10 @@ fn exchange_at<M: Machine>(
     now: Moment,
     request: &Collected,
 ) -> Begun<Exchange, UnsignedResponse>
-    ensures moves { Leads M.Office.is_clean M.Office.stands
-        (λ signatory before after. AnswersBegun (AnsweredAtSomePath M.signer_answered) is_open M.Office.signs now signatory before (collected_bytes request.now) result after)
+    ensures moves { LeadsIn M.Office.Office
+        (λ signatory before after.
+        AnswersBegun (AnsweredAtSomePath M.signer_answered) is_open M.Office.signs now signatory before
+        (collected_bytes request.now) result after)
         office.old office.new }
     ensures route { IsBegunRoute (collected_bytes request.now) result }
     ensures recounted { IsRecounted tally.old tally.new }
@@ -207,8 +212,9 @@ fn begin_at<M: Machine>(
     body: &[u8],
 ) -> Result<Begun<Answered, Draft>, Memory>
     requires { route ≡ route_at (path_of target.now) }
-    ensures moves { Leads M.Office.is_clean M.Office.stands
-        (λ signatory before after. BeginsAt is_open M.Office.signs now signatory before method.now target.now body.now result after)
+    ensures moves { LeadsIn M.Office.Office
+        (λ signatory before after.
+        BeginsAt is_open M.Office.signs now signatory before method.now target.now body.now result after)
         office.old office.new }
     ensures recounted { IsRecounted tally.old tally.new }
 {

@@ -2,7 +2,7 @@
 
 ghost use Rattle.std.specs.Prelude.{◌≡◌, Result, IfErr, IsTrue, None};
 ghost use Rattle.reg_office_api.specs.Items.{items_of};
-ghost use Rattle.reg_office_api.specs.Leads.{Leads, Looks};
+ghost use Rattle.reg_office_api.specs.Calls.{LeadsIn, LooksIn};
 ghost use Rattle.reg_desk_metrics.specs.Ahead.{is_ahead};
 ghost use Rattle.reg_lines.specs.ByCalls.{Lines};
 ghost use Rattle.reg_lines.specs.Strict.{StrictEnds};
@@ -48,7 +48,8 @@ pub fn init<M: Machine, W: Write>(
     new: &NewRegister<'_>,
     writer: &mut W,
 ) -> Result<(), Failure>
-    ensures { InitAt M.Machine M.Office.Office W.contents machine.old machine.new writer.old writer.new new.now result }
+    ensures { InitAt M.Machine M.Office.Office W.contents machine.old machine.new writer.old writer.new
+        new.now result }
 {
     let path = new.file.as_str();
     let (issuer, policy) = office_of(
@@ -85,7 +86,8 @@ fn make_at<M: Machine, W: Write>(
     policy: Policy,
     writer: &mut W,
 ) -> Result<(), Failure>
-    ensures { MakesAt M.Machine M.Office.Office W.contents machine.old machine.new writer.old writer.new path.now issuer policy
+    ensures { MakesAt M.Machine M.Office.Office W.contents machine.old machine.new writer.old writer.new
+        path.now issuer policy
         result }
 {
     let register = make(machine, path, issuer, policy)?;
@@ -173,7 +175,8 @@ fn import_at<M: Machine, R: Read, W: Write>(
 /// Whether the moment of an import is to be checked and is too far ahead.
 fn refuses_import<M: Machine>(office: &mut M::Office, now: Moment, is_checked: bool) -> bool
     ensures checked { IsTrue result → IsTrue is_checked }
-    ensures looks { Looks M.Office.is_clean M.Office.stands (λ records. IsTrue result → IsTrue (is_ahead now records.last None)) office.old office.new }
+    ensures looks { LooksIn M.Office.Office
+        (λ records. IsTrue result → IsTrue (is_ahead now records.last None)) office.old office.new }
 {
     if !is_checked {
         return false;
@@ -189,8 +192,9 @@ fn import_kept<M: Machine, R: Read, W: Write>(
     reader: &mut R,
     writer: &mut W,
 ) -> Result<Ended, Fault>
-    ensures { Leads M.Office.is_clean M.Office.stands
-        (λ identity before after. StrictEnds (Lines M.Office.signs identity) R.remaining W.contents now before after
+    ensures { LeadsIn M.Office.Office
+        (λ identity before after.
+        StrictEnds (Lines M.Office.signs identity) R.remaining W.contents now before after
         reader.old reader.new writer.old writer.new result) office.old office.new }
 {
     let imported = import_strictly(alloc, reader, writer, now, office);
@@ -217,7 +221,8 @@ pub fn crl<M: Machine, W: Write>(
     number: Option<u64>,
     writer: &mut W,
 ) -> Result<(), Failure>
-    ensures { CrlAt M.Machine M.Office.Office W.contents machine.old machine.new writer.old writer.new path.now number
+    ensures { CrlAt M.Machine M.Office.Office W.contents machine.old machine.new writer.old writer.new
+        path.now number
         result }
 {
     let mut register = open_unsigned(machine, path)?;
@@ -246,7 +251,8 @@ pub fn schedule<M: Machine, W: Write>(
     steps: &Steps,
     writer: &mut W,
 ) -> Result<(), Failure>
-    ensures { ScheduleAt M.Machine M.Office.Office W.contents machine.old machine.new writer.old writer.new path.now
+    ensures { ScheduleAt M.Machine M.Office.Office W.contents machine.old machine.new writer.old writer.new
+        path.now
         steps.now result }
 {
     let schedule = schedule_of(steps)?;
@@ -265,7 +271,8 @@ pub fn key_identifier<M: Machine, W: Write>(
     key_id: &Word<'_>,
     writer: &mut W,
 ) -> Result<(), Failure>
-    ensures { KeyIdAt M.Machine M.Office.Office W.contents machine.old machine.new writer.old writer.new path.now
+    ensures { KeyIdAt M.Machine M.Office.Office W.contents machine.old machine.new writer.old writer.new
+        path.now
         key_id.now result }
 {
     let octets = key_identifier_of(alloc, key_id)?;
@@ -296,7 +303,8 @@ pub fn audit<M: Machine, W: Write>(
     path: &str,
     writer: &mut W,
 ) -> Result<(), Failure>
-    ensures { AuditAt M.Machine M.Office.Office W.contents machine.now machine.now writer.old writer.new path.now result }
+    ensures { AuditAt M.Machine M.Office.Office W.contents machine.now machine.now writer.old writer.new
+        path.now result }
 {
     let audit_result = audit_at(machine, path)?;
     report_audit_result(alloc, writer, audit_result)

@@ -1,7 +1,7 @@
 //! The job `script` with `--clock` or `--strict`: runs the lines of standard input over a register, one by one.
 
 ghost use Rattle.std.specs.Prelude.{◌↔◌, IsTrue, None};
-ghost use Rattle.reg_office_api.specs.Leads.{Leads, Looks};
+ghost use Rattle.reg_office_api.specs.Calls.{LeadsIn, LooksIn};
 ghost use Rattle.reg_lines.specs.ByCalls.{Lines};
 ghost use Rattle.reg_lines.specs.Script.{LinesEnd, ScriptEnds};
 ghost use Rattle.reg_desk_jobs.specs.Ends.{IsClockRefused, LinesAt};
@@ -89,7 +89,8 @@ pub fn script_by_lines<M: Machine, R: Read, W: Write>(
 
 /// Whether the lines run at the machine's clock, this is too far ahead, and the operator does not accept that.
 fn refuses_clock<M: Machine>(machine: &M, office: &mut M::Office, way: Way) -> bool
-    ensures { Looks M.Office.is_clean M.Office.stands (λ records. IsTrue result → IsClockRefused way M.clock_reached records) office.old office.new }
+    ensures { LooksIn M.Office.Office (λ records. IsTrue result → IsClockRefused way M.clock_reached records)
+        office.old office.new }
 {
     if !way.is_clocked || way.accepts_clock {
         return false;
@@ -102,7 +103,8 @@ fn refuses_clock<M: Machine>(machine: &M, office: &mut M::Office, way: Way) -> b
 
 /// Whether a moment is more than 30 days past the register's last accepted one; `false` if the register can't be read: the job will report it.
 pub(crate) fn is_ahead_of<M: Machine>(office: &mut M::Office, now: Moment) -> bool
-    ensures { Looks M.Office.is_clean M.Office.stands (λ records. IsTrue result → IsTrue (ahead now records.last None)) office.old office.new }
+    ensures { LooksIn M.Office.Office (λ records. IsTrue result → IsTrue (ahead now records.last None))
+        office.old office.new }
 {
     match office.standing() {
         Ok(standing) => is_ahead(now, standing.last, None),
@@ -118,8 +120,9 @@ pub(crate) fn run_script_over<M: Machine, R: Read, W: Write>(
     reader: &mut R,
     writer: &mut W,
 ) -> Result<(), Fault>
-    ensures { Leads M.Office.is_clean M.Office.stands
-        (λ identity before after. ScriptEnds (Lines M.Office.signs identity) R.remaining W.contents before after
+    ensures { LeadsIn M.Office.Office
+        (λ identity before after.
+        ScriptEnds (Lines M.Office.signs identity) R.remaining W.contents before after
         reader.old reader.new writer.old writer.new result)
         office.old office.new }
 {
@@ -140,7 +143,7 @@ fn run_over<M: Machine, R: Read, W: Write>(
     reader: &mut R,
     writer: &mut W,
 ) -> Result<Ended, Fault>
-    ensures { Leads M.Office.is_clean M.Office.stands
+    ensures { LeadsIn M.Office.Office
         (λ identity before after. LinesEnd (Lines M.Office.signs identity) R.remaining W.contents before after
         reader.old reader.new writer.old writer.new M.clock_reached way.is_clocked way.is_strict result)
         office.old office.new }

@@ -3,7 +3,7 @@
 ghost use Rattle.std.specs.Prelude.{◌≡◌, ◌++◌, IfErr, IfOk, OnOk, flat_map};
 ghost use Rattle.reg_core_lists.specs.Filters.{wanted_rows};
 ghost use Rattle.reg_office_api.specs.Items.{items_of};
-ghost use Rattle.reg_office_api.specs.Leads.{Leads};
+ghost use Rattle.reg_office_api.specs.Calls.{LeadsIn};
 ghost use Rattle.reg_core_lists.specs.Pages.{GivesWholeList};
 ghost use Rattle.reg_core_lists.specs.Texts.{opening_text, row_text};
 ghost use Rattle.reg_desk_jobs.specs.Ends.{IsMomentOf, ListAt};
@@ -28,7 +28,8 @@ pub fn list<M: Machine, W: Write>(
     wanted: &ListToWrite<'_>,
     writer: &mut W,
 ) -> Result<(), Failure>
-    ensures { ListAt M.Machine M.Office.Office W.contents machine.old machine.new writer.old writer.new wanted.now result }
+    ensures { ListAt M.Machine M.Office.Office W.contents machine.old machine.new writer.old writer.new
+        wanted.now result }
 {
     let now = moment_of(machine, wanted.moment)?;
     let path = wanted.file.as_str();
@@ -57,8 +58,9 @@ fn list_text<M: Machine>(
     now: Moment,
     wanted: &ListToWrite<'_>,
 ) -> Result<Vec<u8>, Fault>
-    ensures { Leads M.Office.is_clean M.Office.stands
-        (λ identity before after. GivesWholeList before now wanted.now.form wanted.now.filter wanted.now.from (items_of result) after)
+    ensures { LeadsIn M.Office.Office
+        (λ identity before after.
+        GivesWholeList before now wanted.now.form wanted.now.filter wanted.now.from (items_of result) after)
         register.old register.new }
 {
     let mut text = opening(alloc, wanted.form, wanted.from)?;
@@ -94,7 +96,8 @@ fn put(
     wanted: &Filter,
     rows: &[Row],
 ) -> Result<(), Fault>
-    ensures ok { OnOk result (text.new.items ≡ text.old.items ++ flat_map (row_text form) (wanted_rows wanted.now rows.now)) }
+    ensures ok { OnOk result
+        (text.new.items ≡ text.old.items ++ flat_map (row_text form) (wanted_rows wanted.now rows.now)) }
     ensures err { IfErr result (λ fault. fault ≡ Fault.Memory) }
 {
     let kept = wanted.kept(alloc, rows).map_err(|_| Fault::Memory)?;

@@ -24,7 +24,8 @@ pub(crate) fn exchange_line(
     named: Option<NamedRequest>,
     is_unsigned: bool,
 ) -> Result<Vec<u8>, AllocError>
-    ensures { IfOk result (λ line. line.items ≡ exchanged now client_text.now asked.now answered.now micros named is_unsigned) }
+    ensures { IfOk result (λ line.
+        line.items ≡ exchanged now client_text.now asked.now answered.now micros named is_unsigned) }
 {
     let mut line = Vec::from_slice(alloc, &now.text())?;
     put_word(&mut line, client_text)?;

@@ -12,6 +12,7 @@ use reg_der::Issuer;
 use reg_desk_cli::{Answerer, Failure};
 use reg_office_api::Office;
 use std::alloc::Global;
+use std::fs::File;
 use std::io;
 use std::os::unix::net::UnixStream;
 
@@ -22,7 +23,7 @@ use std::os::unix::net::UnixStream;
 /// the system's.
 pub trait Machine {
     ghost use Rattle.std.specs.Prelude.{◌≡◌, ◌≤◌, ◌⊎◌, ℕ, List, [], IsTrue, IsFalse, MatchBool, OnOk, OnErr, IfOk, IfErr, IfSome, length};
-    ghost use Rattle.reg_office_api.specs.Leads.{Leads};
+    ghost use Rattle.reg_office_api.specs.Calls.{KeepsIn};
     ghost use Rattle.reg_office_api.specs.LookUps.{IsOfStore};
     ghost use Rattle.reg_office_api.specs.Signatories.{Signatory};
     ghost use Rattle.reg_core.specs.Records.{no_records};
@@ -37,6 +38,7 @@ pub trait Machine {
     ghost use Rattle.reg_crl_signer.specs.SignatureRequest.{IsSignatureRequest};
     ghost use Rattle.reg_crl_signer.specs.Forms.{HasForm};
     ghost use Rattle.reg_desk_cli.specs.declared.job.Answerer.{Answerer as Answering};
+    ghost use Rattle.std.specs.declared.fs.File.{File as OpenFile};
 
     /// What is opened: an office that keeps the records of a register.
     type Office: Office + Drop;
@@ -101,8 +103,10 @@ pub trait Machine {
     ghost socket_created: { List ℕ → Type 0 };
     /// What lies at this path was given this mode.
     ghost has_mode: { List ℕ → ℕ → Type 0 };
-    /// The socket at this path was stale: no program listened at it.
-    ghost stale: { List ℕ → Type 0 };
+    /// This file, as long as it is open, holds the lock of the folder of this path: no other desk and no native signer holds it meanwhile.
+    ghost locked: { OpenFile → List ℕ → Type 0 };
+    /// While this file held the lock, the socket at this path was stale: no program listened at it.
+    ghost stale: { OpenFile → List ℕ → Type 0 };
     /// The program connected to the socket at this path.
     ghost socket_connected: { List ℕ → Type 0 };
     /// The signer at the socket at this path was asked to sign this message.
@@ -142,7 +146,8 @@ pub trait Machine {
         ensures connected { IfOk result (λ database. connected self.old path.now database self.new) }
         ensures fresh { IfOk result fresh }
         ensures unconnected { IfErr result (λ why. unconnected self.old path.now why self.new) }
-        ensures faults { IfErr result (λ why. (why ≡ Failure.Fault Fault.Memory) ⊎ (why ≡ Failure.Fault Fault.Store)) };
+        ensures faults { IfErr result (λ why.
+            (why ≡ Failure.Fault Fault.Memory) ⊎ (why ≡ Failure.Fault Fault.Store)) };
 
     /// The bytes of the file at a path; `None` where it can't be read.
     fn file(&self, path: &str) -> Option<Vec<u8>>;
@@ -175,7 +180,8 @@ pub trait Machine {
     ) -> Result<Self::Office, Failure>
         requires { fresh database }
         ensures made { IfOk result (made database) }
-        ensures stands { IfOk result (λ office. (signatory : Signatory) × Self.Office.stands signatory office (no_records issuer policy)) }
+        ensures stands { IfOk result (λ office.
+            (signatory : Signatory) × Self.Office.stands signatory office (no_records issuer policy)) }
         ensures faults { IfErr result IsMaking };
 
     /// Closes the office whose file lies at a path.
@@ -186,7 +192,8 @@ pub trait Machine {
     fn read(&self, path: &str) -> Result<Self::Sources, Failure>
         ensures read { IfOk result (read self.now path.now) }
         ensures unread { IfErr result (unread self.now path.now) }
-        ensures faults { IfErr result (λ why. (why ≡ Failure.Fault Fault.Memory) ⊎ (why ≡ Failure.Fault Fault.Store)) };
+        ensures faults { IfErr result (λ why.
+            (why ≡ Failure.Fault Fault.Memory) ⊎ (why ≡ Failure.Fault Fault.Store)) };
 
     /// Audits the register in files, without migrating an older version; `NotARegister` and `NewVersion` for other tables.
     fn audit_in(&self, sources: Self::Sources) -> Result<AuditResult, Failure>
@@ -223,8 +230,14 @@ pub trait Machine {
     fn listen_v6(&self, address: [u8; 16], port: u16) -> io::Result<TcpListener>
         ensures { OnOk result (bound address port) };
 
+    /// Locks the folder of a path. No other desk and no native signer creates or removes a socket there before the caller drops the file.
+    /// Error: `AddrInUse` if another program holds the lock for ten seconds.
+    fn lock_folder(&self, path: &str) -> io::Result<File>
+        ensures { IfOk result (λ lock. locked lock path.now) };
+
     /// Creates a socket at a path, and listens there without waiting; `AddrInUse` where something lies there.
-    fn create_socket(&self, path: &str) -> io::Result<UnixListener>
+    fn create_socket(&self, lock: &File, path: &str) -> io::Result<UnixListener>
+        requires { locked lock.now path.now }
         ensures { OnOk result (socket_created path.now) };
 
     /// Sets the mode of the file at a path.
@@ -235,12 +248,13 @@ pub trait Machine {
     fn is_socket(&self, path: &str) -> io::Result<bool>;
 
     /// Whether no program listens any more at the socket at a path: it refuses connections.
-    fn is_stale(&self, path: &str) -> bool
-        ensures { IsTrue result → stale path.now };
+    fn is_stale(&self, lock: &File, path: &str) -> bool
+        requires { locked lock.now path.now }
+        ensures { IsTrue result → stale lock.now path.now };
 
-    /// Removes a socket at which no program listens any more.
-    fn unlink(&self, path: &str) -> io::Result<()>
-        requires { stale path.now };
+    /// Removes a socket that was stale under this lock, which the caller still holds.
+    fn unlink(&self, lock: &File, path: &str) -> io::Result<()>
+        requires { stale lock.now path.now };
 
     /// Connects to the socket at a path.
     fn connect_to_socket(&self, path: &str) -> io::Result<UnixStream>
@@ -259,7 +273,9 @@ pub trait Machine {
 
     /// The answer on a connection to a signer, once it is whole. `None` where it is not, is longer than 4,096 bytes, or memory is refused.
     fn receive_answer(alloc: Global, link: &mut SignatureRequest) -> Option<Vec<u8>>
-        ensures given { IfSome result (λ answer. (path message : List ℕ) → IsSignatureRequest path message link.old → signer_answered path message answer.items) }
+        ensures given { IfSome result (λ answer.
+            (path message : List ℕ) → IsSignatureRequest path message link.old
+            → signer_answered path message answer.items) }
         ensures short { IfSome result (λ answer. length answer.items ≤ 4096) };
 
     /// Presets the next signature of an office: what a signer gave for a message, or that it gave nothing. The office then doesn't ask the signer.
@@ -269,8 +285,10 @@ pub trait Machine {
         wanted: Wanted,
         preset_signature: Option<PresetSignature>,
     )
-        requires { IfSome preset_signature (λ known. IfSome known.answer (λ answer. AnsweredAtSomePath signer_answered known.message.items answer.items)) }
-        ensures { Leads Self.Office.is_clean Self.Office.stands (λ identity before after. after ≡ before) office.old office.new };
+        requires { IfSome preset_signature (λ known.
+            IfSome known.answer (λ answer.
+            AnsweredAtSomePath signer_answered known.message.items answer.items)) }
+        ensures { KeepsIn Self.Office.Office office.old office.new };
 
     /// Whether exchanges are logged.
     fn has_log(&self) -> bool;

@@ -17,7 +17,8 @@ pub fn serve_open<M: Machine, R: Read, W: Write>(
     reader: &mut R,
     writer: &mut W,
 ) -> Result<(), Failure>
-    ensures { OpenAt M.Machine M.Office.Office R.remaining W.contents machine.old machine.new reader.old reader.new
+    ensures { OpenAt M.Machine M.Office.Office R.remaining W.contents machine.old machine.new
+        reader.old reader.new
         writer.old writer.new kept.now result }
 {
     let path = kept.file.as_str();

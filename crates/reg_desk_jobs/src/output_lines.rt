@@ -26,7 +26,8 @@ pub(crate) fn print_line<W: Write>(
     writer: &mut W,
     line: Result<Vec<u8>, AllocError>,
 ) -> Result<(), Failure>
-    ensures { (text : List ℕ) → IfOk line (λ made. made.items ≡ text) → PrintsLine text W.contents writer.old writer.new result }
+    ensures { (text : List ℕ) → IfOk line (λ made. made.items ≡ text)
+        → PrintsLine text W.contents writer.old writer.new result }
 {
     match line {
         Ok(line) => print_text(writer, &line),

@@ -6,7 +6,7 @@ ghost use Rattle.reg_core.specs.Status.{is_revoked as revokes, status};
 ghost use Rattle.reg_core.specs.declared.command.Query.TheVariants.{Status as AskStatus};
 ghost use Rattle.reg_office_api.specs.Answered.{IsAnswered};
 ghost use Rattle.reg_office_api.specs.Items.{items_of};
-ghost use Rattle.reg_office_api.specs.Leads.{Looks};
+ghost use Rattle.reg_office_api.specs.Calls.{LooksIn};
 ghost use Rattle.reg_desk_jobs.specs.Conversations.{IsInput};
 ghost use Rattle.reg_desk_jobs.specs.Published.{AppendsMissing, Compares, FindsMissing, latest_number, missing_at, missing_crl, missing_revocation};
 
@@ -27,8 +27,9 @@ pub(crate) fn check_published<O: Office, R: Read, W: Write>(
     reader: &mut R,
     writer: &mut W,
 ) -> Result<(), Failure>
-    ensures compares { Looks O.is_clean O.stands
-        (λ records. Compares records (R.remaining reader.old) (W.contents writer.old) (W.contents writer.new) result)
+    ensures compares { LooksIn O.Office
+        (λ records.
+        Compares records (R.remaining reader.old) (W.contents writer.old) (W.contents writer.new) result)
         office.old office.new }
     ensures unwritten { OnOk result (writer.new ≡ writer.old) }
 {
@@ -54,7 +55,8 @@ fn read_all<R: Read>(alloc: Global, reader: &mut R) -> Result<Vec<u8>, Fault>
 
 /// The lines for the items that the CRL in these bytes has and the register lacks.
 fn missing_lines<O: Office>(alloc: Global, office: &mut O, bytes: &[u8]) -> Result<Vec<u8>, Failure>
-    ensures { Looks O.is_clean O.stands (λ records. FindsMissing records bytes.now (items_of result)) office.old office.new }
+    ensures { LooksIn O.Office (λ records. FindsMissing records bytes.now (items_of result))
+        office.old office.new }
 {
     let Some(crl) = read_crl(bytes) else {
         return Err(Failure::NotACrl);
@@ -94,7 +96,8 @@ fn put_missing_revocations<O: Office>(
     entries: &[u8],
     lines: &mut Vec<u8>,
 ) -> Result<(), Failure>
-    ensures { Looks O.is_clean O.stands (λ records. AppendsMissing records last entries.now lines.old.items lines.new.items result)
+    ensures { LooksIn O.Office (λ records.
+        AppendsMissing records last entries.now lines.old.items lines.new.items result)
         office.old office.new }
 {
     let mut rest = entries;
@@ -116,7 +119,8 @@ fn put_missing_revocation<O: Office>(
     serial: Serial,
     lines: &mut Vec<u8>,
 ) -> Result<(), Fault>
-    ensures { Looks O.is_clean O.stands (λ records. OnOk result (lines.new.items ≡ lines.old.items ++ missing_at records last serial))
+    ensures { LooksIn O.Office (λ records.
+        OnOk result (lines.new.items ≡ lines.old.items ++ missing_at records last serial))
         office.old office.new }
 {
     let revoked = is_revoked(alloc, office, last, serial)?;
@@ -139,7 +143,8 @@ fn is_revoked<O: Office>(
     last: Moment,
     serial: Serial,
 ) -> Result<bool, Fault>
-    ensures { Looks O.is_clean O.stands (λ records. IfOk result (λ is. is ≡ revokes (status records serial last))) office.old office.new }
+    ensures { LooksIn O.Office (λ records. IfOk result (λ is. is ≡ revokes (status records serial last)))
+        office.old office.new }
 {
     let answered = office.ask(alloc, last, &Query::Status(serial));
     revoked_of(answered)

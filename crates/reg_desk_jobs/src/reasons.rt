@@ -1,7 +1,7 @@
 //! Why a line was refused: the text of `why` at the control socket, and of `--why` for a strict script or import.
 
 ghost use Rattle.std.specs.Prelude.{◌≡◌, ◌++◌, ◌∷◌, [], IfOk, IfSome};
-ghost use Rattle.reg_office_api.specs.Leads.{Leads};
+ghost use Rattle.reg_office_api.specs.Calls.{KeepsIn};
 ghost use Rattle.reg_desk_jobs.specs.ControlReplies.{ReportsLineOutcome};
 ghost use Rattle.reg_desk_jobs.specs.Reasons.{IsReasonLine, ahead_text, last_second, latest_text, order_text, other_text, reason_text, kept_reason_text};
 
@@ -63,7 +63,7 @@ pub(crate) fn keep_refusal_reason<M: Machine>(
     reply: &[u8],
     last_reason: &mut Vec<u8>,
 )
-    ensures { Leads M.Office.is_clean M.Office.stands (λ identity before after. after ≡ before) office.old office.new }
+    ensures { KeepsIn M.Office.Office office.old office.new }
 {
     match refused {
         Some(refused) => {
@@ -109,7 +109,7 @@ pub(crate) fn keep_reply_reason(reply: &[u8], last_reason: &mut Vec<u8>) {
 
 /// Why a command was refused, if it is a registration, as the register shows. No record changes.
 fn reason_of<M: Machine>(office: &mut M::Office, refused: &RefusedCommand) -> Option<Reason>
-    ensures { Leads M.Office.is_clean M.Office.stands (λ identity before after. after ≡ before) office.old office.new }
+    ensures { KeepsIn M.Office.Office office.old office.new }
 {
     let Command::Register {
         order,
@@ -129,7 +129,7 @@ fn reason_of<M: Machine>(office: &mut M::Office, refused: &RefusedCommand) -> Op
 
 /// The latest notAfter that an order and the schedule allow a certificate with this notBefore.
 fn latest_of<M: Machine>(office: &mut M::Office, order: u64, not_before: Moment) -> Option<Reason>
-    ensures { Leads M.Office.is_clean M.Office.stands (λ identity before after. after ≡ before) office.old office.new }
+    ensures { KeepsIn M.Office.Office office.old office.new }
 {
     match office.longest(order, not_before) {
         Ok(Some(days)) => Some(Reason::Latest(last_of(not_before, days)?)),
@@ -143,7 +143,7 @@ pub(crate) fn keep_reason<M: Machine>(
     ran: &Result<Ended, Fault>,
     reason: &Cell<Option<Reason>>,
 )
-    ensures { Leads M.Office.is_clean M.Office.stands (λ identity before after. after ≡ before) office.old office.new }
+    ensures { KeepsIn M.Office.Office office.old office.new }
 {
     match *ran {
         Ok(Ended::Refused(Some(refused))) => reason.set(reason_of::<M>(office, &refused)),

@@ -32,8 +32,10 @@ pub(crate) fn open_signed<M: Machine>(
     signer: &Option<KeyHolder<'_>>,
     answerer: &Answerer<'_>,
 ) -> Result<M::Office, Failure>
-    ensures ok { IfOk result (λ office. Opened M.Machine machine.old path.now (signing_with signer.now answerer.now) office machine.new) }
-    ensures err { IfErr result (λ why. Unopened M.Machine machine.old path.now (signing_with signer.now answerer.now) why machine.new) }
+    ensures ok { IfOk result (λ office.
+        Opened M.Machine machine.old path.now (signing_with signer.now answerer.now) office machine.new) }
+    ensures err { IfErr result (λ why.
+        Unopened M.Machine machine.old path.now (signing_with signer.now answerer.now) why machine.new) }
     ensures faults { IfErr result IsOpening }
 {
     open_by(machine, path, &CrlSigner::of(signer, answerer), answerer)
@@ -46,8 +48,10 @@ fn open_by<M: Machine>(
     crls: &CrlSigner<'_>,
     answerer: &Answerer<'_>,
 ) -> Result<M::Office, Failure>
-    ensures ok { IfOk result (λ office. Opened M.Machine machine.old path.now (crls.now, answerer.now) office machine.new) }
-    ensures err { IfErr result (λ why. Unopened M.Machine machine.old path.now (crls.now, answerer.now) why machine.new) }
+    ensures ok { IfOk result (λ office.
+        Opened M.Machine machine.old path.now (crls.now, answerer.now) office machine.new) }
+    ensures err { IfErr result (λ why.
+        Unopened M.Machine machine.old path.now (crls.now, answerer.now) why machine.new) }
     ensures faults { IfErr result IsOpening }
 {
     let responder = machine.certify(answerer)?;
@@ -64,7 +68,8 @@ pub(crate) fn make<M: Machine>(
     policy: Policy,
 ) -> Result<M::Office, Failure>
     ensures ok { IfOk result (λ office. Made M.Machine machine.old path.now office machine.new) }
-    ensures stands { IfOk result (λ office. (signatory : Signatory) × M.Office.stands signatory office (no_records issuer policy)) }
+    ensures stands { IfOk result (λ office.
+        (signatory : Signatory) × M.Office.stands signatory office (no_records issuer policy)) }
     ensures err { IfErr result (λ why. Unmade M.Machine machine.old path.now why machine.new) }
     ensures faults { IfErr result IsMaking }
 {

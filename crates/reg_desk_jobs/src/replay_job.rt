@@ -36,7 +36,8 @@ pub fn replay<M: Machine, R: Read, W: Write>(
     reader: &mut R,
     writer: &mut W,
 ) -> Result<(), Failure>
-    ensures { ReplaysAt (M.socket_connected control_path.now) (R.remaining reader.old) (W.contents writer.old) (W.contents writer.new) result }
+    ensures { ReplaysAt (M.socket_connected control_path.now) (R.remaining reader.old)
+        (W.contents writer.old) (W.contents writer.new) result }
 {
     match machine.connect_to_socket(control_path) {
         Ok(link) => replay_over(alloc, &link, reader, writer),
@@ -82,7 +83,8 @@ fn replay_log<R: BufRead, W: Write, C: BufRead, S: Write>(
 ) -> Result<(), Failure>
     ensures { ReplaysLog (R.remaining log.old)
         (state_of (S.contents sent.old) (C.remaining incoming.old) (W.contents writer.old) numbers.old.items)
-        (state_of (S.contents sent.new) (C.remaining incoming.new) (W.contents writer.new) numbers.new.items) result }
+        (state_of (S.contents sent.new) (C.remaining incoming.new) (W.contents writer.new) numbers.new.items)
+        result }
 {
     for _ in 0..u64::MAX {
         match next_line(alloc, log)? {
@@ -105,8 +107,10 @@ fn replay_line<W: Write, C: BufRead, S: Write>(
     incoming: &mut C,
     sent: &mut S,
 ) -> Result<(), Failure>
-    ensures { LineEnds (state_of (S.contents sent.old) (C.remaining incoming.old) (W.contents writer.old) numbers.old.items) line.now
-        (state_of (S.contents sent.new) (C.remaining incoming.new) (W.contents writer.new) numbers.new.items) result }
+    ensures { LineEnds (state_of (S.contents sent.old) (C.remaining incoming.old) (W.contents writer.old)
+        numbers.old.items) line.now
+        (state_of (S.contents sent.new) (C.remaining incoming.new) (W.contents writer.new) numbers.new.items)
+        result }
 {
     let text = without_end(line);
     match exchange_in(text) {
@@ -142,9 +146,11 @@ fn replay_entry<W: Write, C: BufRead, S: Write>(
     incoming: &mut C,
     sent: &mut S,
 ) -> Result<(), Failure>
-    ensures { EntryEnds (state_of (S.contents sent.old) (C.remaining incoming.old) (W.contents writer.old) numbers.old.items)
+    ensures { EntryEnds (state_of (S.contents sent.old) (C.remaining incoming.old) (W.contents writer.old)
+        numbers.old.items)
         (exchange_of logged_exchange.now) entry.now line.now
-        (state_of (S.contents sent.new) (C.remaining incoming.new) (W.contents writer.new) numbers.new.items) result }
+        (state_of (S.contents sent.new) (C.remaining incoming.new) (W.contents writer.new) numbers.new.items)
+        result }
 {
     let Ok(command) = line_to_send(alloc, numbers, logged_exchange, entry) else {
         return Err(Failure::Fault(Fault::Memory));
@@ -175,7 +181,8 @@ fn line_to_send(
     logged_exchange: &ExchangeText<'_>,
     entry: &Entry,
 ) -> Result<Vec<u8>, AllocError>
-    ensures { IfOk result (λ line. line.items ≡ line_to_send numbers.now (exchange_of logged_exchange.now) entry.now) }
+    ensures { IfOk result (λ line.
+        line.items ≡ line_to_send numbers.now (exchange_of logged_exchange.now) entry.now) }
 {
     let mut line = Vec::new(alloc);
     put_text(&mut line, numbers, logged_exchange, entry)?;
@@ -189,7 +196,9 @@ fn put_text(
     logged_exchange: &ExchangeText<'_>,
     entry: &Entry,
 ) -> Result<(), AllocError>
-    ensures { OnOk result (line.new.items ≡ line.old.items ++ text_to_send numbers.now (exchange_of logged_exchange.now) entry.now) }
+    ensures { OnOk result
+        (line.new.items ≡ line.old.items
+        ++ text_to_send numbers.now (exchange_of logged_exchange.now) entry.now) }
 {
     match *entry {
         Entry::Line => line.extend_from_slice(logged_exchange.asked),

@@ -45,7 +45,8 @@ pub fn each_row<M: Machine, R: Read, W: Write>(
     reader: &mut R,
     writer: &mut W,
 ) -> Result<(), Failure>
-    ensures { SendsRowsAt task (M.socket_connected control_path.now) (R.remaining reader.old) (W.contents writer.old) (W.contents writer.new) result }
+    ensures { SendsRowsAt task (M.socket_connected control_path.now) (R.remaining reader.old)
+        (W.contents writer.old) (W.contents writer.new) result }
 {
     match machine.connect_to_socket(control_path) {
         Ok(link) => send_over(alloc, task, &link, reader, writer),
@@ -60,7 +61,8 @@ fn send_over<R: Read, W: Write>(
     reader: &mut R,
     writer: &mut W,
 ) -> Result<(), Failure>
-    ensures { SendsRowsOver task (R.remaining reader.old) (W.contents writer.old) (W.contents writer.new) result }
+    ensures { SendsRowsOver task (R.remaining reader.old) (W.contents writer.old) (W.contents writer.new)
+        result }
 {
     let Ok(mut incoming) = BufReader::new(alloc, link) else {
         return Err(Failure::Fault(Fault::Memory));
@@ -81,7 +83,8 @@ fn send_each<R: BufRead, W: Write, C: BufRead, S: Write>(
     sent: &mut S,
 ) -> Result<(), Failure>
     ensures { SendsRows task (R.remaining rows.old) (link_of (S.contents sent.old) (C.remaining incoming.old))
-        (link_of (S.contents sent.new) (C.remaining incoming.new)) (W.contents writer.old) (W.contents writer.new) result }
+        (link_of (S.contents sent.new) (C.remaining incoming.new))
+        (W.contents writer.old) (W.contents writer.new) result }
 {
     let mut is_done = true;
     for _ in 0..u64::MAX {
@@ -107,7 +110,8 @@ fn send_line<W: Write, C: BufRead, S: Write>(
     sent: &mut S,
 ) -> Result<bool, Failure>
     ensures ok { IfOk result (LineReplied task (link_of (S.contents sent.old) (C.remaining incoming.old))
-        (link_of (S.contents sent.new) (C.remaining incoming.new)) (W.contents writer.old) (W.contents writer.new) line.now) }
+        (link_of (S.contents sent.new) (C.remaining incoming.new))
+        (W.contents writer.old) (W.contents writer.new) line.now) }
     ensures err { IfErr result IsOfTalk }
 {
     let text = without_end(line);
@@ -126,7 +130,8 @@ fn answer_row<C: BufRead, S: Write>(
     incoming: &mut C,
     sent: &mut S,
 ) -> Result<Vec<u8>, Failure>
-    ensures ok { IfOk result (λ reply. AnswersRow task text.now (link_of (S.contents sent.old) (C.remaining incoming.old))
+    ensures ok { IfOk result (λ reply.
+        AnswersRow task text.now (link_of (S.contents sent.old) (C.remaining incoming.old))
         (link_of (S.contents sent.new) (C.remaining incoming.new)) reply.items) }
     ensures err { IfErr result IsOfTalk }
 {
@@ -150,7 +155,8 @@ fn register_row<C: BufRead, S: Write>(
     incoming: &mut C,
     sent: &mut S,
 ) -> Result<Vec<u8>, Failure>
-    ensures ok { IfOk result (λ reply. RegistersRow terms row (link_of (S.contents sent.old) (C.remaining incoming.old))
+    ensures ok { IfOk result (λ reply.
+        RegistersRow terms row (link_of (S.contents sent.old) (C.remaining incoming.old))
         (link_of (S.contents sent.new) (C.remaining incoming.new)) reply.items) }
     ensures err { IfErr result IsOfTalk }
 {
@@ -175,7 +181,8 @@ fn order_row<C: BufRead, S: Write>(
     incoming: &mut C,
     sent: &mut S,
 ) -> Result<Vec<u8>, Failure>
-    ensures ok { IfOk result (λ reply. OrdersRow terms row.now (link_of (S.contents sent.old) (C.remaining incoming.old))
+    ensures ok { IfOk result (λ reply.
+        OrdersRow terms row.now (link_of (S.contents sent.old) (C.remaining incoming.old))
         (link_of (S.contents sent.new) (C.remaining incoming.new)) reply.items) }
     ensures err { IfErr result IsOfTalk }
 {
@@ -199,7 +206,8 @@ fn revoke_row<C: BufRead, S: Write>(
     incoming: &mut C,
     sent: &mut S,
 ) -> Result<Vec<u8>, Failure>
-    ensures ok { IfOk result (λ reply. RevokesRow row (link_of (S.contents sent.old) (C.remaining incoming.old))
+    ensures ok { IfOk result (λ reply.
+        RevokesRow row (link_of (S.contents sent.old) (C.remaining incoming.old))
         (link_of (S.contents sent.new) (C.remaining incoming.new)) reply.items) }
     ensures err { IfErr result IsOfTalk }
 {

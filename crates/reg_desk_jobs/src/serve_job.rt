@@ -1,15 +1,13 @@
 //! The job `serve`: HTTP on the loopback interface, many connections at once. The job `open` uses the same functions.
 
 ghost use Rattle.std.specs.Prelude.{◌≡◌, ◌⊎◌, ◌++◌, ◌∷◌, [], List, None, Err, OnOk, IfErr, IsTrue, IsFalse, decimal, is_some, option_copied};
-ghost use Rattle.reg_office_api.specs.Leads.{Leads, Looks};
+ghost use Rattle.reg_office_api.specs.Calls.{LeadsIn, LooksIn};
 ghost use Rattle.reg_desk_server.specs.Exchange.{Input, Outcome, Handles};
 ghost use Rattle.reg_desk_jobs.specs.Ends.{PrintsText, ServeAt};
 ghost use Rattle.reg_desk_cli.specs.declared.failure.Failure.{Failure as Failing};
-ghost use Rattle.reg_desk_jobs.specs.SignerAnswers.{AnsweredAtPath};
 ghost use Rattle.reg_desk_jobs.specs.Published.{Compares, HasAll};
-ghost use Rattle.reg_desk_jobs.specs.Signers.{answer_socket};
 ghost use Rattle.reg_desk_jobs.specs.declared.unsigned_responses.Unsigned.{Unsigned};
-ghost use Rattle.reg_desk_jobs.specs.Serving.{IsBound, Served, ServedAt, Serves, listening, loopback};
+ghost use Rattle.reg_desk_jobs.specs.Serving.{IsBoundOn, Served, ServedAt, ServesOn, listening, loopback};
 ghost use Rattle.reg_io.specs.RunsOfAnswers.{Answered};
 
 use crate::admission::Admission;
@@ -44,7 +42,8 @@ pub fn serve<M: Machine, R: Read, W: Write>(
     reader: &mut R,
     writer: &mut W,
 ) -> Result<(), Failure>
-    ensures { ServeAt M.Machine M.Office.Office R.remaining W.contents machine.old machine.new reader.old reader.new
+    ensures { ServeAt M.Machine M.Office.Office R.remaining W.contents machine.old machine.new
+        reader.old reader.new
         writer.old writer.new serving.now result }
 {
     let path = serving.file.as_str();
@@ -83,15 +82,18 @@ pub(crate) fn serve_checked<'a, 'w, M: Machine, R: Read, W: Write>(
     writer: &mut W,
 ) -> (M::Office, Result<(), Failure>)
     ensures unread { IsFalse is_published → reader.new ≡ reader.old }
-    ensures ends { ((why : Failing) × (result.1 ≡ Err why) × IsTrue is_published × Looks M.Office.is_clean M.Office.stands
-        (λ records. Compares records (R.remaining reader.old) (W.contents writer.old) (W.contents writer.new) (Err why))
+    ensures ends { ((why : Failing) × (result.1 ≡ Err why) × IsTrue is_published × LooksIn M.Office.Office
+        (λ records.
+        Compares records (R.remaining reader.old) (W.contents writer.old) (W.contents writer.new) (Err why))
         office result.0)
-        ⊎ ((inputs : List Input) × (outcomes : List (Outcome Unsigned)) × Leads M.Office.is_clean M.Office.stands
+        ⊎ ((inputs : List Input) × (outcomes : List (Outcome Unsigned)) × LeadsIn M.Office.Office
         (λ identity before after. (IsTrue is_published → HasAll before (R.remaining reader.old))
-        × Serves (is_some control_path.entry) M.Office.signs (AnsweredAtPath M.signer_answered (answer_socket signer.now answerer.now)) M.clock_reached inputs outcomes identity before after)
+        × ServesOn M.Machine M.Office.Office signer.now answerer.now (is_some control_path.entry)
+        inputs outcomes identity before after)
         office result.0
-        × ServedAt W.contents writer.old writer.new (IsBound M.bound M.socket_created M.has_mode endpoint (option_copied control_path.entry)) endpoint.port requests
-        inputs result.1) }
+        × ServedAt W.contents writer.old writer.new
+        (IsBoundOn M.Machine endpoint (option_copied control_path.entry))
+        endpoint.port requests inputs result.1) }
 {
     if is_published {
         match check_published(rt.alloc(), &mut office, reader, writer) {
@@ -126,11 +128,13 @@ fn serve_desk<'a, 'w, M: Machine, W: Write>(
     requests: u64,
     writer: &mut W,
 ) -> (M::Office, Result<(), Failure>)
-    ensures { (inputs : List Input) × (outcomes : List (Outcome Unsigned)) × Leads M.Office.is_clean M.Office.stands
-        (Serves (is_some control_path.entry) M.Office.signs (AnsweredAtPath M.signer_answered (answer_socket signer.now answerer.now)) M.clock_reached inputs outcomes)
+    ensures { (inputs : List Input) × (outcomes : List (Outcome Unsigned)) × LeadsIn M.Office.Office
+        (ServesOn M.Machine M.Office.Office signer.now answerer.now (is_some control_path.entry) inputs
+        outcomes)
         office result.0
-        × ServedAt W.contents writer.old writer.new (IsBound M.bound M.socket_created M.has_mode endpoint (option_copied control_path.entry)) endpoint.port requests
-        inputs result.1 }
+        × ServedAt W.contents writer.old writer.new
+        (IsBoundOn M.Machine endpoint (option_copied control_path.entry))
+        endpoint.port requests inputs result.1 }
 {
     let event_loop: EventLoop<Desk<'_, '_, M>> = match event_loop_at(
         rt,
@@ -168,8 +172,9 @@ fn event_loop_at<H: Handler, M: Machine>(
     endpoint: Endpoint,
     control_path: Option<&str>,
 ) -> Result<EventLoop<H>, Failure>
-    ensures ok { OnOk result (IsBound M.bound M.socket_created M.has_mode endpoint (option_copied control_path.entry)) }
-    ensures err { IfErr result (λ why. (why ≡ Failure.Fault Fault.Read) ⊎ (why ≡ Failure.Fault Fault.Memory)) }
+    ensures ok { OnOk result (IsBoundOn M.Machine endpoint (option_copied control_path.entry)) }
+    ensures err { IfErr result (λ why.
+        (why ≡ Failure.Fault Fault.Read) ⊎ (why ≡ Failure.Fault Fault.Memory)) }
 {
     let Ok(listener) = listen(machine, endpoint) else {
         return Err(Failure::Fault(Fault::Read));

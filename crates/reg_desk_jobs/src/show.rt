@@ -4,7 +4,7 @@ ghost use Rattle.std.specs.Prelude.{◌≡◌, ◌++◌, ◌∷◌, ◌-◌, ◌
 ghost use Rattle.reg_core_lists.specs.Lists.{key_of, page};
 ghost use Rattle.reg_core_lists.specs.Texts.{row_text};
 ghost use Rattle.reg_core_lists.specs.declared.texts.Form.TheVariants.{Json};
-ghost use Rattle.reg_office_api.specs.Leads.{Leads};
+ghost use Rattle.reg_office_api.specs.Calls.{LooksIn};
 ghost use Rattle.reg_desk_jobs.specs.ControlReplies.{IsReplyText, ReportsLineOutcome, ReportsFault};
 ghost use Rattle.reg_desk_jobs.specs.RowLookUps.{IsSeen, AnswersShown, found_text, help_text, is_shown, refusal_of, row_shown};
 
@@ -40,8 +40,8 @@ pub(crate) fn answer_shown<M: Machine>(
     shown: Shown,
     last_reason: &mut Vec<u8>,
 ) -> ControlReply
-    ensures moves { Leads M.Office.is_clean M.Office.stands
-        (λ identity before after. AnswersShown before now shown result.text.items × (after ≡ before))
+    ensures moves { LooksIn M.Office.Office
+        (λ records. AnswersShown records now shown result.text.items)
         office.old office.new }
     ensures came { ReportsLineOutcome result.came result.text.items }
 {
@@ -100,8 +100,8 @@ pub(crate) fn find<O: Office>(
     now: Moment,
     shown: &Shown,
 ) -> Result<Option<Row>, Fault>
-    ensures { Leads O.is_clean O.stands
-        (λ identity before after. IsSeen before now (row_shown before now shown.now) result × (after ≡ before))
+    ensures { LooksIn O.Office
+        (λ records. IsSeen records now (row_shown records now shown.now) result)
         office.old office.new }
 {
     match shown {
@@ -125,8 +125,9 @@ fn find_at<O: Office>(
     from: Cursor,
     shown: &Shown,
 ) -> Result<Option<Row>, Fault>
-    ensures { Leads O.is_clean O.stands
-        (λ identity before after. IsSeen before now (first_passing (is_shown shown.now) (page before now 1 from).rows) result × (after ≡ before))
+    ensures { LooksIn O.Office
+        (λ records.
+        IsSeen records now (first_passing (is_shown shown.now) (page records now 1 from).rows) result)
         office.old office.new }
 {
     let page = office.page(alloc, now, from, 1)?;
@@ -140,8 +141,8 @@ fn find_subscriber<O: Office>(
     now: Moment,
     name: Label,
 ) -> Result<Option<Row>, Fault>
-    ensures { Leads O.is_clean O.stands
-        (λ identity before after. IsSeen before now (row_shown before now (Shown.Subscriber name)) result × (after ≡ before))
+    ensures { LooksIn O.Office
+        (λ records. IsSeen records now (row_shown records now (Shown.Subscriber name)) result)
         office.old office.new }
 {
     let shown = Shown::Subscriber(name);

@@ -2,10 +2,9 @@
 
 ghost use Rattle.std.specs.Prelude.{◌≡◌, ◌≤◌, IfSome, length, option_map};
 ghost use Rattle.reg_desk_jobs.specs.Counted.{CountsFinished};
-ghost use Rattle.reg_desk_jobs.specs.Deferring.{socket_for};
-ghost use Rattle.reg_desk_jobs.specs.SignerAnswers.{AnsweredAtPath};
+ghost use Rattle.reg_desk_jobs.specs.Deferring.{AnsweredBySigner};
 ghost use Rattle.reg_desk_jobs.specs.FinishedResponses.{IsFinished, IsSignatureOf, fate_of};
-ghost use Rattle.reg_desk_jobs.specs.Signers.{answer_socket};
+ghost use Rattle.reg_desk_jobs.specs.Signers.{AnsweredByOcspSigner};
 
 use crate::deferred_commands::{Wanted, socket_of};
 use crate::exchange_log::log_exchange;
@@ -89,7 +88,8 @@ pub(crate) fn finish_http<M: Machine>(
     unsigned: Unsigned,
     link: Option<SignatureRequest>,
 ) -> Vec<u8>
-    ensures { CountsFinished (AnsweredAtPath M.signer_answered (answer_socket signer.now answerer.now)) unsigned result.items tally.old tally.new }
+    ensures { CountsFinished (AnsweredByOcspSigner M.signer_answered signer.now answerer.now) unsigned
+        result.items tally.old tally.new }
 {
     let signature = signature_of::<M>(alloc, signer, answerer, &unsigned.draft, link);
     let exchange = finish(alloc, &unsigned, &signature);
@@ -114,7 +114,8 @@ fn signature_of<M: Machine>(
     draft: &Draft,
     link: Option<SignatureRequest>,
 ) -> Option<Vec<u8>>
-    ensures signed { IsSignatureOf (AnsweredAtPath M.signer_answered (answer_socket signer.now answerer.now)) draft.now (option_map (λ signature. signature.items) result) }
+    ensures signed { IsSignatureOf (AnsweredByOcspSigner M.signer_answered signer.now answerer.now) draft.now
+        (option_map (λ signature. signature.items) result) }
     ensures short { IfSome result (λ signature. length signature.items ≤ 4096) }
 {
     let answer = received_answer::<M>(
@@ -141,7 +142,8 @@ pub(crate) fn received_answer<M: Machine>(
     message: &[u8],
     link: Option<SignatureRequest>,
 ) -> Option<Vec<u8>>
-    ensures given { IfSome result (λ answer. AnsweredAtPath M.signer_answered (socket_for signer.now answerer.now wanted) message.now answer.items) }
+    ensures given { IfSome result (λ answer.
+        AnsweredBySigner M.signer_answered signer.now answerer.now wanted message.now answer.items) }
     ensures short { IfSome result (λ answer. length answer.items ≤ 4096) }
 {
     let socket = socket_of(signer, answerer, wanted)?;
@@ -157,7 +159,8 @@ pub(crate) fn received_answer<M: Machine>(
 
 fn finish(alloc: Global, unsigned: &Unsigned, signature: &Option<Vec<u8>>) -> Exchange
     requires { IfSome signature.now (λ signature. length signature.items ≤ 4096) }
-    ensures finished { IsFinished unsigned.now.draft unsigned.now.moment (option_map (λ signature. signature.items) signature.now) result }
+    ensures finished { IsFinished unsigned.now.draft unsigned.now.moment
+        (option_map (λ signature. signature.items) signature.now) result }
     ensures route { result.route ≡ unsigned.now.route }
 {
     let response = unsigned.draft.response(alloc, slice_of(signature));

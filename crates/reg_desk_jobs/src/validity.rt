@@ -13,7 +13,8 @@ use reg_der::values::{expect, optional, whole};
 /// notAfter of a certificate in DER. `None` for other bytes.
 pub(crate) fn not_after(certificate: &[u8]) -> Option<Moment>
     ensures found { IfSome result (λ at. not_after_at certificate.now ≡ Some (moment_text at)) }
-    ensures none { IfNone result ((at : ℕ) → IsMoment at → not_after_at certificate.now ≢ Some (moment_text at)) }
+    ensures none { IfNone result
+        ((at : ℕ) → IsMoment at → not_after_at certificate.now ≢ Some (moment_text at)) }
 {
     match not_after_text(certificate) {
         Some(text) => Moment::read(&text),

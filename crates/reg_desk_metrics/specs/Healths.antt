@@ -74,7 +74,11 @@ health_of now found tally accepted = record {
 -- all is well: the clock is neither behind nor too far ahead, no CRL is due at once or late, signers and the store don't fail, and each table has room
 abbrev pub is_well : Health → Bool
 is_well health =
-    is_none health.clock && (not health.has_no_crl && (is_none health.crl && (is_none health.crl_signer && (is_none health.ocsp_signer && (is_none health.rows && is_none health.store)))))
+    is_none health.clock
+    && (not health.has_no_crl
+    && (is_none health.crl
+    && (is_none health.crl_signer
+    && (is_none health.ocsp_signer && (is_none health.rows && is_none health.store)))))
 
 -- a moment in quotation marks, or null
 abbrev pub since_text : Option ℕ → List ℕ
@@ -95,10 +99,13 @@ signers_text crl ocsp = member (codes ",\"crl_signer\":") crl ++ member (codes "
 
 -- the member `status`, and the name of the last member
 unfoldable pub health_member : Bool → List ℕ
-health_member is_well = cond is_well (codes ",\"status\":\"ok\",\"store\":") (codes ",\"status\":\"failing\",\"store\":")
+health_member is_well =
+    cond is_well (codes ",\"status\":\"ok\",\"store\":") (codes ",\"status\":\"failing\",\"store\":")
 
 -- the text; if all is well: `{"clock":null,"crl":null,"crl_signer":null,"ocsp_signer":null,"rows":null,"status":"ok","store":null}`
 unfoldable pub health_text : Health → List ℕ
 health_text health =
-    codes "{\"clock\":" ++ since_text health.clock ++ crl_text health.has_no_crl health.crl ++ signers_text health.crl_signer health.ocsp_signer
-    ++ member (codes ",\"rows\":") health.rows ++ health_member (is_well health) ++ since_text health.store ++ 125 ∷ []
+    codes "{\"clock\":" ++ since_text health.clock ++ crl_text health.has_no_crl health.crl
+    ++ signers_text health.crl_signer health.ocsp_signer
+    ++ member (codes ",\"rows\":") health.rows ++ health_member (is_well health) ++ since_text health.store
+    ++ 125 ∷ []

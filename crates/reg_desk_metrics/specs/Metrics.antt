@@ -32,13 +32,15 @@ clock_text now found = sample CLOCK.now now ++ sample BEHIND.now (seconds_behind
 
 -- how many certificates have each status
 unfoldable pub certificates_text : Counts → List ℕ
-certificates_text counts = sample GOOD.now counts.good ++ sample REVOKED.now counts.revoked ++ sample EXPIRED.now counts.expired
+certificates_text counts =
+    sample GOOD.now counts.good ++ sample REVOKED.now counts.revoked ++ sample EXPIRED.now counts.expired
 
 -- a CRL: its number, its thisUpdate and nextUpdate (RFC 5280 5.1.2), and its age
 unfoldable pub issued_text : ℕ → CrlRow → ℕ → List ℕ
 issued_text now crl life =
     sample CRL_NUMBER.now crl.number ++ sample THIS_UPDATE.now crl.this_update
-    ++ sample NEXT_UPDATE.now (min (crl.this_update + life) greatest) ++ sample CRL_AGE.now (now - crl.this_update)
+    ++ sample NEXT_UPDATE.now (min (crl.this_update + life) greatest)
+    ++ sample CRL_AGE.now (now - crl.this_update)
 
 -- the latest CRL, with the life of CRLs in seconds; number 0 if there is none
 abbrev pub crl_text : ℕ → Option CrlRow → ℕ → List ℕ
@@ -48,15 +50,18 @@ crl_text now None life = sample CRL_NUMBER.now 0
 -- how many rows each table has, and may have
 unfoldable pub rows_text : Rows → ℕ → List ℕ
 rows_text rows cap =
-    sample SUBSCRIBER_ROWS.now rows.subscribers ++ sample ORDER_ROWS.now rows.orders ++ sample CERTIFICATE_ROWS.now rows.certificates
+    sample SUBSCRIBER_ROWS.now rows.subscribers ++ sample ORDER_ROWS.now rows.orders
+    ++ sample CERTIFICATE_ROWS.now rows.certificates
     ++ sample REQUEST_ROWS.now rows.requests ++ sample CRL_ROWS.now rows.crls ++ sample CAP.now cap
 
 -- the numbers of a register
 unfoldable pub numbers_text : ℕ → Numbers → List ℕ
 numbers_text now numbers =
-    sample READABLE.now 1 ++ certificates_text numbers.counts ++ rows_text numbers.standing.rows numbers.standing.cap
+    sample READABLE.now 1 ++ certificates_text numbers.counts
+    ++ rows_text numbers.standing.rows numbers.standing.cap
     ++ sample LAST_COMMAND.now numbers.standing.last
-    ++ crl_text now numbers.standing.latest numbers.standing.crl_life ++ sample CRL_DUE.now (moment_or_none numbers.due)
+    ++ crl_text now numbers.standing.latest numbers.standing.crl_life
+    ++ sample CRL_DUE.now (moment_or_none numbers.due)
 
 -- the same, or that the register refuses or can't be read
 unfoldable pub register_text : ℕ → Result Numbers Fault → List ℕ
@@ -66,7 +71,8 @@ register_text now (Err fault) = sample READABLE.now 0
 -- requests for revocation, if they were counted
 unfoldable pub requests_text : Option Requests → List ℕ
 requests_text None = []
-requests_text (Some counted) = sample OPEN.now counted.waiting ++ sample OVERDUE.now counted.overdue ++ sample COUNTED.now counted.at
+requests_text (Some counted) =
+    sample OPEN.now counted.waiting ++ sample OVERDUE.now counted.overdue ++ sample COUNTED.now counted.at
 
 -- the name of a route, and of a status, by its index
 unfoldable pub route_name : ℕ → List ℕ
@@ -102,12 +108,14 @@ code_name index =
 abbrev pub answer_text : ℕ → ℕ → List ℕ
 answer_text index count =
     if count == 0 then []
-    else ANSWER.now ++ route_name (index / 12) ++ ANSWER_CODE.now ++ code_name (index % 12) ++ sample LABEL_END.now count
+    else ANSWER.now ++ route_name (index / 12) ++ ANSWER_CODE.now ++ code_name (index % 12)
+    ++ sample LABEL_END.now count
 
 -- the same for the first indexes, in order
 unfoldable pub answers_prefix : List ℕ → ℕ → List ℕ
 answers_prefix answers zero = []
-answers_prefix answers (suc index) = answers_prefix answers index ++ answer_text index (slice_index_or answers index 0)
+answers_prefix answers (suc index) =
+    answers_prefix answers index ++ answer_text index (slice_index_or answers index 0)
 
 -- the answers, by route and status
 abbrev pub answers_text : List ℕ → List ℕ
@@ -115,7 +123,9 @@ answers_text answers = ANSWERED.now ++ answers_prefix answers 132
 
 -- the lines at the control socket, by their reply
 unfoldable pub lines_text : Tally → List ℕ
-lines_text tally = sample ACCEPTED_LINES.now tally.accepted ++ sample REFUSED_LINES.now tally.refused ++ sample FAULTS.now tally.faults
+lines_text tally =
+    sample ACCEPTED_LINES.now tally.accepted ++ sample REFUSED_LINES.now tally.refused
+    ++ sample FAULTS.now tally.faults
 
 -- signatures: how many were received, and how many failed
 unfoldable pub signed_text : Signing → Signing → List ℕ
@@ -127,21 +137,26 @@ signed_text crls ocsp =
 unfoldable pub last_text : Signing → Signing → List ℕ
 last_text crls ocsp =
     sample CRL_LAST.now (moment_or_none crls.last) ++ sample OCSP_LAST.now (moment_or_none ocsp.last)
-    ++ sample CRL_LAST_FAILED.now (moment_or_none crls.last_failed) ++ sample OCSP_LAST_FAILED.now (moment_or_none ocsp.last_failed)
+    ++ sample CRL_LAST_FAILED.now (moment_or_none crls.last_failed)
+    ++ sample OCSP_LAST_FAILED.now (moment_or_none ocsp.last_failed)
 
 -- since when signatures fail, and since when the store fails
 unfoldable pub signers_text : Tally → List ℕ
 signers_text tally =
-    sample CRL_FAILING.now (moment_or_none tally.crls.failing_since) ++ sample OCSP_FAILING.now (moment_or_none tally.ocsp.failing_since)
+    sample CRL_FAILING.now (moment_or_none tally.crls.failing_since)
+    ++ sample OCSP_FAILING.now (moment_or_none tally.ocsp.failing_since)
     ++ sample STORE_FAILING.now (moment_or_none tally.store_since)
 
 -- the connections: open and accepted ones; then those that ended by a fault
 unfoldable pub connections_text : ConnectionTotals → List ℕ
-connections_text connection_totals = sample OPEN_HTTP.now connection_totals.open_http ++ sample OPEN_CONTROL.now connection_totals.open_control ++ sample ACCEPTED.now connection_totals.accepted
+connections_text connection_totals =
+    sample OPEN_HTTP.now connection_totals.open_http ++ sample OPEN_CONTROL.now connection_totals.open_control
+    ++ sample ACCEPTED.now connection_totals.accepted
 
 unfoldable pub lost_text : ConnectionTotals → List ℕ
 lost_text connection_totals =
-    sample BROKEN.now connection_totals.broken ++ sample LATE.now connection_totals.late ++ sample EVICTED.now connection_totals.evicted ++ sample NO_MEMORY.now connection_totals.memory
+    sample BROKEN.now connection_totals.broken ++ sample LATE.now connection_totals.late
+    ++ sample EVICTED.now connection_totals.evicted ++ sample NO_MEMORY.now connection_totals.memory
 
 -- the upper bound of a bucket in seconds, by its index
 unfoldable pub bucket_name : ℕ → List ℕ
@@ -171,30 +186,36 @@ sum_of buckets (suc index) = min (sum_of buckets index + slice_index_or buckets 
 -- the first buckets in order, each with the counts of those below it
 unfoldable pub buckets_text : List ℕ → ℕ → List ℕ
 buckets_text buckets zero = []
-buckets_text buckets (suc index) = buckets_text buckets index ++ bucket_text (bucket_name index) (sum_of buckets (suc index))
+buckets_text buckets (suc index) =
+    buckets_text buckets index ++ bucket_text (bucket_name index) (sum_of buckets (suc index))
 
 -- how long exchanges took, as a histogram in seconds
 unfoldable pub seconds_text : Tally → List ℕ
 seconds_text tally =
-    SECONDS.now ++ buckets_text tally.buckets 12 ++ sample_of_seconds SECONDS_SUM.now tally.micros ++ sample SECONDS_COUNT.now (sum_of tally.buckets 12)
+    SECONDS.now ++ buckets_text tally.buckets 12 ++ sample_of_seconds SECONDS_SUM.now tally.micros
+    ++ sample SECONDS_COUNT.now (sum_of tally.buckets 12)
 
 -- the seconds of a route's answers, and how many there were
 unfoldable pub route_text : List ℕ → ℕ → ℕ → List ℕ
 route_text name micros count =
-    ROUTE_SUM.now ++ name ++ sample_of_seconds LABEL_END.now micros ++ ROUTE_COUNT.now ++ name ++ sample LABEL_END.now count
+    ROUTE_SUM.now ++ name ++ sample_of_seconds LABEL_END.now micros ++ ROUTE_COUNT.now ++ name
+    ++ sample LABEL_END.now count
 
 -- the first routes, in order
 unfoldable pub routes_front : Tally → ℕ → List ℕ
 routes_front tally zero = []
 routes_front tally (suc index) =
-    routes_front tally index ++ route_text (route_name index) (slice_index_or tally.route_micros index 0) (slice_index_or tally.route_counts index 0)
+    routes_front tally index
+    ++ route_text (route_name index) (slice_index_or tally.route_micros index 0)
+    (slice_index_or tally.route_counts index 0)
 
 abbrev pub routes_text : Tally → List ℕ
 routes_text tally = ROUTE_SECONDS.now ++ routes_front tally 11
 
 -- the OCSP responses that were internalError
 unfoldable pub failures_text : Tally → List ℕ
-failures_text tally = sample OCSP_BY_SIGNER.now tally.ocsp_unsigned ++ sample OCSP_BY_STORE.now tally.ocsp_unread
+failures_text tally =
+    sample OCSP_BY_SIGNER.now tally.ocsp_unsigned ++ sample OCSP_BY_STORE.now tally.ocsp_unread
 
 -- notAfter of the responder's certificate, if it is known
 abbrev pub responder_text : Option ℕ → List ℕ
@@ -204,6 +225,8 @@ responder_text (Some at) = sample RESPONDER_ENDS.now at
 -- the whole text
 abbrev pub metrics_text : List ℕ → ℕ → Result Numbers Fault → Tally → ConnectionTotals → List ℕ
 metrics_text version now found tally connection_totals =
-    build_text version ++ clock_text now found ++ register_text now found ++ requests_text tally.requests ++ answers_text tally.answers ++ lines_text tally
-    ++ signed_text tally.crls tally.ocsp ++ last_text tally.crls tally.ocsp ++ signers_text tally ++ connections_text connection_totals ++ lost_text connection_totals ++ seconds_text tally
+    build_text version ++ clock_text now found ++ register_text now found ++ requests_text tally.requests
+    ++ answers_text tally.answers ++ lines_text tally
+    ++ signed_text tally.crls tally.ocsp ++ last_text tally.crls tally.ocsp ++ signers_text tally
+    ++ connections_text connection_totals ++ lost_text connection_totals ++ seconds_text tally
     ++ routes_text tally ++ failures_text tally ++ responder_text tally.responder_ends

@@ -18,7 +18,8 @@ digit_at number unit = 48 + number / unit % 10
 -- the decimal point and the six digits after it, for microseconds as seconds
 abbrev pub fraction : ℕ → List ℕ
 fraction micros =
-    46 ∷ digit_at micros 100000 ∷ digit_at micros 10000 ∷ digit_at micros 1000 ∷ digit_at micros 100 ∷ digit_at micros 10
+    46 ∷ digit_at micros 100000 ∷ digit_at micros 10000 ∷ digit_at micros 1000 ∷ digit_at micros 100
+    ∷ digit_at micros 10
     ∷ digit_at micros 1 ∷ []
 
 -- a sample of a time in microseconds, written in seconds

@@ -90,9 +90,13 @@ nothing_signed = record { received = 0; failed = 0; last = None; last_failed = N
 -- the first failure after the last one that was received
 abbrev pub signing_after : SignatureFate → ℕ → Signing → Signing
 signing_after signature.NotAsked now before = before
-signing_after signature.Made now before = record before { received = one_more before.received; last = Some now; failing_since = None }
-signing_after signature.Failed now before =
-    record before { failed = one_more before.failed; last_failed = Some now; failing_since = option_or before.failing_since (Some now) }
+signing_after signature.Made now before =
+    record before { received = one_more before.received; last = Some now; failing_since = None }
+signing_after signature.Failed now before = record before {
+  failed = one_more before.failed;
+  last_failed = Some now;
+  failing_since = option_or before.failing_since (Some now);
+}
 
 -- since when the store fails, after an exchange at a moment; not any more after an accepted command
 abbrev pub store_after : StoreEffect → ℕ → Option ℕ → Option ℕ
@@ -103,14 +107,20 @@ store_after store.Failed now since = option_or since (Some now)
 -- nothing is counted yet, at a desk whose CRLs are signed in this way, with notAfter of its responder's certificate
 abbrev pub is_new : CrlSigning → Option ℕ → Tally → Type 0
 is_new signing ends tally =
-    (tally.answers ≡ replicate 132 0) × (tally.accepted ≡ 0) × (tally.refused ≡ 0) × (tally.faults ≡ 0) × (tally.buckets ≡ replicate 12 0)
-    × (tally.micros ≡ 0) × (tally.route_counts ≡ replicate 11 0) × (tally.route_micros ≡ replicate 11 0) × (tally.ocsp_unsigned ≡ 0) × (tally.ocsp_unread ≡ 0)
-    × (tally.crls ≡ nothing_signed) × (tally.ocsp ≡ nothing_signed) × (tally.store_since ≡ None) × (tally.requests ≡ None)
+    (tally.answers ≡ replicate 132 0) × (tally.accepted ≡ 0) × (tally.refused ≡ 0) × (tally.faults ≡ 0)
+    × (tally.buckets ≡ replicate 12 0)
+    × (tally.micros ≡ 0) × (tally.route_counts ≡ replicate 11 0) × (tally.route_micros ≡ replicate 11 0)
+    × (tally.ocsp_unsigned ≡ 0) × (tally.ocsp_unread ≡ 0)
+    × (tally.crls ≡ nothing_signed) × (tally.ocsp ≡ nothing_signed) × (tally.store_since ≡ None)
+    × (tally.requests ≡ None)
     × (tally.crl_signing ≡ signing) × (tally.responder_ends ≡ ends) × (tally.read ≡ None)
 
 -- one more exchange, in the bucket of its time
 abbrev pub with_seconds : ℕ → Tally → Tally
-with_seconds micros tally = record tally { buckets = bumped tally.buckets (bucket_of micros); micros = min (tally.micros + micros) greatest }
+with_seconds micros tally = record tally {
+  buckets = bumped tally.buckets (bucket_of micros);
+  micros = min (tally.micros + micros) greatest;
+}
 
 -- one more line, by the kind of its reply
 abbrev pub with_reply_to_line : LineReply → Tally → Tally
@@ -146,7 +156,8 @@ with_cause other store.Failed tally = record tally { ocsp_unread = one_more tall
 with_cause other effect tally = tally
 
 abbrev pub with_failure : Exchange → Tally → Tally
-with_failure exchange tally = cond (has_response exchange) (with_cause exchange.signature exchange.store tally) tally
+with_failure exchange tally =
+    cond (has_response exchange) (with_cause exchange.signature exchange.store tally) tally
 
 -- what became of the signature of a CRL: it was not requested if the desk has no signer for CRLs
 abbrev pub fate_by : CrlSigning → SignatureFate → SignatureFate
@@ -164,16 +175,21 @@ outcomes_counted now crl ocsp effect tally = record tally {
 -- one more answer of a route with a status
 abbrev pub with_answer : Route → Option ℕ → ℕ → Tally → Tally
 with_answer route status micros tally =
-    with_seconds micros (with_route (route_number route) micros (record tally { answers = bumped tally.answers (route_number route * 12 + code_number status) }))
+    with_seconds micros
+    (with_route (route_number route) micros
+    (record tally { answers = bumped tally.answers (route_number route * 12 + code_number status) }))
 
 -- an exchange at a moment is counted: its route and status, its time, and its effects on the signature and the store
 abbrev pub with_exchange : ℕ → Exchange → ℕ → Tally → Tally
 with_exchange now exchange micros tally =
-    outcomes_counted now signature.NotAsked exchange.signature exchange.store (with_failure exchange (with_answer exchange.route exchange.status micros tally))
+    outcomes_counted now signature.NotAsked exchange.signature exchange.store
+    (with_failure exchange (with_answer exchange.route exchange.status micros tally))
 
 -- a line is counted: the kind of its reply, its time, and its effects on the signatures and the store
 abbrev pub with_line : ℕ → LineEffects → ℕ → Tally → Tally
-with_line now line micros tally = outcomes_counted now line.crl line.ocsp line.store (with_seconds micros (with_reply_to_line line.reply tally))
+with_line now line micros tally =
+    outcomes_counted now line.crl line.ocsp line.store
+    (with_seconds micros (with_reply_to_line line.reply tally))
 
 -- the requests for revocation were counted
 abbrev pub with_counted : Requests → Tally → Tally

@@ -37,7 +37,8 @@ pub fn metrics(
     tally: &Tally,
     connection_totals: ConnectionTotals,
 ) -> Result<Vec<u8>, AllocError>
-    ensures { IfOk result (λ text. text.items ≡ metrics_text version.now now found.now tally.now connection_totals) }
+    ensures { IfOk result (λ text.
+        text.items ≡ metrics_text version.now now found.now tally.now connection_totals) }
 {
     let mut text = Vec::with_capacity(alloc, ROOM)?;
     put_build(&mut text, version)?;

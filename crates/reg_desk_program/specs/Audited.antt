@@ -35,7 +35,8 @@ abbrev pub tables_of : {D : Type 0} {g : disk.Ghosts D} → FoundSound g → Dat
 tables_of found = (file_state found.audited.connection).now
 
 -- a register that was opened over the same tables as were audited: the audit's file is read-only, the register's is written
-pub record OpensSame {A D : Type 0} {a : disk.Ghosts A} {g : disk.Ghosts D} (found : FoundSound a) (register : Held (FileStore D g)) (signatory : Signatory) : Type 0 where
+pub record OpensSame {A D : Type 0} {a : disk.Ghosts A} {g : disk.Ghosts D} (found : FoundSound a)
+    (register : Held (FileStore D g)) (signatory : Signatory) : Type 0 where
   pub signing : CrlSigner
   pub opened : IsOpenedFrom signing register signatory
   pub same : (file_state opened.connection).now ≡ tables_of found
@@ -43,10 +44,12 @@ pub record OpensSame {A D : Type 0} {a : disk.Ghosts A} {g : disk.Ghosts D} (fou
 -- The audited tables show records, which are sound and as many as the result says, and the derived tables agree with them. Any records that the
 -- tables show stand in each register that is opened over these tables, if each stored CRL there has the signature of the signer, or, below some
 -- number that is at most the next one, the placeholder digest: an audit does not check that.
-pub record StandsOnceAudited {A D : Type 0} {a : disk.Ghosts A} (g : disk.Ghosts D) (signs : Identity → List ℕ → List ℕ → Type 0) (found : FoundSound a) : Type 0 where
+pub record StandsOnceAudited {A D : Type 0} {a : disk.Ghosts A} (g : disk.Ghosts D)
+    (signs : Identity → List ℕ → List ℕ → Type 0) (found : FoundSound a) : Type 0 where
   pub shown : ShowsSound (tables_of found)
   pub counted : CountedBy found.audit_result shown.records
   pub stand : (records : Records) (columns : Columns) → AreBoth (tables_of found) records columns
       → (register : Held (FileStore D g)) (signatory : Signatory) → OpensSame found register signatory
-      → (since : ℕ) → since ≤ next_number records.crls → CrlsSigned (sealed_until since signs signatory.crls) records
+      → (since : ℕ) → since ≤ next_number records.crls
+      → CrlsSigned (sealed_until since signs signatory.crls) records
       → Stands over_files signs register signatory.crls records

@@ -42,7 +42,9 @@ use Rattle.reg_desk_jobs.specs.declared.crl_signer.CrlSigner.{CrlSigner}
 
 -- the tables showed the records of a register, of this program's version or of an older one
 abbrev pub Showed : {C : Type 0} → Ghosts C → Held C → Records → Type 0
-Showed g held records = ShowsKept g held records ⊎ ((version : OlderVersion) × ShowsOlder version g held records × SoundRows records)
+Showed g held records =
+    ShowsKept g held records
+    ⊎ ((version : OlderVersion) × ShowsOlder version g held records × SoundRows records)
 
 -- A connection to a database.
 module _ {C : Type 0} (g : Ghosts C) (connection : Held C) where
@@ -56,17 +58,23 @@ module _ {C : Type 0} (g : Ghosts C) (connection : Held C) where
   -- the records that the tables showed.
   pub record OpensOver (signing : CrlSigner) (register : Held C) (signatory : Signatory) : Type 0 where
     pub kept : (records : Records) → ShowsKept g connection records → ShowsKept g register records
-    pub migrated : (version : OlderVersion) (records : Records) → ShowsOlder version g connection records → SoundRows records → ShowsKept g register records
+    pub migrated : (version : OlderVersion) (records : Records) → ShowsOlder version g connection records
+        → SoundRows records → ShowsKept g register records
     pub clean : doubt (state g connection).is_clean ≤ doubt (state g register).is_clean
-    pub told : (records : Records) → Showed g connection records → HasCleanDisk (state g register) → IsSigning signing records.issuer.key signatory.crls
-    pub follows : (records : Records) → Showed g connection records → SoundRows records → HasCleanDisk (state g register)
+    pub told : (records : Records) → Showed g connection records → HasCleanDisk (state g register)
+        → IsSigning signing records.issuer.key signatory.crls
+    pub follows : (records : Records) → Showed g connection records → SoundRows records
+        → HasCleanDisk (state g register)
         → Follows records signatory.crls.algorithm
-    pub embeds : (records : Records) → Showed g connection records → HasCleanDisk (state g register) → EmbedsOwn records.issuer.key signatory.answers
-    pub leaves : IsWhole → (records : Records) → ShowsKept g connection records → LeavesThese g register records
+    pub embeds : (records : Records) → Showed g connection records → HasCleanDisk (state g register)
+        → EmbedsOwn records.issuer.key signatory.answers
+    pub leaves : IsWhole → (records : Records) → ShowsKept g connection records
+        → LeavesThese g register records
 
   -- In a register that was created over it these records stand, and a stop leaves them, or these after one more change. The database had no table,
   -- index or view.
-  pub record MakesOver (signs : Signs) (register : Held C) (signatory : Identity) (records : Records) : Type 0 where
+  pub record MakesOver (signs : Signs) (register : Held C) (signatory : Identity)
+      (records : Records) : Type 0 where
     pub stands : Stands g signs register signatory records
     pub leaves : IsWhole → LeavesReported g signs register signatory records
     pub empty : connection.schema ≡ no_schema
@@ -79,7 +87,8 @@ module _ {D : Type 0} {g : disk.Ghosts D} where
     pub whole : HasCleanDisk (file_state connection) → IsOpened connection
 
   -- a register was opened over a connection to a file
-  pub record IsOpenedFrom (signing : CrlSigner) (register : Held (FileStore D g)) (signatory : Signatory) : Type 0 where
+  pub record IsOpenedFrom (signing : CrlSigner) (register : Held (FileStore D g))
+      (signatory : Signatory) : Type 0 where
     pub connection : Held (FileStore D g)
     pub connects : IsConnection connection
     pub opens : OpensOver over_files connection signing register signatory
@@ -90,7 +99,8 @@ module _ {D : Type 0} {g : disk.Ghosts D} where
     pub clean : doubt (file_state connection).is_clean ≤ doubt (file_state register).is_clean
 
   -- an office was opened over a connection to a file, with this signer of CRLs and this responder
-  pub record OpensFor {S : Type 0} (signer : Signer S) (connection : Held (FileStore D g)) (crls : CrlSigner) (responder : Responder S)
+  pub record OpensFor {S : Type 0} (signer : Signer S) (connection : Held (FileStore D g)) (crls : CrlSigner)
+      (responder : Responder S)
       (office : Office (FileStore D g) S) : Type 0 where
     pub opens : OpensOver over_files connection crls office.store (seen signer office).1
     pub answers : office.responder ≡ responder
@@ -100,13 +110,18 @@ module _ {D : Type 0} {g : disk.Ghosts D} where
 -- derived tables agree with the records, and the office has days that a schedule can allow. There are such records, if what is presumed of the
 -- connection holds. If the result is a broken row, the tables showed no sound records with a register's values; if that row is not the bytes of a
 -- CRL, this is true whatever the bytes of CRLs are. An older version and other tables are reported only if the tables have them.
-pub record Says {D : Type 0} {g : disk.Ghosts D} (connection after : Held (FileStore D g)) (audit_result : AuditResult) : Type 0 where
-  pub sound : (records : Records) (columns : Columns) → ShowsBoth over_files connection records columns → HasCleanDisk (file_state after)
+pub record Says {D : Type 0} {g : disk.Ghosts D} (connection after : Held (FileStore D g))
+    (audit_result : AuditResult) : Type 0 where
+  pub sound : (records : Records) (columns : Columns) → ShowsBoth over_files connection records columns
+      → HasCleanDisk (file_state after)
       → IsSound audit_result → Sound IsSomeCrl records × Kept columns records × HasAllowedDays columns
-  pub shown : IsPresumed over_files connection → HasCleanDisk (file_state after) → IsSound audit_result → ShowsSound (file_state connection).now
-  pub counted : (records : Records) (columns : Columns) → ShowsBoth over_files connection records columns → HasCleanDisk (file_state after)
+  pub shown : IsPresumed over_files connection → HasCleanDisk (file_state after) → IsSound audit_result
+      → ShowsSound (file_state connection).now
+  pub counted : (records : Records) (columns : Columns) → ShowsBoth over_files connection records columns
+      → HasCleanDisk (file_state after)
       → CountedBy audit_result records
-  pub broken : (records : Records) (columns : Columns) → ShowsBoth over_files connection records columns → HasCleanDisk (file_state after)
+  pub broken : (records : Records) (columns : Columns) → ShowsBoth over_files connection records columns
+      → HasCleanDisk (file_state after)
       → DeniedBy audit_result records columns
   pub tells : HasCleanDisk (file_state after) → ReportsTables audit_result (file_state connection).now
   pub register : IsSound audit_result → IsRegister (file_state after)
@@ -120,7 +135,8 @@ pub record IsAudited {D : Type 0} (g : disk.Ghosts D) (audit_result : AuditResul
   pub says : Says connection after audit_result
 
 -- files with these bytes were audited: the connection finds what the bytes encode
-pub record IsAuditOf {D : Type 0} (g : disk.Ghosts D) (image : Image) (audit_result : AuditResult) : Type 0 where
+pub record IsAuditOf {D : Type 0} (g : disk.Ghosts D) (image : Image)
+    (audit_result : AuditResult) : Type 0 where
   pub audited : IsAudited g audit_result
   pub found : HasCleanDisk (file_state audited.connection) → FindsIn image (file_state audited.connection)
 

@@ -15,7 +15,8 @@ IsKnownAlgorithm algorithm = (known : Algorithm) × (identifier_of known ≡ alg
 abbrev pub Differs : List ℕ → List ℕ → Cause → Type 0
 Differs found algorithm why =
     (¬ MayFollow algorithm found)
-    × (((why ≡ cause.OtherAlgorithm) × IsKnownAlgorithm found) ⊎ ((why ≡ cause.UnknownAlgorithm) × (¬ IsKnownAlgorithm found)))
+    × (((why ≡ cause.OtherAlgorithm) × IsKnownAlgorithm found)
+    ⊎ ((why ≡ cause.UnknownAlgorithm) × (¬ IsKnownAlgorithm found)))
 
 -- why no CRL with an algorithm may follow this one, by the algorithm in it (RFC 5280 5.1.1.2)
 abbrev pub IsMisfit : List ℕ → List ℕ → Cause → Type 0

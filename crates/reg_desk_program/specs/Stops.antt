@@ -17,8 +17,10 @@ use Rattle.reg_desk_program.specs.Files.{IsOpenedFrom}
 -- during any later call, or after it. If a register is then opened again, it has the records that stood in the office, or these after one more
 -- change, for which no acceptance was replied.
 pub record LeavesWhatWasReported {D : Type 0} (g : disk.Ghosts D) (signs : Signs) : Type 0 where
-  pub begins : (signing : CrlSigner) (office : Held (FileStore D g) × Signatory) (opened : IsOpenedFrom signing office.0 office.1) (records : Records)
+  pub begins : (signing : CrlSigner) (office : Held (FileStore D g) × Signatory)
+      (opened : IsOpenedFrom signing office.0 office.1) (records : Records)
       → ShowsKept over_files opened.connection records → SoundFor signs office.1.crls records
       → StandsFor over_files signs office office.1 records
   pub leaves : (office : Held (FileStore D g) × Signatory) (signatory : Signatory) (records : Records)
-      → StandsFor over_files signs office signatory records → OpensReported over_files signs office.0 signatory.crls records
+      → StandsFor over_files signs office signatory records
+      → OpensReported over_files signs office.0 signatory.crls records

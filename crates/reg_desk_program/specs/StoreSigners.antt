@@ -21,18 +21,22 @@ SignerAtPath Digest path = path ≡ None
 SignerAtPath (Holder holder) path = path ≡ Some holder.socket
 
 -- A store before and after the records were read; and the responder to OCSP requests, which may be the signer of CRLs.
-module _ {C : Type 0} (g : Ghosts C) (old new : Held C) (answers : Identity → Responder) (identity : Identity) where
+module _ {C : Type 0} (g : Ghosts C) (old new : Held C) (answers : Identity → Responder)
+    (identity : Identity) where
   -- The signer is the holder with the issuer's key, or the digest; a CRL with its algorithm may follow the latest CRL; and the responder's
   -- certificate, if the issuer's key signs its responses, has that key.
   pub record SignsAfter (holder : Option KeyHolder) (latest : Option (List ℕ)) : Type 0 where
-    pub told : (records : Records) → Shows g old records → HasCleanDisk (state g new) → identity ≡ identity_of_holder holder records.issuer.key
-    pub follows : (crl : List ℕ) → latest ≡ Some crl → (other : List ℕ) → IsCrlUnder crl other → MayFollow identity.algorithm other
+    pub told : (records : Records) → Shows g old records → HasCleanDisk (state g new)
+        → identity ≡ identity_of_holder holder records.issuer.key
+    pub follows : (crl : List ℕ) → latest ≡ Some crl → (other : List ℕ) → IsCrlUnder crl other
+        → MayFollow identity.algorithm other
     pub embeds : (records : Records) → Shows g old records → HasCleanDisk (state g new)
         → (crls : Identity) → EmbedsOwn records.issuer.key (answers crls)
 
   -- the same for the signer with which the register is opened, and the latest CRL of the records
   pub record SignsFor (crls : CrlSigner) : Type 0 where
-    pub told : (records : Records) → Shows g old records → HasCleanDisk (state g new) → IsSigning crls records.issuer.key identity
+    pub told : (records : Records) → Shows g old records → HasCleanDisk (state g new)
+        → IsSigning crls records.issuer.key identity
     pub follows : (records : Records) → Shows g old records → SoundRows records → HasCleanDisk (state g new)
         → Follows records identity.algorithm
     pub embeds : (records : Records) → Shows g old records → HasCleanDisk (state g new)

@@ -48,8 +48,10 @@ pub(crate) fn signer_for<C: Alter>(
     responder: &Responder<FileSigner>,
 ) -> Result<FileSigner, Failure>
     ensures signs { IfOk result (λ signer. SignsFor C.Store tables.old tables.new
-        (λ signatory. answers_by ⟦<FileSigner as Signer>⟧.identity signatory responder.now) (⟦<FileSigner as Signer>⟧.identity signer) crls.now) }
-    ensures asks { IfOk result (λ signer. SignerAtPath crls.now (either_path ⟦<FileDevice as Device>⟧ signer)) }
+        (λ signatory. answers_by ⟦<FileSigner as Signer>⟧.identity signatory responder.now)
+        (⟦<FileSigner as Signer>⟧.identity signer) crls.now) }
+    ensures asks { IfOk result (λ signer.
+        SignerAtPath crls.now (either_path ⟦<FileDevice as Device>⟧ signer)) }
     ensures looked { Looked C.Store tables.old tables.new }
     ensures faults { IfErr result IsOpening }
 {
@@ -68,8 +70,10 @@ fn silent_after<C: Alter>(
     latest: &Option<Vec<u8>>,
     responder: &Responder<FileSigner>,
 ) -> Result<FileSigner, Failure>
-    ensures signs { IfOk result (λ signer. (told : Option KeyHolder) × SignsAfter C.Store tables.old tables.new
-        (λ signatory. answers_by ⟦<FileSigner as Signer>⟧.identity signatory responder.now) (⟦<FileSigner as Signer>⟧.identity signer)
+    ensures signs { IfOk result (λ signer.
+        (told : Option KeyHolder) × SignsAfter C.Store tables.old tables.new
+        (λ signatory. answers_by ⟦<FileSigner as Signer>⟧.identity signatory responder.now)
+        (⟦<FileSigner as Signer>⟧.identity signer)
         told (option_map (λ bytes. bytes.items) latest.now)) }
     ensures looked { Looked C.Store tables.old tables.new }
     ensures faults { IfErr result IsOpening }
@@ -101,10 +105,12 @@ fn signer_after<C: Alter>(
     responder: &Responder<FileSigner>,
 ) -> Result<FileSigner, Failure>
     ensures signs { IfOk result (λ signer. SignsAfter C.Store tables.old tables.new
-        (λ signatory. answers_by ⟦<FileSigner as Signer>⟧.identity signatory responder.now) (⟦<FileSigner as Signer>⟧.identity signer)
+        (λ signatory. answers_by ⟦<FileSigner as Signer>⟧.identity signatory responder.now)
+        (⟦<FileSigner as Signer>⟧.identity signer)
         (option_copied told.entry) (option_map (λ bytes. bytes.items) latest.now)) }
     ensures asks { IfOk result (λ signer.
-        either_path ⟦<FileDevice as Device>⟧ signer ≡ option_map (λ holder. holder.socket) (option_copied told.entry)) }
+        either_path ⟦<FileDevice as Device>⟧ signer
+        ≡ option_map (λ holder. holder.socket) (option_copied told.entry)) }
     ensures looked { Looked C.Store tables.old tables.new }
     ensures faults { IfErr result IsOpening }
 {
@@ -128,9 +134,11 @@ fn open_signer(
     told: Option<&KeyHolder<'_>>,
     key: &[u8],
 ) -> Result<FileSigner, Failure>
-    ensures ok { IfOk result (λ signer. ⟦<FileSigner as Signer>⟧.identity signer ≡ identity_of_holder (option_copied told.entry) key.now) }
+    ensures ok { IfOk result (λ signer.
+        ⟦<FileSigner as Signer>⟧.identity signer ≡ identity_of_holder (option_copied told.entry) key.now) }
     ensures asks { IfOk result (λ signer.
-        either_path ⟦<FileDevice as Device>⟧ signer ≡ option_map (λ holder. holder.socket) (option_copied told.entry)) }
+        either_path ⟦<FileDevice as Device>⟧ signer
+        ≡ option_map (λ holder. holder.socket) (option_copied told.entry)) }
     ensures faults { IfErr result IsOpening }
 {
     let Some(holder) = told else {
@@ -152,7 +160,8 @@ pub(crate) fn key_signer(
     algorithm: Algorithm,
     key: &[u8],
 ) -> Result<FileSigner, Failure>
-    ensures ok { IfOk result (λ signer. ⟦<FileSigner as Signer>⟧.identity signer ≡ identity_of algorithm key.now) }
+    ensures ok { IfOk result (λ signer.
+        ⟦<FileSigner as Signer>⟧.identity signer ≡ identity_of algorithm key.now) }
     ensures asks { IfOk result (λ signer. either_path ⟦<FileDevice as Device>⟧ signer ≡ Some socket.now) }
     ensures faults { IfErr result (λ why. (why ≡ Failure.Fault Fault.Memory) ⊎ (why ≡ Failure.BadSigner)) }
 {
@@ -170,8 +179,10 @@ pub(crate) fn key_signer(
 }
 
 fn latest_crl<C: Alter>(tables: &mut Tables<C>) -> Result<Option<Vec<u8>>, DatabaseFault>
-    ensures found { (records : Records) → Shows C.Store tables.old records → SoundRows records → HasCleanDisk (state C.Store tables.new)
-        → IfOk result (λ crl. option_map (λ bytes. bytes.items) crl ≡ option_map (λ crl. crl.bytes) (latest records.crls)) }
+    ensures found { (records : Records) → Shows C.Store tables.old records → SoundRows records
+        → HasCleanDisk (state C.Store tables.new)
+        → IfOk result (λ crl.
+        option_map (λ bytes. bytes.items) crl ≡ option_map (λ crl. crl.bytes) (latest records.crls)) }
     ensures looked { Looked C.Store tables.old tables.new }
 {
     match tables.latest_crl()? {

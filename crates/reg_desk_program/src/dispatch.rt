@@ -25,7 +25,8 @@ pub fn perform<M: Machine, R: Read, W: Write, E: Write>(
     writer: &mut W,
     errors: &mut E,
 ) -> u8
-    ensures { Performs M.Machine M.Office.Office R.remaining W.contents machine.old machine.new reader.old reader.new
+    ensures { Performs M.Machine M.Office.Office R.remaining W.contents machine.old machine.new
+        reader.old reader.new
         writer.old writer.new job.now is_explained (E.contents errors.old) (E.contents errors.new) result }
 {
     let reason = Cell::new(None);
@@ -66,7 +67,8 @@ fn run<M: Machine, R: Read, W: Write>(
     reader: &mut R,
     writer: &mut W,
 ) -> Result<(), Failure>
-    ensures { Ends M.Machine M.Office.Office R.remaining W.contents machine.old machine.new reader.old reader.new
+    ensures { Ends M.Machine M.Office.Office R.remaining W.contents machine.old machine.new
+        reader.old reader.new
         writer.old writer.new job.now result }
 {
     let alloc = rt.alloc();

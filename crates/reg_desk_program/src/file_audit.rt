@@ -19,7 +19,8 @@ pub(crate) fn audit_over<D: Disk + Drop>(
 ) -> Result<AuditResult, Failure>
     requires idle { connection.in_transaction ≡ false }
     requires connects { IsConnection connection }
-    ensures ok { IfOk result (λ audit_result. (audited : IsAudited D.Disk audit_result) × (audited.connection ≡ connection)) }
+    ensures ok { IfOk result (λ audit_result.
+        (audited : IsAudited D.Disk audit_result) × (audited.connection ≡ connection)) }
     ensures err { IfErr result IsOpening }
 {
     let mut connection = connection;

@@ -3,7 +3,7 @@
 ghost use Rattle.std.specs.Prelude.{◌≡◌, ◌≤◌, ◌/◌, ℕ, List, [], Ok, IfOk, IfSome, MatchResult, length};
 ghost use Rattle.std.specs.Duration.{as_nanos};
 ghost use Rattle.reg_office_api.specs.LookUps.{IsOfStore};
-ghost use Rattle.reg_office_api.specs.Leads.{Leads};
+ghost use Rattle.reg_office_api.specs.Calls.{KeepsIn};
 ghost use Rattle.reg_desk_files.specs.Reading.{IsUnread};
 ghost use Rattle.reg_desk_jobs.specs.RegisterFailures.{IsOpening, IsFileFailure};
 ghost use Rattle.reg_desk_program.specs.Calls.{Unsaid, is_claimed};
@@ -33,13 +33,14 @@ use reg_office::Responder;
 use sqlite_disk::{Disk, Unknown};
 use std::alloc::Global;
 use std::cell::Cell;
-use std::fs::{File, OpenOptions, Permissions};
+use std::fs::{File, OpenOptions, Permissions, TryLockError};
 use std::io::ErrorKind;
 use std::net::SocketAddr;
 use std::os::unix::fs::{FileTypeExt, OpenOptionsExt, PermissionsExt};
 use std::os::unix::net::UnixStream;
+use std::path::Path;
 use std::time::{Clock, Duration};
-use std::{fs, io};
+use std::{fs, io, thread};
 
 const OWNER_ALONE: u32 = 0o600;
 
@@ -47,6 +48,11 @@ const OWNER_ALONE: u32 = 0o600;
 const TOO_MANY_HERE: i32 = 24;
 
 const TOO_MANY: i32 = 23;
+
+/// The most tries for the lock of a folder, and the pause between two of them: ten seconds in all.
+const MOST_LOCK_TRIES: u32 = 2_000;
+
+const LOCK_PAUSE_MILLIS: u64 = 5;
 
 /// The machine on which the program runs: its files, clock, TCP ports and Unix sockets. It keeps the cause of its last failed call.
 #[derive(Clone, Copy)]
@@ -172,7 +178,9 @@ impl<'a> Machine for Host<'a> {
 
     ghost has_mode = { λ path mode. Unsaid path };
 
-    ghost stale = { λ path. Unsaid path };
+    ghost locked = { λ lock path. Unsaid path };
+
+    ghost stale = { λ lock path. Unsaid path };
 
     ghost socket_connected = { λ path. Unsaid path };
 
@@ -308,7 +316,13 @@ impl<'a> Machine for Host<'a> {
         self.bind(SocketAddr::from((address, port)))
     }
 
-    fn create_socket(&self, path: &str) -> io::Result<UnixListener> {
+    fn lock_folder(&self, path: &str) -> io::Result<File> {
+        let folder = File::open(&self.rt, folder_of(path))?;
+        lock_once_free(&self.rt, &folder)?;
+        Ok(folder)
+    }
+
+    fn create_socket(&self, lock: &File, path: &str) -> io::Result<UnixListener> {
         UnixListener::bind(&self.rt, path)
     }
 
@@ -321,14 +335,14 @@ impl<'a> Machine for Host<'a> {
         Ok(found.file_type().is_socket())
     }
 
-    fn is_stale(&self, path: &str) -> bool {
+    fn is_stale(&self, lock: &File, path: &str) -> bool {
         match UnwaitingStream::connect(&self.rt, path) {
             Ok(_) => false,
             Err(error) => error.kind() == ErrorKind::ConnectionRefused,
         }
     }
 
-    fn unlink(&self, path: &str) -> io::Result<()> {
+    fn unlink(&self, lock: &File, path: &str) -> io::Result<()> {
         fs::remove_file(&self.rt, path)
     }
 
@@ -357,7 +371,8 @@ impl<'a> Machine for Host<'a> {
     }
 
     fn receive_answer(alloc: Global, link: &mut SignatureRequest) -> Option<Vec<u8>>
-        ensures given { IfSome result (λ answer. (path message : List ℕ) → IsSignatureRequest path message link.old → Unsaid path) }
+        ensures given { IfSome result (λ answer.
+            (path message : List ℕ) → IsSignatureRequest path message link.old → Unsaid path) }
         ensures short { IfSome result (λ answer. length answer.items ≤ 4096) }
     {
         read_answer(alloc, link)
@@ -368,7 +383,7 @@ impl<'a> Machine for Host<'a> {
         wanted: Wanted,
         preset_signature: Option<PresetSignature>,
     )
-        ensures { Leads ⟦<FileOffice as reg_office_api::Office>⟧.is_clean ⟦<FileOffice as reg_office_api::Office>⟧.stands (λ identity before after. after ≡ before) office.old office.new }
+        ensures { KeepsIn ⟦<FileOffice as reg_office_api::Office>⟧ office.old office.new }
     {
         preset_wanted(
             &mut office.office.signer,
@@ -438,6 +453,28 @@ fn micros_of(passed: Duration) -> u64 {
         .as_secs()
         .saturating_mul(1_000_000)
         .saturating_add(u64::from(passed.subsec_micros()))
+}
+
+/// The folder that contains a path.
+fn folder_of(path: &str) -> Path<'_> {
+    match Path::new(path).parent() {
+        Some(folder) if folder.as_str() != "" => folder,
+        _ => Path::new("."),
+    }
+}
+
+/// Locks a folder once no other program holds the lock. The kernel releases the lock of a program that ended, so ten seconds are enough.
+fn lock_once_free(rt: &HostRuntime, folder: &File) -> io::Result<()> {
+    for _ in 0..MOST_LOCK_TRIES {
+        match folder.try_lock() {
+            Ok(()) => return Ok(()),
+            Err(TryLockError::WouldBlock) => {
+                thread::sleep(rt, Duration::from_millis(LOCK_PAUSE_MILLIS));
+            }
+            Err(TryLockError::Error(error)) => return Err(error),
+        }
+    }
+    Err(io::Error::from(ErrorKind::AddrInUse))
 }
 
 /// The error of a connection to a signer. Too many open files become `WouldBlock`, since the request can be sent once another file is closed.

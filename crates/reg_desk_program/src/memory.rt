@@ -45,7 +45,8 @@ pub(crate) fn script_in_memory<R: Read, W: Write>(
 /// The office over a new register in memory, with a sample issuer and the default policy.
 fn office_in_memory(alloc: Global) -> Result<MemoryOffice, Failure>
     ensures ok { IfOk result (λ office. Stands over_memory digests office.store digest sample_records) }
-    ensures leaves { IfOk result (λ office. LeavesReported over_memory digests office.store digest sample_records) }
+    ensures leaves { IfOk result (λ office.
+        LeavesReported over_memory digests office.store digest sample_records) }
     ensures alone { IfOk result (λ office. office.responder ≡ ByIssuer None) }
     ensures err { IfErr result IsMaking }
 {

@@ -25,7 +25,9 @@ pub(crate) fn issuer_answerer(
     host: &Host<'_>,
     path: &Option<Word<'_>>,
 ) -> Result<Responder<FileSigner>, Failure>
-    ensures ok { IfOk result (λ responder. (crls : Identity) → IsAnswering (Issuer path.now) (signatory_of ⟦<FileSigner as Signer>⟧.identity crls responder)) }
+    ensures ok { IfOk result (λ responder.
+        (crls : Identity) → IsAnswering (Issuer path.now)
+        (signatory_of ⟦<FileSigner as Signer>⟧.identity crls responder)) }
     ensures certified { OnErr result (HasCertificate (Issuer path.now)) }
     ensures faults { IfErr result IsOpening }
 {
@@ -44,7 +46,9 @@ pub(crate) fn delegate_answerer(
     path: &Word<'_>,
     holder: &KeyHolder<'_>,
 ) -> Result<Responder<FileSigner>, Failure>
-    ensures ok { IfOk result (λ responder. (crls : Identity) → IsDelegate holder.now (answers_by ⟦<FileSigner as Signer>⟧.identity crls responder)) }
+    ensures ok { IfOk result (λ responder.
+        (crls : Identity) → IsDelegate holder.now
+        (answers_by ⟦<FileSigner as Signer>⟧.identity crls responder)) }
     ensures faults { IfErr result IsOpening }
 {
     let certificate = certificate_at(host, path.as_str())?;
@@ -85,7 +89,8 @@ fn certificate_at(host: &Host<'_>, path: &str) -> Result<Certificate, Failure>
 }
 
 pub(crate) fn embeds_own(responder: &Responder<FileSigner>, key: &[u8]) -> bool
-    ensures { IsTrue result → (crls : Identity) → EmbedsOwn key.now (answers_by ⟦<FileSigner as Signer>⟧.identity crls responder.now) }
+    ensures { IsTrue result → (crls : Identity)
+        → EmbedsOwn key.now (answers_by ⟦<FileSigner as Signer>⟧.identity crls responder.now) }
 {
     match responder {
         Responder::Issuer(Some(certificate)) => certificate.key() == key,

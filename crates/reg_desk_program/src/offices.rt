@@ -33,7 +33,9 @@ pub(crate) fn made_over<C: Alter, S: Signer + Drop>(
     signer: S,
 ) -> Result<Office<C, S>, (Failure, Connection<C>)>
     requires { connection.in_transaction ≡ false }
-    ensures made { IfOk result (λ office. MakesOver C.Store connection S.signs office.store (S.identity office.signer) (no_records issuer policy)) }
+    ensures made { IfOk result (λ office.
+        MakesOver C.Store connection S.signs office.store (S.identity office.signer)
+        (no_records issuer policy)) }
     ensures alone { IfOk result (λ office. office.responder ≡ ByIssuer None) }
     ensures err { IfErr result (λ left. IsMaking left.0) }
 {
@@ -53,7 +55,8 @@ pub(crate) fn office_over<C: Alter>(
     responder: Responder<FileSigner>,
 ) -> Result<Office<C, FileSigner>, (Failure, Connection<C>)>
     requires { connection.in_transaction ≡ false }
-    ensures opened { IfOk result (λ office. OpensOver C.Store connection crls.now office.store (seen ⟦<FileSigner as Signer>⟧ office).1) }
+    ensures opened { IfOk result (λ office.
+        OpensOver C.Store connection crls.now office.store (seen ⟦<FileSigner as Signer>⟧ office).1) }
     ensures responder { IfOk result (λ office. office.responder ≡ responder) }
     ensures err { IfErr result (λ left. IsOpening left.0) }
 {
@@ -87,8 +90,10 @@ pub(crate) fn preset_wanted(
     wanted: Wanted,
     preset_signature: Option<PresetSignature>,
 )
-    ensures { signatory_of ⟦<FileSigner as Signer>⟧.identity (⟦<FileSigner as Signer>⟧.identity signer.new) responder.new
-        ≡ signatory_of ⟦<FileSigner as Signer>⟧.identity (⟦<FileSigner as Signer>⟧.identity signer.old) responder.old }
+    ensures { signatory_of ⟦<FileSigner as Signer>⟧.identity (⟦<FileSigner as Signer>⟧.identity signer.new)
+        responder.new
+        ≡ signatory_of ⟦<FileSigner as Signer>⟧.identity (⟦<FileSigner as Signer>⟧.identity signer.old)
+        responder.old }
 {
     match (wanted, responder) {
         (Wanted::Answer, Responder::Delegate(own, _)) => own.set_preset(preset_signature),

@@ -16,7 +16,8 @@ AppendsIfMemory one before after = (after ≡ before ++ one ∷ []) ⊎ (after �
 
 -- bytes that came were appended; if there was no memory, the last of them may be lost
 abbrev pub AddsTo : List ℕ → List ℕ → List ℕ → Received → Type 0
-AddsTo before arrived after received.OutOfMemory = (kept : List ℕ) × (lost : List ℕ) × (arrived ≡ kept ++ lost) × (after ≡ before ++ kept)
+AddsTo before arrived after received.OutOfMemory =
+    (kept : List ℕ) × (lost : List ℕ) × (arrived ≡ kept ++ lost) × (after ≡ before ++ kept)
 AddsTo before arrived after other = after ≡ before ++ arrived
 
 -- all bytes that were taken from the reader are kept, in order
@@ -26,7 +27,8 @@ pub record Receives (input left : Option (List ℕ)) (before after : List ℕ) (
   pub held : AddsTo before arrived after result
 
 -- all bytes that were taken from the reader were collected; if that ended at a whole request, there is one
-pub record Collects (input left : Option (List ℕ)) (before after : Collected) (result : Received) : Type 0 where
+pub record Collects (input left : Option (List ℕ)) (before after : Collected)
+    (result : Received) : Type 0 where
   pub took : Receives input left (collected_bytes before) (collected_bytes after) result
   pub whole : result ≡ received.Whole → ∥ IsWholeRequest (collected_bytes after) ∥₁
 
@@ -43,4 +45,5 @@ unsent_of unsent = drop unsent.sent unsent.text.items
 
 -- the writer got the next bytes of it
 abbrev pub SendsUnsent : {W : Type 0} → (W → Option (List ℕ)) → W → W → Unsent → Unsent → Sent → Type 0
-SendsUnsent contents s t before after rests = SendsOn (contents s) (contents t) (unsent_of before) (unsent_of after) rests
+SendsUnsent contents s t before after rests =
+    SendsOn (contents s) (contents t) (unsent_of before) (unsent_of after) rests

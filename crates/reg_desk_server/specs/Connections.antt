@@ -16,23 +16,29 @@ use Rattle.reg_desk_server.specs.declared.http_connection.Stage.{Stage}
 use Rattle.reg_desk_server.specs.declared.http_connection.Stage.TheVariants as stage
 
 -- since a connection was accepted these bytes came on it, and those were sent on it, in any pieces
-pub data SinceAccepted {S : Type 0} (contents remaining : S → Option (List ℕ)) (first : S) : List ℕ → List ℕ → S → Type 0 where
+pub data SinceAccepted {S : Type 0} (contents remaining : S → Option (List ℕ)) (first : S) : List ℕ → List ℕ
+    → S → Type 0 where
   nothing_yet : SinceAccepted contents remaining first [] [] first
-  more_received : (arrived gone more : List ℕ) (s t : S) → SinceAccepted contents remaining first arrived gone s → Consumes (remaining s) (remaining t) more
+  more_received : (arrived gone more : List ℕ) (s t : S)
+      → SinceAccepted contents remaining first arrived gone s → Consumes (remaining s) (remaining t) more
       → SinceAccepted contents remaining first (arrived ++ more) gone t
-  more_sent : (arrived gone more : List ℕ) (s t : S) → SinceAccepted contents remaining first arrived gone s → Appends (contents s) (contents t) more
+  more_sent : (arrived gone more : List ℕ) (s t : S) → SinceAccepted contents remaining first arrived gone s
+      → Appends (contents s) (contents t) more
       → SinceAccepted contents remaining first arrived (gone ++ more) t
 
 -- this line, which ends with its only LF, was answered, and this is the handler's reply to it
 abbrev pub IsAnsweredBy : {H : Type 0} → (H → List ℕ → List ℕ → H → Type 0) → List ℕ → List ℕ → Type 0
 IsAnsweredBy {H = H} answers_line line reply =
-    ((prefix : List ℕ) × (line ≡ prefix ++ 10 ∷ []) × All (λ byte. byte ≢ 10) prefix) × ((s : H) × (t : H) × answers_line s line reply t)
+    ((prefix : List ℕ) × (line ≡ prefix ++ 10 ∷ []) × All (λ byte. byte ≢ 10) prefix)
+    × ((s : H) × (t : H) × answers_line s line reply t)
 
-module _ {S H : Type 0} (contents remaining : S → Option (List ℕ)) (answers_line : H → List ℕ → List ℕ → H → Type 0) where
+module _ {S H : Type 0} (contents remaining : S → Option (List ℕ))
+    (answers_line : H → List ℕ → List ℕ → H → Type 0) where
   -- These lines of a control connection were answered, each once. The bytes that came are these lines, one after the other, and then the bytes that
   -- are kept, for a line that is incomplete or answered next. The bytes that were sent, followed by the unsent ones, are the replies, in the same
   -- order, each once. Nothing is lost but the last bytes that came if there was no memory for them, and then the connection has ended.
-  pub record HasAnsweredLines (first : S) (connection : ControlConnection S) (lines replies : List (List ℕ)) : Type 0 where
+  pub record HasAnsweredLines (first : S) (connection : ControlConnection S)
+      (lines replies : List (List ℕ)) : Type 0 where
     pub arrived : List ℕ
     pub gone : List ℕ
     pub lost : List ℕ
@@ -45,12 +51,15 @@ module _ {S H : Type 0} (contents remaining : S → Option (List ℕ)) (answers_
   -- when a control connection is advanced, the answered lines stay the same
   abbrev pub AnswersNoMoreLines : Type 0
   AnswersNoMoreLines =
-      (first : S) (old new : ControlConnection S) (lines replies : List (List ℕ)) → HasAnsweredLines first old lines replies
+      (first : S) (old new : ControlConnection S) (lines replies : List (List ℕ))
+      → HasAnsweredLines first old lines replies
       → Advances contents remaining old new → HasAnsweredLines first new lines replies
 
   -- after a step of the handler and the connection that may answer a line: one more was answered, and this is its reply; or none was, and the
   -- handler did nothing
-  abbrev pub AnswersOneMoreLine : (H → H → ControlConnection S → ControlConnection S → Type 0) → (H → H → ControlConnection S → Type 0) → Type 0
+  abbrev pub AnswersOneMoreLine
+      : (H → H → ControlConnection S → ControlConnection S → Type 0) → (H → H → ControlConnection S → Type 0)
+      → Type 0
   AnswersOneMoreLine step rests =
       (first : S) (s t : H) (old new : ControlConnection S) (lines replies : List (List ℕ))
       → HasAnsweredLines first old lines replies → SameLinkAndEnd old new → step s t old new
@@ -66,7 +75,8 @@ module _ {H T : Type 0} (answers : H → List ℕ → Outcome T → H → Type 0
   -- a prefix of the received bytes got an answer that is to be signed, once, and the bytes after it are dropped
   abbrev pub WasLeftUnsigned : List ℕ → T → Type 0
   WasLeftUnsigned arrived ticket =
-      (asked : List ℕ) × (dropped : List ℕ) × (arrived ≡ asked ++ dropped) × ((s : H) × (t : H) × answers s asked (pending ticket) t)
+      (asked : List ℕ) × (dropped : List ℕ) × (arrived ≡ asked ++ dropped)
+      × ((s : H) × (t : H) × answers s asked (pending ticket) t)
 
   -- a prefix of the received bytes was answered with this text, once, and the bytes after it are dropped: the handler replied it, or finished
   -- with it an answer that it had left to be signed
@@ -80,9 +90,12 @@ module _ {H T : Type 0} (answers : H → List ℕ → Outcome T → H → Type 0
   -- memory, and nothing is sent; from then on the bytes that were sent, followed by the unsent ones, are its answer
   abbrev pub IsAnsweredOnce : (T → List ℕ → Type 0) → List ℕ → List ℕ → Stage T → Bool → Type 0
   IsAnsweredOnce finishes arrived gone (stage.Receiving collected) ended =
-      (gone ≡ []) × (lost : List ℕ) × (arrived ≡ collected_bytes collected ++ lost) × ((lost ≡ []) ⊎ (ended ≡ true))
-  IsAnsweredOnce finishes arrived gone (stage.Signing ticket link exact) ended = (gone ≡ []) × WasLeftUnsigned arrived ticket
-  IsAnsweredOnce finishes arrived gone (stage.Sending unsent exact) ended = WasAnswered finishes arrived (gone ++ unsent_of unsent)
+      (gone ≡ []) × (lost : List ℕ) × (arrived ≡ collected_bytes collected ++ lost)
+      × ((lost ≡ []) ⊎ (ended ≡ true))
+  IsAnsweredOnce finishes arrived gone (stage.Signing ticket link exact) ended =
+      (gone ≡ []) × WasLeftUnsigned arrived ticket
+  IsAnsweredOnce finishes arrived gone (stage.Sending unsent exact) ended =
+      WasAnswered finishes arrived (gone ++ unsent_of unsent)
   IsAnsweredOnce finishes arrived gone stage.Draining ended = WasAnswered finishes arrived gone
 
 module _ {S H T L : Type 0} (contents remaining : S → Option (List ℕ)) (g : Ghosts H T L) where
@@ -91,16 +104,19 @@ module _ {S H T L : Type 0} (contents remaining : S → Option (List ℕ)) (g : 
     pub arrived : List ℕ
     pub gone : List ℕ
     pub since : SinceAccepted contents remaining first arrived gone connection.link
-    pub once : IsAnsweredOnce g.answers (FinishesOnce g.finishes) arrived gone connection.stage (is_some connection.fault)
+    pub once : IsAnsweredOnce g.answers (FinishesOnce g.finishes) arrived gone connection.stage
+        (is_some connection.fault)
 
   -- when an HTTP connection is advanced, this stays true
   abbrev pub ServesOn : Type 0
   ServesOn =
       (first : S) (old new : HttpConnection S H T L) → HasServed first old
-      → ReceivesMore remaining old new → Sends contents old new → Drops remaining old new → HasServed first new
+      → ReceivesMore remaining old new → Sends contents old new → Drops remaining old new
+      → HasServed first new
 
   -- a step that changes only the stage preserves this, also if no more of the request is received from then on
   abbrev pub KeepsServed : (Stage T → Stage T → Type 0) → Type 0
   KeepsServed step =
-      (first : S) (old new : HttpConnection S H T L) → HasServed first old → new.link ≡ old.link → step old.stage new.stage
+      (first : S) (old new : HttpConnection S H T L) → HasServed first old → new.link ≡ old.link
+      → step old.stage new.stage
       → (is_some old.fault ≡ true → is_some new.fault ≡ true) → HasServed first new

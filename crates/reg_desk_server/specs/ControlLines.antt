@@ -18,7 +18,8 @@ FirstLineEnds bytes end = FirstMark (10 ∷ []) bytes end
 module _ {S : Type 0} where
   -- it was just accepted: nothing came, and nothing is to be sent
   abbrev pub IsFresh : ControlConnection S → Type 0
-  IsFresh connection = (connection.arrived.items ≡ []) × (unsent_of connection.unsent ≡ []) × (connection.has_ended ≡ false)
+  IsFresh connection =
+      (connection.arrived.items ≡ []) × (unsent_of connection.unsent ≡ []) × (connection.has_ended ≡ false)
 
   -- its link did not change, nor whether it has ended
   abbrev pub SameLinkAndEnd : ControlConnection S → ControlConnection S → Type 0
@@ -35,19 +36,25 @@ module _ {S : Type 0} where
 module _ {H S : Type 0} where
   -- The first line was answered with this text and removed from the kept bytes, if nothing of an older text was unsent. If there
   -- was no whole line, or an unsent rest, nothing was answered.
-  abbrev pub AnswersFirstLine : (H → List ℕ → List ℕ → H → Type 0) → H → H → ControlConnection S → ControlConnection S → Type 0
+  abbrev pub AnswersFirstLine
+      : (H → List ℕ → List ℕ → H → Type 0) → H → H → ControlConnection S → ControlConnection S → Type 0
   AnswersFirstLine answers_line s t old new =
       ((end : ℕ) × FirstLineEnds old.arrived.items end × (unsent_of old.unsent ≡ [])
-      × answers_line s (take end old.arrived.items) (unsent_of new.unsent) t × (new.arrived.items ≡ drop end old.arrived.items))
+      × answers_line s (take end old.arrived.items) (unsent_of new.unsent) t
+      × (new.arrived.items ≡ drop end old.arrived.items))
       ⊎ ((unsent_of old.unsent ≡ [] → HasNoLine old.arrived.items) × (t ≡ s) × SameLines old new)
 
   -- the message for the first line was made, and the line was not answered; or no line was considered
   abbrev pub DefersFirstLine : (H → List ℕ → H → Type 0) → H → H → ControlConnection S → Type 0
-  DefersFirstLine defers s t old = ((end : ℕ) × FirstLineEnds old.arrived.items end × defers s (take end old.arrived.items) t) ⊎ (t ≡ s)
+  DefersFirstLine defers s t old =
+      ((end : ℕ) × FirstLineEnds old.arrived.items end × defers s (take end old.arrived.items) t) ⊎ (t ≡ s)
 
   -- that line was then answered like any other; or its message was made again, and the kept bytes did not change
-  abbrev pub AnswersDeferred : (H → List ℕ → List ℕ → H → Type 0) → (H → List ℕ → H → Type 0) → H → H → ControlConnection S → ControlConnection S → Type 0
-  AnswersDeferred answers_line defers s t old new = AnswersFirstLine answers_line s t old new ⊎ (DefersFirstLine defers s t old × SameLines old new)
+  abbrev pub AnswersDeferred
+      : (H → List ℕ → List ℕ → H → Type 0) → (H → List ℕ → H → Type 0) → H → H → ControlConnection S
+      → ControlConnection S → Type 0
+  AnswersDeferred answers_line defers s t old new =
+      AnswersFirstLine answers_line s t old new ⊎ (DefersFirstLine defers s t old × SameLines old new)
 
 -- The bytes that came next on a connection are appended to the kept ones. If there was no memory, the last of them may be lost, and then the
 -- connection has ended.
@@ -59,8 +66,10 @@ pub record Gathers (input left : Option (List ℕ)) (before after : List ℕ) (e
   pub whole : (lost ≡ []) ⊎ (ended ≡ true)
 
 -- the same for a control connection, with the bytes that its link will give
-abbrev pub GathersOn : {S : Type 0} → (S → Option (List ℕ)) → ControlConnection S → ControlConnection S → Type 0
-GathersOn remaining old new = Gathers (remaining old.link) (remaining new.link) old.arrived.items new.arrived.items new.has_ended
+abbrev pub GathersOn
+    : {S : Type 0} → (S → Option (List ℕ)) → ControlConnection S → ControlConnection S → Type 0
+GathersOn remaining old new =
+    Gathers (remaining old.link) (remaining new.link) old.arrived.items new.arrived.items new.has_ended
 
 -- whether nothing more comes on a connection after receiving ended in this way
 abbrev pub ends_by : Received → Bool
@@ -72,10 +81,12 @@ ends_by received.Broken = true
 ends_by received.OutOfMemory = true
 
 -- The next bytes of a reply were sent, and then the bytes that came next were kept; once the connection has ended, no more are kept.
-pub record Advances {S : Type 0} (contents remaining : S → Option (List ℕ)) (old new : ControlConnection S) : Type 0 where
+pub record Advances {S : Type 0} (contents remaining : S → Option (List ℕ))
+    (old new : ControlConnection S) : Type 0 where
   pub between : S
   pub went : List ℕ
   pub appended : Appends (contents old.link) (contents between) went
   pub parted : unsent_of old.unsent ≡ went ++ unsent_of new.unsent
-  pub gathered : Gathers (remaining between) (remaining new.link) old.arrived.items new.arrived.items new.has_ended
+  pub gathered : Gathers (remaining between) (remaining new.link) old.arrived.items new.arrived.items
+      new.has_ended
   pub over : StaysEnded old new

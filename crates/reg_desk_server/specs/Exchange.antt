@@ -20,7 +20,8 @@ requests_in [] = zero
 requests_in (request bytes ∷ inputs) = suc (requests_in inputs)
 requests_in (line bytes ∷ inputs) = requests_in inputs
 
-module _ {S T : Type 0} (answers : S → List ℕ → Outcome T → S → Type 0) (answers_line : S → List ℕ → List ℕ → S → Type 0) (defers : S → List ℕ → S → Type 0) where
+module _ {S T : Type 0} (answers : S → List ℕ → Outcome T → S → Type 0)
+    (answers_line : S → List ℕ → List ℕ → S → Type 0) (defers : S → List ℕ → S → Type 0) where
   -- the relation of a handler before and after it to an input and its outcome: a line is answered at once, or its message is made
   abbrev pub Handles : S → Input → Outcome T → S → Type 0
   Handles s (request bytes) outcome t = answers s bytes outcome t

@@ -32,13 +32,16 @@ KeepsOutcome (pending ticket) after = AwaitsSignature after ticket
 KeepsOutcome later after = ⊥
 
 -- a request is answered with the handler's answer to the bytes that came, or waits for a signature; in any other stage nothing changes
-abbrev pub Answering : {H T : Type 0} → (H → List ℕ → Outcome T → H → Type 0) → H → H → Stage T → Stage T → Type 0
-Answering {T = T} answers s t (stage.Receiving collected) after = (outcome : Outcome T) × answers s (collected_bytes collected) outcome t × KeepsOutcome outcome after
+abbrev pub Answering
+    : {H T : Type 0} → (H → List ℕ → Outcome T → H → Type 0) → H → H → Stage T → Stage T → Type 0
+Answering {T = T} answers s t (stage.Receiving collected) after =
+    (outcome : Outcome T) × answers s (collected_bytes collected) outcome t × KeepsOutcome outcome after
 Answering answers s t other after = after ≡ other
 
 -- an answer that was left to be signed is finished with a text for its ticket; in any other stage nothing changes
 abbrev pub Finishing : {T : Type 0} → (T → List ℕ → Type 0) → Stage T → Stage T → Type 0
-Finishing finishes (stage.Signing ticket link exact) after = (text : List ℕ) × finishes ticket text × HasUnsentText after text
+Finishing finishes (stage.Signing ticket link exact) after =
+    (text : List ℕ) × finishes ticket text × HasUnsentText after text
 Finishing finishes other after = after ≡ other
 
 -- an answer that is left to be signed still is, with the same ticket; in any other stage nothing changes
@@ -67,20 +70,23 @@ module _ {S H T L : Type 0} where
   abbrev pub ReceivesMore : (S → Option (List ℕ)) → HttpConnection S H T L → HttpConnection S H T L → Type 0
   ReceivesMore remaining old new =
       (bytes : List ℕ) → HasReceived old.stage bytes
-      → (bytes' : List ℕ) × HasReceived new.stage bytes' × Gathers (remaining old.link) (remaining new.link) bytes bytes' (is_some new.fault)
+      → (bytes' : List ℕ) × HasReceived new.stage bytes'
+      × Gathers (remaining old.link) (remaining new.link) bytes bytes' (is_some new.fault)
       × (is_some old.fault ≡ true → (bytes' ≡ bytes) × (is_some new.fault ≡ true))
 
   -- the next bytes of an answer were sent, and the rest is kept
   abbrev pub Sends : (S → Option (List ℕ)) → HttpConnection S H T L → HttpConnection S H T L → Type 0
   Sends contents old new =
       (text : List ℕ) → HasUnsentText old.stage text
-      → (went : List ℕ) × (rest : List ℕ) × (text ≡ went ++ rest) × Appends (contents old.link) (contents new.link) went
+      → (went : List ℕ) × (rest : List ℕ) × (text ≡ went ++ rest)
+      × Appends (contents old.link) (contents new.link) went
       × HasUnsentRest new.stage rest
 
   -- if an answer is left to be signed, or was wholly sent, the bytes that come are dropped, and nothing else is done
   abbrev pub Drops : (S → Option (List ℕ)) → HttpConnection S H T L → HttpConnection S H T L → Type 0
   Drops remaining old new =
-      ((ticket : T) → AwaitsSignature old.stage ticket → AwaitsSignature new.stage ticket × IsDropped (remaining old.link) (remaining new.link))
+      ((ticket : T) → AwaitsSignature old.stage ticket
+      → AwaitsSignature new.stage ticket × IsDropped (remaining old.link) (remaining new.link))
       × (IsDraining old.stage → IsDraining new.stage × IsDropped (remaining old.link) (remaining new.link))
 
   -- neither its link changed, nor the fault because of which no more is received

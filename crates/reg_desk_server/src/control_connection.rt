@@ -61,7 +61,8 @@ impl<S: Link> ControlConnection<S> {
         ensures advances { Advances S.Write.contents S.Read.remaining self.old self.new }
 
         // Once the previous reply is sent, a whole line is due, even if the client has half-closed.
-        ensures whole { unsent_of self.new.unsent ≡ [] → (result ≡ Next.Due) ⊎ HasNoLine self.new.arrived.items }
+        ensures whole { unsent_of self.new.unsent ≡ []
+            → (result ≡ Next.Due) ⊎ HasNoLine self.new.arrived.items }
     {
         let sent = self.unsent.send_on(&mut self.link);
         if self.unsent.len() == 0 {
@@ -184,7 +185,8 @@ impl<S: Link> ControlConnection<S> {
         deferred: Deferred<H::Line>,
         link: Option<SignatureRequest>,
     ) -> Result<(), EventLoopFault>
-        ensures ok { OnOk result (AnswersDeferred H.answers_line H.defers handler.old handler.new self.old self.new) }
+        ensures ok { OnOk result
+            (AnswersDeferred H.answers_line H.defers handler.old handler.new self.old self.new) }
         ensures kept { SameLinkAndEnd self.old self.new }
         ensures err { OnErr result ((self.new ≡ self.old) × (handler.new ≡ handler.old)) }
     {

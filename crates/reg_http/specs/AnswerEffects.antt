@@ -34,7 +34,8 @@ answer_effects answered = record {
 
 -- a response without a signature, which shows this about the store and entered no request
 abbrev pub unsigned_answer : Response → StoreEffect → AnswerEffects
-unsigned_answer response effect = record { response = response; signature = NotAsked; store = effect; named = None }
+unsigned_answer response effect =
+    record { response = response; signature = NotAsked; store = effect; named = None }
 
 -- a response that shows nothing about the store either
 abbrev pub plain : Response → AnswerEffects
@@ -57,12 +58,14 @@ outcome_effects (Err fault) = fault_effects fault
 
 -- the request for revocation that a command entered, with the id in the reply, and the serial number and the word of the command
 abbrev pub entered_request : ℕ → List ℕ → Result Reply Fault → Option NamedRequest
-entered_request serial word (Ok (Request id due)) = Some (record { id = id; serial = serial; ground = ground word })
+entered_request serial word (Ok (Request id due)) =
+    Some (record { id = id; serial = serial; ground = ground word })
 entered_request serial word other = None
 
 -- the outcome of a request for revocation, with the request that it entered
 abbrev pub request_effects : ℕ → List ℕ → Result Reply Fault → AnswerEffects
-request_effects serial word outcome = record (outcome_effects outcome) { named = entered_request serial word outcome }
+request_effects serial word outcome =
+    record (outcome_effects outcome) { named = entered_request serial word outcome }
 
 -- a CRL (RFC 2585 4.2), or why there is none
 abbrev pub crl_effects : Result (List ℕ) Fault → AnswerEffects

@@ -33,23 +33,32 @@ module _ {S : Type 0} (runs : S → ℕ → Command → Result Reply Fault → S
   Answers now s (refused status) it t = (t ≡ s) × (it ≡ plain (http_refusal status))
   Answers now s (only method) it t = (t ≡ s) × (it ≡ plain (only_response method))
   Answers now s unread it t = (t ≡ s) × (it ≡ plain (fault_response (Refused Syntax)))
-  Answers now s malformed it t = (t ≡ s) × (it ≡ plain (der (codes "application/ocsp-response") malformed_text))
+  Answers now s malformed it t =
+      (t ≡ s) × (it ≡ plain (der (codes "application/ocsp-response") malformed_text))
   Answers now s (ocsp_of request) it t =
-      (given : Result (ResponseKind × List ℕ) Memory) × replies s now request given t × (it ≡ ocsp_effects given)
-  Answers now s (crl_of number) it t = (given : Result (List ℕ) Fault) × crls s number given t × (it ≡ crl_effects given)
-  Answers now s (status_of serial) it t = (given : Result Reply Fault) × asks s now (Status serial) given t × (it ≡ outcome_effects given)
-  Answers now s counts_of it t = (given : Result Reply Fault) × asks s now Counts given t × (it ≡ outcome_effects given)
+      (given : Result (ResponseKind × List ℕ) Memory) × replies s now request given t
+      × (it ≡ ocsp_effects given)
+  Answers now s (crl_of number) it t =
+      (given : Result (List ℕ) Fault) × crls s number given t × (it ≡ crl_effects given)
+  Answers now s (status_of serial) it t =
+      (given : Result Reply Fault) × asks s now (Status serial) given t × (it ≡ outcome_effects given)
+  Answers now s counts_of it t =
+      (given : Result Reply Fault) × asks s now Counts given t × (it ≡ outcome_effects given)
   Answers now s (request_of serial word) it t =
-      (given : Result Reply Fault) × runs s now (Request serial word) given t × (it ≡ request_effects serial word given)
+      (given : Result Reply Fault) × runs s now (Request serial word) given t
+      × (it ≡ request_effects serial word given)
 
   -- the answer to a request; or the draft of a response to be signed, if it is an OCSP request
-  abbrev pub BeginsTo : (S → ℕ → List ℕ → Drafted → S → Type 0) → ℕ → S → RoutedRequest → Begun Answered Drafted → S → Type 0
+  abbrev pub BeginsTo
+      : (S → ℕ → List ℕ → Drafted → S → Type 0) → ℕ → S → RoutedRequest → Begun Answered Drafted → S → Type 0
   BeginsTo drafts now s what (Ready answered) t = Answers now s what (answer_effects answered) t
-  BeginsTo drafts now s what (Unsigned draft) t = (request : List ℕ) × (what ≡ ocsp_of request) × drafts s now request draft t
+  BeginsTo drafts now s what (Unsigned draft) t =
+      (request : List ℕ) × (what ≡ ocsp_of request) × drafts s now request draft t
 
 -- an OCSP response is the answer, or is to be signed, as the office begins it
 abbrev pub BeginsOcsp : Result (Begun OcspResponse Drafted) Memory → Begun Answered Drafted → Type 0
-BeginsOcsp (Ok (Ready response)) (Ready answered) = answer_effects answered ≡ ocsp_effects (Ok (response.kind, response.bytes.items))
+BeginsOcsp (Ok (Ready response)) (Ready answered) =
+    answer_effects answered ≡ ocsp_effects (Ok (response.kind, response.bytes.items))
 BeginsOcsp (Ok (Ready response)) (Unsigned draft) = ⊥
 BeginsOcsp (Ok (Unsigned draft)) (Ready answered) = ⊥
 BeginsOcsp (Ok (Unsigned draft)) (Unsigned left) = left ≡ draft
@@ -67,10 +76,15 @@ abbrev pub of_any_kind : {S : Type 0} → (S → ℕ → List ℕ → Result (Li
 of_any_kind ocsps s now request given t = ocsps s now request (bytes_in given) t
 
 -- the response to a request, if OCSP responses are bytes without a kind
-abbrev pub RespondsTo : {S : Type 0} → (S → ℕ → Command → Result Reply Fault → S → Type 0) → (S → ℕ → Query → Result Reply Fault → S → Type 0)
-    → (S → ℕ → List ℕ → Result (List ℕ) Memory → S → Type 0) → (S → Option ℕ → Result (List ℕ) Fault → S → Type 0)
+abbrev pub RespondsTo
+    : {S : Type 0} → (S → ℕ → Command → Result Reply Fault → S → Type 0)
+    → (S → ℕ → Query → Result Reply Fault → S → Type 0)
+    → (S → ℕ → List ℕ → Result (List ℕ) Memory → S → Type 0)
+    → (S → Option ℕ → Result (List ℕ) Fault → S → Type 0)
     → ℕ → S → RoutedRequest → Response → S → Type 0
-RespondsTo runs asks ocsps crls now s what response t = (it : AnswerEffects) × Answers runs asks (of_any_kind ocsps) crls now s what it t × (response ≡ it.response)
+RespondsTo runs asks ocsps crls now s what response t =
+    (it : AnswerEffects) × Answers runs asks (of_any_kind ocsps) crls now s what it t
+    × (response ≡ it.response)
 
 -- the answers of an office, with its relations
 abbrev pub AnswersIn : {O : Type 0} → Office O → ℕ → O → RoutedRequest → AnswerEffects → O → Type 0
@@ -78,7 +92,8 @@ AnswersIn office = Answers (RunsIn office) (AsksIn office) (RepliesIn office) (C
 
 -- the same with what is left to be signed
 abbrev pub BeginsIn : {O : Type 0} → Office O → ℕ → O → RoutedRequest → Begun Answered Drafted → O → Type 0
-BeginsIn office = BeginsTo (RunsIn office) (AsksIn office) (RepliesIn office) (CrlsIn office) (DraftsIn office)
+BeginsIn office =
+    BeginsTo (RunsIn office) (AsksIn office) (RepliesIn office) (CrlsIn office) (DraftsIn office)
 
 -- its responses, by its calls
 abbrev pub RespondsIn : {O : Type 0} → Office O → ℕ → O → RoutedRequest → Response → O → Type 0

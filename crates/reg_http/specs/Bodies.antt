@@ -22,7 +22,8 @@ status_text Unknown = codes "{\"status\":\"unknown\"}"
 status_text Good = codes "{\"status\":\"good\"}"
 status_text Expired = codes "{\"status\":\"expired\"}"
 status_text (Revoked at reason) =
-    codes "{\"at\":\"" ++ moment_text at ++ codes "\",\"reason\":" ++ decimal reason ++ codes ",\"status\":\"revoked\"}"
+    codes "{\"at\":\"" ++ moment_text at ++ codes "\",\"reason\":" ++ decimal reason
+    ++ codes ",\"status\":\"revoked\"}"
 
 -- `{"expired":C,"good":A,"revoked":B}`
 unfoldable pub counts_text : Counts → List ℕ
@@ -48,8 +49,12 @@ http_refusal status = json status (error_text (decimal status))
 
 -- a 405 names the method that the route has (RFC 9110 15.5.6)
 unfoldable pub only : List ℕ → Response
-only method =
-    record { status = 405; kind = codes "application/json"; allow = Some method; body = error_text (decimal 405) }
+only method = record {
+  status = 405;
+  kind = codes "application/json";
+  allow = Some method;
+  body = error_text (decimal 405);
+}
 
 -- the status of a refusal: 400 if the request can't be read, 404 if there is no such CRL, 409 for any other (RFC 9110 15.5)
 abbrev pub refusal_status : Refusal → ℕ

@@ -16,7 +16,8 @@ use Rattle.reg_http.specs.declared.exchange.UnsignedResponse.{UnsignedResponse}
 
 -- the whole text of a response at a moment, with its status; or the constant text of status 500, if there was no memory for its body
 abbrev pub PutsText : ℕ → Response → ℕ → List ℕ → Type 0
-PutsText now response status text = ((status ≡ response.status) × IsText response now text) ⊎ ((status ≡ 500) × (text ≡ memory_text))
+PutsText now response status text =
+    ((status ≡ response.status) × IsText response now text) ⊎ ((status ≡ 500) × (text ≡ memory_text))
 
 -- the text is empty
 abbrev pub IsEmpty : Exchange → Type 0
@@ -24,30 +25,38 @@ IsEmpty exchange = (exchange.status ≡ None) × (exchange.text.items ≡ [])
 
 -- the answer if there was no memory: the constant text, or an empty text if there was no memory for that either
 abbrev pub IsMemoryAnswer : Exchange → Type 0
-IsMemoryAnswer exchange = ((exchange.status ≡ Some 500) × (exchange.text.items ≡ memory_text)) ⊎ IsEmpty exchange
+IsMemoryAnswer exchange =
+    ((exchange.status ≡ Some 500) × (exchange.text.items ≡ memory_text)) ⊎ IsEmpty exchange
 
 -- the response at a moment, with its whole text; or out of memory
 abbrev pub AnswersText : ℕ → Response → Exchange → Type 0
-AnswersText now response exchange = ((exchange.status ≡ Some response.status) × IsText response now exchange.text.items) ⊎ IsMemoryAnswer exchange
+AnswersText now response exchange =
+    ((exchange.status ≡ Some response.status) × IsText response now exchange.text.items)
+    ⊎ IsMemoryAnswer exchange
 
 -- the same, with what became of the signature, what it shows about the store, and the request for revocation that it entered
 abbrev pub HasEffects : ℕ → AnswerEffects → Exchange → Type 0
 HasEffects now it exchange =
-    (exchange.signature ≡ it.signature) × (exchange.store ≡ it.store) × (exchange.named ≡ it.named) × AnswersText now it.response exchange
+    (exchange.signature ≡ it.signature) × (exchange.store ≡ it.store) × (exchange.named ≡ it.named)
+    × AnswersText now it.response exchange
 
 -- this became of the signature; nothing is shown about the store, and no request was entered
 abbrev pub HasOnlySignature : SignatureFate → Exchange → Type 0
-HasOnlySignature signature exchange = (exchange.signature ≡ signature) × (exchange.store ≡ Unwritten) × (exchange.named ≡ None)
+HasOnlySignature signature exchange =
+    (exchange.signature ≡ signature) × (exchange.store ≡ Unwritten) × (exchange.named ≡ None)
 
 -- no signature was requested either
 abbrev pub HasNoEffects : Exchange → Type 0
 HasNoEffects exchange = HasOnlySignature NotAsked exchange
 
 -- the outcome of a request, as an exchange at this route: the answer; or the response that is to be signed; or there was no memory
-abbrev pub BeginsExchange : ℕ → Route → Result (Begun Answered Drafted) NoMemory → Begun Exchange UnsignedResponse → Type 0
-BeginsExchange now route (Ok (Ready answered)) (Ready exchange) = (exchange.route ≡ route) × HasEffects now (answer_effects answered) exchange
+abbrev pub BeginsExchange
+    : ℕ → Route → Result (Begun Answered Drafted) NoMemory → Begun Exchange UnsignedResponse → Type 0
+BeginsExchange now route (Ok (Ready answered)) (Ready exchange) =
+    (exchange.route ≡ route) × HasEffects now (answer_effects answered) exchange
 BeginsExchange now route (Ok (Ready answered)) (Unsigned left) = ⊥
 BeginsExchange now route (Ok (Unsigned draft)) (Ready exchange) = ⊥
 BeginsExchange now route (Ok (Unsigned draft)) (Unsigned left) = (left.route ≡ route) × (left.draft ≡ draft)
-BeginsExchange now route (Err memory) (Ready exchange) = (exchange.route ≡ route) × IsMemoryAnswer exchange × HasNoEffects exchange
+BeginsExchange now route (Err memory) (Ready exchange) =
+    (exchange.route ≡ route) × IsMemoryAnswer exchange × HasNoEffects exchange
 BeginsExchange now route (Err memory) (Unsigned left) = ⊥

@@ -25,11 +25,13 @@ or_unread None = Unread
 -- the page that is wanted by a path `/list/WORD` and its query
 abbrev pub page_of_path : List ℕ → List ℕ → ListRequest
 page_of_path path answer_effects =
-    if starts_with (λ a b. a == b) path (codes "/list/") then or_unread (page_query (drop 6 path) answer_effects) else Unread
+    if starts_with (λ a b. a == b) path (codes "/list/")
+    then or_unread (page_query (drop 6 path) answer_effects) else Unread
 
 -- the same for a target (RFC 3986 3.3, 3.4): a path, and after `?` the query, percent-decoded
 unfoldable pub page_in : List ℕ → ListRequest
-page_in target = page_of_path (before_first (λ b. b == 63) target) (percent_decode (after_first (λ b. b == 63) target))
+page_in target =
+    page_of_path (before_first (λ b. b == 63) target) (percent_decode (after_first (λ b. b == 63) target))
 
 -- the meaning of a request for a list
 abbrev pub list_request : List ℕ → List ℕ → ListRequest
@@ -47,6 +49,7 @@ given_page wanted (Err why) = fault_effects why
 -- the answer to a request for a list, over records at a moment
 abbrev pub RespondsList : Records → ℕ → ListRequest → AnswerEffects → Type 0
 RespondsList records now (Page wanted) it =
-    (given : Result PageOf Fault) × IsPaged records now wanted.most wanted.from given × (it ≡ given_page wanted given)
+    (given : Result PageOf Fault) × IsPaged records now wanted.most wanted.from given
+    × (it ≡ given_page wanted given)
 RespondsList records now OnlyGet it = it ≡ plain (only (codes "GET"))
 RespondsList records now Unread it = it ≡ fault_effects (fault.Refused Syntax)

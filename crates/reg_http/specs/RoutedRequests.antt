@@ -60,7 +60,8 @@ string_at name value = option_and_then as_str (get name value)
 unfoldable pub wanted_in : Data → Option (ℕ × List ℕ)
 wanted_in value =
     option_and_then
-    (λ serial. option_map (λ word. (serial, word)) (option_and_then label_of (string_at (codes "ground") value)))
+    (λ serial. option_map (λ word. (serial, word))
+    (option_and_then label_of (string_at (codes "ground") value)))
     (option_and_then serial_of (string_at (codes "serial") value))
 
 -- the request for revocation in a body
@@ -90,7 +91,8 @@ abbrev pub asked_at : List ℕ → Route → List ℕ → List ℕ → RoutedReq
 asked_at method Ocsp over body = by_method (codes "POST") method (ocsp_of body)
 asked_at method OcspRest over body = by_method (codes "GET") method (or_malformed (decoded over))
 asked_at method Crl over body = by_method (codes "GET") method (crl_of None)
-asked_at method CrlNumber over body = by_method (codes "GET") method (or_unread (λ n. crl_of (Some n)) (number_of over))
+asked_at method CrlNumber over body =
+    by_method (codes "GET") method (or_unread (λ n. crl_of (Some n)) (number_of over))
 asked_at method Status over body = by_method (codes "GET") method (or_unread status_of (serial_of over))
 asked_at method Counts over body = by_method (codes "GET") method counts_of
 asked_at method Requests over body = by_method (codes "POST") method (revocation_request (wanted body))
@@ -99,4 +101,5 @@ asked_at method _ over body = refused 404
 -- the meaning of a request
 abbrev pub asked : List ℕ → List ℕ → List ℕ → RoutedRequest
 asked method target body =
-    if is_rooted target then asked_at method (route (path_of target)).0 (route (path_of target)).1 body else refused 400
+    if is_rooted target then asked_at method (route (path_of target)).0 (route (path_of target)).1 body
+    else refused 400

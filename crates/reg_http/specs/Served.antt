@@ -31,18 +31,23 @@ module _ {S : Type 0} (runs : S → ℕ → Command → Result Reply Fault → S
   abbrev pub Responds : ℕ → S → Part → List ℕ → S → Type 0
   Responds now s (refused status) text t = (t ≡ s) × IsText (http_refusal status) now text
   Responds now s (asked method target body) text t =
-      ((response : Response) × RespondsTo runs asks ocsps crls now s (asks_for method target body) response t × IsText response now text)
+      ((response : Response) × RespondsTo runs asks ocsps crls now s (asks_for method target body) response t
+      × IsText response now text)
       ⊎ ((t ≡ s) × (text ≡ memory_text))
 
   -- the whole response to a request that was read was written; or a prefix, if the writer failed; or there was no memory for it
-  abbrev pub ReplyEnds : ℕ → S → S → Part → Option (List ℕ) → Option (List ℕ) → Result (Unit {0}) Fault → Type 0
-  ReplyEnds now s t part out written (Ok done) = (text : List ℕ) × Responds now s part text t × Appends out written text
-  ReplyEnds now s t part out written (Err Write) = (text : List ℕ) × Responds now s part text t × AppendsPrefix out written text
+  abbrev pub ReplyEnds
+      : ℕ → S → S → Part → Option (List ℕ) → Option (List ℕ) → Result (Unit {0}) Fault → Type 0
+  ReplyEnds now s t part out written (Ok done) =
+      (text : List ℕ) × Responds now s part text t × Appends out written text
+  ReplyEnds now s t part out written (Err Write) =
+      (text : List ℕ) × Responds now s part text t × AppendsPrefix out written text
   ReplyEnds now s t part out written (Err Memory) = Unit {0}
   ReplyEnds now s t part out written (Err other) = ⊥
 
   -- one request was read, and this was written of its response
-  pub record Served (Wrote : List ℕ → Type 0) (now : ℕ) (s t : S) (input left : Option (List ℕ)) : Type 0 where
+  pub record Served (Wrote : List ℕ → Type 0) (now : ℕ) (s t : S)
+      (input left : Option (List ℕ)) : Type 0 where
     pub took : List ℕ
     pub part : Part
     pub text : List ℕ
@@ -53,17 +58,24 @@ module _ {S : Type 0} (runs : S → ℕ → Command → Result Reply Fault → S
 
   -- the whole response was written; or a prefix of it, if the writer failed; else there was no whole request, or no memory for
   -- it
-  abbrev pub ServingEnds : ℕ → S → S → Option (List ℕ) → Option (List ℕ) → Option (List ℕ) → Option (List ℕ) → Result (Unit {0}) Fault → Type 0
+  abbrev pub ServingEnds
+      : ℕ → S → S → Option (List ℕ) → Option (List ℕ) → Option (List ℕ) → Option (List ℕ)
+      → Result (Unit {0}) Fault → Type 0
   ServingEnds now s t input left out written (Ok done) = Served (Appends out written) now s t input left
-  ServingEnds now s t input left out written (Err Write) = Served (AppendsPrefix out written) now s t input left
-  ServingEnds now s t input left out written (Err Read) = (took : List ℕ) × TakesRequest input left took × IsUnfinished took
+  ServingEnds now s t input left out written (Err Write) =
+      Served (AppendsPrefix out written) now s t input left
+  ServingEnds now s t input left out written (Err Read) =
+      (took : List ℕ) × TakesRequest input left took × IsUnfinished took
   ServingEnds now s t input left out written (Err Memory) = (took : List ℕ) × TakesRequest input left took
   ServingEnds now s t input left out written (Err other) = ⊥
 
 -- how a reply and the serving of a request end by the calls of an office
 module _ {O : Type 0} (office : Office O) where
-  abbrev pub ReplyEndsIn : ℕ → O → O → Part → Option (List ℕ) → Option (List ℕ) → Result (Unit {0}) Fault → Type 0
+  abbrev pub ReplyEndsIn
+      : ℕ → O → O → Part → Option (List ℕ) → Option (List ℕ) → Result (Unit {0}) Fault → Type 0
   ReplyEndsIn = ReplyEnds (RunsIn office) (AsksIn office) (OcspsIn office) (CrlsIn office)
 
-  abbrev pub ServingEndsIn : ℕ → O → O → Option (List ℕ) → Option (List ℕ) → Option (List ℕ) → Option (List ℕ) → Result (Unit {0}) Fault → Type 0
+  abbrev pub ServingEndsIn
+      : ℕ → O → O → Option (List ℕ) → Option (List ℕ) → Option (List ℕ) → Option (List ℕ)
+      → Result (Unit {0}) Fault → Type 0
   ServingEndsIn = ServingEnds (RunsIn office) (AsksIn office) (OcspsIn office) (CrlsIn office)

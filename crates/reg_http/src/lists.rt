@@ -2,7 +2,7 @@
 //! has no such route.
 
 ghost use Rattle.std.specs.Prelude.{◌≡◌, IfOk, OnErr};
-ghost use Rattle.reg_office_api.specs.Leads.{Looks};
+ghost use Rattle.reg_office_api.specs.Calls.{LooksIn};
 ghost use Rattle.reg_http.specs.Lists.{RespondsList, given_page, list_request, page_in, page_of_path, wanted_body};
 ghost use Rattle.reg_http.specs.AnswerEffects.{fault_effects, answer_effects};
 
@@ -36,7 +36,7 @@ pub fn answer_list<O: Office>(
     now: Moment,
     office: &mut O,
 ) -> Result<Answered, Memory>
-    ensures { Looks O.is_clean O.stands
+    ensures { LooksIn O.Office
         (λ records. IfOk result
         (λ answered. RespondsList records now (list_request method.now target.now) (answer_effects answered)))
         office.old office.new }

@@ -59,7 +59,8 @@ fn is_rooted(target: &str) -> bool
 /// Decodes the OCSP request in a path: percent-decoded, then base64 (RFC 6960 A.1).
 #[tactic(auto, unfolding(crate::specs::RoutedRequests::decoded))]
 fn decoded(alloc: Global, text: &[u8]) -> Result<Part, Memory>
-    ensures { IfOk result (λ part. (body : List ℕ) → request_of_part body part ≡ or_malformed (decoded_in text.now)) }
+    ensures { IfOk result (λ part.
+        (body : List ℕ) → request_of_part body part ≡ or_malformed (decoded_in text.now)) }
 {
     let mut plain = Vec::new(alloc);
     if percent_decode(text).append_to(&mut plain).is_err() {
@@ -139,7 +140,8 @@ fn unread(error: &Error) -> Result<Part, Memory>
 
 #[tactic(auto, unfolding(crate::specs::RoutedRequests::json_of))]
 fn request_part(alloc: Global, body: &[u8]) -> Result<Part, Memory>
-    ensures { IfOk result (λ part. (posted : List ℕ) → request_of_part posted part ≡ revocation_request (wanted_by body.now)) }
+    ensures { IfOk result (λ part.
+        (posted : List ℕ) → request_of_part posted part ≡ revocation_request (wanted_by body.now)) }
 {
     let Ok(text) = str::from_utf8(body) else {
         return Ok(Part::Other(Call::Unread));
@@ -151,7 +153,8 @@ fn request_part(alloc: Global, body: &[u8]) -> Result<Part, Memory>
 }
 
 fn part_at(alloc: Global, method: &Method, found: Found<'_>, body: &[u8]) -> Result<Part, Memory>
-    ensures { IfOk result (λ part. request_of_part body.now part ≡ asked_at method.now found.entry.route found.entry.rest.now body.now) }
+    ensures { IfOk result (λ part.
+        request_of_part body.now part ≡ asked_at method.now found.entry.route found.entry.rest.now body.now) }
 {
     let is_get = method.as_str() == "GET";
     let is_post = method.as_str() == "POST";

@@ -3,7 +3,7 @@
 ghost use Rattle.std.specs.Prelude.{◌≡◌, IfOk, OnErr, codes};
 ghost use Rattle.reg_office_api.specs.CallSteps.{Runs, Asks, Ocsps, Crls};
 ghost use Rattle.reg_office_api.specs.Drafts.{Drafts};
-ghost use Rattle.reg_office_api.specs.Leads.{Leads};
+ghost use Rattle.reg_office_api.specs.Calls.{LeadsIn};
 ghost use Rattle.reg_office_api.specs.Responses.{Replies};
 ghost use Rattle.reg_http_head.specs.Response.{shown};
 ghost use Rattle.reg_http.specs.Added.{AddsARequestAtMost};
@@ -40,8 +40,9 @@ pub fn answer<O: Office>(
     now: Moment,
     office: &mut O,
 ) -> Result<Answer, Memory>
-    ensures ok { IfOk result (λ answer. Leads O.is_clean O.stands
-        (λ signatory before after. RespondsTo (Runs O.signs signatory) Asks (Ocsps O.signs signatory) Crls now before
+    ensures ok { IfOk result (λ answer. LeadsIn O.Office
+        (λ signatory before after.
+        RespondsTo (Runs O.signs signatory) Asks (Ocsps O.signs signatory) Crls now before
         (asked method.now target.now body.now) (shown answer) after
         × AddsARequestAtMost now before after)
         office.old office.new) }
@@ -67,8 +68,9 @@ pub fn begin<O: Office>(
     now: Moment,
     office: &mut O,
 ) -> Result<Begun<Answered, Draft>, Memory>
-    ensures ok { IfOk result (λ begun. Leads O.is_clean O.stands
-        (λ signatory before after. BeginsTo (Runs O.signs signatory) Asks (Replies O.signs signatory) Crls (Drafts signatory) now before
+    ensures ok { IfOk result (λ begun. LeadsIn O.Office
+        (λ signatory before after.
+        BeginsTo (Runs O.signs signatory) Asks (Replies O.signs signatory) Crls (Drafts signatory) now before
         (asked method.now target.now body.now) begun after
         × AddsARequestAtMost now before after)
         office.old office.new) }

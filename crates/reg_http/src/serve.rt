@@ -4,7 +4,7 @@ ghost use Rattle.std.specs.Prelude.{◌≡◌, ◌≢◌, ◌≤◌, ◌⊎◌, 
 ghost use Rattle.std.specs.Io.KnownBytes.{Appends};
 ghost use Rattle.reg_io.specs.Put.{AppendsPrefix};
 ghost use Rattle.reg_office_api.specs.CallSteps.{Runs, Asks, Ocsps, Crls};
-ghost use Rattle.reg_office_api.specs.Leads.{Leads};
+ghost use Rattle.reg_office_api.specs.Calls.{LeadsIn};
 ghost use Rattle.reg_http_head.specs.Frame.{part_of};
 ghost use Rattle.reg_http_head.specs.Response.{IsText, memory_text, shown};
 ghost use Rattle.reg_http.specs.Added.{AddsARequestAtMost};
@@ -25,7 +25,8 @@ fn send<W: Write>(writer: &mut W, room: Vec<u8>, answer: &Answer, now: Moment) -
     requires room { 512 ≤ vec_capacity room }
     ensures ok { OnOk result ((text : List ℕ) × IsText (shown answer.now) now text
         × Appends (W.contents writer.old) (W.contents writer.new) text) }
-    ensures err { IfErr result (λ fault. (fault ≡ Fault.Write) × ((text : List ℕ) × IsText (shown answer.now) now text
+    ensures err { IfErr result (λ fault.
+        (fault ≡ Fault.Write) × ((text : List ℕ) × IsText (shown answer.now) now text
         × AppendsPrefix (W.contents writer.old) (W.contents writer.new) text)) }
 {
     write_answer(writer, room, answer, now).map_err(|_| Fault::Write)
@@ -54,7 +55,8 @@ fn refuse<W: Write>(
     requires room { 512 ≤ vec_capacity room }
     ensures ok { OnOk result ((text : List ℕ) × IsText (refusal_of status) now text
         × Appends (W.contents writer.old) (W.contents writer.new) text) }
-    ensures err { IfErr result (λ fault. ((fault ≡ Fault.Write) × ((text : List ℕ) × IsText (refusal_of status) now text
+    ensures err { IfErr result (λ fault.
+        ((fault ≡ Fault.Write) × ((text : List ℕ) × IsText (refusal_of status) now text
         × AppendsPrefix (W.contents writer.old) (W.contents writer.new) text))
         ⊎ ((fault ≡ Fault.Memory) × (writer.new ≡ writer.old))) }
 {
@@ -74,8 +76,9 @@ fn reply<W: Write, O: Office>(
 ) -> Result<(), Fault>
     requires empty { room.items ≡ [] }
     requires room { 512 ≤ vec_capacity room }
-    ensures ends { Leads O.is_clean O.stands
-        (λ signatory before after. ReplyEnds (Runs O.signs signatory) Asks (Ocsps O.signs signatory) Crls now before after
+    ensures ends { LeadsIn O.Office
+        (λ signatory before after.
+        ReplyEnds (Runs O.signs signatory) Asks (Ocsps O.signs signatory) Crls now before after
         (part_of request) (W.contents writer.old) (W.contents writer.new) result
         × AddsARequestAtMost now before after)
         office.old office.new }
@@ -119,14 +122,17 @@ pub fn serve_one<R: Read, W: Write, O: Office>(
     now: Moment,
     office: &mut O,
 ) -> Result<(), Fault>
-    ensures ends { Leads O.is_clean O.stands
-        (λ signatory before after. ServingEnds (Runs O.signs signatory) Asks (Ocsps O.signs signatory) Crls now before after
-        (R.remaining reader.old) (R.remaining reader.new) (W.contents writer.old) (W.contents writer.new) result
+    ensures ends { LeadsIn O.Office
+        (λ signatory before after.
+        ServingEnds (Runs O.signs signatory) Asks (Ocsps O.signs signatory) Crls now before after
+        (R.remaining reader.old) (R.remaining reader.new) (W.contents writer.old) (W.contents writer.new)
+        result
         × AddsARequestAtMost now before after)
         office.old office.new }
     ensures silent { IfErr result (λ fault. fault ≢ Fault.Write
         → (writer.new ≡ writer.old) × (office.new ≡ office.old)) }
-    ensures calls { ServingEndsIn O.Office now office.old office.new (R.remaining reader.old) (R.remaining reader.new)
+    ensures calls { ServingEndsIn O.Office now office.old office.new
+        (R.remaining reader.old) (R.remaining reader.new)
         (W.contents writer.old) (W.contents writer.new) result }
 {
     let Ok(room) = Vec::with_capacity(alloc, HEAD_ROOM) else {

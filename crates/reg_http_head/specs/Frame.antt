@@ -56,7 +56,8 @@ IsCutBy why took = ((why ≡ fault.Read) × IsUnfinished took) ⊎ (why ≡ faul
 
 -- bytes were taken from a reader, at most this many, and `IsSo` is true of them
 abbrev pub TakesAtMost : Option (List ℕ) → Option (List ℕ) → ℕ → (List ℕ → Type 0) → Type 0
-TakesAtMost input left most IsSo = (took : List ℕ) × Consumes input left took × (length took ≤ most) × IsSo took
+TakesAtMost input left most IsSo =
+    (took : List ℕ) × Consumes input left took × (length took ≤ most) × IsSo took
 
 -- the meaning of a request that was read
 abbrev pub part_of : Request → Part

@@ -43,7 +43,8 @@ impl Collected {
     pub fn add(&mut self, more: &[u8]) -> Result<(), AllocError>
         ensures ok { OnOk result (collected_bytes self.new ≡ collected_bytes self.old ++ more.now) }
         ensures err { OnErr result (collected_bytes self.new ≡ collected_bytes self.old) }
-        ensures full { OnErr result (vec_capacity self.old.bytes < length (collected_bytes self.old) + length more.now) }
+        ensures full { OnErr result
+            (vec_capacity self.old.bytes < length (collected_bytes self.old) + length more.now) }
         ensures room { vec_capacity self.old.bytes ≤ vec_capacity self.new.bytes }
     {
         self.bytes.extend_from_slice(more)
@@ -76,7 +77,8 @@ impl Collected {
     /// The request with which the bytes begin, in slices of them. [`Fault::Read`] if they hold no whole request, [`Fault::Memory`] if there is
     /// no memory.
     pub fn request(&self, alloc: Global) -> Result<RequestRef<'_>, Fault>
-        ensures ok { IfOk result (λ request. ∥ HoldsRequest (collected_bytes self.now) (part_of_ref request) ∥₁) }
+        ensures ok { IfOk result (λ request.
+            ∥ HoldsRequest (collected_bytes self.now) (part_of_ref request) ∥₁) }
         ensures err { IfErr result (λ fault.
             ((fault ≡ Fault.Read) × ∥ IsUnfinished (collected_bytes self.now) ∥₁) ⊎ (fault ≡ Fault.Memory)) }
     {

@@ -21,7 +21,8 @@ pub(crate) enum Values {
 fn with_field(head: &[u8], field: &HeaderSpan, name: &[u8], values: Values) -> Values
     requires { IsHeaderWithin (length head.now) field.now }
     ensures { (before : List (List ℕ)) → HasFieldValues head.now before values
-        → HasFieldValues head.now (before ++ values_of name.now (header_bytes head.now field.now ∷ [])) result }
+        → HasFieldValues head.now (before ++ values_of name.now (header_bytes head.now field.now ∷ []))
+        result }
 {
     if !field.name.of(head).eq_ignore_ascii_case(name) {
         return values;

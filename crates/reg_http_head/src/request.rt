@@ -103,7 +103,8 @@ fn read_body<R: Read>(
     requires { size ≤ longest_body }
     ensures ok { IfOk result (λ body. (took : List ℕ)
         × Consumes (R.remaining reader.old) (R.remaining reader.new) took
-        × (length took ≤ size) × (length body.items ≡ size) × (body.items ≡ take size (buffered.now ++ took))) }
+        × (length took ≤ size) × (length body.items ≡ size)
+        × (body.items ≡ take size (buffered.now ++ took))) }
     ensures err { IfErr result (λ fault. (took : List ℕ)
         × Consumes (R.remaining reader.old) (R.remaining reader.new) took
         × (length took ≤ size)
@@ -130,7 +131,8 @@ fn fill_body<R: Read>(reader: &mut R, body: &mut [u8], buffered: &[u8]) -> Resul
 fn owned(alloc: Global, head: &[u8], spans: HeadSpans, body: Vec<u8>) -> Result<Request, Fault>
     requires { ∥ HoldsHead head.now spans ∥₁ }
     ensures ok { IfOk result (λ request.
-        part_of request ≡ asked (span_bytes head.now spans.method) (span_bytes head.now spans.target) body.items) }
+        part_of request
+        ≡ asked (span_bytes head.now spans.method) (span_bytes head.now spans.target) body.items) }
     ensures err { IfErr result (λ fault. fault ≡ Fault.Memory) }
 {
     let method = spans.method_in(alloc, head).map_err(|_| Fault::Memory)?;

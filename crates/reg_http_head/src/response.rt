@@ -76,7 +76,8 @@ fn put_status_line(out: &mut Vec<u8>, code: u16)
 fn put_allow(out: &mut Vec<u8>, allow: Option<&'static str>)
     requires short { length (allowed (option_map (λ method. method.now) allow)) ≤ 64 }
     requires room { length out.old.items + 80 ≤ vec_capacity out.old }
-    ensures items { out.new.items ≡ out.old.items ++ allow_line (option_map (λ method. method.now) allow.entry) }
+    ensures items { out.new.items ≡ out.old.items
+        ++ allow_line (option_map (λ method. method.now) allow.entry) }
     ensures room { vec_capacity out.old ≤ vec_capacity out.new }
     ensures length { length out.new.items ≤ length out.old.items + 80 }
 {

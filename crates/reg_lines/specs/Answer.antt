@@ -51,9 +51,15 @@ OcspLineComesTo (Err memory) (Response reply) = ⊥
 module _ {S : Type 0} (answers : S → ℕ → Call → S → Type 0) where
   -- the office gets this call at a moment, with this result
   abbrev pub OfficeAnswers : ℕ → S → Meaning → Answered → S → Type 0
-  OfficeAnswers now s (means_command command) answered t = (outcome : Result Reply Fault) × answers s now (ran command outcome) t × (answered ≡ CameTo (Command command) outcome)
-  OfficeAnswers now s (means_query query) answered t = (outcome : Result Reply Fault) × answers s now (asked query outcome) t × (answered ≡ CameTo (Query query) outcome)
-  OfficeAnswers now s (is_ocsp_line request) answered t = (given : Result (List ℕ) NoMemory) × answers s now (responded request given) t × OcspLineComesTo given answered
+  OfficeAnswers now s (means_command command) answered t =
+      (outcome : Result Reply Fault) × answers s now (ran command outcome) t
+      × (answered ≡ CameTo (Command command) outcome)
+  OfficeAnswers now s (means_query query) answered t =
+      (outcome : Result Reply Fault) × answers s now (asked query outcome) t
+      × (answered ≡ CameTo (Query query) outcome)
+  OfficeAnswers now s (is_ocsp_line request) answered t =
+      (given : Result (List ℕ) NoMemory) × answers s now (responded request given) t
+      × OcspLineComesTo given answered
 
   -- a command line at a moment: the office gets the call that it means; or it is unreadable, and the office gets no call
   abbrev pub ComesTo : ℕ → S → List ℕ → Answered → S → Type 0
@@ -74,10 +80,12 @@ module _ {S : Type 0} (answers : S → ℕ → Call → S → Type 0) where
 
 -- a line and its reply, by its result
 abbrev pub Replied : {S : Type 0} → (S → List ℕ → Answered → S → Type 0) → S → List ℕ → List ℕ → S → Type 0
-Replied comes_to s line reply t = (answered : Answered) × comes_to s line answered t × (reply ≡ reply_of answered)
+Replied comes_to s line reply t =
+    (answered : Answered) × comes_to s line answered t × (reply ≡ reply_of answered)
 
 -- a line of an input and its reply
-abbrev pub LineReplies : {S : Type 0} → (S → ℕ → Call → S → Type 0) → (ℕ → Type 0) → Bool → S → List ℕ → List ℕ → S → Type 0
+abbrev pub LineReplies
+    : {S : Type 0} → (S → ℕ → Call → S → Type 0) → (ℕ → Type 0) → Bool → S → List ℕ → List ℕ → S → Type 0
 LineReplies answers told is_clocked = Replied (LineComesTo answers told is_clocked)
 
 -- the same, as an office runs it for a host

@@ -20,9 +20,11 @@ pub data Call : Type 0 where
 
 -- the result of each call for a line, over the records at a moment
 abbrev pub Lines : Signs → Signatory → Records → ℕ → Call → Records → Type 0
-Lines signs signatory before now (ran command outcome) after = Runs signs signatory before now command outcome after
+Lines signs signatory before now (ran command outcome) after =
+    Runs signs signatory before now command outcome after
 Lines signs signatory before now (asked query outcome) after = Asks before now query outcome after
-Lines signs signatory before now (responded request given) after = Ocsps signs signatory before now request given after
+Lines signs signatory before now (responded request given) after =
+    Ocsps signs signatory before now request given after
 
 -- the result of a call is a fault of the signer
 abbrev pub FailsToSign : Call → Type 0
@@ -37,5 +39,6 @@ CountsFailure before call after = FailsToSign call → before < after
 -- a call for a line, made of an office: a step of the records that stand in it, in which its signer counts its failures
 abbrev pub LineCalls : {O : Type 0} → Office O → O → ℕ → Call → O → Type 0
 LineCalls office s now call t =
-    Leads office.is_clean office.stands (λ signatory before after. Lines office.signs signatory before now call after) s t
+    Leads office.is_clean office.stands
+    (λ signatory before after. Lines office.signs signatory before now call after) s t
     × CountsFailure (office.failures s) call (office.failures t)

@@ -39,13 +39,15 @@ AreCsvRows text rows = AreRecords default_config st.StartRecord (strip_bom text)
 
 -- these are its first rows
 abbrev pub AreFirstRows : List ℕ → List Row → Type 0
-AreFirstRows text rows = (s : State) × (left : List ℕ) × Reached default_config st.StartRecord (strip_bom text) rows s left
+AreFirstRows text rows =
+    (s : State) × (left : List ℕ) × Reached default_config st.StartRecord (strip_bom text) rows s left
 
 -- the four names of the header
 abbrev pub are_names : Option (List ℕ × List ℕ × List ℕ × List ℕ) → Bool
 are_names None = false
 are_names (Some names) =
-    bytes_eq names.0 (codes "order") && bytes_eq names.1 (codes "serial") && bytes_eq names.2 (codes "notBefore") && bytes_eq names.3 (codes "notAfter")
+    bytes_eq names.0 (codes "order") && bytes_eq names.1 (codes "serial")
+    && bytes_eq names.2 (codes "notBefore") && bytes_eq names.3 (codes "notAfter")
 
 -- the row is `order,serial,notBefore,notAfter`
 abbrev pub is_header : Row → Bool
@@ -63,9 +65,11 @@ RowMeans row command = SpellsCommand command (codes "register" ∷ row)
 -- One row and its reply at a moment: the office `s` becomes `t`. If a row spells no command, it is unreadable, and the office gets no call.
 abbrev pub RowReplies : {S : Type 0} → (S → ℕ → Call → S → Type 0) → ℕ → S → Row → List ℕ → S → Type 0
 RowReplies answers now s row reply t =
-    ((command : Command) × (outcome : Result Reply Fault) × RowMeans row command × answers s now (ran command outcome) t
+    ((command : Command) × (outcome : Result Reply Fault) × RowMeans row command
+    × answers s now (ran command outcome) t
     × (reply ≡ with_lf (outcome_line outcome)))
-    ⊎ (((command : Command) → ¬ RowMeans row command) × (reply ≡ with_lf (outcome_line (Err (Refused Syntax)))) × (t ≡ s))
+    ⊎ (((command : Command) → ¬ RowMeans row command)
+    × (reply ≡ with_lf (outcome_line (Err (Refused Syntax)))) × (t ≡ s))
 
 -- What was written for the rows of a text: the output before and after.
 module _ (text : List ℕ) (out out' : Option (List ℕ)) where
@@ -89,10 +93,13 @@ module _ (text : List ℕ) (out out' : Option (List ℕ)) where
     pub wrote : Appends out out' (concat replies ++ take part reply)
 
 -- Rows of a text that ran at a moment, in order: the office, and the output, before and after.
-module _ {S : Type 0} (answers : S → ℕ → Call → S → Type 0) (now : ℕ) (s t : S) (out out' : Option (List ℕ)) (text : List ℕ) where
+module _ {S : Type 0} (answers : S → ℕ → Call → S → Type 0) (now : ℕ) (s t : S) (out out' : Option (List ℕ))
+    (text : List ℕ) where
   -- these rows
   abbrev pub RowsRan : (List ℕ → List Row → Type 0) → Type 0
-  RowsRan Are = (ran : RepliedRows text out out' Are) × Answered (RowReplies answers now) s (data_rows ran.rows) ran.replies t
+  RowsRan Are =
+      (ran : RepliedRows text out out' Are)
+      × Answered (RowReplies answers now) s (data_rows ran.rows) ran.replies t
 
   -- all rows, or the first ones
   abbrev pub AllRan : Type 0
@@ -103,7 +110,9 @@ module _ {S : Type 0} (answers : S → ℕ → Call → S → Type 0) (now : ℕ
 
   -- the first rows, and one of whose reply only a prefix was written
   abbrev pub OneCut : Type 0
-  OneCut = (cut : CutRow text out out') × (middle : S) × Answered (RowReplies answers now) s (data_rows cut.rows) cut.replies middle
+  OneCut =
+      (cut : CutRow text out out') × (middle : S)
+      × Answered (RowReplies answers now) s (data_rows cut.rows) cut.replies middle
       × RowReplies answers now middle cut.row cut.reply t
 
 -- the whole text was read
@@ -122,34 +131,44 @@ module _ {S : Type 0} (answers : S → ℕ → Call → S → Type 0) (is_strict
   -- no row after it ran.
   abbrev pub RowsEnd : Option (List ℕ) → Option (List ℕ) → List ℕ → Result Passed Fault → Type 0
   RowsEnd out out' text (Ok On) =
-      (run : AllRan answers now s t out out' text) × (IsTrue is_strict → AllByRecursion IsAccepted run.0.replies)
+      (run : AllRan answers now s t out out' text)
+      × (IsTrue is_strict → AllByRecursion IsAccepted run.0.replies)
   RowsEnd out out' text (Ok (passed.Refused refused)) =
       (run : FirstRan answers now s t out out' text) × IsTrue is_strict
       × (ends : EndsRefused run.0.replies) × GivesReason refused ends.refused
   RowsEnd out out' text (Err Write) =
-      (run : OneCut answers now s t out out' text) × (IsTrue is_strict → AllByRecursion IsAccepted run.0.replies)
+      (run : OneCut answers now s t out out' text)
+      × (IsTrue is_strict → AllByRecursion IsAccepted run.0.replies)
   RowsEnd out out' text (Err Memory) =
-      (run : FirstRan answers now s t out out' text) × (IsTrue is_strict → AllByRecursion IsAccepted run.0.replies)
+      (run : FirstRan answers now s t out out' text)
+      × (IsTrue is_strict → AllByRecursion IsAccepted run.0.replies)
   RowsEnd out out' text (Err other) = ⊥
 
 -- How an import ends: the whole text was read, and its rows ran with this result; or the input failed, or there was no memory before the first
 -- row, and nothing ran.
-abbrev pub EndsBy : {S R W A : Type 0} → (R → Option (List ℕ)) → S → S → R → R → W → W → (List ℕ → Result A Fault → Type 0) → Result A Fault → Type 0
+abbrev pub EndsBy
+    : {S R W A : Type 0} → (R → Option (List ℕ)) → S → S → R → R → W → W → (List ℕ → Result A Fault → Type 0)
+    → Result A Fault → Type 0
 EndsBy remaining s t reader reader' writer writer' Ran result =
     ((text : List ℕ) × TookAll (remaining reader) (remaining reader') text × Ran text result)
-    ⊎ (((result ≡ Err Read) ⊎ (result ≡ Err Memory)) × TookSome (remaining reader) (remaining reader') × (t ≡ s) × (writer' ≡ writer))
+    ⊎ (((result ≡ Err Read) ⊎ (result ≡ Err Memory)) × TookSome (remaining reader) (remaining reader')
+    × (t ≡ s) × (writer' ≡ writer))
 
 -- the run of a text's rows at a moment, which goes on after a refusal
-abbrev pub ImportRan : {S : Type 0} → (S → ℕ → Call → S → Type 0) → ℕ → S → S → Option (List ℕ) → Option (List ℕ) → List ℕ
+abbrev pub ImportRan
+    : {S : Type 0} → (S → ℕ → Call → S → Type 0) → ℕ → S → S → Option (List ℕ) → Option (List ℕ) → List ℕ
     → Result (Unit {0}) Fault → Type 0
 ImportRan answers now s t out out' text result =
     (ran : Result Passed Fault) × RowsEnd answers false now s t out out' text ran × (result ≡ done_of ran)
 
 -- an import at a moment: the office, the reader and the writer before and after
-abbrev pub ImportEnds : {S R W : Type 0} → (S → ℕ → Call → S → Type 0) → (R → Option (List ℕ)) → (W → Option (List ℕ)) → ℕ → S → S → R → R → W → W
+abbrev pub ImportEnds
+    : {S R W : Type 0} → (S → ℕ → Call → S → Type 0) → (R → Option (List ℕ)) → (W → Option (List ℕ)) → ℕ → S
+    → S → R → R → W → W
     → Result (Unit {0}) Fault → Type 0
 ImportEnds answers remaining contents now s t reader reader' writer writer' =
-    EndsBy remaining s t reader reader' writer writer' (ImportRan answers now s t (contents writer) (contents writer'))
+    EndsBy remaining s t reader reader' writer writer'
+    (ImportRan answers now s t (contents writer) (contents writer'))
 
 -- ---- the steps of an import
 
@@ -174,7 +193,8 @@ ReadsText rows text = source_of (λ (s : Bor (List ℕ)). Some s.now) rows ≡ S
 -- One row that runs at a moment, strictly or not.
 module _ {S : Type 0} (answers : S → ℕ → Call → S → Type 0) (is_strict : Bool) (now : ℕ) (s t : S) where
   -- a row ran, and its reply, or a prefix of that, was written
-  pub record RanRow (row : Row) (out out' : Option (List ℕ)) (result : Result Passed WriteFault) : Type 0 where
+  pub record RanRow (row : Row) (out out' : Option (List ℕ))
+      (result : Result Passed WriteFault) : Type 0 where
     pub reply : List ℕ
     pub replied : RowReplies answers now s row reply t
     pub said : WritesReply is_strict out out' reply result

@@ -19,7 +19,8 @@ use Rattle.reg_office_api.specs.Signatories.{Signatory}
 -- fields that spell a registration are read as that registration
 abbrev pub RegistrationsAreRead : Type 0
 RegistrationsAreRead =
-    (order serial not_before not_after : ℕ) (fields : List (List ℕ)) → SpellsRegister order serial not_before not_after fields
+    (order serial not_before not_after : ℕ) (fields : List (List ℕ))
+    → SpellsRegister order serial not_before not_after fields
     → register_of fields ≡ Some (Register order serial not_before not_after)
 
 -- a row means the command that is read from it
@@ -30,12 +31,14 @@ RowsMeanWhatIsRead = (row : Row) (command : Command) → register_of row ≡ Som
 
 -- the reply is a fault of memory, store, signer, input or output
 abbrev pub IsFaultLine : List ℕ → Type 0
-IsFaultLine reply = (outcome : Result Reply Fault) × (reply ≡ with_lf (outcome_line outcome)) × IsFault outcome
+IsFaultLine reply =
+    (outcome : Result Reply Fault) × (reply ≡ with_lf (outcome_line outcome)) × IsFault outcome
 
 -- a row with the reply `registered` or `same` gets the reply `same` the second time, or a fault
 abbrev pub RepliedAgain : List ℕ → List ℕ → Type 0
 RepliedAgain first second =
-    (first ≡ with_lf (codes "registered")) ⊎ (first ≡ with_lf (codes "same")) → (second ≡ with_lf (codes "same")) ⊎ IsFaultLine second
+    (first ≡ with_lf (codes "registered")) ⊎ (first ≡ with_lf (codes "same"))
+    → (second ≡ with_lf (codes "same")) ⊎ IsFaultLine second
 
 -- A text is imported twice at one moment, with nothing between, over sound records and with any signer of their CRLs. If each row ran both
 -- times, and no reply was a fault the first time, the second import adds no certificate, and each of its replies is as

@@ -14,7 +14,9 @@ use Rattle.reg_lines.specs.Meaning.{Meaning, means_command, means_query, is_ocsp
 
 -- a text of 1 to 64 bytes
 unfoldable pub label_field : List ℕ → Option (List ℕ)
-label_field text = cond (nat_le 1 (length text) && nat_le (length text) 64 && list_all (λ b. nat_lt b 256) text) (Some text) None
+label_field text =
+    cond (nat_le 1 (length text) && nat_le (length text) 64 && list_all (λ b. nat_lt b 256) text)
+    (Some text) None
 
 -- exactly one field
 abbrev pub one : List (List ℕ) → Option (List ℕ)
@@ -39,7 +41,9 @@ four (a ∷ b ∷ c ∷ d ∷ []) = Some (a, b, c, d)
 four (a ∷ b ∷ c ∷ d ∷ e ∷ rest) = None
 
 -- the first four fields, one by one, unless there is a fifth
-abbrev pub four_at : Option (List ℕ) → Option (List ℕ) → Option (List ℕ) → Option (List ℕ) → Bool → Option (List ℕ × List ℕ × List ℕ × List ℕ)
+abbrev pub four_at
+    : Option (List ℕ) → Option (List ℕ) → Option (List ℕ) → Option (List ℕ) → Bool
+    → Option (List ℕ × List ℕ × List ℕ × List ℕ)
 four_at first second third fourth fifth = if fifth then None else (do
   a ← first
   b ← second
@@ -108,7 +112,8 @@ unfoldable pub asked_by : List ℕ → List (List ℕ) → Option Meaning
 asked_by word fields =
     if bytes_eq word (codes "status") then option_map means_query (option_map Status (serial_alone fields))
     else if bytes_eq word (codes "counts") then option_map means_query (alone Counts fields)
-    else if bytes_eq word (codes "listing") then option_map means_query (option_map Listing (serial_alone fields))
+    else if bytes_eq word (codes "listing")
+    then option_map means_query (option_map Listing (serial_alone fields))
     else if bytes_eq word (codes "overdue") then option_map means_query (alone Overdue fields)
     else if bytes_eq word (codes "next-crl") then option_map means_query (alone NextCrl fields)
     else if bytes_eq word (codes "ocsp") then option_map is_ocsp_line (ocsp_of fields)
@@ -118,8 +123,10 @@ asked_by word fields =
 unfoldable pub revoking_by : List ℕ → List (List ℕ) → Option Meaning
 revoking_by word fields =
     if bytes_eq word (codes "request") then option_map means_command (request_of fields)
-    else if bytes_eq word (codes "decline") then option_map means_command (option_map Decline (number_alone fields))
-    else if bytes_eq word (codes "revoke") then option_map means_command (option_map Revoke (number_alone fields))
+    else if bytes_eq word (codes "decline")
+    then option_map means_command (option_map Decline (number_alone fields))
+    else if bytes_eq word (codes "revoke")
+    then option_map means_command (option_map Revoke (number_alone fields))
     else if bytes_eq word (codes "crl") then option_map means_command (alone Crl fields)
     else asked_by word fields
 

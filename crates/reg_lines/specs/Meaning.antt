@@ -32,18 +32,22 @@ SpellsCommand (Subscriber name) fields = (fields ≡ codes "subscriber" ∷ name
 SpellsCommand (Order subscriber days) fields =
     (a b : List ℕ) × (fields ≡ codes "order" ∷ a ∷ b ∷ []) × IsNumberText a subscriber × IsNumberText b days
 SpellsCommand (Register order serial not_before not_after) fields =
-    (rest : List (List ℕ)) × (fields ≡ codes "register" ∷ rest) × SpellsRegister order serial not_before not_after rest
+    (rest : List (List ℕ)) × (fields ≡ codes "register" ∷ rest)
+    × SpellsRegister order serial not_before not_after rest
 SpellsCommand (Request serial named) fields =
     (a : List ℕ) × (fields ≡ codes "request" ∷ a ∷ named ∷ []) × IsSerialText a serial × IsLabel named
-SpellsCommand (Decline request) fields = (a : List ℕ) × (fields ≡ codes "decline" ∷ a ∷ []) × IsNumberText a request
-SpellsCommand (Revoke request) fields = (a : List ℕ) × (fields ≡ codes "revoke" ∷ a ∷ []) × IsNumberText a request
+SpellsCommand (Decline request) fields =
+    (a : List ℕ) × (fields ≡ codes "decline" ∷ a ∷ []) × IsNumberText a request
+SpellsCommand (Revoke request) fields =
+    (a : List ℕ) × (fields ≡ codes "revoke" ∷ a ∷ []) × IsNumberText a request
 SpellsCommand Crl fields = fields ≡ codes "crl" ∷ []
 
 -- the fields spell a query
 abbrev pub SpellsQuery : Query → List (List ℕ) → Type 0
 SpellsQuery (Status serial) fields = (a : List ℕ) × (fields ≡ codes "status" ∷ a ∷ []) × IsSerialText a serial
 SpellsQuery Counts fields = fields ≡ codes "counts" ∷ []
-SpellsQuery (Listing serial) fields = (a : List ℕ) × (fields ≡ codes "listing" ∷ a ∷ []) × IsSerialText a serial
+SpellsQuery (Listing serial) fields =
+    (a : List ℕ) × (fields ≡ codes "listing" ∷ a ∷ []) × IsSerialText a serial
 SpellsQuery Overdue fields = fields ≡ codes "overdue" ∷ []
 SpellsQuery NextCrl fields = fields ≡ codes "next-crl" ∷ []
 
@@ -90,5 +94,6 @@ HasNoMoment line = (now : ℕ) (command : List ℕ) → ¬ HasMoment line now co
 -- no line begins with two moments
 abbrev pub OneBeginning : Type 0
 OneBeginning =
-    (line : List ℕ) (now other : ℕ) (command rest : List ℕ) → HasMoment line now command → HasMoment line other rest
+    (line : List ℕ) (now other : ℕ) (command rest : List ℕ) → HasMoment line now command
+    → HasMoment line other rest
     → (now ≡ other) × (command ≡ rest)

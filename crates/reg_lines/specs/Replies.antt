@@ -20,7 +20,9 @@ line_of_status (Revoked at reason) = codes "revoked " ++ moment_text at ++ codes
 
 -- the line of the three counts
 unfoldable pub counts_line : Counts → List ℕ
-counts_line counts = codes "good " ++ decimal counts.good ++ codes " revoked " ++ decimal counts.revoked ++ codes " expired " ++ decimal counts.expired
+counts_line counts =
+    codes "good " ++ decimal counts.good ++ codes " revoked " ++ decimal counts.revoked ++ codes " expired "
+    ++ decimal counts.expired
 
 -- the line of a listing: the number of the first CRL, and of the last one if it is known
 unfoldable pub listing_by : ℕ → Option ℕ → List ℕ
@@ -35,7 +37,8 @@ listing_line (Some listing) = listing_by listing.first listing.last
 -- the line for overdue requests: how many there are, and the least id
 unfoldable pub overdue_line : Option Overdue → List ℕ
 overdue_line None = codes "overdue 0"
-overdue_line (Some overdue) = codes "overdue " ++ decimal overdue.count ++ codes " first " ++ decimal overdue.first
+overdue_line (Some overdue) =
+    codes "overdue " ++ decimal overdue.count ++ codes " first " ++ decimal overdue.first
 
 -- the line for when the next CRL is due
 unfoldable pub next_crl_line : Option ℕ → List ℕ

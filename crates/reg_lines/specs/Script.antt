@@ -119,7 +119,8 @@ module _ (longest : ℕ) (input input' out out' : Option (List ℕ)) where
   -- How a run of lines ends that run at the moments of a clock or at their own. `runs s line reply t` is a line, without its line end, with its
   -- reply, where the office is `s` before and `t` after. A strict run ends after the first reply that is a refusal or a fault, and does not run a
   -- last line without its LF. `Read` means that the input failed, or the clock.
-  module _ {S : Type 0} (runs : S → List ℕ → List ℕ → S → Type 0) (s t : S) (is_clocked is_strict : Bool) where
+  module _ {S : Type 0} (runs : S → List ℕ → List ℕ → S → Type 0) (s t : S)
+      (is_clocked is_strict : Bool) where
     -- these lines ran, in order, and these are their replies
     abbrev pub RanAll : List (List ℕ) → List (List ℕ) → Type 0
     RanAll done replies = Answered runs s (map line_of done) replies t
@@ -127,7 +128,8 @@ module _ (longest : ℕ) (input input' out out' : Option (List ℕ)) where
     abbrev pub RunEnds : Result Ended Fault → Type 0
     RunEnds (Ok Whole) =
         (lines : AllLines) × RanAll (pieces lines.took) lines.replies
-        × (IsTrue is_strict → AllByRecursion IsAccepted lines.replies × AllByRecursion IsWholeLine (pieces lines.took))
+        × (IsTrue is_strict
+        → AllByRecursion IsAccepted lines.replies × AllByRecursion IsWholeLine (pieces lines.took))
     RunEnds (Ok (Refused refused)) =
         (lines : FirstLines) × RanAll lines.done lines.replies
         × IsTrue is_strict × (ends : EndsRefused lines.replies) × GivesReason refused ends.refused
@@ -140,17 +142,20 @@ module _ (longest : ℕ) (input input' out out' : Option (List ℕ)) where
         × (InputFails longest lines.done lines.left ⊎ IsTrue is_clocked)
     RunEnds (Err Write) =
         (lines : CutLine) × (middle : S) × Answered runs s (map line_of lines.done) lines.replies middle
-        × runs middle (line_of lines.piece) lines.reply t × (IsTrue is_strict → AllByRecursion IsAccepted lines.replies)
+        × runs middle (line_of lines.piece) lines.reply t
+        × (IsTrue is_strict → AllByRecursion IsAccepted lines.replies)
     RunEnds (Err other) = ⊥
 
 -- A run of lines, with the office, the reader and the writer before and after.
-module _ {S R W : Type 0} (answers : S → ℕ → Call → S → Type 0) (remaining : R → Option (List ℕ)) (contents : W → Option (List ℕ))
+module _ {S R W : Type 0} (answers : S → ℕ → Call → S → Type 0) (remaining : R → Option (List ℕ))
+    (contents : W → Option (List ℕ))
     (s t : S) (reader reader' : R) (writer writer' : W) where
   -- a run as above; if it is out of memory, nothing ran, nothing was read and nothing was written
   abbrev pub InputEnds : (S → List ℕ → List ℕ → S → Type 0) → Bool → Bool → Result Ended Fault → Type 0
   InputEnds runs is_clocked is_strict (Err Memory) = (t ≡ s) × (reader' ≡ reader) × (writer' ≡ writer)
   InputEnds runs is_clocked is_strict result =
-      RunEnds (longest_of is_clocked) (remaining reader) (remaining reader') (contents writer) (contents writer') runs s t is_clocked is_strict result
+      RunEnds (longest_of is_clocked) (remaining reader) (remaining reader') (contents writer)
+      (contents writer') runs s t is_clocked is_strict result
 
   -- lines that run at the moments of a clock, or at their own, up to the first refusal or to the end
   abbrev pub LinesEnd : (ℕ → Type 0) → Bool → Bool → Result Ended Fault → Type 0
@@ -158,7 +163,8 @@ module _ {S R W : Type 0} (answers : S → ℕ → Call → S → Type 0) (remai
 
   -- a script: lines that begin with their own moments; the run goes on after a refusal
   abbrev pub ScriptEnds : Result (Unit {0}) Fault → Type 0
-  ScriptEnds result = (ran : Result Ended Fault) × LinesEnd (λ now. ⊥) false false ran × (result ≡ done_of ran)
+  ScriptEnds result =
+      (ran : Result Ended Fault) × LinesEnd (λ now. ⊥) false false ran × (result ≡ done_of ran)
 
 -- ---- the steps of a run
 
@@ -168,7 +174,8 @@ module _ {S : Type 0} (runs : S → List ℕ → List ℕ → S → Type 0) (s t
   abbrev pub LineEnds : Bool → Bool → List ℕ → Result Passed Fault → Type 0
   LineEnds is_clocked is_strict line (Ok passed) =
       (reply : List ℕ) × runs s line reply t × Appends out out' reply × GoesOn is_strict reply passed
-  LineEnds is_clocked is_strict line (Err Write) = (reply : List ℕ) × runs s line reply t × AppendsPrefix out out' reply
+  LineEnds is_clocked is_strict line (Err Write) =
+      (reply : List ℕ) × runs s line reply t × AppendsPrefix out out' reply
   LineEnds is_clocked is_strict line (Err Read) = IsTrue is_clocked × (t ≡ s) × Appends out out' []
   LineEnds is_clocked is_strict line (Err other) = ⊥
 
@@ -195,7 +202,8 @@ module _ {S : Type 0} (runs : S → List ℕ → List ℕ → S → Type 0) (s t
       pub free : HasNoLf (buffered ++ took)
       pub short : length (buffered ++ took) ≤ longest
       pub ran : ((buffered ++ took ≡ []) × (t ≡ s) × Appends out out' [])
-          ⊎ ((0 < length (buffered ++ took)) × (reply : List ℕ) × runs s (buffered ++ took) reply t × Appends out out' reply)
+          ⊎ ((0 < length (buffered ++ took)) × (reply : List ℕ) × runs s (buffered ++ took) reply t
+          × Appends out out' reply)
 
     -- no line ran, and bytes were read, at most one more than a line may have
     pub record RanNone : Type 0 where
@@ -221,18 +229,22 @@ module _ {S : Type 0} (runs : S → List ℕ → List ℕ → S → Type 0) (s t
     -- how a step ends: with a number of bytes at the start of the buffer, or with the run, or with a fault
     abbrev pub NextEnds : Bool → Bool → List ℕ → Result Next Fault → Type 0
     NextEnds is_clocked is_strict buffer (Ok (Held left)) =
-        (left < length buffer) × (ran : RanWhole (take left buffer)) × (IsTrue is_strict → IsAccepted ran.reply)
+        (left < length buffer) × (ran : RanWhole (take left buffer))
+        × (IsTrue is_strict → IsAccepted ran.reply)
     NextEnds is_clocked is_strict buffer (Ok (End Whole)) =
         (ran : RanLast) × ((0 < length (buffered ++ ran.took)) → IsFalse is_strict)
     NextEnds is_clocked is_strict buffer (Ok (End (Refused refused))) =
-        (left : List ℕ) × (ran : RanWhole left) × IsTrue is_strict × (¬ IsAccepted ran.reply) × GivesReason refused ran.reply
+        (left : List ℕ) × (ran : RanWhole left) × IsTrue is_strict × (¬ IsAccepted ran.reply)
+        × GivesReason refused ran.reply
     NextEnds is_clocked is_strict buffer (Ok (End NoLineEnd)) =
         (ran : RanNone) × IsTrue is_strict × IsCut (buffered ++ ran.took) × IsAtEnd input'
-    NextEnds is_clocked is_strict buffer (Err Read) = (ran : RanNone) × (HasNoLf (buffered ++ ran.took) ⊎ IsTrue is_clocked)
+    NextEnds is_clocked is_strict buffer (Err Read) =
+        (ran : RanNone) × (HasNoLf (buffered ++ ran.took) ⊎ IsTrue is_clocked)
     NextEnds is_clocked is_strict buffer (Err Write) = WritesPart
     NextEnds is_clocked is_strict buffer (Err other) = ⊥
 
 -- the input is at its end and nothing was read; or a byte was read; or a read failed
 abbrev pub EndOrMore : Option (List ℕ) → Option (List ℕ) → Result Ended Fault → Type 0
 EndOrMore input input' (Ok ended) = (ended ≡ Whole) × Consumes input input' [] × IsAtEnd input'
-EndOrMore input input' (Err fault) = (fault ≡ Read) × (took : List ℕ) × Consumes input input' took × (length took ≤ 1)
+EndOrMore input input' (Err fault) =
+    (fault ≡ Read) × (took : List ℕ) × Consumes input input' took × (length took ≤ 1)

@@ -119,7 +119,8 @@ impl Answered {
         is_strict: bool,
     ) -> Result<Passed, WriteFault>
         requires { IsTrue (accepts self.now) ↔ IsAccepted (reply_of self.now) }
-        ensures { WritesReply is_strict (W.contents writer.old) (W.contents writer.new) (reply_of self.now) result }
+        ensures { WritesReply is_strict (W.contents writer.old) (W.contents writer.new) (reply_of self.now)
+            result }
     {
         self.write(writer)?;
         if is_strict && !self.is_accepted() {

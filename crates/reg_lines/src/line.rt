@@ -105,7 +105,8 @@ fn query<'a>(query: Option<Query>) -> Option<CommandLine<'a>>
 }
 
 fn ocsp(digits: Option<&[u8]>) -> Option<CommandLine<'_>>
-    ensures { option_map meaning_of result ≡ option_map (λ d. is_ocsp_line (decoded_bytes d.now)) digits.entry }
+    ensures { option_map meaning_of result
+        ≡ option_map (λ d. is_ocsp_line (decoded_bytes d.now)) digits.entry }
 {
     Some(CommandLine::Ocsp(digits?))
 }

@@ -1,7 +1,7 @@
 //! A run of lines: lines in, reply lines out.
 
 ghost use Rattle.std.specs.Prelude.{◌≡◌, ◌+◌, ◌≤◌, length, take, IfErr, IfOk, IsTrue, OnErr};
-ghost use Rattle.reg_office_api.specs.Leads.{Leads};
+ghost use Rattle.reg_office_api.specs.Calls.{LeadsIn};
 ghost use Rattle.reg_lines.specs.Answer.{HostLines, LineComesTo, TimedComesTo};
 ghost use Rattle.reg_lines.specs.ByCalls.{LineCalls, Lines};
 ghost use Rattle.reg_lines.specs.Script.{EndOrMore, LineEnds, LinesEnd, NextEnds, RunEnds, longest_of};
@@ -48,7 +48,7 @@ pub fn run_lines<R: Read, W: Write, O: Office, H: Host>(
     host: &H,
     is_strict: bool,
 ) -> Result<Ended, Fault>
-    ensures ends { Leads O.is_clean O.stands
+    ensures ends { LeadsIn O.Office
         (λ signatory before after. LinesEnd (Lines O.signs signatory) R.remaining W.contents before after
         reader.old reader.new writer.old writer.new H.clock_reached (H.clocked host.now) is_strict result)
         office.old office.new }
@@ -84,7 +84,8 @@ fn run_all<R: Read, W: Write, O: Office, H: Host>(
 ) -> Result<Ended, Fault>
     requires { length buffer.old ≡ longest_of (H.clocked host.now) + 1 }
     ensures { RunEnds (longest_of (H.clocked host.now)) (R.remaining reader.old) (R.remaining reader.new)
-        (W.contents writer.old) (W.contents writer.new) (HostLines O.Office H.Host host.now) office.old office.new
+        (W.contents writer.old) (W.contents writer.new) (HostLines O.Office H.Host host.now)
+        office.old office.new
         (H.clocked host.now) is_strict result }
 {
     let mut buffered = 0;
@@ -177,7 +178,8 @@ fn run_by<O: Office, H: Host>(
     host: &H,
     line: &[u8],
 ) -> Result<Answered, Fault>
-    ensures comes { IfOk result (λ answered. LineComesTo (LineCalls O.Office) H.clock_reached (H.clocked host.now)
+    ensures comes { IfOk result (λ answered.
+        LineComesTo (LineCalls O.Office) H.clock_reached (H.clocked host.now)
         office.old line.now answered office.new) }
     ensures clock { IfErr result (λ fault. (fault ≡ Fault.Read) × IsTrue (H.clocked host.now)) }
     ensures err { OnErr result (office.new ≡ office.old) }

@@ -96,7 +96,8 @@ fn put_fields(
     text: &mut Vec<u8>,
 ) -> Result<(), AllocError>
     ensures { OnOk result (text.new.items
-        ≡ text.old.items ++ fields_listed (option_map (λ p. (p.0.now, p.1.now, p.2.now, p.3.now)) fields.entry)) }
+        ≡ text.old.items
+        ++ fields_listed (option_map (λ p. (p.0.now, p.1.now, p.2.now, p.3.now)) fields.entry)) }
 {
     let Some((order, serial, not_before, not_after)) = fields else {
         return Ok(());

@@ -3,7 +3,7 @@
 ghost use Rattle.std.specs.Prelude.{◌≡◌, ◌==◌, ◌&&◌, ℕ, List, option_map, is_some};
 ghost use Rattle.std.specs.Result.{result_map_both};
 ghost use Rattle.csv.specs.Records.{fields_of};
-ghost use Rattle.reg_office_api.specs.Leads.{Leads};
+ghost use Rattle.reg_office_api.specs.Calls.{LeadsIn};
 ghost use Rattle.reg_lines.specs.ByCalls.{LineCalls, Lines};
 ghost use Rattle.reg_lines.specs.Import.{ImportEnds, IsAtStart, RanRow, ReadsText, RowsEnd, TextRead, TookRow, is_header};
 ghost use Rattle.reg_lines.specs.LineReading.{four, four_at, register_of};
@@ -38,8 +38,9 @@ pub fn import<R: Read, W: Write, O: Office>(
     now: Moment,
     office: &mut O,
 ) -> Result<(), Fault>
-    ensures ends { Leads O.is_clean O.stands
-        (λ signatory before after. ImportEnds (Lines O.signs signatory) R.remaining W.contents now before after
+    ensures ends { LeadsIn O.Office
+        (λ signatory before after.
+        ImportEnds (Lines O.signs signatory) R.remaining W.contents now before after
         reader.old reader.new writer.old writer.new result)
         office.old office.new }
     ensures calls { ImportEnds (LineCalls O.Office) R.remaining W.contents now office.old office.new

@@ -2,7 +2,7 @@
 
 ghost use Rattle.std.specs.Prelude.{◌≡◌, ◌++◌, Err, IfOk, Ok, codes};
 ghost use Rattle.hex.specs.Hex.{encode_lower};
-ghost use Rattle.reg_office_api.specs.Leads.{Leads};
+ghost use Rattle.reg_office_api.specs.Calls.{LeadsIn};
 ghost use Rattle.reg_lines.specs.Answer.{ComesTo, OfficeAnswers, OcspLineComesTo, unreadable as syntax_refused};
 ghost use Rattle.reg_lines.specs.ByCalls.{LineCalls, Lines};
 ghost use Rattle.reg_lines.specs.Meaning.{is_ocsp_line, decoded_bytes};
@@ -19,8 +19,9 @@ const REFUSAL: usize = 5;
 
 /// Runs a line, given without its line end, at a moment.
 pub fn run_line<O: Office>(alloc: Global, office: &mut O, now: Moment, line: &[u8]) -> Answered
-    ensures leads { Leads O.is_clean O.stands
-        (λ signatory before after. ComesTo (Lines O.signs signatory) now before line.now result after) office.old office.new }
+    ensures leads { LeadsIn O.Office
+        (λ signatory before after. ComesTo (Lines O.signs signatory) now before line.now result after)
+        office.old office.new }
     ensures device { ComesTo (LineCalls O.Office) now office.old line.now result office.new }
 {
     match read_line(line) {

@@ -1,7 +1,7 @@
 //! Runs a script, in which each line begins with a moment, and writes a reply line for each.
 
 ghost use Rattle.std.specs.Prelude.{IsFalse};
-ghost use Rattle.reg_office_api.specs.Leads.{Leads};
+ghost use Rattle.reg_office_api.specs.Calls.{LeadsIn};
 ghost use Rattle.reg_lines.specs.ByCalls.{LineCalls, Lines};
 ghost use Rattle.reg_lines.specs.Script.{ScriptEnds};
 
@@ -49,7 +49,7 @@ pub fn run_script<R: Read, W: Write, O: Office>(
     writer: &mut W,
     office: &mut O,
 ) -> Result<(), Fault>
-    ensures ends { Leads O.is_clean O.stands
+    ensures ends { LeadsIn O.Office
         (λ signatory before after. ScriptEnds (Lines O.signs signatory) R.remaining W.contents before after
         reader.old reader.new writer.old writer.new result)
         office.old office.new }
@@ -69,7 +69,7 @@ pub fn run_script_for<R: Read, W: Write, O: Office, H: Host>(
     host: &H,
 ) -> Result<(), Fault>
     requires { IsFalse (H.clocked host.now) }
-    ensures ends { Leads O.is_clean O.stands
+    ensures ends { LeadsIn O.Office
         (λ signatory before after. ScriptEnds (Lines O.signs signatory) R.remaining W.contents before after
         reader.old reader.new writer.old writer.new result)
         office.old office.new }

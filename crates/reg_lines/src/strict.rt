@@ -1,7 +1,7 @@
 //! A strict import: it ends at the first refusal or fault, and does not run a last row without its line end.
 
 ghost use Rattle.std.specs.Prelude.{◌≡◌};
-ghost use Rattle.reg_office_api.specs.Leads.{Leads};
+ghost use Rattle.reg_office_api.specs.Calls.{LeadsIn};
 ghost use Rattle.reg_lines.specs.ByCalls.{LineCalls, Lines};
 ghost use Rattle.reg_lines.specs.Strict.{StrictEnds, StrictRan, ended_part, is_within};
 
@@ -22,8 +22,9 @@ pub fn import_strictly<R: Read, W: Write, O: Office>(
     now: Moment,
     office: &mut O,
 ) -> Result<Ended, Fault>
-    ensures ends { Leads O.is_clean O.stands
-        (λ signatory before after. StrictEnds (Lines O.signs signatory) R.remaining W.contents now before after
+    ensures ends { LeadsIn O.Office
+        (λ signatory before after.
+        StrictEnds (Lines O.signs signatory) R.remaining W.contents now before after
         reader.old reader.new writer.old writer.new result)
         office.old office.new }
     ensures calls { StrictEnds (LineCalls O.Office) R.remaining W.contents now office.old office.new

@@ -1,5 +1,6 @@
 -- Each call of an office as a relation between the office before it and the office after it.
-use Rattle.std.specs.Prelude.{ℕ, List, Option, Result}
+use Rattle.std.specs.Prelude.{◌≡◌, ℕ, List, Option, Result}
+use Rattle.reg_core.specs.Records.{Records}
 use Rattle.reg_core.specs.declared.command.Command.{Command}
 use Rattle.reg_core.specs.declared.command.Query.{Query}
 use Rattle.reg_core.specs.declared.command.Reply.{Reply}
@@ -8,12 +9,25 @@ use Rattle.reg_core.specs.declared.refusal.Fault.{Fault}
 use Rattle.reg_ocsp.specs.Drafts.{Drafted}
 use Rattle.reg_office_api.specs.CallSteps.{CommandStep, QueryStep, OcspStep, CrlStep}
 use Rattle.reg_office_api.specs.Drafts.{Drafts}
-use Rattle.reg_office_api.specs.Leads.{Leads}
+use Rattle.reg_office_api.specs.Leads.{Leads, Looks}
 use Rattle.reg_office_api.specs.Responses.{Replies}
+use Rattle.reg_office_api.specs.Signatories.{Signatory}
 use Rattle.reg_office_api.specs.declared.office.Office.{Ghosts as Office}
 use Rattle.reg_office_api.specs.declared.response.ResponseKind.{ResponseKind}
 
 module _ {O : Type 0} (office : Office O) where
+  -- a call as a step of the records that the office keeps
+  abbrev pub LeadsIn : (Signatory → Records → Records → Type 0) → O → O → Type 0
+  LeadsIn step s t = Leads office.is_clean office.stands step s t
+
+  -- a call whose result says `Tells` of the records, and which does not change them
+  abbrev pub LooksIn : (Records → Type 0) → O → O → Type 0
+  LooksIn Tells s t = Looks office.is_clean office.stands Tells s t
+
+  -- a call that does not change the records
+  abbrev pub KeepsIn : O → O → Type 0
+  KeepsIn s t = Leads office.is_clean office.stands (λ signatory before after. after ≡ before) s t
+
   -- a command
   abbrev pub RunsIn : O → ℕ → Command → Result Reply Fault → O → Type 0
   RunsIn s now command outcome t = Leads office.is_clean office.stands (CommandStep office.signs now command outcome) s t

@@ -19,7 +19,8 @@ pub fn restart<D: Crash + Drop>(
     connection: Connection<FileStore<D>>,
     options: Options,
 ) -> Result<Connection<FileStore<D>>, (Error, Leftover<D>)>
-    ensures again { IfOk result (λ again. HasCleanDisk (file_state again) → IsOpenedAgain over_files connection again) }
+    ensures again { IfOk result (λ again.
+        HasCleanDisk (file_state again) → IsOpenedAgain over_files connection again) }
     ensures idle { IfOk result (λ again. again.in_transaction ≡ false) }
 {
     let mut files = connection.into_store().close();
