@@ -34,7 +34,8 @@ pub record AreTables (db : Database) : Type 0 where
   pub whole : AllByRecursion (λ row. length row ≡ 7) (db.trees 15)
 
 -- the rows of a table are those of some records, whose numbers are the rowids 1, 2, 3 and so on
-pub record AreKeyed {A : Type 0} (well : A → Type 0) (stored : A → Row) (number : A → ℕ) (rows : List Row) : Type 0 where
+pub record AreKeyed {A : Type 0} (well : A → Type 0) (stored : A → Row) (number : A → ℕ)
+    (rows : List Row) : Type 0 where
   pub these : List A
   pub are : rows ≡ map stored these
   pub numbered : NumberedFrom number 1 these
@@ -58,7 +59,8 @@ pub record AreOffice (trees : Trees) : Type 0 where
 
 -- the rows of each table are those of some records, or of what is kept beside them
 abbrev pub SubscribersAgree : Trees → Type 0
-SubscribersAgree trees = AreKeyed {A = SubscriberRow} (λ _. Unit {0}) stored_subscriber (λ row. row.id) (trees 1)
+SubscribersAgree trees =
+    AreKeyed {A = SubscriberRow} (λ _. Unit {0}) stored_subscriber (λ row. row.id) (trees 1)
 
 abbrev pub OrdersAgree : Trees → Type 0
 OrdersAgree trees = AreKeyed {A = OrderRow} (λ _. Unit {0}) stored_order (λ row. row.id) (trees 3)
@@ -67,10 +69,12 @@ abbrev pub CertificatesAgree : Trees → Type 0
 CertificatesAgree trees = AreCounted {A = CertRow} (λ row. IsSerial row.serial) stored_certificate (trees 4)
 
 abbrev pub RequestsAgree : Trees → Type 0
-RequestsAgree trees = AreKeyed {A = RequestRow} (λ row. IsSerial row.serial) stored_request (λ row. row.id) (trees 7)
+RequestsAgree trees =
+    AreKeyed {A = RequestRow} (λ row. IsSerial row.serial) stored_request (λ row. row.id) (trees 7)
 
 abbrev pub RevocationsAgree : Trees → Type 0
-RevocationsAgree trees = AreCounted {A = RevocationRow} (λ row. IsSerial row.serial) stored_revocation (trees 8)
+RevocationsAgree trees =
+    AreCounted {A = RevocationRow} (λ row. IsSerial row.serial) stored_revocation (trees 8)
 
 abbrev pub CrlsAgree : Trees → Type 0
 CrlsAgree trees = AreKeyed {A = Crl} (λ _. Unit {0}) stored_crl (λ crl. crl.number) (trees 11)
@@ -90,7 +94,8 @@ pub record AreCounts (rows : List Row) : Type 0 where
 pub record IsTermsOf (rows : List Row) (found : Found) : Type 0 where
   pub row : Row
   pub only : rows ≡ row ∷ []
-  pub cells : HasCells 0 row (number 1 ∷ number version ∷ number found.crl_life ∷ number found.ocsp_life ∷ number found.cap ∷ number found.last ∷ [])
+  pub cells : HasCells 0 row (number 1 ∷ number version ∷ number found.crl_life ∷ number found.ocsp_life
+      ∷ number found.cap ∷ number found.last ∷ [])
 
 -- there are records that the tables show, and columns beside them
 pub record ShowSome (db : Database) : Type 0 where

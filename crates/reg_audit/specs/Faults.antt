@@ -31,6 +31,10 @@ EndsAtBrokenRow Memory = ⊥
 EndsAtBrokenRow Store = ⊥
 EndsAtBrokenRow (Broken broken) = Unit {0}
 
+-- no audit ends at a broken row
+abbrev pub NoBrokenRow : {T : Type 0} → Result T AuditFault → Type 0
+NoBrokenRow result = IfErr result (λ fault. ¬ EndsAtBrokenRow fault)
+
 -- an audit that ends at a broken row refutes this
 abbrev pub NoBrokenRowIf : {T : Type 0} → Type 0 → Result T AuditFault → Type 0
 NoBrokenRowIf Holds result = IfErr result (λ fault. EndsAtBrokenRow fault → ¬ Holds)
@@ -46,7 +50,8 @@ IsBrokenRow (Broken broken) = broken.why ≢ OtherBytes
 -- made with days that a schedule can allow. Of a row that is not told for its bytes also whatever the bytes of CRLs are.
 pub record Denies (row : Row) (records : Records) (columns : Columns) : Type 0 where
   pub whole : HasValues records → Sound IsSomeCrl records → Kept columns records → HasAllowedDays columns → ⊥
-  pub rows : row.why ≢ OtherBytes → HasValues records → SoundRows records → Kept columns records → HasAllowedDays columns → ⊥
+  pub rows : row.why ≢ OtherBytes → HasValues records → SoundRows records → Kept columns records
+      → HasAllowedDays columns → ⊥
 
 -- an audit that ends so denies it by the row that it reports
 abbrev pub IsDenied : AuditFault → Records → Columns → Type 0

@@ -43,7 +43,8 @@ pub record IsReadOf (records : Records) (columns : Columns) (what : What) (rows 
   pub reads : Reads (command_of (understood register_schema (text_of what))) db [] rows
 
 -- there are rows for each text, in this order
-abbrev pub AreEach : {Rows : Type 0} → (What → List Row → Type 0) → List What → List Rows → (Rows → List Row) → Type 0
+abbrev pub AreEach : {Rows : Type 0} → (What → List Row → Type 0) → List What → List Rows
+    → (Rows → List Row) → Type 0
 AreEach Is [] [] items = Unit {0}
 AreEach Is [] (rows ∷ more) items = ⊥
 AreEach Is (what ∷ whats) [] items = ⊥
@@ -59,8 +60,11 @@ AreReadFrom db = AreEach (IsReadFrom db)
 
 -- what an audit reads, in this order
 abbrev pub whole : List What
-whole = Office ∷ Subscribers ∷ Orders ∷ Certificates ∷ Requests ∷ Revocations ∷ Crls ∷ Standings ∷ Counts ∷ Listings ∷ []
+whole =
+    Office ∷ Subscribers ∷ Orders ∷ Certificates ∷ Requests ∷ Revocations ∷ Crls ∷ Standings
+    ∷ Counts ∷ Listings ∷ []
 
 -- and what it reads besides
 abbrev pub read_besides : List What
-read_besides = CertificateRowids ∷ RevocationRowids ∷ StandingRowids ∷ CountsRowid ∷ ListingRowids ∷ Terms ∷ Steps ∷ []
+read_besides =
+    CertificateRowids ∷ RevocationRowids ∷ StandingRowids ∷ CountsRowid ∷ ListingRowids ∷ Terms ∷ Steps ∷ []

@@ -5,12 +5,19 @@ use Rattle.reg_core.specs.Calendar.{IsMoment, clock_end}
 use Rattle.reg_core.specs.Label.{IsLabel}
 use Rattle.reg_core.specs.Records.{Records}
 use Rattle.reg_core.specs.Schedule.{IsDays}
+use Rattle.reg_core.specs.Sound.{Sound}
 use Rattle.reg_store_tables.specs.Columns.{Columns}
+use Rattle.reg_store_tables.specs.Kept.{Kept}
+use Rattle.reg_audit.specs.Stored.{IsSomeCrl}
 pub use Rattle.reg_store_tables.specs.RecordValues.{IsValidity, AreMomentAndReason, HasValues}
 
 -- the days that the office was made with are some that a schedule can allow
 abbrev pub HasAllowedDays : Columns → Type 0
 HasAllowedDays columns = (days : ℕ) × (columns.days ≡ pos days) × IsDays days
+
+-- sound records with the bytes of their CRLs, derived tables that match them, and days that a schedule can allow
+abbrev pub IsSoundRegister : Records → Columns → Type 0
+IsSoundRegister records columns = Sound IsSomeCrl records × Kept columns records × HasAllowedDays columns
 
 -- each value is one that a register's records, or what is kept beside them, can have; this follows where the records have such
 -- values and are sound, and what is kept follows from them
@@ -22,4 +29,5 @@ pub record AreReadable (records : Records) (columns : Columns) : Type 0 where
   pub revocations : AllByRecursion (λ row. AreMomentAndReason row.at row.reason) records.revocations
   pub crls : AllByRecursion (λ crl. crl.this_update < clock_end) records.crls
   pub letters : AllByRecursion (λ row. IsMoment row.not_after) columns.letters
-  pub listed : AllByRecursion (λ row. AreMomentAndReason row.at row.reason × IsMoment row.not_after) columns.listed
+  pub listed : AllByRecursion
+      (λ row. AreMomentAndReason row.at row.reason × IsMoment row.not_after) columns.listed

@@ -13,7 +13,10 @@ abbrev pub shown_office : OfficeRow → Row
 shown_office office = number office.cap ∷ number office.last ∷ []
 
 abbrev pub shown_standing : Standing → Row
-shown_standing row = serial_value row.serial ∷ number row.not_after ∷ Text (letter_text (letter_in row.letter)) ∷ []
+shown_standing row =
+    serial_value row.serial ∷ number row.not_after ∷ Text (letter_text (letter_in row.letter)) ∷ []
 
 abbrev pub shown_listed : Listed → Row
-shown_listed row = serial_value row.serial ∷ number row.at ∷ number row.reason ∷ number row.first ∷ number row.not_after ∷ number_or_null row.last ∷ []
+shown_listed row =
+    serial_value row.serial ∷ number row.at ∷ number row.reason ∷ number row.first ∷ number row.not_after
+    ∷ number_or_null row.last ∷ []

@@ -24,8 +24,12 @@ pub record CanList (listed : List Listed) : Type 0 where
 
 -- the value behind what is signed in a CRL: its signatureAlgorithm (RFC 5280 5.1.1.2)
 abbrev pub behind_signed : List ℕ → Option Parts
-behind_signed bytes = value_at bytes >>= λ list. value_at list.0.contents >>= λ tbs. value_at tbs.1 >>= λ algorithm. Some algorithm.0
+behind_signed bytes =
+    value_at bytes >>= λ list. value_at list.0.contents >>= λ tbs.
+    value_at tbs.1 >>= λ algorithm. Some algorithm.0
 
 -- there is a CRL with the number of a row (RFC 5280 5.2.3), and its bytes are those of what the records list in it
 abbrev pub IsStored : Records → CrlRow → Type 0
-IsStored records row = IsSomeAnd (crl_in records.crls row.number) (λ crl. IsSomeCrl (cert_list records row.number row.this_update) crl.bytes)
+IsStored records row =
+    IsSomeAnd (crl_in records.crls row.number)
+    (λ crl. IsSomeCrl (cert_list records row.number row.this_update) crl.bytes)

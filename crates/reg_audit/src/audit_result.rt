@@ -4,13 +4,11 @@ ghost use Rattle.std.specs.Prelude.{◌≡◌, ◌≢◌, ◌<◌, ℕ, false, I
 ghost use Rattle.sqlite.specs.Held.{state};
 ghost use Rattle.sqlite.specs.State.{HasCleanDisk};
 ghost use Rattle.reg_core.specs.Sound.{Sound};
-ghost use Rattle.reg_store_tables.specs.Kept.{Kept};
 ghost use Rattle.reg_store_tables.specs.Schema.{register_schema};
 ghost use Rattle.reg_store_tables.specs.Stays.{IsRegister, Stays};
 ghost use Rattle.reg_store_opening.specs.Said.{HasVersion, SaysNoRegister};
 ghost use Rattle.reg_audit.specs.Complete.{ShowsSound};
-ghost use Rattle.reg_audit.specs.Stored.{IsSomeCrl};
-ghost use Rattle.reg_audit.specs.ReadableValues.{HasAllowedDays};
+ghost use Rattle.reg_audit.specs.ReadableValues.{IsSoundRegister};
 ghost use Rattle.reg_audit.specs.Judged.{IsJudged};
 ghost use Rattle.reg_audit.specs.Presumed.{IsOverRegister, IsPresumed};
 ghost use Rattle.reg_audit.specs.AuditResults.{CountedBy, DeniedBy, IsSound, ReportsTables, audit_result_of};
@@ -69,7 +67,8 @@ pub fn judge<S: Alter, W: ProgressObserver>(
 ) -> Result<AuditResult, StoreFault>
     requires { conn.old.in_transaction ≡ false }
     ensures sound { OnShown S.Store conn.old conn.new
-        (λ records columns. IfOk result (λ audit_result. IsSound audit_result → Sound IsSomeCrl records × Kept columns records × HasAllowedDays columns)) }
+        (λ records columns. IfOk result
+        (λ audit_result. IsSound audit_result → IsSoundRegister records columns)) }
     ensures shown { (HasCleanDisk (state S.Store conn.old) → IsTrue (state S.Store conn.old).is_open)
         → IsPresumed S.Store conn.old → HasCleanDisk (state S.Store conn.new)
         → IfOk result (λ audit_result. IsSound audit_result → ShowsSound (state S.Store conn.old).now) }
@@ -83,7 +82,8 @@ pub fn judge<S: Alter, W: ProgressObserver>(
         → (n : ℕ) × (3 < n) × HasVersion (state S.Store conn.old).now n }
     ensures none { HasCleanDisk (state S.Store conn.new) → result ≡ Err StoreFault.NotARegister
         → SaysNoRegister (state S.Store conn.old).now }
-    ensures register { IfOk result (λ audit_result. IsSound audit_result → IsRegister (state S.Store conn.new)) }
+    ensures register { IfOk result
+        (λ audit_result. IsSound audit_result → IsRegister (state S.Store conn.new)) }
     ensures same { Stays (state S.Store conn.old) (state S.Store conn.new) }
     ensures idle { conn.new.in_transaction ≡ false }
     ensures faults { IfErr result (λ fault. fault ≢ StoreFault.NotEmpty) }

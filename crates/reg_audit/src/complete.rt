@@ -1,6 +1,6 @@
 //! Checks that a register's tables have only rows that a register writes: then there are records that they show.
 
-ghost use Rattle.std.specs.Prelude.{◌≡◌, ℕ, IsTrue, IfErr, IfOk, IfSome, OnOk};
+ghost use Rattle.std.specs.Prelude.{◌≡◌, ℕ, IsTrue, IfOk, IfSome, OnOk};
 ghost use Rattle.std.specs.List.{AllByRecursion, AllZip};
 ghost use Rattle.sqlite.specs.Effect.{Database};
 ghost use Rattle.sqlite_value.specs.Order.{Row as Cells, column};
@@ -10,9 +10,9 @@ ghost use Rattle.reg_store_tables.specs.Rows.{number};
 ghost use Rattle.reg_audit.specs.Cells.{CountedFrom, HasCells, IsOfSomeRecord};
 ghost use Rattle.reg_audit.specs.Complete.{AreTables, AreCounts, AreOffice, IsTermsOf, ShowSome};
 ghost use Rattle.reg_audit.specs.ReadTexts.{AreRead, AreReadFrom, IsReadFrom, read_besides, whole};
-ghost use Rattle.reg_audit.specs.Faults.{EndsAtBrokenRow};
+ghost use Rattle.reg_audit.specs.Faults.{NoBrokenRow};
 ghost use Rattle.reg_audit.specs.declared.sql.What.TheVariants.{Counts as OfCounts, CountsRowid, Terms as OfTerms, Steps};
-ghost use Rattle.reg_audit.specs.ShownTables.{OnEachRead};
+ghost use Rattle.reg_audit.specs.ShownTables.{OnAllRead};
 
 use crate::fault::{AuditFault, broken_at};
 use crate::read_rows::rows_at;
@@ -53,7 +53,7 @@ fn is_number(row: &Row, at: usize, n: u64) -> bool
 
 fn check_counted(table: RegisterTable, rows: &[Row]) -> Result<(), AuditFault>
     ensures counted { OnOk result (CountedFrom 1 rows.now) }
-    ensures broken { CountedFrom 1 rows.now → IfErr result (λ fault. ¬ EndsAtBrokenRow fault) }
+    ensures broken { CountedFrom 1 rows.now → NoBrokenRow result }
 {
     for (row_index, row) in rows.iter().enumerate() {
         if !is_number(row, 0, row_index as u64 + 1) {
@@ -75,7 +75,7 @@ fn stands<T: ShownRow>(row: &Row) -> bool
 /// Checks that each row is the row of some record.
 fn each_stands<T: ShownRow>(rows: &[Row]) -> Result<(), AuditFault>
     ensures stand { OnOk result (AllByRecursion (IsOfSomeRecord T.is_keyed T.shown) rows.now) }
-    ensures broken { IfErr result (λ fault. ¬ EndsAtBrokenRow fault) }
+    ensures broken { NoBrokenRow result }
 {
     for row in rows {
         if !stands::<T>(row) {
@@ -89,7 +89,7 @@ fn each_stands<T: ShownRow>(rows: &[Row]) -> Result<(), AuditFault>
 fn check_keyed<T: ShownRow>(table: RegisterTable, rows: &[Row]) -> Result<(), AuditFault>
     ensures counted { OnOk result (CountedFrom 1 rows.now) }
     ensures stand { OnOk result (AllByRecursion (IsOfSomeRecord T.is_keyed T.shown) rows.now) }
-    ensures broken { CountedFrom 1 rows.now → IfErr result (λ fault. ¬ EndsAtBrokenRow fault) }
+    ensures broken { CountedFrom 1 rows.now → NoBrokenRow result }
 {
     check_counted(table, rows)?;
     each_stands::<T>(rows)
@@ -103,7 +103,7 @@ fn check_table<T: ShownRow>(
 ) -> Result<(), AuditFault>
     ensures counted { OnOk result (CountedFrom 1 rowids.now) }
     ensures stand { OnOk result (AllByRecursion (IsOfSomeRecord T.is_keyed T.shown) rows.now) }
-    ensures broken { CountedFrom 1 rowids.now → IfErr result (λ fault. ¬ EndsAtBrokenRow fault) }
+    ensures broken { CountedFrom 1 rowids.now → NoBrokenRow result }
 {
     check_counted(table, rowids)?;
     each_stands::<T>(rows)
@@ -113,7 +113,7 @@ fn check_table<T: ShownRow>(
 fn check_counts(rows: &[Row], rowids: &[Row]) -> Result<(), AuditFault>
     ensures hold { (db : Database) → AreTables db → IsReadFrom db OfCounts rows.now
         → IsReadFrom db CountsRowid rowids.now → OnOk result (AreCounts (db.trees 14)) }
-    ensures broken { IfErr result (λ fault. ¬ EndsAtBrokenRow fault) }
+    ensures broken { NoBrokenRow result }
 {
     let [rowid] = rowids else {
         return Err(AuditFault::Store);
@@ -151,8 +151,10 @@ fn terms_in(rows: &[Row]) -> Option<Terms>
 }
 
 fn steps_in(alloc: Global, rows: &[Row]) -> Result<Vec<(Moment, u64)>, AuditFault>
-    ensures told { IfOk result (λ steps. AllZip (λ (step : ℕ × ℕ) (row : Cells). HasCells 0 row (shown_step step)) steps.items rows.now) }
-    ensures broken { IfErr result (λ fault. ¬ EndsAtBrokenRow fault) }
+    ensures told { IfOk result
+        (λ steps. AllZip (λ (step : ℕ × ℕ) (row : Cells). HasCells 0 row (shown_step step))
+        steps.items rows.now) }
+    ensures broken { NoBrokenRow result }
 {
     let mut steps = Vec::new(alloc);
     for row in rows {
@@ -165,8 +167,14 @@ fn steps_in(alloc: Global, rows: &[Row]) -> Result<Vec<(Moment, u64)>, AuditFaul
 }
 
 fn check_policy(steps: &[(Moment, u64)], terms: Terms) -> Result<(), AuditFault>
-    ensures hold { OnOk result (IsPolicy (record { schedule = steps.now; crl_life = terms.crl_life; ocsp_life = terms.ocsp_life; cap = terms.cap })) }
-    ensures broken { IfErr result (λ fault. ¬ EndsAtBrokenRow fault) }
+    ensures hold { OnOk result
+        (IsPolicy (record {
+          schedule = steps.now;
+          crl_life = terms.crl_life;
+          ocsp_life = terms.ocsp_life;
+          cap = terms.cap;
+        })) }
+    ensures broken { NoBrokenRow result }
 {
     match Schedule::new(steps) {
         Some(schedule) => {
@@ -182,7 +190,7 @@ fn check_policy(steps: &[(Moment, u64)], terms: Terms) -> Result<(), AuditFault>
 fn check_office(alloc: Global, office: &[Row], steps: &[Row]) -> Result<(), AuditFault>
     ensures hold { (db : Database) → AreTables db → IsReadFrom db OfTerms office.now
         → IsReadFrom db Steps steps.now → OnOk result (AreOffice db.trees) }
-    ensures broken { IfErr result (λ fault. ¬ EndsAtBrokenRow fault) }
+    ensures broken { NoBrokenRow result }
 {
     let steps = steps_in(alloc, steps)?;
     match terms_in(office) {
@@ -200,8 +208,9 @@ pub(crate) fn check_complete(
 ) -> Result<(), AuditFault>
     ensures shown { (db : Database) → AreTables db → AreReadFrom db whole all.now (λ rows. rows.items)
         → AreReadFrom db read_besides more.now (λ rows. rows.items) → OnOk result (ShowSome db) }
-    ensures broken { OnEachRead whole all.now (λ rows. rows.items)
-        (λ records columns. AreRead records columns read_besides more.now (λ rows. rows.items) → IfErr result (λ fault. ¬ EndsAtBrokenRow fault)) }
+    ensures broken { OnAllRead all.now
+        (λ records columns. AreRead records columns read_besides more.now (λ rows. rows.items)
+        → NoBrokenRow result) }
 {
     check_office(alloc, rows_at(more, 5), rows_at(more, 6))?;
     check_keyed::<SubscriberRow>(RegisterTable::Subscriber, rows_at(all, 1))?;

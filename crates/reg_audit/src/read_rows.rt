@@ -7,10 +7,10 @@ ghost use Rattle.reg_core.specs.Sound.{SoundRows};
 ghost use Rattle.reg_store_tables.specs.Columns.{Columns};
 ghost use Rattle.reg_store_tables.specs.Kept.{Kept};
 ghost use Rattle.reg_audit.specs.Numbers.{AreNumbersOf};
-ghost use Rattle.reg_audit.specs.ReadTexts.{IsReadOf, IsReadFrom, AreRead, AreReadFrom, whole};
+ghost use Rattle.reg_audit.specs.ReadTexts.{IsReadOf, IsReadFrom, AreRead, AreReadFrom};
 ghost use Rattle.reg_audit.specs.Faults.{NoBrokenRowIf};
 ghost use Rattle.reg_audit.specs.ReadableValues.{HasValues};
-ghost use Rattle.reg_audit.specs.ShownTables.{OnEachRead};
+ghost use Rattle.reg_audit.specs.ShownTables.{OnAllRead};
 
 use crate::fault::AuditFault;
 use crate::sql::What;
@@ -38,12 +38,13 @@ pub(crate) fn rows_at(all: &[Vec<Row>], row_index: usize) -> &[Row]
 
 /// Whether the rows are those of a register, in the order of [`crate::whole_audit::WHOLE`].
 pub(crate) fn check_read(alloc: Global, all: &[Vec<Row>]) -> Result<Audited, AuditFault>
-    ensures sound { OnEachRead whole all.now (λ rows. rows.items)
+    ensures sound { OnAllRead all.now
         (λ records columns. IfOk result (λ _. SoundRows records × Kept columns records)) }
-    ensures counted { OnEachRead whole all.now (λ rows. rows.items)
+    ensures counted { OnAllRead all.now
         (λ records columns. IfOk result (AreNumbersOf records)) }
-    ensures broken { OnEachRead whole all.now (λ rows. rows.items)
-        (λ records columns. NoBrokenRowIf (HasValues records × SoundRows records × Kept columns records) result) }
+    ensures broken { OnAllRead all.now
+        (λ records columns. NoBrokenRowIf
+        (HasValues records × SoundRows records × Kept columns records) result) }
 {
     let office = office(rows_at(all, 0))?;
     let subscribers = subscribers(alloc, rows_at(all, 1))?;

@@ -20,7 +20,7 @@ ghost use Rattle.reg_audit.specs.ReadTexts.{AreRead, whole};
 ghost use Rattle.reg_audit.specs.Faults.{IsBrokenRow, NoBrokenRowIf};
 ghost use Rattle.reg_audit.specs.Stored.{CanList, IsSomeCrl, IsStored, behind_signed};
 ghost use Rattle.reg_audit.specs.ReadableValues.{HasValues};
-ghost use Rattle.reg_audit.specs.ShownTables.{OnEachRead};
+ghost use Rattle.reg_audit.specs.ShownTables.{OnAllRead};
 
 use crate::fault::AuditFault;
 use crate::observer::ProgressObserver;
@@ -52,7 +52,8 @@ fn other_bytes(number: u64) -> AuditFault
 
 /// The value that follows the tbsCertList of a CRL (RFC 5280 5.1.1).
 fn value_behind_signed(crl: &[u8]) -> Option<Tlv<'_>>
-    ensures exact { Gives (λ value. record { tag = value.tag; contents = value.contents.now }) result (behind_signed crl.now) }
+    ensures exact { Gives (λ value. record { tag = value.tag; contents = value.contents.now }) result
+        (behind_signed crl.now) }
     ensures value { IfSome result (λ value. IsTlv value.raw.now value.tag value.contents.now) }
 {
     let (list, _) = take(crl)?;
@@ -205,8 +206,9 @@ pub(crate) fn check_crls<S: Alter, W: ProgressObserver>(
         → AreRead records columns whole all.now (λ rows. rows.items) → HasValues records → SoundRows records
         → Kept columns records → HasCleanDisk (state S.Store conn.new)
         → NoBrokenRowIf (CrlsSigned IsSomeCrl records) result }
-    ensures rows { OnEachRead whole all.now (λ rows. rows.items)
-        (λ records columns. HasValues records → SoundRows records → Kept columns records → IfErr result (λ fault. ¬ IsBrokenRow fault)) }
+    ensures rows { OnAllRead all.now
+        (λ records columns. HasValues records → SoundRows records → Kept columns records
+        → IfErr result (λ fault. ¬ IsBrokenRow fault)) }
     ensures looked { Looked S.Store conn.old conn.new }
 {
     let crls = crls(alloc, rows_at(all, 6))?;

@@ -15,7 +15,8 @@ use std::alloc::Global;
 
 pub(crate) fn office(rows: &[Row]) -> Result<OfficeRow, AuditFault>
     ensures read { OnRead OfOffice rows.now
-        (λ records columns. IfOk result (λ found. (found.cap ≡ records.policy.cap) × (found.last ≡ records.last))) }
+        (λ records columns. IfOk result
+        (λ found. (found.cap ≡ records.policy.cap) × (found.last ≡ records.last))) }
     ensures has { AreReadIfReadable OfOffice rows.now result }
 {
     only::<OfficeRow>(RegisterTable::Office, rows)

@@ -1,8 +1,8 @@
 //! What the rows of each table show, where a row with a value that no register writes is reported as broken.
 
-ghost use Rattle.std.specs.Prelude.{◌≡◌, [], ◌∷◌, List, map, IfOk, IfErr};
+ghost use Rattle.std.specs.Prelude.{◌≡◌, [], ◌∷◌, List, map, IfOk};
 ghost use Rattle.std.specs.List.{AllByRecursion};
-ghost use Rattle.reg_audit.specs.Faults.{EndsAtBrokenRow};
+ghost use Rattle.reg_audit.specs.Faults.{NoBrokenRow};
 
 use crate::fault::{AuditFault, broken_at};
 use crate::sql_values::letter_at;
@@ -105,7 +105,7 @@ pub(crate) fn typed<T: ShownRow>(
         → IfOk result (λ read. read.items ≡ shown) }
     ensures has { (shown : List T.Record) → AllByRecursion T.is_keyed shown
         → AllByRecursion T.has_values shown → rows.now ≡ map T.shown shown
-        → IfErr result (λ fault. ¬ EndsAtBrokenRow fault) }
+        → NoBrokenRow result }
 {
     match rows_in::<T>(alloc, rows) {
         Ok(found) => Ok(found),
@@ -119,7 +119,7 @@ pub(crate) fn only<T: ShownRow>(table: RegisterTable, rows: &[Row]) -> Result<T:
     ensures read { (it : T.Record) → T.is_keyed it → rows.now ≡ T.shown it ∷ []
         → IfOk result (λ read. read ≡ it) }
     ensures has { (it : T.Record) → T.is_keyed it → T.has_values it → rows.now ≡ T.shown it ∷ []
-        → IfErr result (λ fault. ¬ EndsAtBrokenRow fault) }
+        → NoBrokenRow result }
 {
     match rows {
         [row] => T::in_row(row).ok_or(broken_at(table, 0, Defect::NoValue)),

@@ -4,15 +4,12 @@ ghost use Rattle.std.specs.Prelude.{◌≡◌, IfOk, IfErr};
 ghost use Rattle.sqlite.specs.Effect.{Database};
 ghost use Rattle.sqlite.specs.Held.{state};
 ghost use Rattle.sqlite.specs.State.{HasCleanDisk};
-ghost use Rattle.reg_core.specs.Sound.{Sound};
-ghost use Rattle.reg_store_tables.specs.Kept.{Kept};
 ghost use Rattle.reg_store_tables.specs.Shows.{Holds};
 ghost use Rattle.reg_store_tables.specs.Stays.{Looked};
 ghost use Rattle.reg_audit.specs.Complete.{AreTables, ShowsSound};
 ghost use Rattle.reg_audit.specs.Numbers.{AreNumbersOf};
-ghost use Rattle.reg_audit.specs.Stored.{IsSomeCrl};
 ghost use Rattle.reg_audit.specs.Faults.{IsDenied};
-ghost use Rattle.reg_audit.specs.ReadableValues.{HasAllowedDays};
+ghost use Rattle.reg_audit.specs.ReadableValues.{IsSoundRegister};
 ghost use Rattle.reg_audit.specs.ShownTables.{OnShown};
 
 use crate::complete::{BESIDE, check_complete};
@@ -59,7 +56,7 @@ pub fn audit<S: Alter, W: ProgressObserver>(
     observer: &mut W,
 ) -> Result<Audited, AuditFault>
     ensures sound { OnShown S.Store conn.old conn.new
-        (λ records columns. IfOk result (λ _. Sound IsSomeCrl records × Kept columns records × HasAllowedDays columns)) }
+        (λ records columns. IfOk result (λ _. IsSoundRegister records columns)) }
     ensures shown { (db : Database) → Holds S.Store conn.old (λ now. now ≡ db) → AreTables db
         → HasCleanDisk (state S.Store conn.new) → IfOk result (λ _. ShowsSound db) }
     ensures counted { OnShown S.Store conn.old conn.new

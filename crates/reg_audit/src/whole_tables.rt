@@ -44,7 +44,8 @@ pub(crate) fn read_each<S: Alter, W: ProgressObserver>(
     observer: &mut W,
 ) -> Result<Vec<Vec<Row>>, DatabaseFault>
     ensures found { OnShown S.Store conn.old conn.new
-        (λ records columns. IfOk result (λ all. AreRead records columns whats.now all.items (λ rows. rows.items))) }
+        (λ records columns. IfOk result
+        (λ all. AreRead records columns whats.now all.items (λ rows. rows.items))) }
     ensures from { (db : Database) → Holds S.Store conn.old (λ now. now ≡ db) → db.schema ≡ register_schema
         → HasCleanDisk (state S.Store conn.new)
         → IfOk result (λ all. AreReadFrom db whats.now all.items (λ rows. rows.items)) }

@@ -57,9 +57,11 @@ why_text why.NoValue = codes "a value that no register writes, or no such row"
 -- all rows are sound: how many certificates, revocations and CRLs there are
 abbrev pub sound_text : Audited → List ℕ
 sound_text found =
-    codes "sound, " ++ decimal found.certificates ++ codes " certificates, " ++ decimal found.revoked ++ codes " revoked, " ++ decimal found.crls ++ codes " CRLs\n"
+    codes "sound, " ++ decimal found.certificates ++ codes " certificates, " ++ decimal found.revoked
+    ++ codes " revoked, " ++ decimal found.crls ++ codes " CRLs\n"
 
 -- a row that breaks a rule: its table, its number there, counted from 1, and why
 abbrev pub broken_text : BrokenRow → List ℕ
 broken_text broken =
-    codes "broken: " ++ table_name broken.table ++ codes " " ++ decimal broken.row ++ codes ": " ++ why_text broken.why ++ codes "\n"
+    codes "broken: " ++ table_name broken.table ++ codes " " ++ decimal broken.row ++ codes ": "
+    ++ why_text broken.why ++ codes "\n"

@@ -1,5 +1,5 @@
 -- The bytes of a stored CRL.
-use Rattle.std.specs.Prelude.{◌≡◌, ℕ, ◌≤◌, ◌&&◌, Bool, true, nat_le, List, [], ◌∷◌, length, map, Option, None, Some}
+use Rattle.std.specs.Prelude.{◌≡◌, ℕ, ◌≤◌, ◌&&◌, Bool, true, nat_le, List, [], ◌∷◌, length, filter, map, Option, None, Some}
 use Rattle.std.specs.List.Sorted.{IsPermutation}
 use Rattle.reg_core.specs.Crls.{CertList}
 use Rattle.reg_core.specs.Issuer.{Issuer}
@@ -16,12 +16,20 @@ use Rattle.reg_audit_rows.specs.declared.kept.Listed.{Listed}
 
 -- the bytes are this CRL, with this algorithm, and any signature of at most 65,536 bytes
 abbrev pub IsCrlOf : List ℕ → CertList → List ℕ → Type 0
-IsCrlOf algorithm crl bytes = (signature : List ℕ) × (length signature ≤ 65536) × (bytes ≡ certificate_list (tbs_of algorithm crl) algorithm signature)
+IsCrlOf algorithm crl bytes =
+    (signature : List ℕ) × (length signature ≤ 65536)
+    × (bytes ≡ certificate_list (tbs_of algorithm crl) algorithm signature)
 
 -- a CRL of the issuer, with the number and thisUpdate of a row, and these entries
 abbrev pub crl_with_entries : Issuer → CrlRow → ℕ → List Entry → CertList
 crl_with_entries issuer crl next_update entries =
-    record { issuer = issuer; number = crl.number; this_update = crl.this_update; next_update = next_update; entries = entries }
+    record {
+      issuer = issuer;
+      number = crl.number;
+      this_update = crl.this_update;
+      next_update = next_update;
+      entries = entries;
+    }
 
 -- the octets after the first one
 abbrev pub behind_first : List ℕ → Option (List ℕ)
@@ -31,7 +39,8 @@ behind_first (first ∷ rest) = Some rest
 -- the octets of the BIT STRING that is the third value in a SEQUENCE: the signature of a CRL
 abbrev pub signature_at : List ℕ → Option (List ℕ)
 signature_at bytes =
-    value_at bytes >>= λ list. value_at list.0.contents >>= λ tbs. value_at tbs.1 >>= λ algorithm. value_at algorithm.1 >>= λ bits. behind_first bits.0.contents
+    value_at bytes >>= λ list. value_at list.0.contents >>= λ tbs. value_at tbs.1 >>= λ algorithm.
+    value_at algorithm.1 >>= λ bits. behind_first bits.0.contents
 
 -- n is not above the number of the last CRL, if there is one
 abbrev pub still_on : ℕ → Option ℕ → Bool
@@ -44,6 +53,10 @@ lists_row n row = nat_le row.first n && still_on n row.last
 
 abbrev pub listed_entry : Listed → Entry
 listed_entry row = record { serial = row.serial; at = row.at; reason = row.reason }
+
+-- the entries of a CRL, in the order of the rows that it lists
+abbrev pub listed_entries : ℕ → List Listed → List Entry
+listed_entries n rows = map listed_entry (filter (lists_row n) rows)
 
 -- the issuer, the seconds from thisUpdate to nextUpdate, and the rows of `listed` are those of the records
 pub record Lists (issuer : Issuer) (crl_life : ℕ) (listed : List Listed) (records : Records) : Type 0 where

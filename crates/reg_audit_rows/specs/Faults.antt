@@ -1,5 +1,5 @@
 -- How a check fails.
-use Rattle.std.specs.Prelude.{Result, IfErr}
+use Rattle.std.specs.Prelude.{Option, Result, IfErr, MatchOption}
 use Rattle.reg_audit_rows.specs.declared.fault.CheckFault.{CheckFault}
 use Rattle.reg_audit_rows.specs.declared.fault.CheckFault.TheVariants.{Memory, Broken}
 
@@ -7,6 +7,14 @@ use Rattle.reg_audit_rows.specs.declared.fault.CheckFault.TheVariants.{Memory, B
 abbrev pub IsBroken : CheckFault → Type 0
 IsBroken Memory = ⊥
 IsBroken (Broken broken) = Unit {0}
+
+-- no check ends at a row that breaks a rule
+abbrev pub NotBroken : {T : Type 0} → Result T CheckFault → Type 0
+NotBroken result = IfErr result (λ fault. ¬ IsBroken fault)
+
+-- there is no defect exactly if the rule holds
+abbrev pub NoDefectIff : {D : Type 0} → Type 0 → Option D → Type 0
+NoDefectIff Holds defect = MatchOption defect Holds (λ _. ¬ Holds)
 
 -- if a check ends at a row that breaks a rule, `Holds` is false
 abbrev pub NotBrokenIf : {T : Type 0} → Type 0 → Result T CheckFault → Type 0

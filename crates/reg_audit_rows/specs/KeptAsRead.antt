@@ -25,7 +25,15 @@ abbrev pub standing_in : Standing → column.Standing
 standing_in row = record { serial = row.serial; not_after = row.not_after; letter = letter_in row.letter }
 
 abbrev pub listed_in : Listed → column.Listed
-listed_in row = record { serial = row.serial; at = row.at; reason = row.reason; first = row.first; not_after = row.not_after; last = row.last }
+listed_in row =
+    record {
+      serial = row.serial;
+      at = row.at;
+      reason = row.reason;
+      first = row.first;
+      not_after = row.not_after;
+      last = row.last;
+    }
 
 -- the rows are these ones of the derived tables
 pub record AreColumnsOf (kept : KeptRows) (columns : column.Columns) : Type 0 where

@@ -31,7 +31,9 @@ pub record AreOf (rows : Rows) (records : Records) : Type 0 where
 
 -- if there is no subscriber, the last accepted moment is 0 or the thisUpdate of a CRL
 abbrev pub IsLastSet : Rows → Type 0
-IsLastSet rows = rows.subscribers.now ≡ [] → (rows.last ≡ 0) ⊎ IsTrue (list_any (λ crl. crl.this_update == rows.last) rows.crls.now)
+IsLastSet rows =
+    rows.subscribers.now ≡ []
+    → (rows.last ≡ 0) ⊎ IsTrue (list_any (λ crl. crl.this_update == rows.last) rows.crls.now)
 
 -- what is looked up by a key is the first row with it
 abbrev pub Indexes : {Row : Type 0} → (Row → ℕ) → List Row → (ℕ → Option Row) → Type 0
@@ -39,28 +41,32 @@ Indexes key rows row_with = (k : ℕ) → row_with k ≡ find (λ row. key row =
 
 -- the subscriber of each order exists
 abbrev pub HaveSubscribers : List SubscriberRow → List OrderRow → Type 0
-HaveSubscribers subscribers orders = AllByRecursion (λ row. IsSome (subscriber_in subscribers row.subscriber)) orders
+HaveSubscribers subscribers orders =
+    AllByRecursion (λ row. IsSome (subscriber_in subscribers row.subscriber)) orders
 
 -- a validity is no longer than the order that was looked up
 abbrev pub IsAsOrdered : CertRow → Option OrderRow → Type 0
 IsAsOrdered certificate order = IsSomeAnd order (λ found. validity_seconds certificate ≤ 86400 * found.days)
 
 abbrev pub AreAsOrdered : List OrderRow → List CertRow → Type 0
-AreAsOrdered orders certificates = AllByRecursion (λ row. IsAsOrdered row (order_in orders row.order)) certificates
+AreAsOrdered orders certificates =
+    AllByRecursion (λ row. IsAsOrdered row (order_in orders row.order)) certificates
 
 -- a request was not received after the end of the certificate that was looked up
 abbrev pub IsInTime : RequestRow → Option CertRow → Type 0
 IsInTime request certificate = IsSomeAnd certificate (λ found. request.received ≤ found.not_after)
 
 abbrev pub AreInTime : (ℕ → Option CertRow) → List RequestRow → Type 0
-AreInTime certificate_with requests = AllByRecursion (λ row. IsInTime row (certificate_with row.serial)) requests
+AreInTime certificate_with requests =
+    AllByRecursion (λ row. IsInTime row (certificate_with row.serial)) requests
 
 -- a request was not received after the revocation that was looked up, if there is one
 abbrev pub IsBefore : RequestRow → Option RevocationRow → Type 0
 IsBefore request revocation = IfSome revocation (λ found. request.received ≤ found.at)
 
 abbrev pub AreBeforeRevocation : (ℕ → Option RevocationRow) → List RequestRow → Type 0
-AreBeforeRevocation revocation_with requests = AllByRecursion (λ row. IsBefore row (revocation_with row.serial)) requests
+AreBeforeRevocation revocation_with requests =
+    AllByRecursion (λ row. IsBefore row (revocation_with row.serial)) requests
 
 -- no CRL with a number below `first` has a thisUpdate after `at`, and no other CRL has one before it
 pub record AreAround (first at : ℕ) (crls : List CrlRow) : Type 0 where
@@ -68,7 +74,8 @@ pub record AreAround (first at : ℕ) (crls : List CrlRow) : Type 0 where
   pub after : AllByRecursion (λ crl. first ≤ crl.number → at ≤ crl.this_update) crls
 
 -- a revocation fits the certificate and the request that were looked up, and the CRLs
-pub record FitsIn (last : ℕ) (certificate : Option CertRow) (request : Option RequestRow) (crls : List CrlRow) (revocation : RevocationRow) : Type 0 where
+pub record FitsIn (last : ℕ) (certificate : Option CertRow) (request : Option RequestRow) (crls : List CrlRow)
+    (revocation : RevocationRow) : Type 0 where
   pub within_validity : IsSomeAnd certificate (λ found. revocation.at ≤ found.not_after)
   pub by_request : IsSomeAnd request (LeadsTo revocation)
   pub at_by_last : revocation.at ≤ last
@@ -77,9 +84,11 @@ pub record FitsIn (last : ℕ) (certificate : Option CertRow) (request : Option 
   pub around : AreAround revocation.first revocation.at crls
 
 -- each revocation fits its certificate, its request and the CRLs
-abbrev pub FitTogether : ℕ → (ℕ → Option CertRow) → List RequestRow → List CrlRow → List RevocationRow → Type 0
+abbrev pub FitTogether : ℕ → (ℕ → Option CertRow) → List RequestRow → List CrlRow
+    → List RevocationRow → Type 0
 FitTogether last certificate_with requests crls revocations =
-    AllByRecursion (λ row. FitsIn last (certificate_with row.serial) (request_in requests row.request) crls row) revocations
+    AllByRecursion (λ row.
+    FitsIn last (certificate_with row.serial) (request_in requests row.request) crls row) revocations
 
 -- CRL numbers are 1, 2, 3 and so on (RFC 5280 5.2.3), thisUpdates do not fall, and none is after the last accepted moment
 pub record AreCrls (cap last : ℕ) (crls : List CrlRow) : Type 0 where
@@ -93,10 +102,13 @@ pub record AreCrls (cap last : ℕ) (crls : List CrlRow) : Type 0 where
 pub record AreRevocations (found : ℕ → Option CertRow) (rows : Rows) : Type 0 where
   pub serials_differ : KeysDiffer (λ row. row.serial) rows.revocations.now
   pub requests_differ : KeysDiffer (λ row. row.request) rows.revocations.now
-  pub each : AllByRecursion (λ row. FitsIn rows.last (found row.serial) (request_in rows.requests.now row.request) rows.crls.now row) rows.revocations.now
+  pub each : AllByRecursion (λ row.
+      FitsIn rows.last (found row.serial) (request_in rows.requests.now row.request) rows.crls.now row)
+      rows.revocations.now
   pub moments_never_fall : NeverFalls (λ row. row.at) rows.revocations.now
   pub firsts_never_fall : NeverFalls (λ row. row.first) rows.revocations.now
-  pub none_after : AllByRecursion (λ row. IsBefore row (revocation_in rows.revocations.now row.serial)) rows.requests.now
+  pub none_after : AllByRecursion
+      (λ row. IsBefore row (revocation_in rows.revocations.now row.serial)) rows.requests.now
 
 -- the rows are found by their serial numbers
 pub record IsIndexOf (rows : Rows) (found : Found) : Type 0 where

@@ -1,4 +1,4 @@
-ghost use Rattle.std.specs.Prelude.{◌≡◌, ◌+◌, ◌≤◌, ◌↔◌, ℕ, List, Some, length, filter, map, IsTrue, OnOk, IfOk, IfErr};
+ghost use Rattle.std.specs.Prelude.{◌≡◌, ◌+◌, ◌≤◌, ◌↔◌, ℕ, List, Some, length, IsTrue, OnOk, IfOk};
 ghost use Rattle.std.specs.List.Sorted.{IsPermutation};
 ghost use Rattle.reg_core.specs.Calendar.{IsMoment};
 ghost use Rattle.reg_core.specs.Crls.{EntriesAscend, cert_list};
@@ -6,8 +6,8 @@ ghost use Rattle.reg_core.specs.Records.{Records};
 ghost use Rattle.reg_core.specs.Sound.{KeysDiffer};
 ghost use Rattle.reg_crl.specs.Signing.{IsAlgorithm};
 ghost use Rattle.reg_der.specs.ValueReading.{Gives};
-ghost use Rattle.reg_audit_rows.specs.Crls.{IsCrlOf, Lists, crl_with_entries, listed_entry, lists_row, signature_at};
-ghost use Rattle.reg_audit_rows.specs.Faults.{IsBroken, NotBrokenIf};
+ghost use Rattle.reg_audit_rows.specs.Crls.{IsCrlOf, Lists, crl_with_entries, listed_entries, lists_row, signature_at};
+ghost use Rattle.reg_audit_rows.specs.Faults.{NotBrokenIf, NotBroken};
 
 use crate::fault::{CheckFault, broken_at};
 use crate::kept::Listed;
@@ -52,8 +52,8 @@ fn is_on(row: &Listed, number: u64) -> bool
 }
 
 fn listed_by(alloc: Global, listed: &[Listed], number: u64) -> Result<Vec<Entry>, CheckFault>
-    ensures made { IfOk result (λ entries. entries.items ≡ map listed_entry (filter (lists_row number) listed.now)) }
-    ensures memory { IfErr result (λ fault. ¬ IsBroken fault) }
+    ensures made { IfOk result (λ entries. entries.items ≡ listed_entries number listed.now) }
+    ensures memory { NotBroken result }
 {
     let mut entries = Vec::new(alloc);
     for row in listed {
@@ -76,11 +76,11 @@ fn ascends(entries: &[Entry]) -> bool
 
 /// The entries of a CRL, in ascending order of serial number (RFC 5280 5.1.2.6): at most 1,000,000.
 fn entries_of(alloc: Global, listed: &[Listed], number: u64) -> Result<Vec<Entry>, CheckFault>
-    ensures same { IfOk result (λ entries. IsPermutation (map listed_entry (filter (lists_row number) listed.now)) entries.items) }
+    ensures same { IfOk result (λ entries. IsPermutation (listed_entries number listed.now) entries.items) }
     ensures ascend { IfOk result (λ entries. EntriesAscend entries.items) }
     ensures few { IfOk result (λ entries. length entries.items ≤ 1000000) }
     ensures broken { KeysDiffer (λ row. row.serial) listed.now → length listed.now ≤ 1000000
-        → IfErr result (λ fault. ¬ IsBroken fault) }
+        → NotBroken result }
 {
     let mut entries = listed_by(alloc, listed, number)?;
     entries.sort_unstable_by_key(|entry| entry.serial);
@@ -106,9 +106,11 @@ fn check_bytes(
     requires ascending { EntriesAscend entries.now }
     requires few { length entries.now ≤ 1000000 }
     requires algorithm { length algorithm.now ≤ 1024 }
-    ensures ok { OnOk result (IsCrlOf algorithm.now (crl_with_entries issuer.now crl.now next_update entries.now) bytes.now) }
+    ensures ok { OnOk result
+        (IsCrlOf algorithm.now (crl_with_entries issuer.now crl.now next_update entries.now) bytes.now) }
     ensures broken { IsAlgorithm algorithm.now
-        → NotBrokenIf (IsCrlOf algorithm.now (crl_with_entries issuer.now crl.now next_update entries.now) bytes.now) result }
+        → NotBrokenIf (IsCrlOf algorithm.now (crl_with_entries issuer.now crl.now next_update entries.now)
+        bytes.now) result }
 {
     let tbs = crl_tbs(
         alloc,
@@ -145,10 +147,12 @@ pub fn check_crl(
     requires algorithm { length algorithm.now ≤ 1024 }
     requires next { IsMoment (crl.now.this_update + crl_life) }
     ensures ok { (records : Records) → Lists issuer.now crl_life listed.now records
-        → OnOk result (IsCrlOf algorithm.now (cert_list records crl.now.number crl.now.this_update) bytes.now) }
+        → OnOk result (IsCrlOf algorithm.now
+        (cert_list records crl.now.number crl.now.this_update) bytes.now) }
     ensures broken { (records : Records) → Lists issuer.now crl_life listed.now records
         → IsAlgorithm algorithm.now → KeysDiffer (λ row. row.serial) listed.now → length listed.now ≤ 1000000
-        → NotBrokenIf (IsCrlOf algorithm.now (cert_list records crl.now.number crl.now.this_update) bytes.now) result }
+        → NotBrokenIf (IsCrlOf algorithm.now (cert_list records crl.now.number crl.now.this_update)
+        bytes.now) result }
 {
     let entries = entries_of(alloc, listed, crl.number)?;
     let next_update = crl.this_update.plus(crl_life);

@@ -1,13 +1,13 @@
 //! Checks that the derived tables match the records.
 
-ghost use Rattle.std.specs.Prelude.{◌≡◌, ◌≢◌, ◌==◌, ◌&&◌, ◌↔◌, ℕ, nat_le, nat_lt, not, find, filter, length, map, IsTrue, MatchOption, OnOk, IfOk, IfErr};
+ghost use Rattle.std.specs.Prelude.{◌≡◌, ◌≢◌, ◌==◌, ◌&&◌, ◌↔◌, ℕ, nat_le, nat_lt, not, find, filter, length, map, IsTrue, MatchOption, OnOk, IfOk};
 ghost use Rattle.std.specs.BTreeMap.{get};
 ghost use Rattle.std.specs.List.Sorted.{IsPermutation};
 ghost use Rattle.std.specs.Ordering.{nat_cmp};
 ghost use Rattle.reg_core.specs.Sound.{KeysDiffer, NumberedFrom, NeverFalls};
 ghost use Rattle.reg_store_migration.specs.Refilled.{last_in};
 ghost use Rattle.reg_audit_rows.specs.KeptAsRead.{letter_by, standing_by, found_end, listed_with, found_counts, same_letter};
-ghost use Rattle.reg_audit_rows.specs.Faults.{IsBroken, NotBrokenIf};
+ghost use Rattle.reg_audit_rows.specs.Faults.{NotBrokenIf, NotBroken};
 
 use crate::fault::{CheckFault, broken_at};
 use crate::{Defect, RegisterTable};
@@ -110,8 +110,10 @@ pub(crate) fn standings(
     revocations: &BTreeMap<Serial, RevocationRow>,
     last: Moment,
 ) -> Result<Vec<Standing>, CheckFault>
-    ensures made { IfOk result (λ made. made.items ≡ map (standing_by last (λ key. get nat_cmp revocations.now key)) certificates.now) }
-    ensures memory { IfErr result (λ fault. ¬ IsBroken fault) }
+    ensures made { IfOk result
+        (λ made. made.items ≡ map (standing_by last (λ key. get nat_cmp revocations.now key))
+        certificates.now) }
+    ensures memory { NotBroken result }
 {
     let mut made = Vec::new(alloc);
     for certificate in certificates {
@@ -160,8 +162,9 @@ pub(crate) fn listings(
     crls: &[CrlRow],
 ) -> Result<Vec<Listed>, CheckFault>
     ensures made { NumberedFrom (λ crl. crl.number) 1 crls.now → NeverFalls (λ crl. crl.this_update) crls.now
-        → IfOk result (λ made. made.items ≡ map (listed_with crls.now (λ key. get nat_cmp certificates.now key)) revocations.now) }
-    ensures memory { IfErr result (λ fault. ¬ IsBroken fault) }
+        → IfOk result (λ made.
+        made.items ≡ map (listed_with crls.now (λ key. get nat_cmp certificates.now key)) revocations.now) }
+    ensures memory { NotBroken result }
 {
     let mut made = Vec::new(alloc);
     for revocation in revocations {

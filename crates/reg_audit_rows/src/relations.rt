@@ -1,11 +1,11 @@
 //! Checks of rows against other rows.
 
-ghost use Rattle.std.specs.Prelude.{◌≡◌, ◌+◌, ◌<◌, ◌≤◌, ◌==◌, ◌↔◌, find, IsTrue, MatchOption, OnOk};
+ghost use Rattle.std.specs.Prelude.{◌≡◌, ◌+◌, ◌<◌, ◌≤◌, ◌==◌, ◌↔◌, find, IsTrue, OnOk};
 ghost use Rattle.std.specs.BTreeMap.{get};
 ghost use Rattle.std.specs.Ordering.{nat_cmp};
 ghost use Rattle.reg_core.specs.Sound.{LeadsTo, NumberedFrom};
 ghost use Rattle.reg_audit_rows.specs.Read.{AreAround, AreAsOrdered, AreBeforeRevocation, AreInTime, FitTogether, FitsIn, HaveSubscribers, IsAsOrdered, IsBefore, IsInTime};
-ghost use Rattle.reg_audit_rows.specs.Faults.{NotBrokenIf};
+ghost use Rattle.reg_audit_rows.specs.Faults.{NotBrokenIf, NoDefectIff};
 
 use crate::chain::Numbered;
 use crate::fault::{CheckFault, broken_at};
@@ -53,7 +53,7 @@ fn row_with<T: Numbered + Copy>(rows: &[T], number: u64) -> Option<T>
 
 /// Why a certificate does not match its order; `None` if it does.
 fn unordered(certificate: &CertRow, order: Option<OrderRow>) -> Option<Defect>
-    ensures { MatchOption result (IsAsOrdered certificate.now order) (λ _. ¬ IsAsOrdered certificate.now order) }
+    ensures { NoDefectIff (IsAsOrdered certificate.now order) result }
 {
     let Some(order) = order else {
         return Some(Defect::NoOrder);
@@ -87,7 +87,7 @@ pub(crate) fn are_as_ordered(
 
 /// Why a request is not for a certificate that had not ended; `None` if it is.
 fn untimely(request: &RequestRow, certificate: Option<CertRow>) -> Option<Defect>
-    ensures { MatchOption result (IsInTime request.now certificate) (λ _. ¬ IsInTime request.now certificate) }
+    ensures { NoDefectIff (IsInTime request.now certificate) result }
 {
     let Some(certificate) = certificate else {
         return Some(Defect::NoCertificate);
@@ -141,7 +141,7 @@ pub(crate) fn none_after(
 
 /// Why a revocation can't be by this request; `None` if it can.
 fn not_led(request: &RequestRow, revocation: &RevocationRow) -> Option<Defect>
-    ensures { MatchOption result (LeadsTo revocation.now request.now) (λ _. ¬ LeadsTo revocation.now request.now) }
+    ensures { NoDefectIff (LeadsTo revocation.now request.now) result }
 {
     if request.serial != revocation.serial {
         return Some(Defect::NoRequest);
@@ -157,7 +157,8 @@ fn not_led(request: &RequestRow, revocation: &RevocationRow) -> Option<Defect>
 
 /// Whether a CRL's thisUpdate is not after `at` if its number is below `first`, and not before `at` otherwise.
 fn is_around(crl: &CrlRow, first: u64, at: Moment) -> bool
-    ensures { IsTrue result ↔ ((crl.now.number < first → crl.now.this_update ≤ at) × (first ≤ crl.now.number → at ≤ crl.now.this_update)) }
+    ensures { IsTrue result ↔ ((crl.now.number < first → crl.now.this_update ≤ at)
+        × (first ≤ crl.now.number → at ≤ crl.now.this_update)) }
 {
     if crl.number < first {
         crl.this_update <= at
@@ -185,7 +186,7 @@ fn misfit(
     crls: &[CrlRow],
     last: Moment,
 ) -> Option<Defect>
-    ensures { MatchOption result (FitsIn last certificate request crls.now revocation.now) (λ _. ¬ FitsIn last certificate request crls.now revocation.now) }
+    ensures { NoDefectIff (FitsIn last certificate request crls.now revocation.now) result }
 {
     let Some(certificate) = certificate else {
         return Some(Defect::NoCertificate);
@@ -221,9 +222,11 @@ pub(crate) fn revocations_fit(
     last: Moment,
 ) -> Result<(), CheckFault>
     ensures ok { NumberedFrom (λ row. row.id) 1 requests.now
-        → OnOk result (FitTogether last (get nat_cmp certificates.now) requests.now crls.now revocations.now) }
+        → OnOk result (FitTogether last (get nat_cmp certificates.now)
+        requests.now crls.now revocations.now) }
     ensures broken { NumberedFrom (λ row. row.id) 1 requests.now
-        → NotBrokenIf (FitTogether last (get nat_cmp certificates.now) requests.now crls.now revocations.now) result }
+        → NotBrokenIf (FitTogether last (get nat_cmp certificates.now)
+        requests.now crls.now revocations.now) result }
 {
     for (row_index, revocation) in revocations.iter().enumerate() {
         let certificate = certificates.get(&revocation.serial).copied();

@@ -127,7 +127,8 @@ fn check_revocations(
 ) -> Result<BTreeMap<Serial, RevocationRow>, CheckFault>
     ensures ok { NumberedFrom (λ row. row.id) 1 rows.now.requests.now
         → OnOk result (AreRevocations (get nat_cmp certificates.now) rows.now) }
-    ensures found { IfOk result (λ found. Indexes (λ row. row.serial) rows.now.revocations.now (get nat_cmp found)) }
+    ensures found { IfOk result
+        (λ found. Indexes (λ row. row.serial) rows.now.revocations.now (get nat_cmp found)) }
     ensures broken { NumberedFrom (λ row. row.id) 1 rows.now.requests.now
         → NotBrokenIf (AreRevocations (get nat_cmp certificates.now) rows.now) result }
 {

@@ -24,7 +24,8 @@ with_order records now row = record records { last = now; orders = records.order
 
 -- a new certificate
 abbrev pub with_certificate : Records → ℕ → CertRow → Records
-with_certificate records now row = record records { last = now; certificates = records.certificates ++ row ∷ [] }
+with_certificate records now row =
+    record records { last = now; certificates = records.certificates ++ row ∷ [] }
 
 -- a new request
 abbrev pub with_request : Records → ℕ → RequestRow → Records
@@ -64,12 +65,14 @@ abbrev pub Fits : Records → ℕ → Change → Type 0
 Fits records now Touch = Unit {0}
 Fits records now (Subscriber row) = row.id ≡ length records.subscribers + 1
 Fits records now (Order row) = row.id ≡ length records.orders + 1
-Fits records now (Certificate row) = (certificate_in records.certificates row.serial ≡ None) × (now ≤ row.not_after)
+Fits records now (Certificate row) =
+    (certificate_in records.certificates row.serial ≡ None) × (now ≤ row.not_after)
 Fits records now (Request row) = row.id ≡ length records.requests + 1
 Fits records now (Decline id) = Unit {0}
 Fits records now (Revocation row not_after) =
     (revocation_in records.revocations row.serial ≡ None)
-    × IsSomeAnd (certificate_in records.certificates row.serial) (λ certificate. certificate.not_after ≡ not_after)
+    × IsSomeAnd (certificate_in records.certificates row.serial)
+    (λ certificate. certificate.not_after ≡ not_after)
     × (now ≤ not_after)
     × (row.first ≡ next_number records.crls)
 Fits records now (NewCrl row der) = row.number ≡ next_number records.crls

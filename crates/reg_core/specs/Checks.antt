@@ -73,7 +73,8 @@ validity_checks policy now wanted order =
     ∷ []
 
 -- a certificate for an order that has none yet, with a new serial number
-abbrev pub register_checks : Terms → ℕ → CertRow → Option OrderRow → Option CertRow → Option CertRow → Bool → List (Option Refusal)
+abbrev pub register_checks : Terms → ℕ → CertRow → Option OrderRow → Option CertRow → Option CertRow → Bool
+    → List (Option Refusal)
 register_checks policy now wanted order by_order by_serial full =
     where_none order NoOrder
     ∷ where_some by_order (λ row. true) (λ row. OrderFilled)
@@ -100,7 +101,8 @@ request_checks now certificate word revocation full =
     ∷ (live_checks now certificate revocation ++ when full Full ∷ [])
 
 -- a request that can be declined or lead to a revocation: it was not declined, and its certificate is neither revoked nor expired
-abbrev pub settle_checks : ℕ → Option RequestRow → Option CertRow → Option RevocationRow → List (Option Refusal)
+abbrev pub settle_checks : ℕ → Option RequestRow → Option CertRow → Option RevocationRow
+    → List (Option Refusal)
 settle_checks now request certificate revocation =
     where_none request NoRequest
     ∷ where_some request (λ row. row.declined) (λ row. DeclinedBefore)

@@ -29,12 +29,14 @@ refused_or (Some refusal) answer = Err refusal
 refused_or None answer = Ok answer
 
 -- the refusal if one applies, or else an answer that satisfies `IsAnswer`
-abbrev pub IsDecidedBy : {Answer : Type 0} → Option Refusal → (Answer → Type 0) → Result Answer Refusal → Type 0
+abbrev pub IsDecidedBy : {Answer : Type 0} → Option Refusal → (Answer → Type 0)
+    → Result Answer Refusal → Type 0
 IsDecidedBy (Some refusal) IsAnswer result = result ≡ Err refusal
 IsDecidedBy None IsAnswer result = IsOkAnd result IsAnswer
 
 -- the first refusal that applies, those of the clock before the others, or else an answer that satisfies `IsAnswer`
-abbrev pub IsDecided : {Answer : Type 0} → Head → List (Option Refusal) → (Answer → Type 0) → Result Answer Refusal → Type 0
+abbrev pub IsDecided : {Answer : Type 0} → Head → List (Option Refusal) → (Answer → Type 0)
+    → Result Answer Refusal → Type 0
 IsDecided head checks IsAnswer result =
     IsDecidedBy (first_of_all (clock_checks head.now head.last ++ checks)) IsAnswer result
 
@@ -53,7 +55,8 @@ DecidesOrder head subscriber days result =
     IsDecided
     head
     (order_checks head.policy subscriber days (head_is_full head))
-    (λ row. IfSome subscriber (λ known. row ≡ record { id = head.held + 1; subscriber = known.id; days = days }))
+    (λ row. IfSome subscriber
+    (λ known. row ≡ record { id = head.held + 1; subscriber = known.id; days = days }))
     result
 
 -- the certificate with the serial number is equal in all fields to the wanted one
@@ -62,11 +65,13 @@ is_same wanted None = false
 is_same wanted (Some registered) = same_certificate wanted registered
 
 -- the wanted certificate is registered; if it is registered already, there is no new row
-abbrev pub DecidesRegister : Head → CertRow → Option OrderRow → Option CertRow → Option CertRow → Result (Option CertRow) Refusal → Type 0
+abbrev pub DecidesRegister : Head → CertRow → Option OrderRow → Option CertRow → Option CertRow
+    → Result (Option CertRow) Refusal → Type 0
 DecidesRegister head wanted order by_order by_serial result =
     IsDecided
     head
-    (cond (is_same wanted by_serial) [] (register_checks head.policy head.now wanted order by_order by_serial (head_is_full head)))
+    (cond (is_same wanted by_serial) []
+    (register_checks head.policy head.now wanted order by_order by_serial (head_is_full head)))
     (λ row. row ≡ cond (is_same wanted by_serial) None (Some wanted))
     result
 
@@ -79,7 +84,8 @@ pub record IsRequest (head : Head) (certificate : CertRow) (word : List ℕ) (ro
   pub not_declined : row.declined ≡ false
 
 -- a request is entered with the next id
-abbrev pub DecidesRequest : Head → Option CertRow → List ℕ → Option RevocationRow → Result RequestRow Refusal → Type 0
+abbrev pub DecidesRequest : Head → Option CertRow → List ℕ → Option RevocationRow
+    → Result RequestRow Refusal → Type 0
 DecidesRequest head certificate word revocation result =
     IsDecided
     head
@@ -88,7 +94,8 @@ DecidesRequest head certificate word revocation result =
     result
 
 -- a request is declined
-abbrev pub DecidesDecline : Head → Option RequestRow → Option CertRow → Option RevocationRow → Result RequestRow Refusal → Type 0
+abbrev pub DecidesDecline : Head → Option RequestRow → Option CertRow → Option RevocationRow
+    → Result RequestRow Refusal → Type 0
 DecidesDecline head request certificate revocation result =
     IsDecided
     head
@@ -110,7 +117,8 @@ revocation_by head request latest = (
 )
 
 -- a certificate is revoked
-abbrev pub DecidesRevoke : Head → Option RequestRow → Option CertRow → Option RevocationRow → Option CrlRow → Result (RevocationRow × Bool) Refusal → Type 0
+abbrev pub DecidesRevoke : Head → Option RequestRow → Option CertRow → Option RevocationRow → Option CrlRow
+    → Result (RevocationRow × Bool) Refusal → Type 0
 DecidesRevoke head request certificate revocation latest result =
     IsDecided
     head
@@ -121,4 +129,5 @@ DecidesRevoke head request certificate revocation latest result =
 -- a CRL is issued with the next number
 abbrev pub DecidesCrl : Head → Option CrlRow → Result CrlRow Refusal → Type 0
 DecidesCrl head latest result =
-    IsDecided head (crl_checks (head_is_full head)) (λ row. row ≡ record { number = number_after latest; this_update = head.now }) result
+    IsDecided head (crl_checks (head_is_full head))
+    (λ row. row ≡ record { number = number_after latest; this_update = head.now }) result

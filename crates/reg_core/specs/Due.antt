@@ -30,7 +30,8 @@ overdue_report (request ∷ rest) = Some (record { count = length (request ∷ r
 
 -- the revocations that no CRL can have listed yet
 abbrev pub unlisted : Records → List RevocationRow
-unlisted records = filter (λ revocation. nat_le (next_number records.crls) revocation.first) records.revocations
+unlisted records =
+    filter (λ revocation. nat_le (next_number records.crls) revocation.first) records.revocations
 
 -- the moment of the earliest revocation
 abbrev pub earliest : List RevocationRow → Option ℕ

@@ -12,7 +12,8 @@ use Rattle.reg_core.specs.Serial.{IsSerial, IsSerialText, serial_bytes, serial_o
 
 -- an octet counts 256 times as much as it would one position further
 abbrev pub OctetsAreDigits : Type 0
-OctetsAreDigits = (octet : ℕ) (octets : List ℕ) → value (octet ∷ octets) ≡ octet * 256 ^ length octets + value octets
+OctetsAreDigits =
+    (octet : ℕ) (octets : List ℕ) → value (octet ∷ octets) ≡ octet * 256 ^ length octets + value octets
 
 -- the number in n octets is below 256^n
 abbrev pub OctetsAreBelow : Type 0
@@ -24,7 +25,8 @@ ZerosCountNothing = (octets : List ℕ) → value (without_zeros octets) ≡ val
 
 -- octets of the same count with the same number are the same
 abbrev pub OneSpelling : Type 0
-OneSpelling = (xs ys : List ℕ) → IsBytes xs → IsBytes ys → length xs ≡ length ys → value xs ≡ value ys → xs ≡ ys
+OneSpelling =
+    (xs ys : List ℕ) → IsBytes xs → IsBytes ys → length xs ≡ length ys → value xs ≡ value ys → xs ≡ ys
 
 -- the lowest `count` octets of a number: there are `count` of them, each is a byte, and they encode the number modulo 256^count
 pub record AreLowest (count number : ℕ) : Type 0 where
@@ -39,7 +41,8 @@ OctetsAreLowest = (count number : ℕ) → AreLowest count number
 -- octets of the same count, compared one by one, are in the order of their numbers
 abbrev pub OctetsInOrder : Type 0
 OctetsInOrder =
-    (xs ys : List ℕ) → IsBytes xs → IsBytes ys → length xs ≡ length ys → slice_cmp nat_cmp xs ys ≡ nat_cmp (value xs) (value ys)
+    (xs ys : List ℕ) → IsBytes xs → IsBytes ys → length xs ≡ length ys
+    → slice_cmp nat_cmp xs ys ≡ nat_cmp (value xs) (value ys)
 
 -- ---- INTEGERs (X.690 8.3)
 
@@ -49,7 +52,8 @@ IntegersAreSpelled = (number : ℕ) → number < 2 ^ 160 → IsInteger (integer 
 
 -- a number has no other INTEGER
 abbrev pub OneInteger : Type 0
-OneInteger = (octets : List ℕ) (number : ℕ) → number < 2 ^ 160 → IsInteger octets number → octets ≡ integer number
+OneInteger =
+    (octets : List ℕ) (number : ℕ) → number < 2 ^ 160 → IsInteger octets number → octets ≡ integer number
 
 -- numbers with the same INTEGER are the same
 abbrev pub OneNumber : Type 0
@@ -57,13 +61,15 @@ OneNumber = (m n : ℕ) → m < 2 ^ 160 → n < 2 ^ 160 → integer m ≡ intege
 
 -- the INTEGER of a number below 2^160 has at most 21 octets, and that of a serial number at most 20 (RFC 5280 4.1.2.2)
 abbrev pub IntegersAreShort : Type 0
-IntegersAreShort = (number : ℕ) → (length (integer number) ≤ 21) × (number < 2 ^ 159 → length (integer number) ≤ 20)
+IntegersAreShort =
+    (number : ℕ) → (length (integer number) ≤ 21) × (number < 2 ^ 159 → length (integer number) ≤ 20)
 
 -- ---- serial numbers
 
 -- the 20 octets of serial numbers, compared one by one, are in the order of the numbers
 abbrev pub SerialsInOrder : Type 0
-SerialsInOrder = (m n : ℕ) → IsSerial m → IsSerial n → slice_cmp nat_cmp (serial_bytes m) (serial_bytes n) ≡ nat_cmp m n
+SerialsInOrder =
+    (m n : ℕ) → IsSerial m → IsSerial n → slice_cmp nat_cmp (serial_bytes m) (serial_bytes n) ≡ nat_cmp m n
 
 -- serial numbers with the same 20 octets are the same
 abbrev pub OneSerial : Type 0

@@ -23,7 +23,8 @@ listing records serial =
 
 -- the checks of a query, besides those of the clock
 abbrev pub query_checks : Records → Query → List (Option Refusal)
-query_checks records (AskListing serial) = where_none (certificate_in records.certificates serial) UnknownSerial ∷ []
+query_checks records (AskListing serial) =
+    where_none (certificate_in records.certificates serial) UnknownSerial ∷ []
 query_checks records (AskStatus serial) = []
 query_checks records AskCounts = []
 query_checks records AskOverdue = []
@@ -40,4 +41,5 @@ query_reply records now AskNextCrl = NextCrlIs (due records)
 -- the answer to a query: the first refusal that applies, those of the clock before its own, or else the reply
 abbrev pub answer : Records → ℕ → Query → Result Reply Refusal
 answer records now query =
-    refused_or (first_of_all (clock_checks now records.last ++ query_checks records query)) (query_reply records now query)
+    refused_or (first_of_all (clock_checks now records.last ++ query_checks records query))
+    (query_reply records now query)

@@ -60,7 +60,8 @@ same_steps left right = pointwise same_step left right
 -- `same_steps` is an equivalence, which `Eq` requires
 pub same_steps_equivalence : IsEquivalence same_steps
 same_steps_equivalence =
-    lists_equiv (and_equiv (on_equiv (λ (step : ℕ × ℕ). step.0) nat_eq_equiv) (on_equiv (λ (step : ℕ × ℕ). step.1) nat_eq_equiv))
+    lists_equiv (and_equiv (on_equiv (λ (step : ℕ × ℕ). step.0) nat_eq_equiv)
+    (on_equiv (λ (step : ℕ × ℕ). step.1) nat_eq_equiv))
 
 -- so it is symmetric and transitive, which `PartialEq` requires
 pub same_steps_both_ways : IsPartialEquivalence same_steps

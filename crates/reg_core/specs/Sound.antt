@@ -48,14 +48,18 @@ pub record SoundCertificates (cap : ℕ) (orders : List OrderRow) (certificates 
   pub serials_differ : KeysDiffer (λ row. row.serial) certificates
   pub orders_differ : KeysDiffer (λ row. row.order) certificates
   pub forward : AllByRecursion (λ row. row.not_before ≤ row.not_after) certificates
-  pub as_ordered : AllByRecursion (λ row. IsSomeAnd (order_in orders row.order) (λ order. validity_seconds row ≤ 86400 * order.days)) certificates
+  pub as_ordered : AllByRecursion (λ row.
+      IsSomeAnd (order_in orders row.order) (λ order. validity_seconds row ≤ 86400 * order.days)) certificates
   pub within_cap : length certificates ≤ cap
 
 -- ids are 1, 2, 3 and so on; each request was received by its certificate's notAfter, not before an earlier request, and by
 -- the last accepted moment
-pub record SoundRequests (cap last : ℕ) (certificates : List CertRow) (requests : List RequestRow) : Type 0 where
+pub record SoundRequests (cap last : ℕ) (certificates : List CertRow)
+    (requests : List RequestRow) : Type 0 where
   pub numbered : NumberedFrom (λ row. row.id) 1 requests
-  pub within_validity : AllByRecursion (λ row. IsSomeAnd (certificate_in certificates row.serial) (λ certificate. row.received ≤ certificate.not_after)) requests
+  pub within_validity : AllByRecursion (λ row.
+      IsSomeAnd (certificate_in certificates row.serial)
+      (λ certificate. row.received ≤ certificate.not_after)) requests
   pub receipts_never_fall : NeverFalls (λ row. row.received) requests
   pub received_by_last : AllByRecursion (λ row. row.received ≤ last) requests
   pub within_cap : length requests ≤ cap
@@ -68,24 +72,31 @@ pub record LeadsTo (revocation : RevocationRow) (request : RequestRow) : Type 0 
 
 -- A revocation is of a registered certificate that was not expired, by a request for it, at the last accepted moment or earlier.
 -- CRLs with numbers below its `first` were issued at its moment or earlier, the others at its moment or later.
-pub record SoundRevocation (last : ℕ) (certificates : List CertRow) (requests : List RequestRow) (crls : List Crl) (revocation : RevocationRow) : Type 0 where
-  pub within_validity : IsSomeAnd (certificate_in certificates revocation.serial) (λ certificate. revocation.at ≤ certificate.not_after)
+pub record SoundRevocation (last : ℕ) (certificates : List CertRow) (requests : List RequestRow)
+    (crls : List Crl) (revocation : RevocationRow) : Type 0 where
+  pub within_validity : IsSomeAnd (certificate_in certificates revocation.serial)
+      (λ certificate. revocation.at ≤ certificate.not_after)
   pub by_request : IsSomeAnd (request_in requests revocation.request) (LeadsTo revocation)
   pub at_by_last : revocation.at ≤ last
   pub first_from_one : 1 ≤ revocation.first
   pub first_by_next : revocation.first ≤ length crls + 1
-  pub crls_before : AllByRecursion (λ crl. crl.number < revocation.first → crl.this_update ≤ revocation.at) crls
-  pub crls_after : AllByRecursion (λ crl. revocation.first ≤ crl.number → revocation.at ≤ crl.this_update) crls
+  pub crls_before : AllByRecursion
+      (λ crl. crl.number < revocation.first → crl.this_update ≤ revocation.at) crls
+  pub crls_after : AllByRecursion
+      (λ crl. revocation.first ≤ crl.number → revocation.at ≤ crl.this_update) crls
 
 -- a serial number has at most one revocation, and so has a request; later revocations have no earlier moment and no smaller `first`; and no
 -- request for a serial number was received after its revocation
-pub record SoundRevocations (last : ℕ) (certificates : List CertRow) (requests : List RequestRow) (crls : List Crl) (revocations : List RevocationRow) : Type 0 where
+pub record SoundRevocations (last : ℕ) (certificates : List CertRow) (requests : List RequestRow)
+    (crls : List Crl) (revocations : List RevocationRow) : Type 0 where
   pub serials_differ : KeysDiffer (λ row. row.serial) revocations
   pub requests_differ : KeysDiffer (λ row. row.request) revocations
   pub each : AllByRecursion (SoundRevocation last certificates requests crls) revocations
   pub moments_never_fall : NeverFalls (λ row. row.at) revocations
   pub firsts_never_fall : NeverFalls (λ row. row.first) revocations
-  pub none_after : AllByRecursion (λ request. IfSome (revocation_in revocations request.serial) (λ revocation. request.received ≤ revocation.at)) requests
+  pub none_after : AllByRecursion (λ request.
+      IfSome (revocation_in revocations request.serial)
+      (λ revocation. request.received ≤ revocation.at)) requests
 
 -- CRL numbers are 1, 2, 3 and so on (RFC 5280 5.2.3); no thisUpdate is before an earlier CRL's, or after the last accepted moment
 pub record SoundCrls (cap last : ℕ) (crls : List Crl) : Type 0 where
@@ -98,12 +109,14 @@ pub record SoundCrls (cap last : ℕ) (crls : List Crl) : Type 0 where
 pub record SoundRows (records : Records) : Type 0 where
   pub policy : IsPolicy records.policy
   pub before_clock_end : records.last < clock_end
-  pub last_set : records.subscribers ≡ [] → (records.last ≡ 0) ⊎ IsTrue (list_any (λ crl. crl.this_update == records.last) records.crls)
+  pub last_set : records.subscribers ≡ []
+      → (records.last ≡ 0) ⊎ IsTrue (list_any (λ crl. crl.this_update == records.last) records.crls)
   pub subscribers : SoundSubscribers records.policy.cap records.subscribers
   pub orders : SoundOrders records.policy.cap records.subscribers records.orders
   pub certificates : SoundCertificates records.policy.cap records.orders records.certificates
   pub requests : SoundRequests records.policy.cap records.last records.certificates records.requests
-  pub revocations : SoundRevocations records.last records.certificates records.requests records.crls records.revocations
+  pub revocations : SoundRevocations records.last records.certificates records.requests records.crls
+      records.revocations
   pub crls : SoundCrls records.policy.cap records.last records.crls
 
 -- the bytes of each CRL are the signed CRL with its entries

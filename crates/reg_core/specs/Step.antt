@@ -27,13 +27,19 @@ is_full records rows = nat_le records.policy.cap (length rows)
 -- two certificates are equal in all four fields
 abbrev pub same_certificate : CertRow → CertRow → Bool
 same_certificate a b =
-    (a.serial == b.serial) && (a.order == b.order) && (a.not_before == b.not_before) && (a.not_after == b.not_after)
+    (a.serial == b.serial) && (a.order == b.order) && (a.not_before == b.not_before)
+    && (a.not_after == b.not_after)
 
 -- the command registers a certificate that is registered already, equal in all four fields
 abbrev pub is_repeat : Records → Command → Bool
 is_repeat records (Register order serial not_before not_after) =
     list_any
-    (same_certificate (record { serial = serial; order = order; not_before = not_before; not_after = not_after }))
+    (same_certificate (record {
+      serial = serial;
+      order = order;
+      not_before = not_before;
+      not_after = not_after;
+    }))
     records.certificates
 is_repeat records (Subscriber name) = false
 is_repeat records (Order subscriber days) = false
@@ -56,7 +62,8 @@ abbrev pub checks : Records → ℕ → Command → List (Option Refusal)
 checks records now (Subscriber name) =
     subscriber_checks name (subscriber_named records.subscribers name) (is_full records records.subscribers)
 checks records now (Order subscriber days) =
-    order_checks records.policy (subscriber_in records.subscribers subscriber) days (is_full records records.orders)
+    order_checks records.policy (subscriber_in records.subscribers subscriber) days
+    (is_full records records.orders)
 checks records now (Register order serial not_before not_after) =
     register_checks
     records.policy
@@ -74,9 +81,11 @@ checks records now (Request serial word) =
     (revocation_in records.revocations serial)
     (is_full records records.requests)
 checks records now (Decline id) =
-    settle_checks now (request_in records.requests id) (certificate_of_request records id) (revocation_of_request records id)
+    settle_checks now (request_in records.requests id) (certificate_of_request records id)
+    (revocation_of_request records id)
 checks records now (Revoke id) =
-    settle_checks now (request_in records.requests id) (certificate_of_request records id) (revocation_of_request records id)
+    settle_checks now (request_in records.requests id) (certificate_of_request records id)
+    (revocation_of_request records id)
 checks records now IssueCrl = crl_checks (is_full records records.crls)
 
 -- the first refusal that applies, if any: those of the clock, and then, unless it is a repeated registration, those of the command
@@ -131,7 +140,8 @@ abbrev pub changed : Records → ℕ → Command → List ℕ → Records
 changed records now (Subscriber name) bytes =
     changed_by records now (change.Subscriber (record { id = length records.subscribers + 1; name = name }))
 changed records now (Order subscriber days) bytes =
-    changed_by records now (change.Order (record { id = length records.orders + 1; subscriber = subscriber; days = days }))
+    changed_by records now
+    (change.Order (record { id = length records.orders + 1; subscriber = subscriber; days = days }))
 changed records now (Register order serial not_before not_after) bytes =
     cond
     (is_repeat records (Register order serial not_before not_after))
@@ -139,7 +149,12 @@ changed records now (Register order serial not_before not_after) bytes =
     (changed_by
     records
     now
-    (change.Certificate (record { serial = serial; order = order; not_before = not_before; not_after = not_after })))
+    (change.Certificate (record {
+      serial = serial;
+      order = order;
+      not_before = not_before;
+      not_after = not_after;
+    })))
 changed records now (Request serial word) bytes =
     changed_by records now (change.Request (request_row records now serial word))
 changed records now (Decline id) bytes = changed_by records now (change.Decline id)
@@ -162,8 +177,10 @@ IsSigned signed records now (Decline id) bytes = bytes ≡ []
 IsSigned signed records now (Revoke id) bytes = bytes ≡ []
 
 -- a refused command leaves the records as they are; an accepted one gives its reply and changes them
-abbrev pub StepBy : (CertList → List ℕ → Type 0) → Option Refusal → Records → ℕ → Command → Result Reply Fault → Records → Type 0
-StepBy signed (Some refused) records now command outcome after = (outcome ≡ Err (Refused refused)) × (after ≡ records)
+abbrev pub StepBy : (CertList → List ℕ → Type 0) → Option Refusal → Records → ℕ → Command
+    → Result Reply Fault → Records → Type 0
+StepBy signed (Some refused) records now command outcome after =
+    (outcome ≡ Err (Refused refused)) × (after ≡ records)
 StepBy signed None records now command outcome after =
     (bytes : List ℕ)
     × (outcome ≡ Ok (reply records now command))

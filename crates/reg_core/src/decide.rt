@@ -194,7 +194,8 @@ pub fn decide_crl(head: &Head, latest: Option<CrlRow>) -> Result<CrlRow, Refusal
 }
 
 fn next_id(head: &Head) -> Result<u64, Refusal>
-    ensures { IsDecidedBy (when (head_is_full head.entry.now) Refusal.Full) (λ id. id ≡ head.entry.now.held + 1) result }
+    ensures { IsDecidedBy (when (head_is_full head.entry.now) Refusal.Full)
+        (λ id. id ≡ head.entry.now.held + 1) result }
 {
     if has_no_room(head) {
         return Err(Refusal::Full);

@@ -25,7 +25,8 @@ impl Model for Label {
 
     ghost use Rattle.reg_core.specs.Label.{IsLabel};
 
-    ghost invariant = { λ label. (label.len ≤ 64) × (length label.bytes ≡ 64) × IsLabel (take label.len label.bytes)
+    ghost invariant = { λ label. (label.len ≤ 64) × (length label.bytes ≡ 64)
+        × IsLabel (take label.len label.bytes)
         × (label.bytes ≡ take label.len label.bytes ++ replicate (64 - label.len) 0) };
 
     ghost inverse = { λ text. record { bytes = text ++ replicate (64 - length text) 0; len = length text } };

@@ -112,7 +112,8 @@ impl Policy {
 
     /// The default policy: 398 days, eight days for CRLs, four days for OCSP responses, 1,000,000 rows of a table.
     pub fn usual() -> Policy
-        ensures { result ≡ record { schedule = one_step 398; crl_life = 691200; ocsp_life = 345600; cap = 1000000 } }
+        ensures { result ≡ record
+            { schedule = one_step 398; crl_life = 691200; ocsp_life = 345600; cap = 1000000 } }
     {
         Policy::new(398, 691_200, 345_600, 1_000_000).unwrap()
     }

@@ -41,7 +41,8 @@ impl Model for Serial {
 
     ghost view = { λ serial. serial.high * 2 ^ 128 + serial.low };
 
-    ghost invariant = { λ serial. (serial.high < 2 ^ 31) × (serial.low < 2 ^ 128) × (1 ≤ serial.high * 2 ^ 128 + serial.low) };
+    ghost invariant = { λ serial. (serial.high < 2 ^ 31) × (serial.low < 2 ^ 128)
+        × (1 ≤ serial.high * 2 ^ 128 + serial.low) };
 
     ghost inverse = { λ number. record { high = number / 2 ^ 128; low = number % 2 ^ 128 } };
 }
@@ -102,8 +103,10 @@ impl Serial {
     /// Reads the contents octets of a DER INTEGER (X.690 8.3). `None` if there are no octets or more than the fewest, for 0
     /// and negative numbers, and for a number above 2^159 - 1.
     pub fn from_der(octets: &[u8]) -> Option<Serial>
-        ensures read { MatchOption result ((n : ℕ) → IsSerial n → ¬ IsInteger octets.now n) (λ n. IsSerial n × IsInteger octets.now n) }
-        ensures exact { MatchOption result ((n : ℕ) → IsSerial n → octets.now ≢ integer n) (λ n. octets.now ≡ integer n) }
+        ensures read { MatchOption result ((n : ℕ) → IsSerial n → ¬ IsInteger octets.now n)
+            (λ n. IsSerial n × IsInteger octets.now n) }
+        ensures exact { MatchOption result ((n : ℕ) → IsSerial n → octets.now ≢ integer n)
+            (λ n. octets.now ≡ integer n) }
     {
         match octets {
             [first, ..] if *first < 128 && is_shortest(octets) => Serial::from_big_endian(octets),
@@ -114,7 +117,8 @@ impl Serial {
     /// The serial number in exactly 20 big-endian bytes, as [`Serial::bytes20`] gives them. `None` for another length, for
     /// 0, and for a number above 2^159 - 1.
     pub fn from_bytes20(bytes: &[u8]) -> Option<Serial>
-        ensures { MatchOption result ((n : ℕ) → IsSerial n → bytes.now ≢ serial_bytes n) (λ n. IsSerial n × (bytes.now ≡ serial_bytes n)) }
+        ensures { MatchOption result ((n : ℕ) → IsSerial n → bytes.now ≢ serial_bytes n)
+            (λ n. IsSerial n × (bytes.now ≡ serial_bytes n)) }
     {
         if bytes.len() == BYTES {
             Serial::from_big_endian(bytes)

@@ -83,8 +83,10 @@ abbrev pub seen_over : Records → List DayLine → List Seen
 seen_over records [] = []
 seen_over records (decided now command reply ∷ rest) = seen_over (records_after records now command) rest
 seen_over records (refuse now command refusal ∷ rest) = seen_over (records_after records now command) rest
-seen_over records (queried now query reply ∷ rest) = answered (answer records now query) ∷ seen_over records rest
-seen_over records (deny now query refusal ∷ rest) = answered (answer records now query) ∷ seen_over records rest
+seen_over records (queried now query reply ∷ rest) =
+    answered (answer records now query) ∷ seen_over records rest
+seen_over records (deny now query refusal ∷ rest) =
+    answered (answer records now query) ∷ seen_over records rest
 seen_over records (crl_has number those ∷ rest) = listed (entries records number) ∷ seen_over records rest
 
 -- what the lines claim to show
@@ -107,7 +109,8 @@ new_under policy = no_records (record { name = []; key = [] }) policy
 -- a day is as its lines say: from a new register, the commands have these outcomes, and the other lines show what they claim
 pub record DayUnder (policy : Terms) (lines : List DayLine) : Type 0 where
   pub run :
-      Run no_bytes (new_under policy) (commands_of lines) (outcomes_of lines) (records_after_all (new_under policy) (commands_of lines))
+      Run no_bytes (new_under policy) (commands_of lines) (outcomes_of lines)
+      (records_after_all (new_under policy) (commands_of lines))
   pub seen : seen_over (new_under policy) lines ≡ seen_in lines
 
 -- the default policy: 398 days, with lives of eight days for CRLs and four days for OCSP responses

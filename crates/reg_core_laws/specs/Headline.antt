@@ -25,7 +25,8 @@ use Rattle.reg_core_laws.specs.Run.{Happens, Run}
 
 -- a new register is sound, with any policy
 abbrev pub CreatedSound : (CertList → List ℕ → Type 0) → Type 0
-CreatedSound signed = (issuer : Issuer) (policy : Terms) → IsPolicy policy → Sound signed (no_records issuer policy)
+CreatedSound signed =
+    (issuer : Issuer) (policy : Terms) → IsPolicy policy → Sound signed (no_records issuer policy)
 
 -- every run keeps the records sound
 abbrev pub KeepsSound : (CertList → List ℕ → Type 0) → Type 0
@@ -102,7 +103,8 @@ pub record TimeMoves (records : Records) (moment later : ℕ) : Type 0 where
       ≡ (counts records moment).good
   pub expired :
       (counts records later).expired
-      ≡ (counts records moment).expired + length (filter (ends_between records moment later) records.certificates)
+      ≡ (counts records moment).expired
+      + length (filter (ends_between records moment later) records.certificates)
   pub revoked : (counts records later).revoked ≡ (counts records moment).revoked
   pub ending : AllByRecursion
       (λ row. IsTrue (ends_between records moment later row)
@@ -139,7 +141,8 @@ NonePastBetween crls first n not_after =
 
 -- a revocation in the CRLs: those issued before it do not list it; each later one lists it exactly if no CRL between it and
 -- the revocation was issued past the certificate's notAfter
-pub record ListedByCrls (earlier : List Crl) (after : Records) (certificate : CertRow) (revocation : RevocationRow) : Type 0 where
+pub record ListedByCrls (earlier : List Crl) (after : Records) (certificate : CertRow)
+    (revocation : RevocationRow) : Type 0 where
   pub stands : revocation_in after.revocations certificate.serial ≡ Some revocation
   pub later : List Crl
   pub issued : after.crls ≡ earlier ++ later

@@ -19,14 +19,16 @@ abbrev pub register : CertRow → Command
 register row = Register row.order row.serial row.not_before row.not_after
 
 -- the outcome of each row, in order, at one moment; a row that can't be read is refused with `Syntax`
-abbrev pub Imports : (CertList → List ℕ → Type 0) → Records → ℕ → List (Option CertRow) → List (Result Reply Fault) → Records → Type 0
+abbrev pub Imports : (CertList → List ℕ → Type 0) → Records → ℕ → List (Option CertRow)
+    → List (Result Reply Fault) → Records → Type 0
 Imports signed records now [] [] after = after ≡ records
 Imports signed records now [] (outcome ∷ outcomes) after = ⊥
 Imports signed records now (row ∷ rows) [] after = ⊥
 Imports signed records now (None ∷ rows) (outcome ∷ outcomes) after =
     (outcome ≡ Err (Refused Syntax)) × Imports signed records now rows outcomes after
 Imports signed records now (Some row ∷ rows) (outcome ∷ outcomes) after =
-    (next : Records) × Happens signed records now (register row) outcome next × Imports signed next now rows outcomes after
+    (next : Records) × Happens signed records now (register row) outcome next
+    × Imports signed next now rows outcomes after
 
 -- a fault of memory, store, signer, input or output
 abbrev pub IsFault : Result Reply Fault → Type 0

@@ -15,7 +15,8 @@ use Rattle.reg_core_laws.specs.Run.{Happens, Run}
 
 -- the revocation that a command adds: the command revokes by a recorded request, and the revocation has that request's
 -- serial number, the command's moment, the reason of the request's ground, and the next CRL as its first
-pub record IsRevocationBy (before : Records) (now : ℕ) (command : Command) (revocation : RevocationRow) : Type 0 where
+pub record IsRevocationBy (before : Records) (now : ℕ) (command : Command)
+    (revocation : RevocationRow) : Type 0 where
   pub request : RequestRow
   pub commanded : command ≡ Revoke request.id
   pub recorded : request_in before.requests request.id ≡ Some request

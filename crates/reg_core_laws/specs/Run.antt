@@ -12,9 +12,11 @@ use Rattle.reg_core.specs.declared.refusal.Fault.TheVariants.{Refused, Memory, S
 
 -- the outcome of a command: that of its step; or, before the clock's end, a fault of memory or of the store; or, if the
 -- command issues a CRL and is not refused, a fault of the signer. A fault leaves the records as they are.
-abbrev pub Happens : (CertList → List ℕ → Type 0) → Records → ℕ → Command → Result Reply Fault → Records → Type 0
+abbrev pub Happens : (CertList → List ℕ → Type 0) → Records → ℕ → Command
+    → Result Reply Fault → Records → Type 0
 Happens signed records now command (Ok reply) after = Step signed records now command (Ok reply) after
-Happens signed records now command (Err (Refused refused)) after = Step signed records now command (Err (Refused refused)) after
+Happens signed records now command (Err (Refused refused)) after =
+    Step signed records now command (Err (Refused refused)) after
 Happens signed records now command (Err Memory) after = (now < clock_end) × (after ≡ records)
 Happens signed records now command (Err Store) after = (now < clock_end) × (after ≡ records)
 Happens signed records now command (Err Signer) after =
@@ -23,9 +25,11 @@ Happens signed records now command (Err Read) after = ⊥
 Happens signed records now command (Err Write) after = ⊥
 
 -- a run: one outcome for each command, in order
-abbrev pub Run : (CertList → List ℕ → Type 0) → Records → List (ℕ × Command) → List (Result Reply Fault) → Records → Type 0
+abbrev pub Run : (CertList → List ℕ → Type 0) → Records → List (ℕ × Command)
+    → List (Result Reply Fault) → Records → Type 0
 Run signed records [] [] after = after ≡ records
 Run signed records [] (outcome ∷ outcomes) after = ⊥
 Run signed records (timed ∷ commands) [] after = ⊥
 Run signed records (timed ∷ commands) (outcome ∷ outcomes) after =
-    (next : Records) × Happens signed records timed.0 timed.1 outcome next × Run signed next commands outcomes after
+    (next : Records) × Happens signed records timed.0 timed.1 outcome next
+    × Run signed next commands outcomes after

@@ -62,13 +62,16 @@ starts_in_any_case text digits =
 abbrev pub begins_with : List ℕ → ℕ → Bool
 begins_with digits serial =
     starts_in_any_case (serial_text serial) digits
-    || starts_in_any_case (drop (position_or_len (λ byte. not (byte == 48)) (serial_text serial)) (serial_text serial)) digits
+    || starts_in_any_case
+    (drop (position_or_len (λ byte. not (byte == 48)) (serial_text serial)) (serial_text serial)) digits
 
 -- a row passes the filter
 abbrev pub keeps : Filter → Row → Bool
 keeps wanted row =
-    wanted_field bytes_eq wanted.subscriber (name_of_row row) && wanted_field begins_with wanted.serial (serial_of_row row)
-    && wanted_field nat_le wanted.from (time_of_row row) && wanted_field (λ to time. nat_lt time to) wanted.to (time_of_row row)
+    wanted_field bytes_eq wanted.subscriber (name_of_row row)
+    && wanted_field begins_with wanted.serial (serial_of_row row)
+    && wanted_field nat_le wanted.from (time_of_row row)
+    && wanted_field (λ to time. nat_lt time to) wanted.to (time_of_row row)
 
 -- the rows that pass the filter, in their order
 abbrev pub wanted_rows : Filter → List Row → List Row

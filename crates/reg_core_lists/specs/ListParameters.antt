@@ -25,27 +25,39 @@ no_params = record { after = None; before = None; limit = None; filter = all_row
 
 -- the parameters with one more; `None` if it was given before, or its value can't be read
 abbrev pub with_after : Params → List ℕ → Option Params
-with_after params value = cond (is_some params.after) None (option_map (λ key. record params { after = Some key }) (label_of value))
+with_after params value =
+    cond (is_some params.after) None (option_map (λ key. record params { after = Some key }) (label_of value))
 
 abbrev pub with_before : Params → List ℕ → Option Params
-with_before params value = cond (is_some params.before) None (option_map (λ moment. record params { before = Some moment }) (moment_of value))
+with_before params value =
+    cond (is_some params.before) None
+    (option_map (λ moment. record params { before = Some moment }) (moment_of value))
 
 abbrev pub with_limit : Params → List ℕ → Option Params
-with_limit params value = cond (is_some params.limit) None (option_map (λ limit. record params { limit = Some limit }) (number_of value))
+with_limit params value =
+    cond (is_some params.limit) None
+    (option_map (λ limit. record params { limit = Some limit }) (number_of value))
 
 -- a filter with one more condition; `None` if it was given before, or its value can't be read
 abbrev pub filtered_by_name : Filter → List ℕ → Option Filter
 filtered_by_name filter value =
-    cond (is_some filter.subscriber) None (option_map (λ name. record filter { subscriber = Some name }) (label_of value))
+    cond (is_some filter.subscriber) None
+    (option_map (λ name. record filter { subscriber = Some name }) (label_of value))
 
 abbrev pub filtered_by_serial : Filter → List ℕ → Option Filter
-filtered_by_serial filter value = cond (is_some filter.serial) None (option_map (λ digits. record filter { serial = Some digits }) (prefix_of value))
+filtered_by_serial filter value =
+    cond (is_some filter.serial) None
+    (option_map (λ digits. record filter { serial = Some digits }) (prefix_of value))
 
 abbrev pub filtered_from : Filter → List ℕ → Option Filter
-filtered_from filter value = cond (is_some filter.from) None (option_map (λ moment. record filter { from = Some moment }) (moment_of value))
+filtered_from filter value =
+    cond (is_some filter.from) None
+    (option_map (λ moment. record filter { from = Some moment }) (moment_of value))
 
 abbrev pub filtered_to : Filter → List ℕ → Option Filter
-filtered_to filter value = cond (is_some filter.to) None (option_map (λ moment. record filter { to = Some moment }) (moment_of value))
+filtered_to filter value =
+    cond (is_some filter.to) None
+    (option_map (λ moment. record filter { to = Some moment }) (moment_of value))
 
 abbrev pub filter_with : Filter → List ℕ → List ℕ → Option Filter
 filter_with filter name value =
@@ -56,7 +68,8 @@ filter_with filter name value =
     else None
 
 abbrev pub with_filter : Params → List ℕ → List ℕ → Option Params
-with_filter params name value = option_map (λ filter. record params { filter = filter }) (filter_with params.filter name value)
+with_filter params name value =
+    option_map (λ filter. record params { filter = filter }) (filter_with params.filter name value)
 
 -- the parameters with one more, by its name
 abbrev pub with_value : Params → List ℕ → List ℕ → Option Params
@@ -77,7 +90,8 @@ abbrev pub params_from : ℕ → List ℕ → Params → Option Params
 params_from zero text params = None
 params_from (suc n) text params =
     option_and_then
-    (λ more. cond (position_or_len (λ byte. byte == 38) text == length text) (Some more) (params_from n (after_first (λ byte. byte == 38) text) more))
+    (λ more. cond (position_or_len (λ byte. byte == 38) text == length text) (Some more)
+    (params_from n (after_first (λ byte. byte == 38) text) more))
     (with_piece params (before_first (λ byte. byte == 38) text))
 
 -- the parameters in a text: at most seven
@@ -105,7 +119,8 @@ page_query word told =
     option_and_then
     (λ params. option_and_then
     (λ start. option_and_then
-    (λ from. option_and_then (λ most. where_fits (record { from = from; most = most; filter = params.filter })) (at_most params.limit))
+    (λ from. option_and_then (λ most.
+    where_fits (record { from = from; most = most; filter = params.filter })) (at_most params.limit))
     (cursor_at start params.after))
     (cursor_named word params.before))
     (params_of told)

@@ -26,11 +26,14 @@ use Rattle.reg_core_lists.specs.declared.rows.Row.TheVariants as kind
 
 -- the subscriber of an order
 abbrev pub subscriber_of_order : Records → ℕ → Option SubscriberRow
-subscriber_of_order records order = option_and_then (λ order. subscriber_in records.subscribers order.subscriber) (order_in records.orders order)
+subscriber_of_order records order =
+    option_and_then (λ order. subscriber_in records.subscribers order.subscriber)
+    (order_in records.orders order)
 
 -- the status of a registered certificate at a moment
 abbrev pub status_at : Records → ℕ → CertRow → Status
-status_at records now certificate = status_by now (Some certificate) (revocation_in records.revocations certificate.serial)
+status_at records now certificate =
+    status_by now (Some certificate) (revocation_in records.revocations certificate.serial)
 
 -- the fields of a certificate at a moment
 abbrev pub certificate_line : Records → ℕ → CertRow → Option CertificateLine
@@ -49,7 +52,12 @@ abbrev pub request_line : Records → RequestRow → Option RequestLine
 request_line records request =
     option_and_then
     (λ certificate. option_map
-    (λ subscriber. record { request = request; due = deadline request; certificate = certificate; subscriber = subscriber })
+    (λ subscriber. record {
+      request = request;
+      due = deadline request;
+      certificate = certificate;
+      subscriber = subscriber;
+    })
     (subscriber_of_order records certificate.order))
     (certificate_in records.certificates request.serial)
 
@@ -58,7 +66,12 @@ abbrev pub revoked_line : Records → ℕ → RevocationRow → Option RevokedLi
 revoked_line records now revocation =
     option_and_then
     (λ request. option_map
-    (λ line. record { certificate = line; revocation = revocation; request = request; due = deadline request })
+    (λ line. record {
+      certificate = line;
+      revocation = revocation;
+      request = request;
+      due = deadline request;
+    })
     (option_and_then (certificate_line records now) (certificate_in records.certificates revocation.serial)))
     (request_in records.requests revocation.request)
 
@@ -92,7 +105,8 @@ order_line records order =
     (λ subscriber. record {
       order = order;
       subscriber = subscriber;
-      serial = option_map (λ certificate. certificate.serial) (certificate_of_order records.certificates order.id);
+      serial = option_map (λ certificate. certificate.serial)
+          (certificate_of_order records.certificates order.id);
     })
     (subscriber_in records.subscribers order.subscriber)
 
@@ -100,14 +114,17 @@ order_line records order =
 
 -- the row for a certificate in the list of all certificates
 abbrev pub certificate_row : Records → ℕ → CertRow → Option Row
-certificate_row records now certificate = option_map (λ line. kind.Certificate line) (certificate_line records now certificate)
+certificate_row records now certificate =
+    option_map (λ line. kind.Certificate line) (certificate_line records now certificate)
 
 abbrev pub revoked_row : Records → ℕ → RevocationRow → Option Row
-revoked_row records now revocation = option_map (λ line. kind.Revoked line) (revoked_line records now revocation)
+revoked_row records now revocation =
+    option_map (λ line. kind.Revoked line) (revoked_line records now revocation)
 
 -- a certificate is good, and its notAfter is before a moment
 abbrev pub is_expiring : Records → ℕ → ℕ → CertRow → Bool
-is_expiring records now before certificate = is_good (status_at records now certificate) && nat_lt certificate.not_after before
+is_expiring records now before certificate =
+    is_good (status_at records now certificate) && nat_lt certificate.not_after before
 
 abbrev pub expiring_row : Records → ℕ → ℕ → CertRow → Option Row
 expiring_row records now before certificate =
@@ -116,7 +133,8 @@ expiring_row records now before certificate =
 -- the row for a request, if it is open
 abbrev pub open_row : Records → ℕ → RequestRow → Option Row
 open_row records now request =
-    cond (is_open records now request) (option_map (λ line. kind.Request line) (request_line records request)) None
+    cond (is_open records now request)
+    (option_map (λ line. kind.Request line) (request_line records request)) None
 
 -- the row for a request, if it is open and its deadline is past
 abbrev pub overdue_row : Records → ℕ → RequestRow → Option Row
@@ -124,7 +142,8 @@ overdue_row records now request = cond (nat_lt (deadline request) now) (open_row
 
 -- the row for any request
 abbrev pub history_row : Records → ℕ → RequestRow → Option Row
-history_row records now request = option_map (λ history. kind.History history) (request_history records now request)
+history_row records now request =
+    option_map (λ history. kind.History history) (request_history records now request)
 
 abbrev pub subscriber_row : SubscriberRow → Option Row
 subscriber_row subscriber = Some (kind.Subscriber subscriber)
@@ -140,7 +159,8 @@ crl_row crl = Some (kind.Crl (row_of crl))
 -- rows with one more, inserted before the first that has a greater key
 abbrev pub put_in : {A : Type 0} → (A → ℕ) → A → List A → List A
 put_in key row [] = row ∷ []
-put_in key row (next ∷ rest) = cond (nat_lt (key row) (key next)) (row ∷ next ∷ rest) (next ∷ put_in key row rest)
+put_in key row (next ∷ rest) =
+    cond (nat_lt (key row) (key next)) (row ∷ next ∷ rest) (next ∷ put_in key row rest)
 
 -- rows in ascending order of a key
 abbrev pub in_order : {A : Type 0} → (A → ℕ) → List A → List A
@@ -174,11 +194,14 @@ key_of after = unwrap_or after 0
 -- the page of a list from a cursor on, at a moment
 abbrev pub page : Records → ℕ → ℕ → Cursor → ShownPage
 page records now most (Revoked after) =
-    page_over (λ row. row.serial) (revoked_row records now) (λ serial. Revoked (Some serial)) (key_of after) most records.revocations
+    page_over (λ row. row.serial) (revoked_row records now) (λ serial. Revoked (Some serial)) (key_of after)
+    most records.revocations
 page records now most (Certificates after) =
-    page_over (λ row. row.serial) (certificate_row records now) (λ serial. Certificates (Some serial)) (key_of after) most records.certificates
+    page_over (λ row. row.serial) (certificate_row records now) (λ serial. Certificates (Some serial))
+    (key_of after) most records.certificates
 page records now most (Ending before after) =
-    page_over (λ row. row.serial) (expiring_row records now before) (λ serial. Ending before (Some serial)) (key_of after) most records.certificates
+    page_over (λ row. row.serial) (expiring_row records now before) (λ serial. Ending before (Some serial))
+    (key_of after) most records.certificates
 page records now most (OpenRequests after) =
     page_over (λ row. row.id) (open_row records now) (λ id. OpenRequests id) after most records.requests
 page records now most (Overdue after) =
@@ -194,12 +217,21 @@ page records now most (Crls after) =
 
 -- all rows of a list from a cursor on, at a moment
 abbrev pub rows_from : Records → ℕ → Cursor → List Row
-rows_from records now (Revoked after) = filter_map (revoked_row records now) (past (λ row. row.serial) (key_of after) records.revocations)
-rows_from records now (Certificates after) = filter_map (certificate_row records now) (past (λ row. row.serial) (key_of after) records.certificates)
-rows_from records now (Ending before after) = filter_map (expiring_row records now before) (past (λ row. row.serial) (key_of after) records.certificates)
-rows_from records now (OpenRequests after) = filter_map (open_row records now) (past (λ row. row.id) after records.requests)
-rows_from records now (Overdue after) = filter_map (overdue_row records now) (past (λ row. row.id) after records.requests)
-rows_from records now (Requests after) = filter_map (history_row records now) (past (λ row. row.id) after records.requests)
-rows_from records now (Subscribers after) = filter_map subscriber_row (past (λ row. row.id) after records.subscribers)
-rows_from records now (Orders after) = filter_map (order_row records) (past (λ row. row.id) after records.orders)
+rows_from records now (Revoked after) =
+    filter_map (revoked_row records now) (past (λ row. row.serial) (key_of after) records.revocations)
+rows_from records now (Certificates after) =
+    filter_map (certificate_row records now) (past (λ row. row.serial) (key_of after) records.certificates)
+rows_from records now (Ending before after) =
+    filter_map (expiring_row records now before)
+    (past (λ row. row.serial) (key_of after) records.certificates)
+rows_from records now (OpenRequests after) =
+    filter_map (open_row records now) (past (λ row. row.id) after records.requests)
+rows_from records now (Overdue after) =
+    filter_map (overdue_row records now) (past (λ row. row.id) after records.requests)
+rows_from records now (Requests after) =
+    filter_map (history_row records now) (past (λ row. row.id) after records.requests)
+rows_from records now (Subscribers after) =
+    filter_map subscriber_row (past (λ row. row.id) after records.subscribers)
+rows_from records now (Orders after) =
+    filter_map (order_row records) (past (λ row. row.id) after records.orders)
 rows_from records now (Crls after) = filter_map crl_row (past (λ crl. crl.number) after records.crls)

@@ -22,8 +22,10 @@ pub record IsPage (records : Records) (now most : ℕ) (from : Cursor) (given : 
 -- the result for a page of a list: the page, if the checks of the clock pass; else their refusal; or a fault of memory or
 -- of the store
 abbrev pub IsPaged : Records → ℕ → ℕ → Cursor → Result Page Fault → Type 0
-IsPaged records now most from (Ok given) = (first_of_all (clock_checks now records.last) ≡ None) × IsPage records now most from given
-IsPaged records now most from (Err (Refused refusal)) = first_of_all (clock_checks now records.last) ≡ Some refusal
+IsPaged records now most from (Ok given) =
+    (first_of_all (clock_checks now records.last) ≡ None) × IsPage records now most from given
+IsPaged records now most from (Err (Refused refusal)) =
+    first_of_all (clock_checks now records.last) ≡ Some refusal
 IsPaged records now most from (Err Memory) = Unit {0}
 IsPaged records now most from (Err Store) = Unit {0}
 IsPaged records now most from (Err Signer) = ⊥
@@ -45,13 +47,16 @@ ArePages records now most None rows (first ∷ rest) = ⊥
 ArePages records now most (Some from) rows [] = ⊥
 ArePages records now most (Some from) rows (first ∷ rest) =
     (first ≡ (page records now most from).rows)
-    × ((others : List Row) × (rows ≡ first ++ others) × ArePages records now most (page records now most from).next others rest)
+    × ((others : List Row) × (rows ≡ first ++ others)
+    × ArePages records now most (page records now most from).next others rest)
 
 -- the result for a whole list as a text: all its rows from a cursor on that pass the filter, each once and in order
 abbrev pub IsWholeList : Records → ℕ → Form → Filter → Cursor → Result (List ℕ) Fault → Type 0
 IsWholeList records now form wanted from (Ok text) =
-    (first_of_all (clock_checks now records.last) ≡ None) × (text ≡ list_text form from (wanted_rows wanted (rows_from records now from)))
-IsWholeList records now form wanted from (Err (Refused refusal)) = first_of_all (clock_checks now records.last) ≡ Some refusal
+    (first_of_all (clock_checks now records.last) ≡ None)
+    × (text ≡ list_text form from (wanted_rows wanted (rows_from records now from)))
+IsWholeList records now form wanted from (Err (Refused refusal)) =
+    first_of_all (clock_checks now records.last) ≡ Some refusal
 IsWholeList records now form wanted from (Err Memory) = Unit {0}
 IsWholeList records now form wanted from (Err Store) = Unit {0}
 IsWholeList records now form wanted from (Err Signer) = ⊥
@@ -60,4 +65,5 @@ IsWholeList records now form wanted from (Err Write) = ⊥
 
 -- the result for a whole list, and the records stay the same
 abbrev pub GivesWholeList : Records → ℕ → Form → Filter → Cursor → Result (List ℕ) Fault → Records → Type 0
-GivesWholeList before now form wanted from given after = IsWholeList before now form wanted from given × (after ≡ before)
+GivesWholeList before now form wanted from given after =
+    IsWholeList before now form wanted from given × (after ≡ before)

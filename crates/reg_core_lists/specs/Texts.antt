@@ -14,11 +14,16 @@ use Rattle.reg_core_lists.specs.declared.texts.Form.TheVariants.{Csv, Json}
 abbrev pub header_text : Cursor → List ℕ
 header_text (Revoked after) =
     codes "serial,subscriber,name,order,notBefore,notAfter,status,revokedAt,reason,firstCrl,lastCrl,request,ground,received,due,lateness\n"
-header_text (Certificates after) = codes "serial,subscriber,name,order,notBefore,notAfter,status,revokedAt,reason,firstCrl,lastCrl\n"
-header_text (Ending before after) = codes "serial,subscriber,name,order,notBefore,notAfter,status,revokedAt,reason,firstCrl,lastCrl\n"
-header_text (OpenRequests after) = codes "request,serial,ground,received,due,subscriber,name,order,notBefore,notAfter\n"
-header_text (Overdue after) = codes "request,serial,ground,received,due,subscriber,name,order,notBefore,notAfter\n"
-header_text (Requests after) = codes "request,serial,ground,received,due,subscriber,name,order,notBefore,notAfter,state,decided,lateness\n"
+header_text (Certificates after) =
+    codes "serial,subscriber,name,order,notBefore,notAfter,status,revokedAt,reason,firstCrl,lastCrl\n"
+header_text (Ending before after) =
+    codes "serial,subscriber,name,order,notBefore,notAfter,status,revokedAt,reason,firstCrl,lastCrl\n"
+header_text (OpenRequests after) =
+    codes "request,serial,ground,received,due,subscriber,name,order,notBefore,notAfter\n"
+header_text (Overdue after) =
+    codes "request,serial,ground,received,due,subscriber,name,order,notBefore,notAfter\n"
+header_text (Requests after) =
+    codes "request,serial,ground,received,due,subscriber,name,order,notBefore,notAfter,state,decided,lateness\n"
 header_text (Subscribers after) = codes "subscriber,name\n"
 header_text (Orders after) = codes "order,subscriber,name,days,serial\n"
 header_text (Crls after) = codes "crl,thisUpdate\n"
@@ -80,4 +85,5 @@ next_text (Some next) = 34 ∷ plain_text (key_cell next) ++ 34 ∷ []
 -- a page as an object: the name of its list, the key after which the next page begins, and its rows
 unfoldable pub page_body : Cursor → Option Cursor → List Row → List ℕ
 page_body from next rows =
-    codes "{\"list\":\"" ++ list_word from ++ codes "\",\"next\":" ++ next_text next ++ codes ",\"rows\":[" ++ rows_json rows ++ codes "]}"
+    codes "{\"list\":\"" ++ list_word from ++ codes "\",\"next\":" ++ next_text next ++ codes ",\"rows\":["
+    ++ rows_json rows ++ codes "]}"

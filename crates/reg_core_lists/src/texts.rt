@@ -1,10 +1,11 @@
 //! Lists as CSV (RFC 4180, but records end with LF) and as JSON (RFC 8259). No field has a byte that needs quoting or escaping in
 //! either: names are of letters, digits, `.`, `-` and `_`.
 
-ghost use Rattle.std.specs.Prelude.{◌≡◌, ◌∷◌, ◌++◌, [], IfOk, OnOk, flat_map, map};
+ghost use Rattle.std.specs.Prelude.{◌≡◌, ◌∷◌, ◌++◌, [], IfOk, flat_map, map};
 ghost use Rattle.reg_core_lists.specs.Cursors.{key_cell};
 ghost use Rattle.reg_core_lists.specs.Fields.{json_text, plain_text, row_fields, field_of_text};
 ghost use Rattle.reg_core_lists.specs.Texts.{header_text, member_rest, member_text, next_text, object_text, page_body, record_rest, record_text, row_rest, row_text, rows_json};
+ghost use Rattle.reg_core.specs.Buffers.{AppendsOnOk};
 
 use crate::cursor::Cursor;
 use crate::fields::{Cell, Field, fields_of, serial_in};
@@ -55,7 +56,7 @@ pub fn put_rows(
     form: Form,
     rows: &[Row],
 ) -> Result<(), AllocError>
-    ensures { OnOk result (out.new.items ≡ out.old.items ++ flat_map (row_text form) rows.now) }
+    ensures { AppendsOnOk out.old out.new result (flat_map (row_text form) rows.now) }
 {
     for row in rows {
         put_row(alloc, out, form, row)?;
@@ -65,7 +66,7 @@ pub fn put_rows(
 
 #[tactic(auto, unfolding(crate::specs::Texts::row_text))]
 fn put_row(alloc: Global, out: &mut Vec<u8>, form: Form, row: &Row) -> Result<(), AllocError>
-    ensures { OnOk result (out.new.items ≡ out.old.items ++ row_text form row.now) }
+    ensures { AppendsOnOk out.old out.new result (row_text form row.now) }
 {
     let fields = fields_of(alloc, row)?;
     match form {
@@ -78,7 +79,7 @@ fn put_row(alloc: Global, out: &mut Vec<u8>, form: Form, row: &Row) -> Result<()
 
 #[tactic(auto, unfolding(crate::specs::Texts::record_text))]
 fn put_record(out: &mut Vec<u8>, fields: &[Field]) -> Result<(), AllocError>
-    ensures { OnOk result (out.new.items ≡ out.old.items ++ record_text (map field_of_text fields.now)) }
+    ensures { AppendsOnOk out.old out.new result (record_text (map field_of_text fields.now)) }
 {
     match fields.split_first() {
         Some((first, rest)) => {
@@ -90,7 +91,7 @@ fn put_record(out: &mut Vec<u8>, fields: &[Field]) -> Result<(), AllocError>
 }
 
 fn put_record_rest(out: &mut Vec<u8>, fields: &[Field]) -> Result<(), AllocError>
-    ensures { OnOk result (out.new.items ≡ out.old.items ++ flat_map record_rest (map field_of_text fields.now)) }
+    ensures { AppendsOnOk out.old out.new result (flat_map record_rest (map field_of_text fields.now)) }
 {
     for field in fields {
         out.push(b',')?;
@@ -101,7 +102,7 @@ fn put_record_rest(out: &mut Vec<u8>, fields: &[Field]) -> Result<(), AllocError
 
 #[tactic(auto, unfolding(crate::specs::Fields::plain_text))]
 fn put_plain(out: &mut Vec<u8>, cell: &Cell) -> Result<(), AllocError>
-    ensures { OnOk result (out.new.items ≡ out.old.items ++ plain_text cell.now) }
+    ensures { AppendsOnOk out.old out.new result (plain_text cell.now) }
 {
     match cell {
         Cell::Empty => Ok(()),
@@ -114,7 +115,7 @@ fn put_plain(out: &mut Vec<u8>, cell: &Cell) -> Result<(), AllocError>
 
 #[tactic(auto, unfolding(crate::specs::Texts::object_text))]
 fn put_object(out: &mut Vec<u8>, fields: &[Field]) -> Result<(), AllocError>
-    ensures { OnOk result (out.new.items ≡ out.old.items ++ object_text (map field_of_text fields.now)) }
+    ensures { AppendsOnOk out.old out.new result (object_text (map field_of_text fields.now)) }
 {
     out.push(b'{')?;
     match fields.split_first() {
@@ -129,7 +130,7 @@ fn put_object(out: &mut Vec<u8>, fields: &[Field]) -> Result<(), AllocError>
 }
 
 fn put_members_rest(out: &mut Vec<u8>, fields: &[Field]) -> Result<(), AllocError>
-    ensures { OnOk result (out.new.items ≡ out.old.items ++ flat_map member_rest (map field_of_text fields.now)) }
+    ensures { AppendsOnOk out.old out.new result (flat_map member_rest (map field_of_text fields.now)) }
 {
     for field in fields {
         out.push(b',')?;
@@ -140,7 +141,7 @@ fn put_members_rest(out: &mut Vec<u8>, fields: &[Field]) -> Result<(), AllocErro
 
 #[tactic(auto, unfolding(crate::specs::Texts::member_text))]
 fn put_member(out: &mut Vec<u8>, field: &Field) -> Result<(), AllocError>
-    ensures { OnOk result (out.new.items ≡ out.old.items ++ member_text (field_of_text field.now)) }
+    ensures { AppendsOnOk out.old out.new result (member_text (field_of_text field.now)) }
 {
     out.push(b'"')?;
     out.extend_from_slice(field.name.as_bytes())?;
@@ -150,7 +151,7 @@ fn put_member(out: &mut Vec<u8>, field: &Field) -> Result<(), AllocError>
 
 #[tactic(auto, unfolding(crate::specs::Fields::json_text))]
 fn put_value(out: &mut Vec<u8>, cell: &Cell) -> Result<(), AllocError>
-    ensures { OnOk result (out.new.items ≡ out.old.items ++ json_text cell.now) }
+    ensures { AppendsOnOk out.old out.new result (json_text cell.now) }
 {
     match cell {
         Cell::Empty => out.extend_from_slice(b"null"),
@@ -160,7 +161,7 @@ fn put_value(out: &mut Vec<u8>, cell: &Cell) -> Result<(), AllocError>
 }
 
 fn put_string(out: &mut Vec<u8>, cell: &Cell) -> Result<(), AllocError>
-    ensures { OnOk result (out.new.items ≡ out.old.items ++ (34 ∷ plain_text cell.now ++ 34 ∷ [])) }
+    ensures { AppendsOnOk out.old out.new result (34 ∷ plain_text cell.now ++ 34 ∷ []) }
 {
     out.push(b'"')?;
     put_plain(out, cell)?;
@@ -190,7 +191,7 @@ pub fn page_text(
 
 #[tactic(auto, unfolding(crate::specs::Texts::next_text))]
 fn put_next(out: &mut Vec<u8>, next: Option<Cursor>) -> Result<(), AllocError>
-    ensures { OnOk result (out.new.items ≡ out.old.items ++ next_text next) }
+    ensures { AppendsOnOk out.old out.new result (next_text next) }
 {
     match next {
         Some(next) => put_string(out, &key_of(next)),
@@ -215,7 +216,7 @@ fn key_of(from: Cursor) -> Cell
 }
 
 fn put_json_rows(alloc: Global, out: &mut Vec<u8>, rows: &[Row]) -> Result<(), AllocError>
-    ensures { OnOk result (out.new.items ≡ out.old.items ++ rows_json rows.now) }
+    ensures { AppendsOnOk out.old out.new result (rows_json rows.now) }
 {
     match rows.split_first() {
         Some((first, rest)) => {
@@ -227,7 +228,7 @@ fn put_json_rows(alloc: Global, out: &mut Vec<u8>, rows: &[Row]) -> Result<(), A
 }
 
 fn put_json_rest(alloc: Global, out: &mut Vec<u8>, rows: &[Row]) -> Result<(), AllocError>
-    ensures { OnOk result (out.new.items ≡ out.old.items ++ flat_map row_rest rows.now) }
+    ensures { AppendsOnOk out.old out.new result (flat_map row_rest rows.now) }
 {
     for row in rows {
         out.push(b',')?;
@@ -237,7 +238,7 @@ fn put_json_rest(alloc: Global, out: &mut Vec<u8>, rows: &[Row]) -> Result<(), A
 }
 
 fn put_json_row(alloc: Global, out: &mut Vec<u8>, row: &Row) -> Result<(), AllocError>
-    ensures { OnOk result (out.new.items ≡ out.old.items ++ object_text (row_fields row.now)) }
+    ensures { AppendsOnOk out.old out.new result (object_text (row_fields row.now)) }
 {
     let fields = fields_of(alloc, row)?;
     put_object(out, &fields)

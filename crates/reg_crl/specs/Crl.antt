@@ -23,7 +23,8 @@ crl_entry_extensions reason = if reason == 0 then [] else tlv 48 (reason_code re
 
 -- one of the revokedCertificates: userCertificate, revocationDate, crlEntryExtensions (RFC 5280 5.1.2.6)
 unfoldable pub revoked_certificate : Entry → List ℕ
-revoked_certificate entry = tlv 48 (integer_value entry.serial ++ time_value entry.at ++ crl_entry_extensions entry.reason)
+revoked_certificate entry =
+    tlv 48 (integer_value entry.serial ++ time_value entry.at ++ crl_entry_extensions entry.reason)
 
 -- revokedCertificates, absent if there are none (RFC 5280 5.1.2.6)
 unfoldable pub revoked_certificates : List Entry → List ℕ
@@ -44,7 +45,8 @@ crl_number number = extension (85 ∷ 29 ∷ 20 ∷ []) (integer_value number)
 
 -- crlExtensions, tagged [0]: the two extensions that each CRL has (RFC 5280 5.2)
 unfoldable pub crl_extensions : Issuer → ℕ → List ℕ
-crl_extensions issuer number = tlv 160 (tlv 48 (authority_key_identifier (key_identifier issuer number) ++ crl_number number))
+crl_extensions issuer number =
+    tlv 160 (tlv 48 (authority_key_identifier (key_identifier issuer number) ++ crl_number number))
 
 -- the TBSCertList with these fields, of a version 2 CRL (INTEGER 1): the part that is signed (RFC 5280 5.1.2)
 unfoldable pub tbs_cert_list : Issuer → List ℕ → ℕ → ℕ → ℕ → List Entry → List ℕ
@@ -54,7 +56,8 @@ tbs_cert_list issuer algorithm number this_update next_update entries =
 
 -- the TBSCertList of a CRL that is signed with this algorithm
 abbrev pub tbs_of : List ℕ → CertList → List ℕ
-tbs_of algorithm crl = tbs_cert_list crl.issuer algorithm crl.number crl.this_update crl.next_update crl.entries
+tbs_of algorithm crl =
+    tbs_cert_list crl.issuer algorithm crl.number crl.this_update crl.next_update crl.entries
 
 -- the CertificateList: tbsCertList, signatureAlgorithm, signatureValue (RFC 5280 5.1.1)
 unfoldable pub certificate_list : List ℕ → List ℕ → List ℕ → List ℕ

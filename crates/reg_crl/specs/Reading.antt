@@ -46,7 +46,8 @@ crl_extension_at bytes = do
 -- the value of an INTEGER that is not negative, by its contents octets, of which there are at most eight
 abbrev pub crl_number_of : List ℕ → Option ℕ
 crl_number_of [] = None
-crl_number_of (first ∷ rest) = if nat_lt first 0x80 && nat_le (length (first ∷ rest)) 8 then Some (value (first ∷ rest)) else None
+crl_number_of (first ∷ rest) =
+    if nat_lt first 0x80 && nat_le (length (first ∷ rest)) 8 then Some (value (first ∷ rest)) else None
 
 -- the value of the first CRL number extension, 2.5.29.20, in Extensions (RFC 5280 5.2.3). The fuel is their length: each has at least one octet.
 abbrev pub number_among : ℕ → List ℕ → Option ℕ
@@ -54,11 +55,14 @@ number_among fuel [] = None
 number_among zero (first ∷ rest) = None
 number_among (suc fuel) (first ∷ rest) =
     crl_extension_at (first ∷ rest)
-    >>= λ x. if bytes_eq x.0.0 (85 ∷ 29 ∷ 20 ∷ []) then (whole_at 0x02 x.0.1 >>= crl_number_of) else number_among fuel x.1
+    >>= λ x. if bytes_eq x.0.0 (85 ∷ 29 ∷ 20 ∷ []) then (whole_at 0x02 x.0.1 >>= crl_number_of)
+    else number_among fuel x.1
 
 -- the CRL number in crlExtensions, which nothing follows
 unfoldable pub numbered_at : List ℕ → Option ℕ
-numbered_at bytes = whole_at 0xA0 bytes >>= λ tagged. whole_at 0x30 tagged >>= λ extensions. number_among (length extensions) extensions
+numbered_at bytes =
+    whole_at 0xA0 bytes >>= λ tagged. whole_at 0x30 tagged >>= λ extensions.
+    number_among (length extensions) extensions
 
 -- the number, and the contents of revokedCertificates, which may be absent, in the contents of a TBSCertList
 unfoldable pub tbs_cert_list_at : List ℕ → Option (ℕ × List ℕ)
@@ -91,29 +95,36 @@ IsEntryAt bytes serial rest = IsSerial serial × (revoked_entry_at bytes ≡ Som
 -- the bytes are entries for these serial numbers, in this order, and then these bytes
 abbrev pub AreEntries : List ℕ → List ℕ → List ℕ → Type 0
 AreEntries bytes [] rest = bytes ≡ rest
-AreEntries bytes (serial ∷ serials) rest = (after : List ℕ) × IsEntryAt bytes serial after × AreEntries after serials rest
+AreEntries bytes (serial ∷ serials) rest =
+    (after : List ℕ) × IsEntryAt bytes serial after × AreEntries after serials rest
 
 -- the bytes are a CRL with this number, whose entries have these serial numbers, in this order
 abbrev pub IsPublished : List ℕ → ℕ → List ℕ → Type 0
-IsPublished bytes number serials = (revoked : List ℕ) × (certificate_list_at bytes ≡ Some (number, revoked)) × AreEntries revoked serials []
+IsPublished bytes number serials =
+    (revoked : List ℕ) × (certificate_list_at bytes ≡ Some (number, revoked)) × AreEntries revoked serials []
 
 -- ---- laws
 
 -- a CRL that is written is read back: its number, if that is below 2^63, and the serial numbers of its entries
 abbrev pub CrlsAreRead : Type 0
 CrlsAreRead =
-    (crl : CertList) (algorithm signature : List ℕ) → IsIssuer crl.issuer → IsAlgorithm algorithm → crl.number < 2 ^ 63
-    → AllByRecursion (λ entry. IsSerial entry.serial) crl.entries → length (certificate_list (tbs_of algorithm crl) algorithm signature) < 2 ^ 32
-    → IsPublished (certificate_list (tbs_of algorithm crl) algorithm signature) crl.number (map (λ entry. entry.serial) crl.entries)
+    (crl : CertList) (algorithm signature : List ℕ) → IsIssuer crl.issuer → IsAlgorithm algorithm
+    → crl.number < 2 ^ 63
+    → AllByRecursion (λ entry. IsSerial entry.serial) crl.entries
+    → length (certificate_list (tbs_of algorithm crl) algorithm signature) < 2 ^ 32
+    → IsPublished (certificate_list (tbs_of algorithm crl) algorithm signature) crl.number
+    (map (λ entry. entry.serial) crl.entries)
 
 -- a CRL has one number and one list of serial numbers
 abbrev pub CrlsHaveOneReading : Type 0
 CrlsHaveOneReading =
-    (bytes : List ℕ) (number other_number : ℕ) (serials other_serials : List ℕ) → IsPublished bytes number serials → IsPublished bytes other_number other_serials
+    (bytes : List ℕ) (number other_number : ℕ) (serials other_serials : List ℕ)
+    → IsPublished bytes number serials → IsPublished bytes other_number other_serials
     → (number ≡ other_number) × (serials ≡ other_serials)
 
 -- no CRL is a proper prefix of another: a CRL that is cut short is refused, and so is one with bytes after it
 abbrev pub NoCrlBeginsAnother : Type 0
 NoCrlBeginsAnother =
-    (bytes more : List ℕ) (one other : ℕ × List ℕ) → IsBytes bytes → certificate_list_at bytes ≡ Some one → certificate_list_at (bytes ++ more) ≡ Some other
+    (bytes more : List ℕ) (one other : ℕ × List ℕ) → IsBytes bytes → certificate_list_at bytes ≡ Some one
+    → certificate_list_at (bytes ++ more) ≡ Some other
     → more ≡ []

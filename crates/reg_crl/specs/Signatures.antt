@@ -7,7 +7,8 @@ use Rattle.reg_crl.specs.declared.signer.SignFault.TheVariants.{Device, Memory}
 
 -- A signer was asked to sign a message: it was `old` before and is `new` after. It gave a signature of its identity, or a fault. The count of
 -- failures rises if the device failed, and stays otherwise. At u64::MAX it can't rise, so the signer doesn't report a failed device.
-pub record SignsOrFails {S : Type 0} (identity : S → Identity) (signs : Identity → List ℕ → List ℕ → Type 0) (failure_count : S → ℕ)
+pub record SignsOrFails {S : Type 0} (identity : S → Identity) (signs : Identity → List ℕ → List ℕ → Type 0)
+    (failure_count : S → ℕ)
     (old new : S) (message : List ℕ) (result : Result (Vec ℕ Global) SignFault) : Type 0 where
   pub signed : IfOk result (λ signature. signs (identity old) message signature.items)
   pub short : IfOk result (λ signature. length signature.items ≤ 65536)

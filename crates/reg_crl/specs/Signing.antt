@@ -49,4 +49,5 @@ sealed_until since signs identity crl bytes =
 -- a SEQUENCE with at most 1,000 octets of contents is an AlgorithmIdentifier
 abbrev pub SequencesAreAlgorithms : Type 0
 SequencesAreAlgorithms =
-    (contents : List ℕ) → AllByRecursion (λ octet. octet < 256) contents → length contents ≤ 1000 → IsAlgorithm (tlv 48 contents)
+    (contents : List ℕ) → AllByRecursion (λ octet. octet < 256) contents → length contents ≤ 1000
+    → IsAlgorithm (tlv 48 contents)

@@ -4,6 +4,7 @@ ghost use Rattle.std.specs.Prelude.{◌≡◌, ◌++◌, ◌+◌, ◌*◌, ◌�
 ghost use Rattle.std.specs.List.{flat_map};
 ghost use Rattle.reg_crl.specs.Crl.{extension, crl_entry_extensions, revoked_certificate, revoked_certificates, crl_extensions, authority_key_identifier, key_identifier, crl_number, tbs_of, certificate_list};
 ghost use Rattle.reg_core.specs.Crls.{EntriesAscend};
+ghost use Rattle.reg_core.specs.Buffers.{AppendsOnOk, ItemsOnOk};
 
 use reg_core::{Entry, Memory, Moment};
 use reg_der::tags::{ENUMERATED, OBJECT_IDENTIFIER, OCTET_STRING, PRIMITIVE_0, SEQUENCE, TAGGED_0};
@@ -96,7 +97,7 @@ fn put_revoked_certificates(
     entries: &[Entry],
 ) -> Result<(), Memory>
     requires { length entries.now ≤ 1000000 }
-    ensures ok { OnOk result (out.new.items ≡ out.old.items ++ revoked_certificates entries.now) }
+    ensures ok { AppendsOnOk out.old out.new result (revoked_certificates entries.now) }
     ensures longer { OnOk result (length out.new.items ≤ length out.old.items + 59 * length entries.now + 6) }
 {
     if entries.is_empty() {
@@ -107,7 +108,7 @@ fn put_revoked_certificates(
 }
 
 fn revoked(alloc: Global, entries: &[Entry]) -> Result<Vec<u8>, Memory>
-    ensures bytes { IfOk result (λ bytes. bytes.items ≡ flat_map revoked_certificate entries.now) }
+    ensures bytes { ItemsOnOk result (flat_map revoked_certificate entries.now) }
     ensures short { IfOk result (λ bytes. length bytes.items ≤ 59 * length entries.now) }
 {
     let mut out = Vec::new(alloc);
@@ -126,7 +127,7 @@ fn put_revoked_certificate(
     buffer: &mut Vec<u8>,
     entry: Entry,
 ) -> Result<(), Memory>
-    ensures ok { OnOk result (out.new.items ≡ out.old.items ++ revoked_certificate entry) }
+    ensures ok { AppendsOnOk out.old out.new result (revoked_certificate entry) }
     ensures longer { OnOk result (length out.new.items ≤ length out.old.items + 59) }
 {
     buffer.clear();
@@ -139,7 +140,7 @@ fn put_revoked_certificate(
 /// Appends crlEntryExtensions; nothing if the reason is `unspecified`.
 #[tactic(auto, unfolding(crate::specs::Crl::crl_entry_extensions, crate::specs::Crl::reason_code, crate::specs::Crl::extension, reg_der::specs::Der::tlv, reg_der::specs::Der::length_octets))]
 fn put_crl_entry_extensions(out: &mut Vec<u8>, reason: u8) -> Result<(), Memory>
-    ensures ok { OnOk result (out.new.items ≡ out.old.items ++ crl_entry_extensions reason) }
+    ensures ok { AppendsOnOk out.old out.new result (crl_entry_extensions reason) }
     ensures longer { OnOk result (length out.new.items ≤ length out.old.items + 14) }
 {
     if reason == UNSPECIFIED {
@@ -174,7 +175,7 @@ fn put_crl_extensions(
     issuer: &Issuer,
     number: u64,
 ) -> Result<(), Memory>
-    ensures ok { OnOk result (out.new.items ≡ out.old.items ++ crl_extensions issuer.now number) }
+    ensures ok { AppendsOnOk out.old out.new result (crl_extensions issuer.now number) }
     ensures longer { OnOk result (length out.new.items ≤ length out.old.items + 200) }
 {
     let mut extensions = Vec::new(alloc);
@@ -205,7 +206,7 @@ fn put_authority_key_identifier(
 #[tactic(auto, unfolding(crate::specs::Crl::authority_key_identifier))]
 fn put_identifier(out: &mut Vec<u8>, alloc: Global, identifier: &[u8]) -> Result<(), Memory>
     requires { length identifier.now ≤ 64 }
-    ensures ok { OnOk result (out.new.items ≡ out.old.items ++ authority_key_identifier identifier.now) }
+    ensures ok { AppendsOnOk out.old out.new result (authority_key_identifier identifier.now) }
     ensures longer { OnOk result (length out.new.items ≤ length out.old.items + 100) }
 {
     let mut key_identifier = Vec::new(alloc);
@@ -217,7 +218,7 @@ fn put_identifier(out: &mut Vec<u8>, alloc: Global, identifier: &[u8]) -> Result
 
 #[tactic(auto, unfolding(crate::specs::Crl::crl_number))]
 fn put_crl_number(out: &mut Vec<u8>, alloc: Global, number: u64) -> Result<(), Memory>
-    ensures ok { OnOk result (out.new.items ≡ out.old.items ++ crl_number number) }
+    ensures ok { AppendsOnOk out.old out.new result (crl_number number) }
     ensures longer { OnOk result (length out.new.items ≤ length out.old.items + 40) }
 {
     let mut value = Vec::new(alloc);
@@ -234,7 +235,7 @@ fn put_extension(
     value: &[u8],
 ) -> Result<(), Memory>
     requires { length value.now ≤ 1000 }
-    ensures ok { OnOk result (out.new.items ≡ out.old.items ++ extension identifier value.now) }
+    ensures ok { AppendsOnOk out.old out.new result (extension identifier value.now) }
     ensures longer { OnOk result (length out.new.items ≤ length out.old.items + length value.now + 21) }
 {
     let mut contents = Vec::new(alloc);

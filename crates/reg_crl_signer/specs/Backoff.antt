@@ -16,8 +16,12 @@ module _ {D C : Type 0} (g : Ghosts D) where
   -- the device failed; or its back-off was active at some time, and it stayed as it was
   abbrev pub FailsOrIsBackedOff : BackoffDevice D C → List ℕ → BackoffDevice D C → Type 0
   FailsOrIsBackedOff it message after =
-      g.fails it.device message after.device ⊎ (((now : Duration) × IsBackedOff it.backoff.since now) × (after ≡ it))
+      g.fails it.device message after.device
+      ⊎ (((now : Duration) × IsBackedOff it.backoff.since now) × (after ≡ it))
 
   -- one exchange with the device, unless its back-off was active
-  abbrev pub ExchangesUnlessBackedOff : BackoffDevice D C → BackoffDevice D C → List ℕ → List ℕ → Result ℕ DeviceFault → Type 0
-  ExchangesUnlessBackedOff = Exchanges (λ it. g.public_key it.device) (λ it. g.device_path it.device) g.device_answered g.answers FailsOrIsBackedOff
+  abbrev pub ExchangesUnlessBackedOff : BackoffDevice D C → BackoffDevice D C → List ℕ → List ℕ
+      → Result ℕ DeviceFault → Type 0
+  ExchangesUnlessBackedOff =
+      Exchanges (λ it. g.public_key it.device) (λ it. g.device_path it.device)
+      g.device_answered g.answers FailsOrIsBackedOff

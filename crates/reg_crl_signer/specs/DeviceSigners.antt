@@ -25,23 +25,29 @@ module _ {D : Type 0} (g : Ghosts D) where
 
   -- a device with the identity's key gave the message this answer, which has the form of a signature
   abbrev pub SignsByDevice : Identity → List ℕ → List ℕ → Type 0
-  SignsByDevice identity message signature = g.answers identity.public_key message signature × HasForm identity signature
+  SignsByDevice identity message signature =
+      g.answers identity.public_key message signature × HasForm identity signature
 
   -- the result of asking the signer for a signature
-  abbrev pub SigningByDevice : DeviceSigner D g → DeviceSigner D g → List ℕ → Result (Vec ℕ Global) SignFault → Type 0
+  abbrev pub SigningByDevice : DeviceSigner D g → DeviceSigner D g → List ℕ
+      → Result (Vec ℕ Global) SignFault → Type 0
   SigningByDevice = SignsOrFails device_identity SignsByDevice (λ it. it.failures)
 
   -- the device, asked to sign a message, failed, or its answer doesn't have the form of a signature
   abbrev pub FailsToSign : DeviceSigner D g → List ℕ → DeviceSigner D g → Type 0
   FailsToSign it message after =
       g.fails it.device message after.device
-      ⊎ ((answer : List ℕ) × g.answers (g.public_key it.device) message answer × ¬ (IsSignature it.algorithm (g.public_key it.device) answer))
+      ⊎ ((answer : List ℕ) × g.answers (g.public_key it.device) message answer
+      × ¬ (IsSignature it.algorithm (g.public_key it.device) answer))
 
   -- Without a preset, the signature is an answer of the device at its path. With one, it is an answer that another caller got there. It has at most
   -- 4,096 bytes. Without a preset, `Device` means that the device gave no signature. The path stays the same.
-  pub record AsksAtItsPath (old new : DeviceSigner D g) (message : List ℕ) (result : Result (Vec ℕ Global) SignFault) : Type 0 where
-    pub device_answered : old.preset_signature ≡ None → IfOk result (λ signature. g.device_answered (g.device_path old.device) message signature.items)
-    pub given : ¬ (old.preset_signature ≡ None) → IfOk result (λ signature. ∥ g.signer_answered (g.device_path old.device) message signature.items ∥₁)
+  pub record AsksAtItsPath (old new : DeviceSigner D g) (message : List ℕ)
+      (result : Result (Vec ℕ Global) SignFault) : Type 0 where
+    pub device_answered : old.preset_signature ≡ None
+        → IfOk result (λ signature. g.device_answered (g.device_path old.device) message signature.items)
+    pub given : ¬ (old.preset_signature ≡ None) → IfOk result
+        (λ signature. ∥ g.signer_answered (g.device_path old.device) message signature.items ∥₁)
     pub within : IfOk result (λ signature. length signature.items ≤ 4096)
     pub why : old.preset_signature ≡ None → IsErrOf result Device → FailsToSign old message new
     pub same_path : g.device_path new.device ≡ g.device_path old.device

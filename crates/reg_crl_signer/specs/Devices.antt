@@ -4,8 +4,10 @@ use Rattle.reg_crl_signer.specs.declared.device.DeviceFault.{DeviceFault}
 
 -- A device was asked to answer a message. Either its answer is at the front of `room`, and shorter than that, or it failed. Its path and its
 -- key stay the same.
-pub record Exchanges {S : Type 0} (public_key device_path : S → List ℕ) (device_answered answers : List ℕ → List ℕ → List ℕ → Type 0)
-    (fails : S → List ℕ → S → Type 0) (old new : S) (message room : List ℕ) (result : Result ℕ DeviceFault) : Type 0 where
+pub record Exchanges {S : Type 0} (public_key device_path : S → List ℕ)
+    (device_answered answers : List ℕ → List ℕ → List ℕ → Type 0)
+    (fails : S → List ℕ → S → Type 0) (old new : S) (message room : List ℕ)
+    (result : Result ℕ DeviceFault) : Type 0 where
   pub answered : IfOk result (λ count. answers (public_key old) message (take count room))
   pub asked_there : IfOk result (λ count. device_answered (device_path old) message (take count room))
   pub short : IfOk result (λ count. count < length room)

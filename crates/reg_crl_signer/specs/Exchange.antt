@@ -15,4 +15,5 @@ module _ {L : Type 0} (remaining contents : L → Option (List ℕ)) (finished :
 
   -- this exchange was over a connection to the listener at the path
   abbrev pub ExchangesAtPath : (List ℕ → L → Type 0) → List ℕ → List ℕ → List ℕ → Type 0
-  ExchangesAtPath connected path message answer = (link : L) × connected path link × ExchangesMessage link message answer
+  ExchangesAtPath connected path message answer =
+      (link : L) × connected path link × ExchangesMessage link message answer

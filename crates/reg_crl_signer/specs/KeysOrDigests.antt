@@ -41,7 +41,8 @@ module _ {D : Type 0} (g : Ghosts D) where
   either_path it = option_map (λ signer. g.device_path signer.device) (key_of it)
 
   -- the result of asking it for a signature
-  abbrev pub SigningByEither : KeyOrDigest D g → KeyOrDigest D g → List ℕ → Result (Vec ℕ Global) SignFault → Type 0
+  abbrev pub SigningByEither : KeyOrDigest D g → KeyOrDigest D g → List ℕ
+      → Result (Vec ℕ Global) SignFault → Type 0
   SigningByEither = SignsOrFails either_identity (SignsBoth g.answers) either_failures
 
   -- it has the same algorithm, key and path as before, and has counted as many failures

@@ -4,4 +4,5 @@ use Rattle.reg_crl_signer.specs.declared.signature_request.SignatureRequest.{Sig
 
 -- the request asks the listener at this path to sign this message
 abbrev pub IsSignatureRequest : List ℕ → List ℕ → SignatureRequest → Type 0
-IsSignatureRequest path message sent_request = (string_bytes sent_request.path ≡ path) × (sent_request.message.items ≡ message)
+IsSignatureRequest path message sent_request =
+    (string_bytes sent_request.path ≡ path) × (sent_request.message.items ≡ message)

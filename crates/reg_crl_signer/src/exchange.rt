@@ -104,7 +104,8 @@ fn converse<L: DeviceConnection>(
 ) -> Result<usize, DeviceFault>
     ensures short { IfOk result (λ count. count < length room.new) }
     ensures answered { IfOk result (λ count.
-        ExchangesMessage L.Read.remaining L.Write.contents L.finished link.old message.now (take count room.new)) }
+        ExchangesMessage L.Read.remaining L.Write.contents L.finished link.old message.now
+        (take count room.new)) }
 {
     write_whole(link, message).map_err(|_| DeviceFault)?;
     link.finish().map_err(|_| DeviceFault)?;

@@ -78,7 +78,8 @@ impl<D: Device + Drop> Signer for KeyOrDigest<D> {
     fn sign(&mut self, alloc: Global, message: &[u8]) -> Result<Vec<u8>, SignFault>
         ensures signing { SigningByEither D.Device self.old self.new message.now result }
         ensures device_answered { IfSome (key_of D.Device self.old) (λ signer. signer.preset_signature ≡ None
-            → IfOk result (λ signature. D.device_answered (D.device_path signer.device) message.now signature.items)) }
+            → IfOk result (λ signature.
+            D.device_answered (D.device_path signer.device) message.now signature.items)) }
         ensures nobody { IsNobody D.Device self.old → OnOk result ⊥ }
         ensures same_path { either_path D.Device self.new ≡ either_path D.Device self.old }
     {

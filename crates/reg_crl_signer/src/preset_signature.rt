@@ -11,7 +11,8 @@ pub struct PresetSignature {
 
 /// The preset's answer, if it is to this message and the device gave one.
 pub(crate) fn answer_to(preset_signature: PresetSignature, message: &[u8]) -> Option<Vec<u8>>
-    ensures { IfSome result (λ answer. (preset_signature.answer ≡ Some answer) × (preset_signature.message.items ≡ message.now)) }
+    ensures { IfSome result (λ answer. (preset_signature.answer ≡ Some answer)
+        × (preset_signature.message.items ≡ message.now)) }
 {
     if preset_signature.message.as_slice() == message {
         preset_signature.answer

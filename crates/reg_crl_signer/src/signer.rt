@@ -66,7 +66,8 @@ impl<D: Device + Drop> DeviceSigner<D> {
         requires { vec_len answer.old ≤ 4097 }
         ensures signed { OnTrue result
             (SignsByDevice D.Device (device_identity D.Device self.old) message.now answer.new.items) }
-        ensures device_answered { OnTrue result (D.device_answered (D.device_path self.old.device) message.now answer.new.items) }
+        ensures device_answered { OnTrue result
+            (D.device_answered (D.device_path self.old.device) message.now answer.new.items) }
         ensures short { OnTrue result (length answer.new.items ≤ 4096) }
         ensures failed { OnFalse result (FailsToSign D.Device self.old message.now self.new) }
         ensures same_path { D.device_path self.new.device ≡ D.device_path self.old.device }

@@ -48,7 +48,8 @@ identifier_at bytes =
 abbrev pub identifiers_by : ℕ → List ℕ → Option (List KeyIdentifier)
 identifiers_by fuel [] = Some []
 identifiers_by zero (first ∷ rest) = None
-identifiers_by (suc fuel) (first ∷ rest) = identifier_at (first ∷ rest) >>= λ x. identifiers_by fuel x.1 >>= λ xs. Some (x.0 ∷ xs)
+identifiers_by (suc fuel) (first ∷ rest) =
+    identifier_at (first ∷ rest) >>= λ x. identifiers_by fuel x.1 >>= λ xs. Some (x.0 ∷ xs)
 
 -- all key identifiers in the bytes; `None` if there is anything else in them
 abbrev pub identifiers_at : List ℕ → Option (List KeyIdentifier)
@@ -78,7 +79,8 @@ key_identifiers issuer = unwrap_or (identifiers_at (behind_name issuer.name)) []
 -- the key identifier of the CRL with this number: the first in the list, and so the latest, whose first CRL is not after it
 abbrev pub identifier_for : List KeyIdentifier → ℕ → Option (List ℕ)
 identifier_for [] number = None
-identifier_for (identifier ∷ rest) number = if nat_le identifier.first number then Some identifier.octets else identifier_for rest number
+identifier_for (identifier ∷ rest) number =
+    if nat_le identifier.first number then Some identifier.octets else identifier_for rest number
 
 -- the key identifier that was set for the CRL with this number, if one was (RFC 5280 5.2.1, 4.2.1.2)
 abbrev pub key_identifier_at : core.Issuer → ℕ → Option (List ℕ)
@@ -95,19 +97,26 @@ others_than first bytes = but_for first (identifier_at bytes) bytes
 -- the issuer with one more key identifier, for CRLs from this number on; it replaces the latest one if that has the same first CRL
 abbrev pub with_identifier : core.Issuer → ℕ → List ℕ → core.Issuer
 with_identifier issuer first octets =
-    record { name = name_in issuer.name ++ (identifier_value first octets ++ others_than first (behind_name issuer.name)); key = issuer.key }
+    record {
+      name = name_in issuer.name
+          ++ (identifier_value first octets ++ others_than first (behind_name issuer.name));
+      key = issuer.key;
+    }
 
 -- after that, the issuer has the same Name and key, the new key identifier from that CRL on, and its former ones in earlier CRLs
 pub record HasIdentifier (issuer : core.Issuer) (first : ℕ) (octets : List ℕ) : Type 0 where
   pub within : IsIssuer (with_identifier issuer first octets)
   pub name : name_of (with_identifier issuer first octets) ≡ name_of issuer
   pub key : (with_identifier issuer first octets).key ≡ issuer.key
-  pub later : (number : ℕ) → first ≤ number → key_identifier_at (with_identifier issuer first octets) number ≡ Some octets
-  pub earlier : (number : ℕ) → number < first → key_identifier_at (with_identifier issuer first octets) number ≡ key_identifier_at issuer number
+  pub later : (number : ℕ) → first ≤ number
+      → key_identifier_at (with_identifier issuer first octets) number ≡ Some octets
+  pub earlier : (number : ℕ) → number < first
+      → key_identifier_at (with_identifier issuer first octets) number ≡ key_identifier_at issuer number
 
 abbrev pub IdentifiersFollow : Type 0
 IdentifiersFollow =
-    (issuer : core.Issuer) (first : ℕ) (octets : List ℕ) → IsIssuer issuer → first < 2 ^ 64 → IsLabel octets → HasIdentifier issuer first octets
+    (issuer : core.Issuer) (first : ℕ) (octets : List ℕ) → IsIssuer issuer → first < 2 ^ 64 → IsLabel octets
+    → HasIdentifier issuer first octets
 
 -- the stored name is only the Name, and no key identifier was set for any CRL
 pub record IsPlain (issuer : core.Issuer) : Type 0 where

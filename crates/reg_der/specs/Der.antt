@@ -47,7 +47,8 @@ IsLength octets size = ((octets ≡ size ∷ []) × (size < 128)) ⊎ IsLongForm
 -- the length octets encode the size, and all other octets that do are more (X.690 10.1)
 pub record HasFewest (size : ℕ) : Type 0 where
   pub spells : IsLength (length_octets size) size
-  pub least : (octets : List ℕ) → IsLength octets size → (octets ≡ length_octets size) ⊎ (length (length_octets size) < length octets)
+  pub least : (octets : List ℕ) → IsLength octets size
+      → (octets ≡ length_octets size) ⊎ (length (length_octets size) < length octets)
 
 abbrev pub LengthIsFewest : Type 0
 LengthIsFewest = (size : ℕ) → size < 2 ^ 32 → HasFewest size

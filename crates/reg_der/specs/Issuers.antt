@@ -11,4 +11,5 @@ with_issuer records issuer = record records { issuer = issuer }
 
 -- the records with one more key identifier, for the CRLs from the next one on (RFC 5280 5.2.1)
 abbrev pub with_key_identifier : Records → List ℕ → Records
-with_key_identifier records octets = with_issuer records (with_identifier records.issuer (next_number records.crls) octets)
+with_key_identifier records octets =
+    with_issuer records (with_identifier records.issuer (next_number records.crls) octets)

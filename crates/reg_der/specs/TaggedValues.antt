@@ -17,7 +17,8 @@ whole_at tag bytes = expect_at tag bytes >>= λ x. if length x.1 == 0 then Some 
 unfoldable pub optional_at : ℕ → List ℕ → Option (Option (List ℕ) × List ℕ)
 optional_at tag [] = Some (None, [])
 optional_at tag (first ∷ rest) =
-    if first == tag then (expect_at tag (first ∷ rest) >>= λ x. Some (Some x.0, x.1)) else Some (None, first ∷ rest)
+    if first == tag then (expect_at tag (first ∷ rest) >>= λ x. Some (Some x.0, x.1))
+    else Some (None, first ∷ rest)
 
 -- no contents if there are no bytes; else the contents of a value with the tag, which nothing follows
 unfoldable pub last_at : ℕ → List ℕ → Option (Option (List ℕ))
@@ -30,7 +31,8 @@ last_at tag (first ∷ rest) = whole_at tag (first ∷ rest) >>= λ x. Some (Som
 abbrev pub items_at : {X : Type 0} → (List ℕ → Option (X × List ℕ)) → ℕ → List ℕ → Option (List X)
 items_at item fuel [] = Some []
 items_at item zero (first ∷ rest) = None
-items_at item (suc fuel) (first ∷ rest) = item (first ∷ rest) >>= λ x. items_at item fuel x.1 >>= λ xs. Some (x.0 ∷ xs)
+items_at item (suc fuel) (first ∷ rest) =
+    item (first ∷ rest) >>= λ x. items_at item fuel x.1 >>= λ xs. Some (x.0 ∷ xs)
 
 abbrev pub all_at : {X : Type 0} → (List ℕ → Option (X × List ℕ)) → List ℕ → Option (List X)
 all_at item bytes = items_at item (length bytes) bytes

@@ -18,7 +18,8 @@ pub record Parts : Type 0 where
 unfoldable pub long_at : ℕ → List ℕ → Option (ℕ × List ℕ)
 long_at count bytes =
     if (count == 0 || nat_lt 4 count) || nat_lt (length bytes) count then None
-    else (if get_or bytes 0 0 == 0 || nat_lt (value (take count bytes)) 128 then None else Some (value (take count bytes), drop count bytes))
+    else (if get_or bytes 0 0 == 0 || nat_lt (value (take count bytes)) 128 then None
+    else Some (value (take count bytes), drop count bytes))
 
 -- a length, and the bytes after it
 unfoldable pub length_at : List ℕ → Option (ℕ × List ℕ)
@@ -50,7 +51,8 @@ pub record TakesValue (bytes : List ℕ) (parts : Parts) (rest : List ℕ) : Typ
 
 -- what is read is a value at the front of the bytes
 abbrev pub ReadsValues : Type 0
-ReadsValues = (bytes : List ℕ) (x : Parts × List ℕ) → IsBytes bytes → value_at bytes ≡ Some x → TakesValue bytes x.0 x.1
+ReadsValues =
+    (bytes : List ℕ) (x : Parts × List ℕ) → IsBytes bytes → value_at bytes ≡ Some x → TakesValue bytes x.0 x.1
 
 -- a value at the front of the bytes is what is read
 abbrev pub ReadsAgain : Type 0

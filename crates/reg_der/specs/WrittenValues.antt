@@ -18,4 +18,5 @@ general_value moment = tlv 24 (general_text moment)
 
 -- the Time of a moment: a UTCTime through the year 2049, a GeneralizedTime from 2050 on (RFC 5280 4.1.2.5, 5.1.2.4)
 unfoldable pub time_value : ℕ → List ℕ
-time_value moment = if nat_le (shown_of moment).year 2049 then tlv 23 (utc_text moment) else general_value moment
+time_value moment =
+    if nat_le (shown_of moment).year 2049 then tlv 23 (utc_text moment) else general_value moment

@@ -2,6 +2,7 @@ ghost use Rattle.std.specs.Prelude.{◌≡◌, ◌≤◌, ◌↔◌, ◌++◌, l
 ghost use Rattle.sha1.specs.Sha1.{sha1};
 ghost use Rattle.reg_der.specs.Authority.{IsIssuerName, IsKey, IsKept, IsIssuer, name_in, behind_name, name_of, identifier_value, key_identifier_at, others_than, with_identifier, HasIdentifier};
 ghost use Rattle.reg_der.specs.declared.issuer.IssuerFault.TheVariants.{Memory};
+ghost use Rattle.reg_core.specs.Buffers.{AppendsOnOk};
 
 use crate::identifiers::{KEY_IDENTIFIER, are_identifiers, identifier_for, others_than};
 use crate::tags::SEQUENCE;
@@ -179,7 +180,8 @@ fn is_kept(kept: &[u8]) -> bool
 fn kept_with(alloc: Global, kept: &[u8], first: u64, octets: &[u8]) -> Result<Vec<u8>, Memory>
     requires { length octets.now ≤ 64 }
     ensures { IfOk result (λ made. made.items
-        ≡ (name_in kept.now ++ identifier_value first octets.now) ++ others_than first (behind_name kept.now)) }
+        ≡ (name_in kept.now ++ identifier_value first octets.now)
+        ++ others_than first (behind_name kept.now)) }
 {
     let (name, behind) = parts(kept);
     let mut made = copy_of(alloc, name)?;
@@ -192,7 +194,7 @@ fn kept_with(alloc: Global, kept: &[u8], first: u64, octets: &[u8]) -> Result<Ve
 #[tactic(auto, unfolding(crate::specs::Authority::identifier_value))]
 fn put_identifier(alloc: Global, out: &mut Vec<u8>, first: u64, octets: &[u8]) -> Result<(), Memory>
     requires { length octets.now ≤ 64 }
-    ensures { OnOk result (out.new.items ≡ out.old.items ++ identifier_value first octets.now) }
+    ensures { AppendsOnOk out.old out.new result (identifier_value first octets.now) }
 {
     let mut contents = copy_of(alloc, &first.to_be_bytes())?;
     put_raw(&mut contents, octets)?;

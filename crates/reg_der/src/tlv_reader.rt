@@ -82,7 +82,8 @@ fn counted(bytes: &[u8]) -> Option<(&[u8], &[u8])>
 
 #[tactic(auto, unfolding(crate::specs::ValueReading::value_at))]
 fn first_element(bytes: &[u8]) -> Option<(u8, &[u8], &[u8])>
-    ensures exact { Gives (λ x. (record { tag = x.0; contents = x.1.now }, x.2.now)) result (value_at bytes.now) }
+    ensures exact { Gives (λ x. (record { tag = x.0; contents = x.1.now }, x.2.now)) result
+        (value_at bytes.now) }
     ensures shorter { IfSome result (λ x. length x.2.now ≤ length bytes.now) }
 {
     let (tag, after_tag) = bytes.split_first()?;
@@ -97,13 +98,16 @@ fn first_element(bytes: &[u8]) -> Option<(u8, &[u8], &[u8])>
 /// contents. `None` if no prefix of the bytes is a value. At most one prefix is one (`laws::no_two_prefixes`).
 pub fn take(bytes: &[u8]) -> Option<(Tlv<'_>, &[u8])>
     // The result is a whole value, and the bytes after it.
-    ensures found { IfSome result (λ x. IsTlv x.0.raw.now x.0.tag x.0.contents.now × (bytes.now ≡ x.0.raw.now ++ x.1.now)) }
+    ensures found { IfSome result
+        (λ x. IsTlv x.0.raw.now x.0.tag x.0.contents.now × (bytes.now ≡ x.0.raw.now ++ x.1.now)) }
 
     // `None` only if no prefix is a value.
-    ensures none { IfNone result ((raw rest contents : List ℕ) (tag : ℕ) → IsTlv raw tag contents → bytes.now ≡ raw ++ rest → ⊥) }
+    ensures none { IfNone result
+        ((raw rest contents : List ℕ) (tag : ℕ) → IsTlv raw tag contents → bytes.now ≡ raw ++ rest → ⊥) }
 
     // The result by the function `value_at`, for readers in other crates.
-    ensures exact { Gives (λ x. (record { tag = x.0.tag; contents = x.0.contents.now }, x.1.now)) result (value_at bytes.now) }
+    ensures exact { Gives (λ x. (record { tag = x.0.tag; contents = x.0.contents.now }, x.1.now)) result
+        (value_at bytes.now) }
     ensures shorter { IfSome result (λ x. length x.0.raw.now + length x.1.now ≡ length bytes.now) }
 {
     let (tag, contents, rest) = first_element(bytes)?;

@@ -1,11 +1,12 @@
 //! Appends DER values to a vector. Each call appends exactly one value ([`put_raw`]: the bytes), or leaves the vector as it was.
 //! It allocates at most once, for the whole value, and only if the vector hasn't the capacity for it.
 
-ghost use Rattle.std.specs.Prelude.{◌≡◌, ℕ, List, ◌∷◌, ◌++◌, ◌+◌, ◌≤◌, ◌<◌, ◌%◌, ◌^◌, length, IfOk, OnOk, OnErr, vec_capacity};
+ghost use Rattle.std.specs.Prelude.{◌≡◌, ℕ, List, ◌∷◌, ◌++◌, ◌+◌, ◌≤◌, ◌<◌, ◌%◌, ◌^◌, length, OnOk, OnErr, vec_capacity};
 ghost use Rattle.reg_core.specs.Integer.{IsInteger, integer, without_zeros, with_clear_bit};
 ghost use Rattle.reg_core.specs.Calendar as calendar;
 ghost use Rattle.reg_der.specs.Der.{IsTlv, tlv, length_octets};
 ghost use Rattle.reg_der.specs.WrittenValues.{integer_value, bits_value, general_value, time_value};
+ghost use Rattle.reg_core.specs.Buffers.{AppendsOnOk, ItemsOnOk, LacksCapacityFor};
 
 use crate::tags::{BIT_STRING, GENERALIZED_TIME, INTEGER, UTC_TIME};
 use crate::times::{general_text, utc_text};
@@ -24,12 +25,13 @@ const LAST_UTC_YEAR: u16 = 2049;
 pub fn put(out: &mut Vec<u8>, tag: u8, contents: &[u8]) -> Result<(), Memory>
     requires low_tag { tag % 32 < 31 }
     requires short { length contents.now < 2 ^ 32 }
-    ensures ok { OnOk result (out.new.items ≡ out.old.items ++ tlv tag contents.now) }
+    ensures ok { AppendsOnOk out.old out.new result (tlv tag contents.now) }
     ensures value { IsTlv (tlv tag contents.now) tag contents.now }
     ensures longer { OnOk result (length out.new.items ≤ length out.old.items + length contents.now + 6) }
-    ensures short_form { length contents.now < 128 → OnOk result (length out.new.items ≡ length out.old.items + length contents.now + 2) }
+    ensures short_form { length contents.now < 128
+        → OnOk result (length out.new.items ≡ length out.old.items + length contents.now + 2) }
     ensures err { OnErr result (out.new.items ≡ out.old.items) }
-    ensures full { OnErr result (vec_capacity out.old < length out.old.items + length (tlv tag contents.now)) }
+    ensures full { LacksCapacityFor out.old result (tlv tag contents.now) }
     ensures room { vec_capacity out.old ≤ vec_capacity out.new }
 {
     start_value(out, tag, contents.len())?;
@@ -39,7 +41,7 @@ pub fn put(out: &mut Vec<u8>, tag: u8, contents: &[u8]) -> Result<(), Memory>
 
 /// Appends bytes as they are; `Memory` leaves `out` unchanged.
 pub fn put_raw(out: &mut Vec<u8>, bytes: &[u8]) -> Result<(), Memory>
-    ensures ok { OnOk result (out.new.items ≡ out.old.items ++ bytes.now) }
+    ensures ok { AppendsOnOk out.old out.new result bytes.now }
     ensures longer { OnOk result (length out.new.items ≡ length out.old.items + length bytes.now) }
 {
     out.extend_from_slice(bytes).map_err(|_| Memory)
@@ -47,19 +49,19 @@ pub fn put_raw(out: &mut Vec<u8>, bytes: &[u8]) -> Result<(), Memory>
 
 /// A copy of bytes, or `Memory`.
 pub fn copy_of(alloc: Global, bytes: &[u8]) -> Result<Vec<u8>, Memory>
-    ensures { IfOk result (λ copy. copy.items ≡ bytes.now) }
+    ensures { ItemsOnOk result bytes.now }
 {
     Vec::from_slice(alloc, bytes).map_err(|_| Memory)
 }
 
 /// Appends the INTEGER of the number; `Memory` as for [`put`].
 pub fn put_number(out: &mut Vec<u8>, number: u64) -> Result<(), Memory>
-    ensures ok { OnOk result (out.new.items ≡ out.old.items ++ integer_value number) }
+    ensures ok { AppendsOnOk out.old out.new result (integer_value number) }
     ensures value { IsTlv (integer_value number) 2 (integer number) }
     ensures integer { IsInteger (integer number) number }
     ensures longer { OnOk result (length out.new.items ≤ length out.old.items + 11) }
     ensures err { OnErr result (out.new.items ≡ out.old.items) }
-    ensures full { OnErr result (vec_capacity out.old < length out.old.items + length (integer_value number)) }
+    ensures full { LacksCapacityFor out.old result (integer_value number) }
     ensures room { vec_capacity out.old ≤ vec_capacity out.new }
 {
     put_integer(out, &number.to_be_bytes())
@@ -67,12 +69,12 @@ pub fn put_number(out: &mut Vec<u8>, number: u64) -> Result<(), Memory>
 
 /// Appends the INTEGER of the serial number (RFC 5280 4.1.2.2); `Memory` as for [`put`].
 pub fn put_serial(out: &mut Vec<u8>, serial: Serial) -> Result<(), Memory>
-    ensures ok { OnOk result (out.new.items ≡ out.old.items ++ integer_value serial) }
+    ensures ok { AppendsOnOk out.old out.new result (integer_value serial) }
     ensures value { IsTlv (integer_value serial) 2 (integer serial) }
     ensures integer { IsInteger (integer serial) serial }
     ensures longer { OnOk result (length out.new.items ≤ length out.old.items + 22) }
     ensures err { OnErr result (out.new.items ≡ out.old.items) }
-    ensures full { OnErr result (vec_capacity out.old < length out.old.items + length (integer_value serial)) }
+    ensures full { LacksCapacityFor out.old result (integer_value serial) }
     ensures room { vec_capacity out.old ≤ vec_capacity out.new }
 {
     put_integer(out, &serial.bytes20())
@@ -81,11 +83,11 @@ pub fn put_serial(out: &mut Vec<u8>, serial: Serial) -> Result<(), Memory>
 /// Appends a BIT STRING of fewer than 2^32 - 1 bytes, without unused bits (X.690 8.6.2.2); `Memory` as for [`put`].
 pub fn put_bits(out: &mut Vec<u8>, bytes: &[u8]) -> Result<(), Memory>
     requires { length bytes.now + 1 < 2 ^ 32 }
-    ensures ok { OnOk result (out.new.items ≡ out.old.items ++ bits_value bytes.now) }
+    ensures ok { AppendsOnOk out.old out.new result (bits_value bytes.now) }
     ensures value { IsTlv (bits_value bytes.now) 3 (0 ∷ bytes.now) }
     ensures longer { OnOk result (length out.new.items ≤ length out.old.items + length bytes.now + 7) }
     ensures err { OnErr result (out.new.items ≡ out.old.items) }
-    ensures full { OnErr result (vec_capacity out.old < length out.old.items + length (bits_value bytes.now)) }
+    ensures full { LacksCapacityFor out.old result (bits_value bytes.now) }
     ensures room { vec_capacity out.old ≤ vec_capacity out.new }
 {
     put_behind_zero(out, BIT_STRING, bytes)
@@ -95,11 +97,11 @@ pub fn put_bits(out: &mut Vec<u8>, bytes: &[u8]) -> Result<(), Memory>
 /// 2050 on; `Memory` as for [`put`].
 #[tactic(auto, unfolding(crate::specs::WrittenValues::time_value, reg_core::specs::Calendar::utc_text, reg_core::specs::Calendar::general_text))]
 pub fn put_utc_or_general(out: &mut Vec<u8>, moment: Moment) -> Result<(), Memory>
-    ensures ok { OnOk result (out.new.items ≡ out.old.items ++ time_value moment) }
+    ensures ok { AppendsOnOk out.old out.new result (time_value moment) }
     ensures value { (tag : ℕ) × (contents : List ℕ) × IsTlv (time_value moment) tag contents }
     ensures longer { OnOk result (length out.new.items ≤ length out.old.items + 17) }
     ensures err { OnErr result (out.new.items ≡ out.old.items) }
-    ensures full { OnErr result (vec_capacity out.old < length out.old.items + length (time_value moment)) }
+    ensures full { LacksCapacityFor out.old result (time_value moment) }
     ensures room { vec_capacity out.old ≤ vec_capacity out.new }
 {
     let civil = moment.civil();
@@ -113,11 +115,11 @@ pub fn put_utc_or_general(out: &mut Vec<u8>, moment: Moment) -> Result<(), Memor
 /// Appends the GeneralizedTime of the moment (RFC 5280 4.1.2.5.2), to the second and in UTC; `Memory` as for [`put`].
 #[tactic(auto, unfolding(reg_core::specs::Calendar::general_text))]
 pub fn put_general(out: &mut Vec<u8>, moment: Moment) -> Result<(), Memory>
-    ensures ok { OnOk result (out.new.items ≡ out.old.items ++ general_value moment) }
+    ensures ok { AppendsOnOk out.old out.new result (general_value moment) }
     ensures value { IsTlv (general_value moment) 24 (calendar.general_text moment) }
     ensures longer { OnOk result (length out.new.items ≤ length out.old.items + 17) }
     ensures err { OnErr result (out.new.items ≡ out.old.items) }
-    ensures full { OnErr result (vec_capacity out.old < length out.old.items + length (general_value moment)) }
+    ensures full { LacksCapacityFor out.old result (general_value moment) }
     ensures room { vec_capacity out.old ≤ vec_capacity out.new }
 {
     put(out, GENERALIZED_TIME, &general_text(moment.civil()))
@@ -125,11 +127,13 @@ pub fn put_general(out: &mut Vec<u8>, moment: Moment) -> Result<(), Memory>
 
 fn put_integer(out: &mut Vec<u8>, octets: &[u8]) -> Result<(), Memory>
     requires { length octets.now ≤ 20 }
-    ensures ok { OnOk result (out.new.items ≡ out.old.items ++ tlv 2 (with_clear_bit (without_zeros octets.now))) }
+    ensures ok { AppendsOnOk out.old out.new result (tlv 2 (with_clear_bit (without_zeros octets.now))) }
     ensures longer { OnOk result (length out.new.items ≤ length out.old.items + length octets.now + 3) }
-    ensures size { OnOk result (length out.new.items ≡ length out.old.items + length (with_clear_bit (without_zeros octets.now)) + 2) }
+    ensures size { OnOk result
+        (length out.new.items
+        ≡ length out.old.items + length (with_clear_bit (without_zeros octets.now)) + 2) }
     ensures err { OnErr result (out.new.items ≡ out.old.items) }
-    ensures full { OnErr result (vec_capacity out.old < length out.old.items + length (tlv 2 (with_clear_bit (without_zeros octets.now)))) }
+    ensures full { LacksCapacityFor out.old result (tlv 2 (with_clear_bit (without_zeros octets.now))) }
     ensures room { vec_capacity out.old ≤ vec_capacity out.new }
 {
     let digits = trim_zeros(octets);
@@ -144,11 +148,12 @@ fn put_integer(out: &mut Vec<u8>, octets: &[u8]) -> Result<(), Memory>
 #[tactic(auto, unfolding(crate::specs::Der::tlv))]
 fn put_behind_zero(out: &mut Vec<u8>, tag: u8, bytes: &[u8]) -> Result<(), Memory>
     requires { length bytes.now + 1 < 2 ^ 32 }
-    ensures ok { OnOk result (out.new.items ≡ out.old.items ++ tlv tag (0 ∷ bytes.now)) }
+    ensures ok { AppendsOnOk out.old out.new result (tlv tag (0 ∷ bytes.now)) }
     ensures longer { OnOk result (length out.new.items ≤ length out.old.items + length bytes.now + 7) }
-    ensures short_form { length bytes.now < 127 → OnOk result (length out.new.items ≡ length out.old.items + length bytes.now + 3) }
+    ensures short_form { length bytes.now < 127
+        → OnOk result (length out.new.items ≡ length out.old.items + length bytes.now + 3) }
     ensures err { OnErr result (out.new.items ≡ out.old.items) }
-    ensures full { OnErr result (vec_capacity out.old < length out.old.items + length (tlv tag (0 ∷ bytes.now))) }
+    ensures full { LacksCapacityFor out.old result (tlv tag (0 ∷ bytes.now)) }
     ensures room { vec_capacity out.old ≤ vec_capacity out.new }
 {
     start_value(out, tag, bytes.len() + 1)?;
@@ -161,12 +166,13 @@ fn put_behind_zero(out: &mut Vec<u8>, tag: u8, bytes: &[u8]) -> Result<(), Memor
 #[tactic(auto, unfolding(crate::specs::Der::length_octets, crate::specs::Der::fewest))]
 fn start_value(out: &mut Vec<u8>, tag: u8, size: usize) -> Result<(), Memory>
     requires { size < 2 ^ 32 }
-    ensures ok { OnOk result (out.new.items ≡ out.old.items ++ tag ∷ length_octets size) }
+    ensures ok { AppendsOnOk out.old out.new result (tag ∷ length_octets size) }
     ensures contents { OnOk result (length out.new.items + size ≤ vec_capacity out.new) }
     ensures longer { OnOk result (length out.new.items ≤ length out.old.items + 6) }
     ensures short_form { size < 128 → OnOk result (length out.new.items ≡ length out.old.items + 2) }
     ensures err { OnErr result (out.new.items ≡ out.old.items) }
-    ensures full { OnErr result (vec_capacity out.old < length out.old.items + 1 + length (length_octets size) + size) }
+    ensures full { OnErr result
+        (vec_capacity out.old < length out.old.items + 1 + length (length_octets size) + size) }
     ensures room { vec_capacity out.old ≤ vec_capacity out.new }
 {
     if size < 128 {

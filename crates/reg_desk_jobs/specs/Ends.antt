@@ -319,13 +319,14 @@ module _ {M O D S R E W : Type 0} (machines : Machine M O D S R) (offices : Offi
       : List ℕ → Option KeyHolder → Answerer → Option (List ℕ) → Endpoint → Option (List ℕ) → ℕ
       → Result (Unit {0}) Failure → Type 0
   AtPort path signer answerer published endpoint control requests result =
-      let UsesThatRegister = UsesRegister machines offices machine machine' path (signing_with signer answerer) in
+      let Uses = UsesRegister machines offices machine machine' path (signing_with signer answerer) in
       (IsFalse (is_some published) → reader' ≡ reader)
-      × Over machines offices contents machine machine' writer writer' path (signing_with signer answerer) result
-      (((why : Failure) × (result ≡ Err why) × IsTrue (is_some published) × UsesThatRegister
+      × Over machines offices contents machine machine' writer writer'
+      path (signing_with signer answerer) result
+      (((why : Failure) × (result ≡ Err why) × IsTrue (is_some published) × Uses
       (λ identity before after.
       Compares before (remaining reader) (contents writer) (contents writer') (Err why) × (after ≡ before)))
-      ⊎ ((inputs : List Input) × (outcomes : List (Outcome Unsigned)) × UsesThatRegister
+      ⊎ ((inputs : List Input) × (outcomes : List (Outcome Unsigned)) × Uses
       (λ identity before after. (IsTrue (is_some published) → HasAll before (remaining reader))
       × ServesOn machines offices signer answerer (is_some control) inputs outcomes identity before after)
       × ServedAt contents writer writer' (IsBoundOn machines endpoint control)

@@ -76,16 +76,22 @@ pub record IsDelegate (holder : KeyHolder) (responder : Responder) : Type 0 wher
   pub certificate : List ℕ
   pub key : List ℕ
   pub certified : IsCertificateOf certificate (key_identifier_of holder.algorithm) key
-  pub is : responder ≡ record { identity = identity_of holder.algorithm key; own_key = Some key;
-      certificate = Some certificate }
+  pub is : responder ≡ record {
+    identity = identity_of holder.algorithm key;
+    own_key = Some key;
+    certificate = Some certificate;
+  }
 
 -- the given responder, besides the signer of CRLs: it is that signer, perhaps with a certificate; or a delegated responder
 abbrev pub IsAnswering : Answerer → Signatory → Type 0
 IsAnswering (Issuer None) signatory = signatory ≡ signs_both signatory.crls
 IsAnswering (Issuer (Some path)) signatory =
     (certificate : List ℕ)
-    × (signatory.answers ≡ record { identity = signatory.crls; own_key = None;
-    certificate = Some certificate })
+    × (signatory.answers ≡ record {
+      identity = signatory.crls;
+      own_key = None;
+      certificate = Some certificate;
+    })
 IsAnswering (Delegate path holder) signatory = IsDelegate holder signatory.answers
 
 -- a certificate in OCSP responses that the issuer's key signs has that key

@@ -8,18 +8,16 @@ use Rattle.reg_http_head.specs.Response.{Response, phrase, IsText}
 abbrev pub ArePhrases : Type 0
 ArePhrases =
     (reason_phrase 200 ≡ Some (phrase 200)) × (reason_phrase 400 ≡ Some (phrase 400))
-    × (reason_phrase 404 ≡ Some (phrase 404))
-    × (reason_phrase 405 ≡ Some (phrase 405)) × (reason_phrase 409 ≡ Some (phrase 409))
-    × (reason_phrase 411 ≡ Some (phrase 411))
+    × (reason_phrase 404 ≡ Some (phrase 404)) × (reason_phrase 405 ≡ Some (phrase 405))
+    × (reason_phrase 409 ≡ Some (phrase 409)) × (reason_phrase 411 ≡ Some (phrase 411))
     × (reason_phrase 413 ≡ Some (phrase 413)) × (reason_phrase 431 ≡ Some (phrase 431))
-    × (reason_phrase 500 ≡ Some (phrase 500))
-    × (reason_phrase 503 ≡ Some (phrase 503))
+    × (reason_phrase 500 ≡ Some (phrase 500)) × (reason_phrase 503 ≡ Some (phrase 503))
 
 -- the same bytes are never read as two different requests
 abbrev pub IsOneRequest : Type 0
 IsOneRequest =
-    (took method target body method' target' body' : List ℕ) → AsksFor took method target body
-    → AsksFor took method' target' body'
+    (took method target body method' target' body' : List ℕ)
+    → AsksFor took method target body → AsksFor took method' target' body'
     → (method ≡ method') × (target ≡ target') × (body ≡ body')
 
 -- two texts of the same response at the same moment are equal

@@ -7,7 +7,8 @@ use Rattle.reg_io.specs.declared.fill.Reached.TheVariants.{Mark, Full, End}
 use Rattle.reg_io.specs.Mark.{FirstMark, HasNoMark}
 
 -- these bytes were taken from the reader, and are in the buffer after the first `buffered` bytes, which stayed the same
-pub record Fills (input left : Option (List ℕ)) (before after : List ℕ) (buffered : ℕ) (took : List ℕ) : Type 0 where
+pub record Fills (input left : Option (List ℕ)) (before after : List ℕ) (buffered : ℕ)
+    (took : List ℕ) : Type 0 where
   pub consumed : Consumes input left took
   pub within : buffered + length took ≤ length after
   pub stands : take (buffered + length took) after ≡ take buffered before ++ took
@@ -22,17 +23,20 @@ kept_of_reading size (End buffered) = buffered
 abbrev pub RestsAt : List ℕ → List ℕ → Option (List ℕ) → Reached → Type 0
 RestsAt mark buffer left (Mark end buffered) = (end ≤ buffered) × FirstMark mark buffer end
 RestsAt mark buffer left Full = HasNoMark mark buffer
-RestsAt mark buffer left (End buffered) = (buffered < length buffer) × HasNoMark mark (take buffered buffer) × IsAtEnd left
+RestsAt mark buffer left (End buffered) =
+    (buffered < length buffer) × HasNoMark mark (take buffered buffer) × IsAtEnd left
 
 -- a read up to a mark: these bytes were taken, and the buffer has them after the bytes before, and no others
-pub record FillsTo (mark : List ℕ) (input left : Option (List ℕ)) (before after : List ℕ) (buffered : ℕ) (reached : Reached) : Type 0 where
+pub record FillsTo (mark : List ℕ) (input left : Option (List ℕ)) (before after : List ℕ) (buffered : ℕ)
+    (reached : Reached) : Type 0 where
   pub took : List ℕ
   pub fills : Fills input left before after buffered took
   pub count : kept_of_reading (length after) reached ≡ buffered + length took
   pub rests : RestsAt mark after left reached
 
 -- a read up to a mark that failed: these bytes were taken before that, the buffer is not full, and has no mark
-pub record FillsShort (mark : List ℕ) (input left : Option (List ℕ)) (before after : List ℕ) (buffered : ℕ) : Type 0 where
+pub record FillsShort (mark : List ℕ) (input left : Option (List ℕ)) (before after : List ℕ)
+    (buffered : ℕ) : Type 0 where
   pub took : List ℕ
   pub fills : Fills input left before after buffered took
   pub room : buffered + length took < length after
@@ -44,10 +48,12 @@ pub record FillsShort (mark : List ℕ) (input left : Option (List ℕ)) (before
 abbrev pub KeepsWhatWasTaken : Type 0
 KeepsWhatWasTaken =
     (mark : List ℕ) (input left : Option (List ℕ)) (before after : List ℕ) (buffered : ℕ) (reached : Reached)
-    → (to : FillsTo mark input left before after buffered reached) → take (kept_of_reading (length after) reached) after ≡ take buffered before ++ to.took
+    → (to : FillsTo mark input left before after buffered reached)
+    → take (kept_of_reading (length after) reached) after ≡ take buffered before ++ to.took
 
 -- if the read stopped at a mark, these are the bytes up to its end, and then those after it
 abbrev pub PartsAtMark : Type 0
 PartsAtMark =
     (mark : List ℕ) (input left : Option (List ℕ)) (before after : List ℕ) (buffered end now : ℕ)
-    → (to : FillsTo mark input left before after buffered (Mark end now)) → take buffered before ++ to.took ≡ take end after ++ drop end (take now after)
+    → (to : FillsTo mark input left before after buffered (Mark end now))
+    → take buffered before ++ to.took ≡ take end after ++ drop end (take now after)

@@ -24,16 +24,20 @@ OneFirstMark = (mark bytes : List ℕ) (m n : ℕ) → FirstMark mark bytes m �
 
 -- the first mark stays the first if more bytes follow
 abbrev pub FirstMarkGoesOn : Type 0
-FirstMarkGoesOn = (mark bytes more : List ℕ) (end : ℕ) → FirstMark mark bytes end → FirstMark mark (bytes ++ more) end
+FirstMarkGoesOn =
+    (mark bytes more : List ℕ) (end : ℕ) → FirstMark mark bytes end → FirstMark mark (bytes ++ more) end
 
 -- the first mark is also the first in each prefix that contains it
 abbrev pub FirstMarkInPrefix : Type 0
-FirstMarkInPrefix = (mark bytes : List ℕ) (end count : ℕ) → FirstMark mark bytes end → end ≤ count → FirstMark mark (take count bytes) end
+FirstMarkInPrefix =
+    (mark bytes : List ℕ) (end count : ℕ) → FirstMark mark bytes end → end ≤ count
+    → FirstMark mark (take count bytes) end
 
 -- a prefix does not contain the mark if no prefix of at most its length ends with the mark
 abbrev pub NoMarkInPrefix : Type 0
 NoMarkInPrefix =
-    (mark bytes : List ℕ) (count : ℕ) → ((n : ℕ) → n ≤ count → ¬ EndsWith (take n bytes) mark) → HasNoMark mark (take count bytes)
+    (mark bytes : List ℕ) (count : ℕ) → ((n : ℕ) → n ≤ count → ¬ EndsWith (take n bytes) mark)
+    → HasNoMark mark (take count bytes)
 
 -- the bytes up to the first mark of one byte are other bytes, and then that byte
 abbrev pub FirstMarkOfByte : Type 0

@@ -13,10 +13,13 @@ pub record AppendsPrefix (old new : Option (List ℕ)) (bytes : List ℕ) : Type
 
 -- if a proper prefix of the first of two parts was appended, it is a proper prefix of both parts together
 abbrev pub PrefixOfFirst : Type 0
-PrefixOfFirst = (old new : Option (List ℕ)) (first second : List ℕ) → AppendsPrefix old new first → AppendsPrefix old new (first ++ second)
+PrefixOfFirst =
+    (old new : Option (List ℕ)) (first second : List ℕ) → AppendsPrefix old new first
+    → AppendsPrefix old new (first ++ second)
 
 -- so are the whole first part and then a proper prefix of the second
 abbrev pub PrefixOfSecond : Type 0
 PrefixOfSecond =
-    (old middle new : Option (List ℕ)) (first second : List ℕ) → Appends old middle first → AppendsPrefix middle new second
+    (old middle new : Option (List ℕ)) (first second : List ℕ) → Appends old middle first
+    → AppendsPrefix middle new second
     → AppendsPrefix old new (first ++ second)

@@ -92,7 +92,8 @@ after_subject_at bytes = do
 unfoldable pub signed_part_at : List ℕ → Option (List ℕ)
 signed_part_at bytes =
     if nat_lt 65536 (length bytes) then None
-    else (whole_at 0x30 bytes >>= λ outer. expect_at 0x30 outer >>= λ part. expect_at 0x30 part.1 >>= λ under. whole_at 0x03 under.1
+    else (whole_at 0x30 bytes >>= λ outer. expect_at 0x30 outer >>= λ part. expect_at 0x30 part.1 >>= λ under.
+    whole_at 0x03 under.1
     >>= λ signed. Some part.0)
 
 -- the whole DER value of the public key's algorithm, and the key, of a certificate

@@ -13,5 +13,6 @@ pub record Drafted : Type 0 where
 
 -- the response with this signature; internalError without a signature
 abbrev pub drafted_response : Drafted → Option (List ℕ) → List ℕ
-drafted_response draft (Some signature) = ocsp_response draft.message draft.algorithm signature draft.certificate
+drafted_response draft (Some signature) =
+    ocsp_response draft.message draft.algorithm signature draft.certificate
 drafted_response draft None = refusal_response Internal

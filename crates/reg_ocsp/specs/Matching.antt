@@ -23,17 +23,20 @@ null = record { tag = 0x05; contents = [] }
 
 -- the whole DER value of the AlgorithmIdentifier with this OID, whose parameters are left out or NULL (RFC 3370 2.1, RFC 5754 2)
 abbrev pub IsHashAlgorithm : List ℕ → List ℕ → Type 0
-IsHashAlgorithm identifier value = (value ≡ algorithm identifier None) ⊎ (value ≡ algorithm identifier (Some null))
+IsHashAlgorithm identifier value =
+    (value ≡ algorithm identifier None) ⊎ (value ≡ algorithm identifier (Some null))
 
 -- the CertID has this hash algorithm, and its hashes are those of the issuer's Name and key
-pub record IsHashedBy (identifier : List ℕ) (hash : List ℕ → List ℕ) (issuer : core.Issuer) (id : Id) : Type 0 where
+pub record IsHashedBy (identifier : List ℕ) (hash : List ℕ → List ℕ) (issuer : core.Issuer)
+    (id : Id) : Type 0 where
   pub algorithm : IsHashAlgorithm identifier id.algorithm
   pub name : id.name_hash ≡ hash (name_of issuer)
   pub key : id.key_hash ≡ hash issuer.key
 
 -- the CertID identifies the issuer by SHA-1 or SHA-256
 abbrev pub NamesIssuer : core.Issuer → Id → Type 0
-NamesIssuer issuer id = IsHashedBy sha1_identifier sha1 issuer id ⊎ IsHashedBy sha256_identifier sha256 issuer id
+NamesIssuer issuer id =
+    IsHashedBy sha1_identifier sha1 issuer id ⊎ IsHashedBy sha256_identifier sha256 issuer id
 
 -- the CertID identifies the issuer's certificate with this serial number
 pub record IsMatch (issuer : core.Issuer) (id : Id) (serial : ℕ) : Type 0 where

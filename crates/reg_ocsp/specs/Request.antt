@@ -74,7 +74,9 @@ algorithm identifier any = tlv 0x30 (tlv 0x06 identifier ++ parameters any)
 
 -- CertID ::= SEQUENCE { hashAlgorithm, issuerNameHash OCTET STRING, issuerKeyHash OCTET STRING, serialNumber INTEGER }
 abbrev pub cert_id : Target → List ℕ
-cert_id t = tlv 0x30 (algorithm t.identifier t.parameters ++ (tlv 0x04 t.name_hash ++ (tlv 0x04 t.key_hash ++ tlv 0x02 t.serial)))
+cert_id t =
+    tlv 0x30 (algorithm t.identifier t.parameters
+    ++ (tlv 0x04 t.name_hash ++ (tlv 0x04 t.key_hash ++ tlv 0x02 t.serial)))
 
 -- Request ::= SEQUENCE { reqCert CertID, singleRequestExtensions [0] EXPLICIT Extensions OPTIONAL }
 abbrev pub single : Single → List ℕ
@@ -88,7 +90,9 @@ request_version false = []
 -- TBSRequest ::= SEQUENCE { version, requestorName [1] EXPLICIT GeneralName OPTIONAL, requestList SEQUENCE OF Request,
 -- requestExtensions [2] EXPLICIT Extensions OPTIONAL }
 abbrev pub to_be_signed : Form → List ℕ
-to_be_signed f = tlv 0x30 (request_version f.version ++ (optional 0xA1 f.requestor ++ (tlv 0x30 (flat_map single f.singles) ++ extensions 0xA2 f.extensions)))
+to_be_signed f =
+    tlv 0x30 (request_version f.version
+    ++ (optional 0xA1 f.requestor ++ (tlv 0x30 (flat_map single f.singles) ++ extensions 0xA2 f.extensions)))
 
 -- OCSPRequest ::= SEQUENCE { tbsRequest, optionalSignature [0] EXPLICIT Signature OPTIONAL }
 abbrev pub spelling : Form → List ℕ
@@ -136,7 +140,14 @@ pub record Id : Type 0 where
   pub serial : List ℕ
 
 abbrev pub id_of : Target → Id
-id_of t = record { raw = cert_id t; algorithm = algorithm t.identifier t.parameters; name_hash = t.name_hash; key_hash = t.key_hash; serial = t.serial }
+id_of t =
+    record {
+      raw = cert_id t;
+      algorithm = algorithm t.identifier t.parameters;
+      name_hash = t.name_hash;
+      key_hash = t.key_hash;
+      serial = t.serial;
+    }
 
 abbrev pub cert_id_in : Single → Id
 cert_id_in s = id_of s.target
@@ -174,7 +185,10 @@ pub record IsOcspRequest (bytes : List ℕ) (ids : List Id) (nonce : Option (Lis
 
 -- bytes have at most one reading as a request
 abbrev pub OneReading : Type 0
-OneReading = (bytes : List ℕ) (ids_a ids_b : List Id) (nonce_a nonce_b : Option (List ℕ)) → IsOcspRequest bytes ids_a nonce_a → IsOcspRequest bytes ids_b nonce_b → (ids_a ≡ ids_b) × (nonce_a ≡ nonce_b)
+OneReading =
+    (bytes : List ℕ) (ids_a ids_b : List Id) (nonce_a nonce_b : Option (List ℕ))
+    → IsOcspRequest bytes ids_a nonce_a → IsOcspRequest bytes ids_b nonce_b
+    → (ids_a ≡ ids_b) × (nonce_a ≡ nonce_b)
 
 -- ---- sizes
 

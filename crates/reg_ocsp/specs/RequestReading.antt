@@ -25,7 +25,8 @@ critical_at bytes = optional_at 0x01 bytes >>= λ x. written_flag x.0 >>= λ fla
 
 -- the OID is empty, or the extension is critical and not the nonce
 abbrev pub is_refused : List ℕ → Option Bool → Bool
-is_refused identifier critical = (length identifier == 0) || (unwrap_or critical false && not (bytes_eq identifier nonce_identifier))
+is_refused identifier critical =
+    (length identifier == 0) || (unwrap_or critical false && not (bytes_eq identifier nonce_identifier))
 
 -- the Extension with these contents
 unfoldable pub fields_at : List ℕ → Option Extension
@@ -76,7 +77,8 @@ algorithm_at bytes = do
 abbrev pub is_shortest : List ℕ → Bool
 is_shortest [] = false
 is_shortest (first ∷ []) = true
-is_shortest (first ∷ second ∷ rest) = not ((first == 0) && nat_lt second 128) && not ((first == 255) && nat_le 128 second)
+is_shortest (first ∷ second ∷ rest) =
+    not ((first == 0) && nat_lt second 128) && not ((first == 255) && nat_le 128 second)
 
 -- the contents octets of an INTEGER in the fewest, which nothing follows
 unfoldable pub serial_at : List ℕ → Option (List ℕ)
@@ -95,7 +97,16 @@ target_at bytes = do
   outer ← expect_at 0x30 bytes
   algorithm ← algorithm_at outer.0
   names ← names_at algorithm.1
-  Some (record { raw = tlv 0x30 outer.0; algorithm = algorithm.0; name_hash = names.0; key_hash = names.1; serial = names.2 }, outer.1)
+  Some (
+    record {
+      raw = tlv 0x30 outer.0;
+      algorithm = algorithm.0;
+      name_hash = names.0;
+      key_hash = names.1;
+      serial = names.2;
+    },
+    outer.1,
+  )
 
 unfoldable pub single_at : List ℕ → Option (Id × List ℕ)
 single_at bytes = do

@@ -37,7 +37,8 @@ next_update next = tlv 0xA0 (general_value next)
 
 -- the fields of a SingleResponse: certID, certStatus, thisUpdate GeneralizedTime, nextUpdate
 abbrev pub single_fields : ℕ → ℕ → SingleAnswer → List ℕ
-single_fields now next answer = answer.raw ++ cert_status answer.status ++ general_value now ++ next_update next
+single_fields now next answer =
+    answer.raw ++ cert_status answer.status ++ general_value now ++ next_update next
 
 -- SingleResponse ::= SEQUENCE { certID, certStatus, thisUpdate GeneralizedTime, nextUpdate [0] EXPLICIT GeneralizedTime }
 unfoldable pub single_response : ℕ → ℕ → SingleAnswer → List ℕ
@@ -59,7 +60,8 @@ nonce_part (Some nonce) = tlv 0xA1 (tlv 0x30 (nonce_extension nonce))
 -- the fields of a ResponseData: responderID, producedAt GeneralizedTime, responses SEQUENCE OF SingleResponse, responseExtensions
 abbrev pub data_fields : List ℕ → ℕ → ℕ → List SingleAnswer → Option (List ℕ) → List ℕ
 data_fields key now next answers nonce =
-    responder key ++ general_value now ++ tlv 0x30 (flat_map (single_response now next) answers) ++ nonce_part nonce
+    responder key ++ general_value now ++ tlv 0x30 (flat_map (single_response now next) answers)
+    ++ nonce_part nonce
 
 -- ResponseData ::= SEQUENCE { responderID, producedAt GeneralizedTime, responses SEQUENCE OF SingleResponse,
 -- responseExtensions }, for the responder with this key; thisUpdate of each response is `now`, and nextUpdate is `next`
@@ -78,11 +80,13 @@ certs_room (Some certificate) = length certificate + 12
 
 -- the fields of a BasicOCSPResponse: tbsResponseData, signatureAlgorithm, signature BIT STRING, certs
 abbrev pub basic_fields : List ℕ → List ℕ → List ℕ → Option (List ℕ) → List ℕ
-basic_fields signed algorithm signature certificate = signed ++ algorithm ++ bits_value signature ++ certs_part certificate
+basic_fields signed algorithm signature certificate =
+    signed ++ algorithm ++ bits_value signature ++ certs_part certificate
 
 -- BasicOCSPResponse ::= SEQUENCE { tbsResponseData, signatureAlgorithm, signature BIT STRING, certs }
 unfoldable pub basic_response : List ℕ → List ℕ → List ℕ → Option (List ℕ) → List ℕ
-basic_response signed algorithm signature certificate = tlv 0x30 (basic_fields signed algorithm signature certificate)
+basic_response signed algorithm signature certificate =
+    tlv 0x30 (basic_fields signed algorithm signature certificate)
 
 -- id-pkix-ocsp-basic, 1.3.6.1.5.5.7.48.1.1
 abbrev pub basic_identifier : List ℕ
@@ -98,7 +102,8 @@ successful_response bytes = tlv 0x30 (enumerated 0 ++ tlv 0xA0 bytes)
 
 -- the successful OCSPResponse with a BasicOCSPResponse
 unfoldable pub ocsp_response : List ℕ → List ℕ → List ℕ → Option (List ℕ) → List ℕ
-ocsp_response signed algorithm signature certificate = successful_response (response_bytes (basic_response signed algorithm signature certificate))
+ocsp_response signed algorithm signature certificate =
+    successful_response (response_bytes (basic_response signed algorithm signature certificate))
 
 -- malformedRequest(1), internalError(2), tryLater(3)
 abbrev pub refusal_code : RefusalStatus → ℕ

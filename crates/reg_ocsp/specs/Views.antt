@@ -11,7 +11,14 @@ use Rattle.reg_ocsp.specs.Response.{SingleAnswer}
 
 -- a CertID, each slice replaced by its bytes
 abbrev pub id_seen : CertId → Id
-id_seen id = record { raw = id.raw.now; algorithm = id.algorithm.now; name_hash = id.name_hash.now; key_hash = id.key_hash.now; serial = id.serial.now }
+id_seen id =
+    record {
+      raw = id.raw.now;
+      algorithm = id.algorithm.now;
+      name_hash = id.name_hash.now;
+      key_hash = id.key_hash.now;
+      serial = id.serial.now;
+    }
 
 abbrev pub ids_seen : List CertId → List Id
 ids_seen ids = map id_seen ids

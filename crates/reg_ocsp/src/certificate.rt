@@ -53,7 +53,8 @@ impl Certificate {
     /// A certificate from its DER; `Bad` if [`certified_key`] gives `None`; `Memory`.
     pub fn new(alloc: Global, der: &[u8]) -> Result<Certificate, CertificateFault>
         ensures der { IfOk result (λ it. it.der ≡ der.now) }
-        ensures bad { IsErrOf result CertificateFault.Bad → (algorithm key : List ℕ) → ¬ (IsCertificateOf der.now algorithm key) }
+        ensures bad { IsErrOf result CertificateFault.Bad → (algorithm key : List ℕ)
+            → ¬ (IsCertificateOf der.now algorithm key) }
     {
         let certified = match certified_key(der) {
             Some(certified) => certified,
@@ -107,7 +108,8 @@ pub struct CertifiedKey<'a> {
 /// and for a key that has unused bits, is empty, or is longer than 2,048 bytes.
 pub fn certified_key(certificate: &[u8]) -> Option<CertifiedKey<'_>>
     ensures found { IfSome result (λ it. IsCertificateOf certificate.now it.algorithm.now it.key.now) }
-    ensures only { (algorithm key : List ℕ) → IsCertificateOf certificate.now algorithm key → option_map key_seen result ≡ Some (algorithm, key) }
+    ensures only { (algorithm key : List ℕ) → IsCertificateOf certificate.now algorithm key
+        → option_map key_seen result ≡ Some (algorithm, key) }
 {
     read_certificate(certificate)
 }

@@ -1,5 +1,6 @@
 ghost use Rattle.std.specs.Prelude.{◌≡◌, ◌^◌, ◌≤◌, IfOk, IfSome, length, option_copied, option_map};
 ghost use Rattle.reg_ocsp.specs.Drafts.{drafted_response};
+ghost use Rattle.reg_core.specs.Buffers.{ItemsOnOk};
 
 use crate::response::{RefusalStatus, basic_with, refusal};
 use reg_core::Memory;
@@ -90,7 +91,7 @@ impl Draft {
     /// The whole OCSPResponse with this signature, of at most 65,536 bytes; internalError without a signature (RFC 6960 2.3).
     pub fn response(&self, alloc: Global, signature: Option<&[u8]>) -> Result<Vec<u8>, Memory>
         requires { IfSome (option_copied signature) (λ bytes. length bytes ≤ 65536) }
-        ensures { IfOk result (λ bytes. bytes.items ≡ drafted_response self.now (option_copied signature.entry)) }
+        ensures { ItemsOnOk result (drafted_response self.now (option_copied signature.entry)) }
     {
         match signature {
             Some(signature) => basic_with(

@@ -30,8 +30,10 @@ const LONGEST_NONCE: usize = 131;
 /// contents of requestorName and of optionalSignature are not checked. Bytes have at most one reading
 /// (`laws::one_reading`). `Memory` if out of memory for the CertIDs.
 pub fn read_request(alloc: Global, bytes: &[u8]) -> Result<Asked<'_>, RequestFault>
-    ensures found { IfOk result (λ a. IsOcspRequest bytes.now (ids_seen a.ids.items) (option_copied a.nonce)) }
-    ensures malformed { IsErrOf result RequestFault.Malformed → (ids : List Id) (nonce : Option (List ℕ)) → IsOcspRequest bytes.now ids nonce → ⊥ }
+    ensures found { IfOk result
+        (λ a. IsOcspRequest bytes.now (ids_seen a.ids.items) (option_copied a.nonce)) }
+    ensures malformed { IsErrOf result RequestFault.Malformed → (ids : List Id) (nonce : Option (List ℕ))
+        → IsOcspRequest bytes.now ids nonce → ⊥ }
     ensures answerable { IfOk result (λ a. CanBeAnswered (ids_seen a.ids.items) (option_copied a.nonce)) }
     ensures some { IfOk result (λ a. 1 ≤ length a.ids.items) }
     ensures nonce { IfOk result (λ a. IfSome (option_copied a.nonce) IsNonce) }
@@ -41,7 +43,8 @@ pub fn read_request(alloc: Global, bytes: &[u8]) -> Result<Asked<'_>, RequestFau
 
 #[tactic(auto, unfolding(crate::specs::RequestReading::request_at))]
 fn request(alloc: Global, bytes: &[u8]) -> Result<Asked<'_>, RequestFault>
-    ensures { GivesUnlessMemory (λ a. (ids_seen a.ids.items, option_copied a.nonce)) result (request_at bytes.now) }
+    ensures { GivesUnlessMemory (λ a. (ids_seen a.ids.items, option_copied a.nonce)) result
+        (request_at bytes.now) }
 {
     let Some((list, nonce)) = parts(bytes) else {
         return Err(RequestFault::Malformed);

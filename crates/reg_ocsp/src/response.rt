@@ -1,6 +1,6 @@
 //! Writes OCSP responses (RFC 6960 4.2.1).
 
-ghost use Rattle.std.specs.Prelude.{◌≡◌, ◌+◌, ◌*◌, ◌^◌, ◌++◌, ◌<◌, ◌≤◌, ◌%◌, length, None, IfOk, OnOk, IfSome, option_copied, sum_by};
+ghost use Rattle.std.specs.Prelude.{◌≡◌, ◌+◌, ◌*◌, ◌^◌, ◌<◌, ◌≤◌, ◌%◌, length, None, IfOk, OnOk, IfSome, option_copied, sum_by};
 ghost use Rattle.std.specs.List.{flat_map};
 ghost use Rattle.reg_der.specs.Der.{tlv};
 ghost use Rattle.reg_core.specs.declared.command.Status.TheVariants.{Revoked};
@@ -8,6 +8,7 @@ ghost use Rattle.reg_ocsp.specs.Response.{basic_fields, basic_response, cert_sta
 ghost use Rattle.reg_ocsp.specs.Response as spec;
 ghost use Rattle.reg_ocsp.specs.Request.{CanBeAnswered};
 ghost use Rattle.reg_ocsp.specs.Views.{answer_seen, answers_seen, answered, answered_length, ids_seen};
+ghost use Rattle.reg_core.specs.Buffers.{AppendsOnOk, ItemsOnOk};
 
 use crate::asked::CertId;
 use crate::extensions::NONCE;
@@ -61,7 +62,8 @@ pub fn response_data(
     nonce: Option<&[u8]>,
 ) -> Result<Vec<u8>, Memory>
     requires { CanBeAnswered (ids_seen (answered answers.now)) (option_copied nonce) }
-    ensures data { IfOk result (λ v. v.items ≡ spec.response_data issuer.now.key now next (answers_seen answers.now) (option_copied nonce.entry)) }
+    ensures data { ItemsOnOk result
+        (spec.response_data issuer.now.key now next (answers_seen answers.now) (option_copied nonce.entry)) }
     ensures bounded { IfOk result (λ v. length v.items ≤ 2 ^ 27) }
 {
     response_data_by(alloc, issuer.key(), now, next, answers, nonce)
@@ -79,7 +81,8 @@ pub fn response_data_by(
     nonce: Option<&[u8]>,
 ) -> Result<Vec<u8>, Memory>
     requires { CanBeAnswered (ids_seen (answered answers.now)) (option_copied nonce) }
-    ensures data { IfOk result (λ v. v.items ≡ spec.response_data key.now now next (answers_seen answers.now) (option_copied nonce.entry)) }
+    ensures data { ItemsOnOk result
+        (spec.response_data key.now now next (answers_seen answers.now) (option_copied nonce.entry)) }
     ensures bounded { IfOk result (λ v. length v.items ≤ 2 ^ 27) }
 {
     let mut fields = Vec::new(alloc);
@@ -99,8 +102,11 @@ fn put_data_fields(
     requires few { length answers.now ≤ 65536 }
     requires short { sum_by answered_length answers.now ≤ 65536 }
     requires short_nonce { IfSome (option_copied nonce) (λ value. length value ≤ 131) }
-    ensures ok { OnOk result (out.new.items ≡ out.old.items ++ data_fields key.now now next (answers_seen answers.now) (option_copied nonce.entry)) }
-    ensures longer { OnOk result (length out.new.items ≤ length out.old.items + 100 * length answers.now + sum_by answered_length answers.now + 255) }
+    ensures ok { AppendsOnOk out.old out.new result
+        (data_fields key.now now next (answers_seen answers.now) (option_copied nonce.entry)) }
+    ensures longer { OnOk result
+        (length out.new.items
+        ≤ length out.old.items + 100 * length answers.now + sum_by answered_length answers.now + 255) }
 {
     put_responder(alloc, out, key)?;
     put_general(out, now)?;
@@ -119,8 +125,9 @@ pub fn basic(
     requires short_signed { length signed.now ≤ 2 ^ 27 }
     requires short_algorithm { length algorithm.now ≤ 1024 }
     requires short_signature { length signature.now ≤ 65536 }
-    ensures response { IfOk result (λ v. v.items ≡ ocsp_response signed.now algorithm.now signature.now None) }
-    ensures longer { IfOk result (λ v. length v.items ≤ length signed.now + length algorithm.now + length signature.now + 64) }
+    ensures response { ItemsOnOk result (ocsp_response signed.now algorithm.now signature.now None) }
+    ensures longer { IfOk result
+        (λ v. length v.items ≤ length signed.now + length algorithm.now + length signature.now + 64) }
 {
     basic_with(alloc, signed, algorithm, signature, None)
 }
@@ -138,9 +145,11 @@ pub fn basic_with(
     requires short_algorithm { length algorithm.now ≤ 1024 }
     requires short_signature { length signature.now ≤ 65536 }
     requires short_certificate { IfSome (option_copied certificate) (λ bytes. length bytes ≤ 65536) }
-    ensures response { IfOk result (λ v. v.items ≡ ocsp_response signed.now algorithm.now signature.now (option_copied certificate.entry)) }
+    ensures response { ItemsOnOk result
+        (ocsp_response signed.now algorithm.now signature.now (option_copied certificate.entry)) }
     ensures longer { IfOk result (λ v. length v.items
-        ≤ length signed.now + length algorithm.now + length signature.now + certs_room (option_copied certificate.entry) + 64) }
+        ≤ length signed.now + length algorithm.now + length signature.now
+        + certs_room (option_copied certificate.entry) + 64) }
 {
     let basic = basic_value(alloc, signed, algorithm, signature, certificate)?;
     let bytes = response_bytes(alloc, &basic)?;
@@ -149,7 +158,7 @@ pub fn basic_with(
 
 fn successful(alloc: Global, bytes: &[u8]) -> Result<Vec<u8>, Memory>
     requires { length bytes.now ≤ 2 ^ 28 }
-    ensures value { IfOk result (λ v. v.items ≡ successful_response bytes.now) }
+    ensures value { ItemsOnOk result (successful_response bytes.now) }
     ensures longer { IfOk result (λ v. length v.items ≤ length bytes.now + 19) }
 {
     let mut fields = Vec::new(alloc);
@@ -160,7 +169,7 @@ fn successful(alloc: Global, bytes: &[u8]) -> Result<Vec<u8>, Memory>
 
 fn response_bytes(alloc: Global, basic: &[u8]) -> Result<Vec<u8>, Memory>
     requires { length basic.now < 2 ^ 28 }
-    ensures value { IfOk result (λ v. v.items ≡ spec.response_bytes basic.now) }
+    ensures value { ItemsOnOk result (spec.response_bytes basic.now) }
     ensures longer { IfOk result (λ v. length v.items ≤ length basic.now + 27) }
 {
     let mut fields = Vec::new(alloc);
@@ -181,9 +190,11 @@ fn basic_value(
     requires short_algorithm { length algorithm.now ≤ 1024 }
     requires short_signature { length signature.now ≤ 65536 }
     requires short_certificate { IfSome (option_copied certificate) (λ bytes. length bytes ≤ 65536) }
-    ensures value { IfOk result (λ v. v.items ≡ basic_response signed.now algorithm.now signature.now (option_copied certificate.entry)) }
+    ensures value { ItemsOnOk result
+        (basic_response signed.now algorithm.now signature.now (option_copied certificate.entry)) }
     ensures longer { IfOk result (λ v. length v.items
-        ≤ length signed.now + length algorithm.now + length signature.now + certs_room (option_copied certificate.entry) + 13) }
+        ≤ length signed.now + length algorithm.now + length signature.now
+        + certs_room (option_copied certificate.entry) + 13) }
     ensures bounded { IfOk result (λ v. length v.items ≤ 2 ^ 27 + 2 ^ 18) }
 {
     let mut fields = Vec::new(alloc);
@@ -208,10 +219,14 @@ fn put_basic_fields(
 ) -> Result<(), Memory>
     requires short_signature { length signature.now ≤ 65536 }
     requires short_certificate { IfSome (option_copied certificate) (λ bytes. length bytes ≤ 65536) }
-    ensures ok { OnOk result (out.new.items ≡ out.old.items ++ basic_fields signed.now algorithm.now signature.now (option_copied certificate.entry)) }
+    ensures ok { AppendsOnOk out.old out.new result
+        (basic_fields signed.now algorithm.now signature.now (option_copied certificate.entry)) }
     ensures longer { OnOk result (length out.new.items
-        ≤ length out.old.items + length signed.now + length algorithm.now + length signature.now + certs_room (option_copied certificate.entry) + 7) }
-    ensures bounded { OnOk result (length out.new.items ≤ length out.old.items + length signed.now + length algorithm.now + length signature.now + 65555) }
+        ≤ length out.old.items + length signed.now + length algorithm.now + length signature.now
+        + certs_room (option_copied certificate.entry) + 7) }
+    ensures bounded { OnOk result
+        (length out.new.items
+        ≤ length out.old.items + length signed.now + length algorithm.now + length signature.now + 65555) }
 {
     put_raw(out, signed)?;
     put_raw(out, algorithm)?;
@@ -226,8 +241,9 @@ fn put_certificate(
     certificate: Option<&[u8]>,
 ) -> Result<(), Memory>
     requires { IfSome (option_copied certificate) (λ bytes. length bytes ≤ 65536) }
-    ensures ok { OnOk result (out.new.items ≡ out.old.items ++ certs_part (option_copied certificate.entry)) }
-    ensures longer { OnOk result (length out.new.items ≤ length out.old.items + certs_room (option_copied certificate.entry)) }
+    ensures ok { AppendsOnOk out.old out.new result (certs_part (option_copied certificate.entry)) }
+    ensures longer { OnOk result
+        (length out.new.items ≤ length out.old.items + certs_room (option_copied certificate.entry)) }
     ensures bounded { OnOk result (length out.new.items ≤ length out.old.items + 65548) }
 {
     let Some(bytes) = certificate else {
@@ -239,7 +255,7 @@ fn put_certificate(
 
 /// Appends the ResponderID byKey: the SHA-1 of the key.
 fn put_responder(alloc: Global, out: &mut Vec<u8>, key: &[u8]) -> Result<(), Memory>
-    ensures ok { OnOk result (out.new.items ≡ out.old.items ++ spec.responder key.now) }
+    ensures ok { AppendsOnOk out.old out.new result (spec.responder key.now) }
     ensures longer { OnOk result (length out.new.items ≤ length out.old.items + 32) }
 {
     let hash = enclosed(alloc, OCTET_STRING, &Sha1::digest(key))?;
@@ -255,8 +271,11 @@ fn put_answers(
 ) -> Result<(), Memory>
     requires few { length answers.now ≤ 65536 }
     requires short { sum_by answered_length answers.now ≤ 65536 }
-    ensures ok { OnOk result (out.new.items ≡ out.old.items ++ tlv 0x30 (flat_map (single_response now next) (answers_seen answers.now))) }
-    ensures longer { OnOk result (length out.new.items ≤ length out.old.items + 100 * length answers.now + sum_by answered_length answers.now + 6) }
+    ensures ok { AppendsOnOk out.old out.new result
+        (tlv 0x30 (flat_map (single_response now next) (answers_seen answers.now))) }
+    ensures longer { OnOk result
+        (length out.new.items
+        ≤ length out.old.items + 100 * length answers.now + sum_by answered_length answers.now + 6) }
 {
     let mut list = Vec::new(alloc);
     for answer in answers {
@@ -274,8 +293,9 @@ fn put_single(
     answer: &(CertId<'_>, Status),
 ) -> Result<(), Memory>
     requires { answered_length answer.now ≤ 65536 }
-    ensures ok { OnOk result (out.new.items ≡ out.old.items ++ single_response now next (answer_seen answer.now)) }
-    ensures longer { OnOk result (length out.new.items ≤ length out.old.items + answered_length answer.now + 100) }
+    ensures ok { AppendsOnOk out.old out.new result (single_response now next (answer_seen answer.now)) }
+    ensures longer { OnOk result
+        (length out.new.items ≤ length out.old.items + answered_length answer.now + 100) }
 {
     let mut fields = Vec::new(alloc);
     put_single_fields(alloc, &mut fields, now, next, answer)?;
@@ -289,8 +309,9 @@ fn put_single_fields(
     next: Moment,
     answer: &(CertId<'_>, Status),
 ) -> Result<(), Memory>
-    ensures ok { OnOk result (out.new.items ≡ out.old.items ++ single_fields now next (answer_seen answer.now)) }
-    ensures longer { OnOk result (length out.new.items ≤ length out.old.items + answered_length answer.now + 76) }
+    ensures ok { AppendsOnOk out.old out.new result (single_fields now next (answer_seen answer.now)) }
+    ensures longer { OnOk result
+        (length out.new.items ≤ length out.old.items + answered_length answer.now + 76) }
 {
     let (id, status) = answer;
     put_raw(out, id.raw)?;
@@ -300,7 +321,7 @@ fn put_single_fields(
 }
 
 fn put_next_update(alloc: Global, out: &mut Vec<u8>, next: Moment) -> Result<(), Memory>
-    ensures ok { OnOk result (out.new.items ≡ out.old.items ++ next_update next) }
+    ensures ok { AppendsOnOk out.old out.new result (next_update next) }
     ensures longer { OnOk result (length out.new.items ≤ length out.old.items + 23) }
 {
     let mut update = Vec::new(alloc);
@@ -309,7 +330,7 @@ fn put_next_update(alloc: Global, out: &mut Vec<u8>, next: Moment) -> Result<(),
 }
 
 fn put_status(alloc: Global, out: &mut Vec<u8>, status: Status) -> Result<(), Memory>
-    ensures ok { OnOk result (out.new.items ≡ out.old.items ++ cert_status status) }
+    ensures ok { AppendsOnOk out.old out.new result (cert_status status) }
     ensures longer { OnOk result (length out.new.items ≤ length out.old.items + 36) }
 {
     match status {
@@ -320,7 +341,7 @@ fn put_status(alloc: Global, out: &mut Vec<u8>, status: Status) -> Result<(), Me
 }
 
 fn put_revoked(alloc: Global, out: &mut Vec<u8>, at: Moment, reason: u8) -> Result<(), Memory>
-    ensures ok { OnOk result (out.new.items ≡ out.old.items ++ cert_status (Revoked at reason)) }
+    ensures ok { AppendsOnOk out.old out.new result (cert_status (Revoked at reason)) }
     ensures longer { OnOk result (length out.new.items ≤ length out.old.items + 36) }
 {
     let mut info = Vec::new(alloc);
@@ -331,7 +352,7 @@ fn put_revoked(alloc: Global, out: &mut Vec<u8>, at: Moment, reason: u8) -> Resu
 
 /// Appends the reason of a revocation, unless it is unspecified (RFC 5280 5.3.1).
 fn put_reason(alloc: Global, out: &mut Vec<u8>, reason: u8) -> Result<(), Memory>
-    ensures ok { OnOk result (out.new.items ≡ out.old.items ++ reason_part reason) }
+    ensures ok { AppendsOnOk out.old out.new result (reason_part reason) }
     ensures longer { OnOk result (length out.new.items ≤ length out.old.items + 13) }
 {
     if reason == 0 {
@@ -343,7 +364,7 @@ fn put_reason(alloc: Global, out: &mut Vec<u8>, reason: u8) -> Result<(), Memory
 
 fn put_nonce(alloc: Global, out: &mut Vec<u8>, nonce: Option<&[u8]>) -> Result<(), Memory>
     requires { IfSome (option_copied nonce) (λ value. length value ≤ 131) }
-    ensures ok { OnOk result (out.new.items ≡ out.old.items ++ spec.nonce_part (option_copied nonce.entry)) }
+    ensures ok { AppendsOnOk out.old out.new result (spec.nonce_part (option_copied nonce.entry)) }
     ensures longer { OnOk result (length out.new.items ≤ length out.old.items + 200) }
 {
     let Some(value) = nonce else {
@@ -356,7 +377,7 @@ fn put_nonce(alloc: Global, out: &mut Vec<u8>, nonce: Option<&[u8]>) -> Result<(
 
 fn nonce_extension(alloc: Global, nonce: &[u8]) -> Result<Vec<u8>, Memory>
     requires { length nonce.now ≤ 131 }
-    ensures value { IfOk result (λ v. v.items ≡ spec.nonce_extension nonce.now) }
+    ensures value { ItemsOnOk result (spec.nonce_extension nonce.now) }
     ensures longer { IfOk result (λ v. length v.items ≤ length nonce.now + 27) }
 {
     let mut fields = Vec::new(alloc);
@@ -368,7 +389,7 @@ fn nonce_extension(alloc: Global, nonce: &[u8]) -> Result<Vec<u8>, Memory>
 fn enclosed(alloc: Global, tag: u8, contents: &[u8]) -> Result<Vec<u8>, Memory>
     requires low_tag { tag % 32 < 31 }
     requires short { length contents.now < 2 ^ 32 }
-    ensures value { IfOk result (λ v. v.items ≡ tlv tag contents.now) }
+    ensures value { ItemsOnOk result (tlv tag contents.now) }
     ensures longer { IfOk result (λ v. length v.items ≤ length contents.now + 6) }
 {
     let mut out = Vec::new(alloc);

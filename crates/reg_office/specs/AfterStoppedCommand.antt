@@ -19,7 +19,8 @@ use Rattle.reg_office.specs.Stands.{SoundFor, Stands, CameTo}
 
 -- the rows show the records after the command, which was accepted over `records`; the derived tables match them, and they are sound for the
 -- office's signer
-pub record IsDone (signs : Signs) (identity : Identity) (records : Records) (now : ℕ) (command : Command) (trees : Trees) : Type 0 where
+pub record IsDone (signs : Signs) (identity : Identity) (records : Records) (now : ℕ) (command : Command)
+    (trees : Trees) : Type 0 where
   pub answer : Reply
   pub after : Records
   pub happens : Happens (signed_by signs identity) records now command (Ok answer) after
@@ -28,11 +29,14 @@ pub record IsDone (signs : Signs) (identity : Identity) (records : Records) (now
 
 -- the rows after a command of an office that was accepted over the records before it
 abbrev pub Does : {C : Type 0} → Ghosts C → Signs → Held C → Identity → ℕ → Command → Trees → Type 0
-Does g signs old identity now command trees = (records : Records) → Stands g signs old identity records → IsDone signs identity records now command trees
+Does g signs old identity now command trees =
+    (records : Records) → Stands g signs old identity records
+    → IsDone signs identity records now command trees
 
 -- the rows after the issuer was given a key identifier of its own, which CRLs have from the next one on
 abbrev pub IsIdentified : {C : Type 0} → Ghosts C → Held C → List ℕ → Trees → Type 0
-IsIdentified g old octets trees = (records : Records) → ShowsKept g old records → IsAtRest (with_key_identifier records octets) trees
+IsIdentified g old octets trees =
+    (records : Records) → ShowsKept g old records → IsAtRest (with_key_identifier records octets) trees
 
 -- ---- over a run
 
@@ -49,7 +53,8 @@ IsNext Done records (timed ∷ commands) = Done records timed.0 timed.1
 
 -- What is left are the records after a prefix of the commands: after those of `done`, whose outcomes are `came`, or after these and the next
 -- command. The outcomes of the commands past `done` are refusals or faults.
-pub record PartlyRun (signs : Signs) (identity : Identity) (Rests : Records → Type 0) (Done : Records → ℕ → Command → Type 0)
+pub record PartlyRun (signs : Signs) (identity : Identity) (Rests : Records → Type 0)
+    (Done : Records → ℕ → Command → Type 0)
     (records : Records) (commands : List (ℕ × Command)) (outcomes : List (Result Reply Fault)) : Type 0 where
   pub done : List (ℕ × Command)
   pub left : List (ℕ × Command)
@@ -64,29 +69,36 @@ pub record PartlyRun (signs : Signs) (identity : Identity) (Rests : Records → 
   pub rests : Rests after ⊎ IsNext Done after left
 
 -- the rows show the records after a prefix of the commands, and the derived tables match them
-abbrev pub IsPartlyRun : Signs → Identity → Records → List (ℕ × Command) → List (Result Reply Fault) → Trees → Type 0
+abbrev pub IsPartlyRun : Signs → Identity → Records → List (ℕ × Command)
+    → List (Result Reply Fault) → Trees → Type 0
 IsPartlyRun signs identity records commands outcomes trees =
-    PartlyRun signs identity (λ after. IsAtRest after trees) (λ after now command. IsDone signs identity after now command trees) records commands outcomes
+    PartlyRun signs identity (λ after. IsAtRest after trees)
+    (λ after now command. IsDone signs identity after now command trees) records commands outcomes
 
 -- what the clauses of `run_one` say of one command, from one state of an office's tables to the next
-pub record IsRunOne {C : Type 0} (g : Ghosts C) (signs : Signs) (identity : Identity) (old new : Held C) (now : ℕ) (command : Command) (outcome : Result Reply Fault) : Type 0 where
-  pub step : (records : Records) → Stands g signs old identity records → HasCleanDisk (state g new) → CameTo g signs new identity records now command outcome
+pub record IsRunOne {C : Type 0} (g : Ghosts C) (signs : Signs) (identity : Identity) (old new : Held C)
+    (now : ℕ) (command : Command) (outcome : Result Reply Fault) : Type 0 where
+  pub step : (records : Records) → Stands g signs old identity records → HasCleanDisk (state g new)
+      → CameTo g signs new identity records now command outcome
   pub live : HasCleanDisk (state g new) → OnOk outcome (IsTrue (state g new).is_open)
   pub survives : Survives (state g old) (state g new) (Does g signs old identity now command)
 
 -- commands that calls of `run_one` ran one after another, with an outcome for each
-abbrev pub AreRunByOne : {C : Type 0} → Ghosts C → Signs → Identity → Held C → List (ℕ × Command) → List (Result Reply Fault) → Held C → Type 0
+abbrev pub AreRunByOne : {C : Type 0} → Ghosts C → Signs → Identity → Held C → List (ℕ × Command)
+    → List (Result Reply Fault) → Held C → Type 0
 AreRunByOne g signs identity old [] [] new = new ≡ old
 AreRunByOne g signs identity old [] (outcome ∷ outcomes) new = ⊥
 AreRunByOne g signs identity old (timed ∷ commands) [] new = ⊥
 AreRunByOne {C = C} g signs identity old (timed ∷ commands) (outcome ∷ outcomes) new =
-    (next : Held C) × IsRunOne g signs identity old next timed.0 timed.1 outcome × AreRunByOne g signs identity next commands outcomes new
+    (next : Held C) × IsRunOne g signs identity old next timed.0 timed.1 outcome
+    × AreRunByOne g signs identity next commands outcomes new
 
 -- ---- over any calls
 
 -- a stop after a call, or in the middle of it, leaves rows that show these records, with derived tables that match them
 abbrev pub LeavesThese : {C : Type 0} → Ghosts C → Held C → Records → Type 0
-LeavesThese g held records = HasCleanDisk (state g held) → (trees : Trees) → (state g held).may_leave trees → IsAtRest records trees
+LeavesThese g held records =
+    HasCleanDisk (state g held) → (trees : Trees) → (state g held).may_leave trees → IsAtRest records trees
 
 -- the rows show the records after one more change, whose acceptance was not replied: a command, or another schedule or key identifier
 abbrev pub IsOneMore : Signs → Identity → Records → Trees → Type 0

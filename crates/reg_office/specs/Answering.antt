@@ -44,7 +44,8 @@ answering signer crls responder = answers_by signer.identity (signer.identity cr
 -- the signers of an office have the same identities as before
 abbrev pub SameSignatory : {S : Type 0} → Signer S → S → Held S → S → Held S → Type 0
 SameSignatory signer old answered new answers =
-    signatory_of signer.identity (signer.identity new) answers ≡ signatory_of signer.identity (signer.identity old) answered
+    signatory_of signer.identity (signer.identity new) answers
+    ≡ signatory_of signer.identity (signer.identity old) answered
 
 -- a signer counted a failure
 abbrev pub SignerHasFailed : {S : Type 0} → Signer S → S → S → Type 0
@@ -53,4 +54,5 @@ SignerHasFailed signer old new = signer.failure_count old < signer.failure_count
 -- the responder counted a failure
 abbrev pub AnswerFailed : {S : Type 0} → Signer S → S → Held S → S → Held S → Type 0
 AnswerFailed signer old answered new answers =
-    failures_of signer.failure_count (signer.failure_count old) answered < failures_of signer.failure_count (signer.failure_count new) answers
+    failures_of signer.failure_count (signer.failure_count old) answered
+    < failures_of signer.failure_count (signer.failure_count new) answers

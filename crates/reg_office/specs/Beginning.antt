@@ -38,7 +38,8 @@ RefusesRequest request (Unsigned left) = ¬ (HasNoReading request)
 abbrev pub IsSignedBy : Signs → Responder → Drafted → List ℕ → Type 0
 IsSignedBy signs responder draft bytes =
     (bytes ≡ refusal_response status.Internal)
-    ⊎ ((signature : List ℕ) × signs responder.identity draft.message signature × (bytes ≡ drafted_response draft (Some signature)))
+    ⊎ ((signature : List ℕ) × signs responder.identity draft.message signature
+    × (bytes ≡ drafted_response draft (Some signature)))
 
 -- the key that names a responder: its own, or the issuer's
 abbrev pub key_in : Records → Option (List ℕ) → List ℕ
@@ -47,13 +48,15 @@ key_in records own = unwrap_or own records.issuer.key
 -- the issuer, and now plus the life of an OCSP answer; or the clock checks refuse this moment; or memory or the store failed
 abbrev pub IsResponding : Records → ℕ → Result (Issuer × ℕ) ResponseFault → Type 0
 IsResponding records now (Ok it) =
-    (first_of_all (clock_checks now records.last) ≡ None) × (it.0 ≡ records.issuer) × (it.1 ≡ now + records.policy.ocsp_life)
+    (first_of_all (clock_checks now records.last) ≡ None) × (it.0 ≡ records.issuer)
+    × (it.1 ≡ now + records.policy.ocsp_life)
 IsResponding records now (Err fault.Clock) = IsSome (first_of_all (clock_checks now records.last))
 IsResponding records now (Err fault.Memory) = Unit {0}
 IsResponding records now (Err fault.Store) = Unit {0}
 
 -- the ResponseData for a request that was read; or the clock checks refuse this moment; or memory or the store failed
-abbrev pub IsMessage : {Z : Type 0} → List ℕ → Records → ℕ → List Id → Option (List ℕ) → Result (Vec ℕ Z) ResponseFault → Type 0
+abbrev pub IsMessage : {Z : Type 0} → List ℕ → Records → ℕ → List Id → Option (List ℕ)
+    → Result (Vec ℕ Z) ResponseFault → Type 0
 IsMessage key records now ids echo (Ok bytes) =
     (first_of_all (clock_checks now records.last) ≡ None) × IsOcspData key records now ids echo bytes.items
 IsMessage key records now ids echo (Err fault.Clock) = IsSome (first_of_all (clock_checks now records.last))

@@ -21,19 +21,24 @@ use Rattle.reg_office.specs.declared.office.Office.{Office}
 -- the store shows the records, which are sound for the signers; a stop leaves them, or those after one more change
 abbrev pub StandsFor : {C : Type 0} → Ghosts C → Signs → Held C × Signatory → Signatory → Records → Type 0
 StandsFor g signs office signatory records =
-    (office.1 ≡ signatory) × Stands g signs office.0 signatory.crls records × LeavesReported g signs office.0 signatory.crls records
+    (office.1 ≡ signatory) × Stands g signs office.0 signatory.crls records
+    × LeavesReported g signs office.0 signatory.crls records
 
 -- a call of an office, given by its store and its signers before and after, is this step of the records
-abbrev pub LeadsOver : {C : Type 0} → Ghosts C → Signs → (Signatory → Records → Records → Type 0) → Held C × Signatory → Held C × Signatory → Type 0
+abbrev pub LeadsOver : {C : Type 0} → Ghosts C → Signs → (Signatory → Records → Records → Type 0)
+    → Held C × Signatory → Held C × Signatory → Type 0
 LeadsOver {C = C} g signs step =
-    Leads (λ (office : Held C × Signatory). HasCleanDisk (state g office.0)) (λ signatory office records. StandsFor g signs office signatory records) step
+    Leads (λ (office : Held C × Signatory). HasCleanDisk (state g office.0))
+    (λ signatory office records. StandsFor g signs office signatory records) step
 
 -- an office as its calls see it: its store, and its signers
 abbrev pub seen : {C S : Type 0} → Signer S → Office C S → Held C × Signatory
-seen signer office = (office.store, signatory_of signer.identity (signer.identity office.signer) office.responder)
+seen signer office =
+    (office.store, signatory_of signer.identity (signer.identity office.signer) office.responder)
 
 -- a call of an office is this step of its records
-abbrev pub OfficeLeads : {C S : Type 0} → Ghosts C → Signer S → (Signatory → Records → Records → Type 0) → Office C S → Office C S → Type 0
+abbrev pub OfficeLeads : {C S : Type 0} → Ghosts C → Signer S → (Signatory → Records → Records → Type 0)
+    → Office C S → Office C S → Type 0
 OfficeLeads g signer step old new = LeadsOver g signer.signs step (seen signer old) (seen signer new)
 
 -- an office's store shows the records, which are sound for the signer of its CRLs
@@ -41,8 +46,10 @@ abbrev pub StandsIn : {C S : Type 0} → Ghosts C → Signer S → Office C S �
 StandsIn g signer office records = Stands g signer.signs office.store (signer.identity office.signer) records
 
 -- a command was run in an office
-abbrev pub RanIn : {C S : Type 0} → Ghosts C → Signer S → ℕ → Command → Result Reply Fault → Office C S → Office C S → Type 0
-RanIn g signer now command outcome old new = RunsCommand g signer old.store new.store old.signer new.signer now command outcome
+abbrev pub RanIn : {C S : Type 0} → Ghosts C → Signer S → ℕ → Command → Result Reply Fault → Office C S
+    → Office C S → Type 0
+RanIn g signer now command outcome old new =
+    RunsCommand g signer old.store new.store old.signer new.signer now command outcome
 
 -- a call requested no signature: the signers are unchanged
 abbrev pub SignsNothing : {C S : Type 0} → Office C S → Office C S → Type 0
@@ -50,10 +57,13 @@ SignsNothing old new = (new.signer ≡ old.signer) × (new.responder ≡ old.res
 
 -- how many failures the signer of an office's OCSP answers has counted
 abbrev pub answer_failures_in : {C S : Type 0} → Signer S → Office C S → ℕ
-answer_failures_in signer office = failures_of signer.failure_count (signer.failure_count office.signer) office.responder
+answer_failures_in signer office =
+    failures_of signer.failure_count (signer.failure_count office.signer) office.responder
 
 -- A look-up of an office: no table changes, the signers have the same identities, and `Holds` holds of the office's records.
-pub record OfficeLooks {C S : Type 0} (g : Ghosts C) (signer : Signer S) (Holds : Records → Type 0) (old new : Office C S) : Type 0 where
+pub record OfficeLooks {C S : Type 0} (g : Ghosts C) (signer : Signer S) (Holds : Records → Type 0)
+    (old new : Office C S) : Type 0 where
   pub looked : Looked g old.store new.store
   pub same : (seen signer new).1 ≡ (seen signer old).1
-  pub found : (records : Records) → StandsIn g signer old records → HasCleanDisk (state g new.store) → Holds records
+  pub found : (records : Records) → StandsIn g signer old records
+      → HasCleanDisk (state g new.store) → Holds records

@@ -6,5 +6,7 @@ use Rattle.reg_office.specs.declared.requests.Case.{Case}
 -- the request with an id, and the certificate and the revocation of its serial number
 pub record IsCase (records : Records) (id : ℕ) (found : Case) : Type 0 where
   pub request : found.request ≡ request_in records.requests id
-  pub certificate : found.certificate ≡ option_and_then (λ row. certificate_in records.certificates row.serial) found.request
-  pub revocation : found.revocation ≡ option_and_then (λ row. revocation_in records.revocations row.serial) found.request
+  pub certificate : found.certificate
+      ≡ option_and_then (λ row. certificate_in records.certificates row.serial) found.request
+  pub revocation : found.revocation
+      ≡ option_and_then (λ row. revocation_in records.revocations row.serial) found.request

@@ -19,14 +19,18 @@ use Rattle.reg_office.specs.Stands.{Stands, CameTo}
 
 -- The command was run: it had this outcome over the store's records, and the store shows those after it. A stop leaves the records before
 -- it or after it. The signer has the same identity. `Signer` is the outcome only of a CRL for which the signer counted a failure.
-pub record IsCommandRun {C S : Type 0} (g : Ghosts C) (signs : Signs) (identity : S → Identity) (failures : S → ℕ) (old new : Held C) (signer left : S) (now : ℕ) (command : Command) (outcome : Result Reply Fault) : Type 0 where
-  pub step : (records : Records) → Stands g signs old (identity signer) records → HasCleanDisk (state g new) → CameTo g signs new (identity left) records now command outcome
+pub record IsCommandRun {C S : Type 0} (g : Ghosts C) (signs : Signs) (identity : S → Identity)
+    (failures : S → ℕ) (old new : Held C) (signer left : S) (now : ℕ) (command : Command)
+    (outcome : Result Reply Fault) : Type 0 where
+  pub step : (records : Records) → Stands g signs old (identity signer) records → HasCleanDisk (state g new)
+      → CameTo g signs new (identity left) records now command outcome
   pub changed : Changed g old new (Does g signs old (identity signer) now command) outcome
   pub same_identity : identity left ≡ identity signer
   pub device : IsErrOf outcome SignerFailed → (command ≡ IssueCrl) × (failures signer < failures left)
   pub faults : IfErr outcome IsOfficeFault
 
 -- `IsCommandRun`, for this signer
-abbrev pub RunsCommand : {C S : Type 0} → Ghosts C → Signer S → Held C → Held C → S → S → ℕ → Command → Result Reply Fault → Type 0
+abbrev pub RunsCommand : {C S : Type 0} → Ghosts C → Signer S → Held C → Held C → S → S → ℕ → Command
+    → Result Reply Fault → Type 0
 RunsCommand g signer old new own left now command outcome =
     IsCommandRun g signer.signs signer.identity signer.failure_count old new own left now command outcome

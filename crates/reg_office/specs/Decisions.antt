@@ -24,23 +24,30 @@ use Rattle.reg_core.specs.declared.rows.RevocationRow.{RevocationRow}
 use Rattle.reg_core.specs.declared.rows.CrlRow.{CrlRow}
 
 -- a refusal is replied, and the records don't change; an answer gives the reply and the change of the records
-abbrev pub IsStepOf : {Answer : Type 0} → (CertList → List ℕ → Type 0) → Records → ℕ → Command → (Answer → Reply) → (Answer → Change) → Result Answer Refusal → Type 0
-IsStepOf signed records now command replied changes (Err refused) = Step signed records now command (Err (Refused refused)) records
-IsStepOf signed records now command replied changes (Ok answer) = Step signed records now command (Ok (replied answer)) (changed_by records now (changes answer))
+abbrev pub IsStepOf : {Answer : Type 0} → (CertList → List ℕ → Type 0) → Records → ℕ → Command
+    → (Answer → Reply) → (Answer → Change) → Result Answer Refusal → Type 0
+IsStepOf signed records now command replied changes (Err refused) =
+    Step signed records now command (Err (Refused refused)) records
+IsStepOf signed records now command replied changes (Ok answer) =
+    Step signed records now command (Ok (replied answer)) (changed_by records now (changes answer))
 
 -- the decision on a subscriber
 abbrev pub SubscribersAreSteps : (CertList → List ℕ → Type 0) → Type 0
 SubscribersAreSteps signed =
     (records : Records) (now : ℕ) (name : List ℕ) (result : Result SubscriberRow Refusal)
-    → DecidesSubscriber (head_of records now (length records.subscribers)) name (subscriber_named records.subscribers name) result
-    → IsStepOf signed records now (Subscriber name) (λ row. SubscriberEntered row.id) (λ row. change.Subscriber row) result
+    → DecidesSubscriber (head_of records now (length records.subscribers)) name
+    (subscriber_named records.subscribers name) result
+    → IsStepOf signed records now (Subscriber name) (λ row. SubscriberEntered row.id)
+    (λ row. change.Subscriber row) result
 
 -- on an order
 abbrev pub OrdersAreSteps : (CertList → List ℕ → Type 0) → Type 0
 OrdersAreSteps signed =
     (records : Records) (now subscriber days : ℕ) (result : Result OrderRow Refusal)
-    → DecidesOrder (head_of records now (length records.orders)) (subscriber_in records.subscribers subscriber) days result
-    → IsStepOf signed records now (Order subscriber days) (λ row. OrderEntered row.id) (λ row. change.Order row) result
+    → DecidesOrder (head_of records now (length records.orders))
+    (subscriber_in records.subscribers subscriber) days result
+    → IsStepOf signed records now (Order subscriber days) (λ row. OrderEntered row.id)
+    (λ row. change.Order row) result
 
 -- the reply and the change for a certificate to register, or for none: it is registered already, with the same fields
 abbrev pub registration_reply : Option CertRow → Reply
@@ -63,20 +70,24 @@ RegistrationsAreSteps signed =
     (certificate_of_order records.certificates wanted.order)
     (certificate_in records.certificates wanted.serial)
     result
-    → IsStepOf signed records now (Register wanted.order wanted.serial wanted.not_before wanted.not_after) registration_reply registration_change result
+    → IsStepOf signed records now (Register wanted.order wanted.serial wanted.not_before wanted.not_after)
+    registration_reply registration_change result
 
 -- on a request for revocation
 abbrev pub RequestsAreSteps : (CertList → List ℕ → Type 0) → Type 0
 RequestsAreSteps signed =
     (records : Records) (now serial : ℕ) (word : List ℕ) (result : Result RequestRow Refusal)
-    → DecidesRequest (head_of records now (length records.requests)) (certificate_in records.certificates serial) word (revocation_in records.revocations serial) result
-    → IsStepOf signed records now (Request serial word) (λ row. RequestEntered row.id (deadline row)) (λ row. change.Request row) result
+    → DecidesRequest (head_of records now (length records.requests))
+    (certificate_in records.certificates serial) word (revocation_in records.revocations serial) result
+    → IsStepOf signed records now (Request serial word) (λ row. RequestEntered row.id (deadline row))
+    (λ row. change.Request row) result
 
 -- on declining a request; no table grows
 abbrev pub DeclinesAreSteps : (CertList → List ℕ → Type 0) → Type 0
 DeclinesAreSteps signed =
     (records : Records) (now held id : ℕ) (result : Result RequestRow Refusal)
-    → DecidesDecline (head_of records now held) (request_in records.requests id) (certificate_of_request records id) (revocation_of_request records id) result
+    → DecidesDecline (head_of records now held) (request_in records.requests id)
+    (certificate_of_request records id) (revocation_of_request records id) result
     → IsStepOf signed records now (Decline id) (λ row. Declined) (λ row. change.Decline row.id) result
 
 -- on revoking the certificate of a request: the revocation, and whether it is late
@@ -90,7 +101,8 @@ RevocationsAreSteps signed =
     (revocation_of_request records id)
     (option_map row_of (latest records.crls))
     result
-    → IsStepOf signed records now (Revoke id) (λ decided. Revoked decided.1) (λ decided. change.Revocation decided.0 not_after) result
+    → IsStepOf signed records now (Revoke id) (λ decided. Revoked decided.1)
+    (λ decided. change.Revocation decided.0 not_after) result
 
 -- a refusal is replied, and the records don't change; otherwise a CRL is issued, with any bytes that are signed over its entries
 abbrev pub IsIssue : (CertList → List ℕ → Type 0) → Records → ℕ → Result CrlRow Refusal → Type 0

@@ -28,20 +28,25 @@ IsDecidedOr refused IsWhat (Err Read) = Unit {0}
 IsDecidedOr refused IsWhat (Err Write) = Unit {0}
 
 -- look-ups, and a decision over their answers: the refusal that applies to the records, or what is decided
-pub record LooksAndDecides {C T : Type 0} (g : Ghosts C) (old new : Held C) (refused : Records → Option Refusal) (IsWhat : Records → T → Type 0) (result : Result T Fault) : Type 0 where
+pub record LooksAndDecides {C T : Type 0} (g : Ghosts C) (old new : Held C)
+    (refused : Records → Option Refusal) (IsWhat : Records → T → Type 0)
+    (result : Result T Fault) : Type 0 where
   pub looks : LooksUp g old new (λ records. IsDecidedOr (refused records) (IsWhat records) result)
   pub faults : IfErr result IsTableFault
 
 -- no refusal applies to the command, this is its reply, and this is the one change that it makes of the records, which fits them
-pub record IsAcceptance (now : ℕ) (command : Command) (records : Records) (decided : Reply × Change) : Type 0 where
+pub record IsAcceptance (now : ℕ) (command : Command) (records : Records)
+    (decided : Reply × Change) : Type 0 where
   pub accepted : refusal records now command ≡ None
   pub replies : reply records now command ≡ decided.0
   pub changes : changed records now command [] ≡ changed_by records now decided.1
   pub fits : Fits records now decided.1
 
 -- the decision on a command at a moment: the refusal that applies, or its reply and change
-abbrev pub DecidesCommand : {C : Type 0} → Ghosts C → Held C → Held C → ℕ → Command → Result (Reply × Change) Fault → Type 0
-DecidesCommand g old new now command result = LooksAndDecides g old new (λ records. refusal records now command) (IsAcceptance now command) result
+abbrev pub DecidesCommand : {C : Type 0} → Ghosts C → Held C → Held C → ℕ → Command
+    → Result (Reply × Change) Fault → Type 0
+DecidesCommand g old new now command result =
+    LooksAndDecides g old new (λ records. refusal records now command) (IsAcceptance now command) result
 
 -- the clock's refusal that applies to a moment
 abbrev pub clock_refusal : Records → ℕ → Option Refusal

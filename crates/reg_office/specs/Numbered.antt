@@ -47,4 +47,5 @@ certificate_listed records now (Some before) certificate = expiring_row records 
 
 -- the key of the last of these rows, if they are as many as a page may read; else none
 abbrev pub last_of_full : {A : Type 0} → (A → ℕ) → ℕ → List A → Option ℕ
-last_of_full key most found = cond (length found == most) (option_map key (slice_get found (length found - 1))) None
+last_of_full key most found =
+    cond (length found == most) (option_map key (slice_get found (length found - 1))) None

@@ -18,7 +18,8 @@ use Rattle.reg_office.specs.AfterStoppedCommand.{AreRunByOne, Does, PartlyRun}
 use Rattle.reg_office.specs.Stands.{Stands, CameTo}
 
 -- the command was accepted over the records, and the store shows those after it
-pub record StandsDone {C : Type 0} (g : Ghosts C) (signs : Signs) (held : Held C) (identity : Identity) (records : Records) (now : ℕ) (command : Command) : Type 0 where
+pub record StandsDone {C : Type 0} (g : Ghosts C) (signs : Signs) (held : Held C) (identity : Identity)
+    (records : Records) (now : ℕ) (command : Command) : Type 0 where
   pub answer : Reply
   pub came : CameTo g signs held identity records now command (Ok answer)
 
@@ -34,15 +35,18 @@ OpensBeforeOrAfter {C = C} g signs =
 -- ---- over a run
 
 -- the store shows the records after a prefix of the commands, with derived tables that match them
-abbrev pub StandsPartlyRun : {C : Type 0} → Ghosts C → Signs → Held C → Identity → Records → List (ℕ × Command) → List (Result Reply Fault) → Type 0
+abbrev pub StandsPartlyRun : {C : Type 0} → Ghosts C → Signs → Held C → Identity → Records
+    → List (ℕ × Command) → List (Result Reply Fault) → Type 0
 StandsPartlyRun g signs held identity records commands outcomes =
-    PartlyRun signs identity (Stands g signs held identity) (StandsDone g signs held identity) records commands outcomes
+    PartlyRun signs identity (Stands g signs held identity) (StandsDone g signs held identity)
+    records commands outcomes
 
 -- if the machine stops after such a run, or in the middle of it, and the register is opened again, it shows the records after a prefix of the
 -- commands, which includes each command whose acceptance was replied; the disk may lose what was not synced
 abbrev pub OpensAfterAPrefix : {C : Type 0} → Ghosts C → Signs → Type 0
 OpensAfterAPrefix {C = C} g signs =
-    (old new again : Held C) (identity : Identity) (records : Records) (commands : List (ℕ × Command)) (outcomes : List (Result Reply Fault))
+    (old new again : Held C) (identity : Identity) (records : Records) (commands : List (ℕ × Command))
+    (outcomes : List (Result Reply Fault))
     → Stands g signs old identity records → IsTrue (state g old).is_open → IsLive (state g old)
     → AreRunByOne g signs identity old commands outcomes new → IsOpenedAgain g new again
     → ∥ StandsPartlyRun g signs again identity records commands outcomes ∥₁

@@ -47,7 +47,8 @@ pub record SoundRun (signs : Signs) (identity : Identity) : Type 0 where
 
 -- a revocation that a run accepted: one command of the run was to revoke by the request with this id, at this moment, and
 -- its reply was `Revoked`
-pub record AcceptedRevocation {signs : Signs} {identity : Identity} (run : SoundRun signs identity) : Type 0 where
+pub record AcceptedRevocation {signs : Signs} {identity : Identity}
+    (run : SoundRun signs identity) : Type 0 where
   pub id : ℕ
   pub at : ℕ
   pub is_late : Bool
@@ -81,11 +82,13 @@ pub record ResponseHasStatuses (signs : Signs) (responder : Responder) (records 
   pub nonce : Option (List ℕ)
   pub read : IsOcspRequest asked ids nonce
   pub response : IsResponse signs responder records moment ids nonce reply
-  pub told : AllZip (λ id answer. IsMatch records.issuer id serial → IsSo answer.status) ids response.of_records.answers
+  pub told : AllZip (λ id answer. IsMatch records.issuer id serial → IsSo answer.status)
+      ids response.of_records.answers
 
 -- the response to any bytes: malformedRequest if they are no request; or internalError (RFC 6960 2.3); or such a
 -- response, signed
-abbrev pub AnswersStatuses : Signs → Responder → Records → ℕ → ℕ → (Status → Type 0) → List ℕ → List ℕ → Type 0
+abbrev pub AnswersStatuses : Signs → Responder → Records → ℕ → ℕ → (Status → Type 0)
+    → List ℕ → List ℕ → Type 0
 AnswersStatuses signs responder records moment serial IsSo asked reply =
     (HasNoReading asked × (reply ≡ refusal_response Malformed))
     ⊎ (reply ≡ refusal_response Internal)
@@ -157,7 +160,8 @@ pub record IsShownEverywhere {signs : Signs} {identity : Identity} {run : SoundR
       → (responder : Responder)
       → (asked reply : List ℕ)
       → IsOcspReply signs responder run.after moment asked reply
-      → AnswersStatuses signs responder run.after moment request.serial (λ told. told ≡ revoked_at its.at request) asked reply
+      → AnswersStatuses signs responder run.after moment request.serial
+      (λ told. told ≡ revoked_at its.at request) asked reply
   -- each CRL that was issued later in the run has its entry, up to and including the first one past the certificate's end
   pub later : List Crl
   pub issued_later : run.after.crls ≡ its.before.crls ++ later
@@ -175,7 +179,8 @@ WasRevoked run serial =
     × IsSomeAnd (request_in its.before.requests its.id) (λ request. request.serial ≡ serial))
 
 -- a serial number is nowhere shown as revoked
-pub record IsNowhereShown {signs : Signs} {identity : Identity} (run : SoundRun signs identity) (serial : ℕ) : Type 0 where
+pub record IsNowhereShown {signs : Signs} {identity : Identity} (run : SoundRun signs identity)
+    (serial : ℕ) : Type 0 where
   -- its status is never revoked
   pub by_status : (moment : ℕ) → IsFalse (is_revoked (status run.after serial moment))
   -- a query for its status is answered with one that is not revoked
@@ -189,7 +194,8 @@ pub record IsNowhereShown {signs : Signs} {identity : Identity} (run : SoundRun 
       → (responder : Responder)
       → (asked reply : List ℕ)
       → IsOcspReply signs responder run.after moment asked reply
-      → AnswersStatuses signs responder run.after moment serial (λ told. IsFalse (is_revoked told)) asked reply
+      → AnswersStatuses signs responder run.after moment serial
+      (λ told. IsFalse (is_revoked told)) asked reply
   -- no CRL has an entry for it
   pub by_crls : AllByRecursion (λ crl. entry_in run.after crl serial ≡ None) run.after.crls
   -- and each CRL is signed over exactly its entries

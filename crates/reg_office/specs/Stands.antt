@@ -22,22 +22,27 @@ pub record SoundFor (signs : Signs) (identity : Identity) (records : Records) : 
   pub signatures : CrlsSigned (sealed_until since signs identity) records
 
 -- the tables show the records, the derived tables match them, and the records are sound for the office's signer
-pub record Stands {C : Type 0} (g : Ghosts C) (signs : Signs) (held : Held C) (identity : Identity) (records : Records) : Type 0 where
+pub record Stands {C : Type 0} (g : Ghosts C) (signs : Signs) (held : Held C) (identity : Identity)
+    (records : Records) : Type 0 where
   pub shown : ShowsKept g held records
   pub sound : SoundFor signs identity records
 
 -- one command at a moment had this outcome over the records, and the store shows the records after it
-pub record CameTo {C : Type 0} (g : Ghosts C) (signs : Signs) (held : Held C) (identity : Identity) (records : Records) (now : ℕ) (command : Command) (outcome : Result Reply Fault) : Type 0 where
+pub record CameTo {C : Type 0} (g : Ghosts C) (signs : Signs) (held : Held C) (identity : Identity)
+    (records : Records) (now : ℕ) (command : Command) (outcome : Result Reply Fault) : Type 0 where
   pub after : Records
   pub happens : Happens (signed_by signs identity) records now command outcome after
   pub stands : Stands g signs held identity after
 
 -- commands, each at its moment, had these outcomes, one for each and in order, and the store shows the records after them
-pub record HasRun {C : Type 0} (g : Ghosts C) (signs : Signs) (held : Held C) (identity : Identity) (records : Records) (commands : List (ℕ × Command)) (outcomes : List (Result Reply Fault)) : Type 0 where
+pub record HasRun {C : Type 0} (g : Ghosts C) (signs : Signs) (held : Held C) (identity : Identity)
+    (records : Records) (commands : List (ℕ × Command)) (outcomes : List (Result Reply Fault)) : Type 0 where
   pub after : Records
   pub run : Run (signed_by signs identity) records commands outcomes after
   pub stands : Stands g signs held identity after
 
 -- if the call succeeds, it appended outcomes of which `Holds` holds
-abbrev pub Appends : {E : Type 0} → Result (Unit {0}) E → List (Result Reply Fault) → List (Result Reply Fault) → (List (Result Reply Fault) → Type 0) → Type 0
-Appends result old new Holds = OnOk result ((came : List (Result Reply Fault)) × (new ≡ old ++ came) × Holds came)
+abbrev pub Appends : {E : Type 0} → Result (Unit {0}) E → List (Result Reply Fault)
+    → List (Result Reply Fault) → (List (Result Reply Fault) → Type 0) → Type 0
+Appends result old new Holds =
+    OnOk result ((came : List (Result Reply Fault)) × (new ≡ old ++ came) × Holds came)

@@ -215,7 +215,8 @@ impl<C: Alter, S: Signer> reg_office_api::Office for Office<C, S> {
     }
 
     fn crl_message(&mut self, alloc: Global, now: Moment) -> Option<Vec<u8>>
-        ensures stays { OfficeLeads C.Store S.Signer (λ signatory before after. after ≡ before) self.old self.new }
+        ensures stays { OfficeLeads C.Store S.Signer (λ signatory before after. after ≡ before)
+            self.old self.new }
         ensures looks { OfficeLooks C.Store S.Signer (λ records. Unit {0}) self.old self.new }
         ensures untouched { SignsNothing self.old self.new }
     {
@@ -256,7 +257,8 @@ impl<C: Alter, S: Signer> reg_office_api::Office for Office<C, S> {
     }
 
     fn set_schedule(&mut self, alloc: Global, schedule: Schedule) -> Result<(), Fault>
-        ensures sets { OfficeLeads C.Store S.Signer (λ signatory. Reschedules schedule result) self.old self.new }
+        ensures sets { OfficeLeads C.Store S.Signer (λ signatory. Reschedules schedule result)
+            self.old self.new }
         ensures faults { IfErr result IsOfStore }
         ensures ok { (records : Records) → StandsIn C.Store S.Signer self.old records
             → OnOk result (StandsIn C.Store S.Signer self.new (with_schedule records schedule)) }
@@ -274,7 +276,8 @@ impl<C: Alter, S: Signer> reg_office_api::Office for Office<C, S> {
     }
 
     fn set_key_identifier(&mut self, alloc: Global, octets: Label) -> Result<(), Fault>
-        ensures sets { OfficeLeads C.Store S.Signer (λ signatory. Identifies octets result) self.old self.new }
+        ensures sets { OfficeLeads C.Store S.Signer (λ signatory. Identifies octets result)
+            self.old self.new }
         ensures faults { IfErr result IsOfStore }
         ensures ok { (records : Records) → StandsIn C.Store S.Signer self.old records
             → HasCleanDisk (state C.Store self.new.store)

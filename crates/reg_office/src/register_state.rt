@@ -52,7 +52,8 @@ pub(crate) fn intake_in<C: Alter>(
     most: u64,
 ) -> Result<Intake, Fault>
     requires { most < 2 ^ 63 }
-    ensures looks { LooksUp C.Store tables.old tables.new (λ records. HasIntake records now serial most result) }
+    ensures looks { LooksUp C.Store tables.old tables.new
+        (λ records. HasIntake records now serial most result) }
     ensures faults { IfErr result IsOfStore }
 {
     let last = tables.last()?;

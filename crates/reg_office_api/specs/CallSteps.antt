@@ -23,7 +23,8 @@ Asks before now query outcome after = IsAnswered before now query outcome × (af
 
 -- an OCSP request: its response (RFC 6960 4.2), or out of memory; the records stay
 abbrev pub Ocsps : Signs → Signatory → Records → ℕ → List ℕ → Result (List ℕ) Memory → Records → Type 0
-Ocsps signs signatory before now request (Ok response) after = IsOcspReply signs signatory.answers before now request response × (after ≡ before)
+Ocsps signs signatory before now request (Ok response) after =
+    IsOcspReply signs signatory.answers before now request response × (after ≡ before)
 Ocsps signs signatory before now request (Err memory) after = after ≡ before
 
 -- the bytes of a CRL, or why there are none; the records stay
@@ -33,13 +34,15 @@ Crls before number given after = IsGiven before number given × (after ≡ befor
 -- ---- each as a step from the records before it to those after it, given the signers
 
 abbrev pub CommandStep : Signs → ℕ → Command → Result Reply Fault → Signatory → Records → Records → Type 0
-CommandStep signs now command outcome = λ signatory before after. Runs signs signatory before now command outcome after
+CommandStep signs now command outcome =
+    λ signatory before after. Runs signs signatory before now command outcome after
 
 abbrev pub QueryStep : ℕ → Query → Result Reply Fault → Signatory → Records → Records → Type 0
 QueryStep now query outcome = λ signatory before after. Asks before now query outcome after
 
 abbrev pub OcspStep : Signs → ℕ → List ℕ → Result (List ℕ) Memory → Signatory → Records → Records → Type 0
-OcspStep signs now request given = λ signatory before after. Ocsps signs signatory before now request given after
+OcspStep signs now request given =
+    λ signatory before after. Ocsps signs signatory before now request given after
 
 abbrev pub CrlStep : Option ℕ → Result (List ℕ) Fault → Signatory → Records → Records → Type 0
 CrlStep number given = λ signatory before after. Crls before number given after

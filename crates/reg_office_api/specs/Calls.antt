@@ -30,7 +30,8 @@ module _ {O : Type 0} (office : Office O) where
 
   -- a command
   abbrev pub RunsIn : O → ℕ → Command → Result Reply Fault → O → Type 0
-  RunsIn s now command outcome t = Leads office.is_clean office.stands (CommandStep office.signs now command outcome) s t
+  RunsIn s now command outcome t =
+      Leads office.is_clean office.stands (CommandStep office.signs now command outcome) s t
 
   -- a query
   abbrev pub AsksIn : O → ℕ → Query → Result Reply Fault → O → Type 0
@@ -38,15 +39,20 @@ module _ {O : Type 0} (office : Office O) where
 
   -- an OCSP request, with the bytes of its response
   abbrev pub OcspsIn : O → ℕ → List ℕ → Result (List ℕ) Memory → O → Type 0
-  OcspsIn s now request given t = Leads office.is_clean office.stands (OcspStep office.signs now request given) s t
+  OcspsIn s now request given t =
+      Leads office.is_clean office.stands (OcspStep office.signs now request given) s t
 
   -- an OCSP request, with the kind and the bytes of its response
   abbrev pub RepliesIn : O → ℕ → List ℕ → Result (ResponseKind × List ℕ) Memory → O → Type 0
-  RepliesIn s now request given t = Leads office.is_clean office.stands (λ signatory before after. Replies office.signs signatory before now request given after) s t
+  RepliesIn s now request given t =
+      Leads office.is_clean office.stands
+      (λ signatory before after. Replies office.signs signatory before now request given after) s t
 
   -- an OCSP request, with a draft of its response that is not signed yet
   abbrev pub DraftsIn : O → ℕ → List ℕ → Drafted → O → Type 0
-  DraftsIn s now request draft t = Leads office.is_clean office.stands (λ signatory before after. Drafts signatory before now request draft after) s t
+  DraftsIn s now request draft t =
+      Leads office.is_clean office.stands
+      (λ signatory before after. Drafts signatory before now request draft after) s t
 
   -- the bytes of a CRL
   abbrev pub CrlsIn : O → Option ℕ → Result (List ℕ) Fault → O → Type 0

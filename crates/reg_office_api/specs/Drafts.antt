@@ -21,12 +21,14 @@ pub record IsBy (responder : Responder) (draft : Drafted) : Type 0 where
   pub certificate : draft.certificate ≡ responder.certificate
 
 -- the draft for a request that was read: the ResponseData of the records at a moment, for the responder to sign
-pub record IsReadDraft (responder : Responder) (records : Records) (now : ℕ) (ids : List Id) (nonce : Option (List ℕ)) (draft : Drafted) : Type 0 where
+pub record IsReadDraft (responder : Responder) (records : Records) (now : ℕ) (ids : List Id)
+    (nonce : Option (List ℕ)) (draft : Drafted) : Type 0 where
   pub of_records : IsOcspData (responder_key responder records) records now ids nonce draft.message
   pub by : IsBy responder draft
 
 -- the draft for the bytes of a request, at a moment that the clock checks accept
-pub record IsDraft (responder : Responder) (records : Records) (now : ℕ) (request : List ℕ) (draft : Drafted) : Type 0 where
+pub record IsDraft (responder : Responder) (records : Records) (now : ℕ) (request : List ℕ)
+    (draft : Drafted) : Type 0 where
   pub ids : List Id
   pub nonce : Option (List ℕ)
   pub is_request : IsOcspRequest request ids nonce
@@ -35,18 +37,24 @@ pub record IsDraft (responder : Responder) (records : Records) (now : ℕ) (requ
 
 -- the draft for a request, by the office's responder; the records don't change
 abbrev pub Drafts : Signatory → Records → ℕ → List ℕ → Drafted → Records → Type 0
-Drafts signatory before now request draft after = IsDraft signatory.answers before now request draft × (after ≡ before)
+Drafts signatory before now request draft after =
+    IsDraft signatory.answers before now request draft × (after ≡ before)
 
 -- the outcome of `begin_ocsp`: a ready response, of which `replies` holds, or a draft, of which `drafts` holds
 abbrev pub Begins : {S : Type 0} → (S → ℕ → List ℕ → Result (ResponseKind × List ℕ) Memory → S → Type 0)
-    → (S → ℕ → List ℕ → Drafted → S → Type 0) → S → ℕ → List ℕ → Result (Begun OcspResponse Drafted) Memory → S → Type 0
-Begins replies drafts s now request (Ok (Ready response)) t = replies s now request (Ok (response.kind, response.bytes.items)) t
+    → (S → ℕ → List ℕ → Drafted → S → Type 0) → S → ℕ → List ℕ
+    → Result (Begun OcspResponse Drafted) Memory → S → Type 0
+Begins replies drafts s now request (Ok (Ready response)) t =
+    replies s now request (Ok (response.kind, response.bytes.items)) t
 Begins replies drafts s now request (Ok (Unsigned draft)) t = drafts s now request draft t
 Begins replies drafts s now request (Err memory) t = replies s now request (Err memory) t
 
 -- the outcome of `begin_ocsp` as a step of the records, given the signers
-abbrev pub BeginStep : Signs → ℕ → List ℕ → Result (Begun OcspResponse Drafted) Memory → Signatory → Records → Records → Type 0
-BeginStep signs now request begun = λ signatory before after. Begins (Replies signs signatory) (Drafts signatory) before now request begun after
+abbrev pub BeginStep : Signs → ℕ → List ℕ → Result (Begun OcspResponse Drafted) Memory → Signatory
+    → Records → Records → Type 0
+BeginStep signs now request begun =
+    λ signatory before after.
+    Begins (Replies signs signatory) (Drafts signatory) before now request begun after
 
 -- the response is internalError because the signer failed
 abbrev pub IsSignerFailure : {U : Type 0} → Begun OcspResponse U → Type 0

@@ -4,11 +4,14 @@ use Rattle.std.specs.Prelude.{◌≡◌}
 -- A call of an office, which is `s` before and `t` after it, as a step of the records that the office keeps. If the medium has
 -- returned all that was written by the end of the call, it had done so before the call too. Then, for any signers and records of
 -- which `stands` holds before the call, the step leads to records of which it holds after it, for the same signers.
-abbrev pub Leads : {S I R : Type 0} → (S → Type 0) → (I → S → R → Type 0) → (I → R → R → Type 0) → S → S → Type 0
+abbrev pub Leads : {S I R : Type 0} → (S → Type 0) → (I → S → R → Type 0)
+    → (I → R → R → Type 0) → S → S → Type 0
 Leads {I = I} {R = R} is_clean stands step s t =
     (is_clean t → is_clean s)
-    × ((identity : I) (before : R) → stands identity s before → is_clean t → (after : R) × step identity before after × stands identity t after)
+    × ((identity : I) (before : R) → stands identity s before → is_clean t
+    → (after : R) × step identity before after × stands identity t after)
 
 -- a call whose result says `Tells` of the records, and which does not change them
 abbrev pub Looks : {S I R : Type 0} → (S → Type 0) → (I → S → R → Type 0) → (R → Type 0) → S → S → Type 0
-Looks is_clean stands Tells s t = Leads is_clean stands (λ identity before after. Tells before × (after ≡ before)) s t
+Looks is_clean stands Tells s t =
+    Leads is_clean stands (λ identity before after. Tells before × (after ≡ before)) s t

@@ -33,7 +33,8 @@ rows_in records = record {
 -- the last accepted moment, the latest CRL without its bytes, the life of CRLs, the cap of each table, and how many rows the tables have
 abbrev pub IsStanding : Records → Standing → Type 0
 IsStanding records standing =
-    (standing.last ≡ records.last) × (standing.latest ≡ option_map row_of (latest records.crls)) × (standing.crl_life ≡ records.policy.crl_life)
+    (standing.last ≡ records.last) × (standing.latest ≡ option_map row_of (latest records.crls))
+    × (standing.crl_life ≡ records.policy.crl_life)
     × (standing.cap ≡ records.policy.cap) × (standing.rows ≡ rows_in records)
 
 -- `IsStanding`, if the call succeeds
@@ -42,7 +43,8 @@ HasStanding records result = IfOk result (IsStanding records)
 
 -- how many requests for revocation are open, if the call succeeds
 abbrev pub HasOpen : Records → ℕ → Result ℕ Fault → Type 0
-HasOpen records now result = IfOk result (λ count. count ≡ length (filter (is_open records now) records.requests))
+HasOpen records now result =
+    IfOk result (λ count. count ≡ length (filter (is_open records now) records.requests))
 
 -- the state of the requests at a moment: the last accepted moment, the cap, how many requests there are, and how many for a serial number
 -- are open, at most `most` of them
@@ -51,7 +53,8 @@ intake_in records now serial most = record {
   last = records.last;
   cap = records.policy.cap;
   requests = length records.requests;
-  waiting = min most (length (filter (λ row. (row.serial == serial) && is_open records now row) records.requests));
+  waiting =
+      min most (length (filter (λ row. (row.serial == serial) && is_open records now row) records.requests));
 }
 
 -- `intake_in`, if the call succeeds
@@ -60,11 +63,14 @@ HasIntake records now serial most result = IfOk result (λ intake. intake ≡ in
 
 -- the longest validity in days that an order and the policy allow from a moment on; none if there is no such order
 abbrev pub longest_allowed : Records → ℕ → ℕ → Option ℕ
-longest_allowed records order not_before = option_map (λ row. min row.days (longest_at records.policy.schedule not_before)) (order_in records.orders order)
+longest_allowed records order not_before =
+    option_map (λ row. min row.days (longest_at records.policy.schedule not_before))
+    (order_in records.orders order)
 
 -- `longest_allowed`, if the call succeeds
 abbrev pub HasLongest : Records → ℕ → ℕ → Result (Option ℕ) Fault → Type 0
-HasLongest records order not_before result = IfOk result (λ days. days ≡ longest_allowed records order not_before)
+HasLongest records order not_before result =
+    IfOk result (λ days. days ≡ longest_allowed records order not_before)
 
 -- a page of a list, as a step that does not change the records
 abbrev pub PageStep : ℕ → ℕ → Cursor → Result Page Fault → Signatory → Records → Records → Type 0

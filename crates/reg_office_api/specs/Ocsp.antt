@@ -31,7 +31,8 @@ pub record IsAnswer (records : Records) (now : ℕ) (id : Id) (answer : SingleAn
 
 -- the ResponseData of the records at a moment, with the key that names the responder: one answer for each CertID, in the order of the
 -- request, valid from this moment on for the policy's life of OCSP answers; and the nonce (RFC 6960 4.2.1)
-pub record IsOcspData (key : List ℕ) (records : Records) (now : ℕ) (ids : List Id) (nonce : Option (List ℕ)) (tbs : List ℕ) : Type 0 where
+pub record IsOcspData (key : List ℕ) (records : Records) (now : ℕ) (ids : List Id) (nonce : Option (List ℕ))
+    (tbs : List ℕ) : Type 0 where
   pub answers : List SingleAnswer
   pub each : AllZip (IsAnswer records now) ids answers
   pub spelled : tbs ≡ response_data key now (now + records.policy.ocsp_life) answers nonce
@@ -62,7 +63,8 @@ IsTimely None IsWhole bytes = IsWhole bytes
 abbrev pub IsReadReply : Signs → Responder → Records → ℕ → List Id → Option (List ℕ) → List ℕ → Type 0
 IsReadReply signs responder records now ids nonce bytes =
     (bytes ≡ refusal_response Internal)
-    ⊎ IsTimely (first_of_all (clock_checks now records.last)) (IsResponse signs responder records now ids nonce) bytes
+    ⊎ IsTimely (first_of_all (clock_checks now records.last))
+    (IsResponse signs responder records now ids nonce) bytes
 
 -- the response to any bytes: malformedRequest if they are no request, else the response to the request
 abbrev pub IsOcspReply : Signs → Responder → Records → ℕ → List ℕ → List ℕ → Type 0

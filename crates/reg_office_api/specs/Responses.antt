@@ -20,14 +20,19 @@ use Rattle.reg_office_api.specs.declared.response.ResponseKind.{ResponseKind}
 use Rattle.reg_office_api.specs.declared.response.ResponseKind.TheVariants.{Signed, Malformed, TryLater, StoreFailure, SignerFailure}
 
 -- a response of this kind to a request that was read
-abbrev pub IsReadResponse : Signs → Responder → Records → ℕ → List Id → Option (List ℕ) → ResponseKind → List ℕ → Type 0
+abbrev pub IsReadResponse : Signs → Responder → Records → ℕ → List Id → Option (List ℕ)
+    → ResponseKind → List ℕ → Type 0
 IsReadResponse signs responder records now ids echo Signed bytes =
-    (first_of_all (clock_checks now records.last) ≡ None) × IsResponse signs responder records now ids echo bytes
+    (first_of_all (clock_checks now records.last) ≡ None)
+    × IsResponse signs responder records now ids echo bytes
 IsReadResponse signs responder records now ids echo Malformed bytes = ⊥
 IsReadResponse signs responder records now ids echo TryLater bytes =
-    ((refusal : Refusal) × (first_of_all (clock_checks now records.last) ≡ Some refusal)) × (bytes ≡ refusal_response status.TryLater)
-IsReadResponse signs responder records now ids echo StoreFailure bytes = bytes ≡ refusal_response status.Internal
-IsReadResponse signs responder records now ids echo SignerFailure bytes = bytes ≡ refusal_response status.Internal
+    ((refusal : Refusal) × (first_of_all (clock_checks now records.last) ≡ Some refusal))
+    × (bytes ≡ refusal_response status.TryLater)
+IsReadResponse signs responder records now ids echo StoreFailure bytes =
+    bytes ≡ refusal_response status.Internal
+IsReadResponse signs responder records now ids echo SignerFailure bytes =
+    bytes ≡ refusal_response status.Internal
 
 -- a response of this kind to any bytes: malformedRequest if they are no request, else the response to the request
 abbrev pub IsOcspResponse : Signs → Responder → Records → ℕ → List ℕ → ResponseKind → List ℕ → Type 0
@@ -39,7 +44,8 @@ IsOcspResponse signs responder records now request kind bytes =
     × IsReadResponse signs responder records now ids nonce kind bytes)
 
 -- the response to a request, with its kind; or out of memory; the records stay
-abbrev pub Replies : Signs → Signatory → Records → ℕ → List ℕ → Result (ResponseKind × List ℕ) Memory → Records → Type 0
+abbrev pub Replies : Signs → Signatory → Records → ℕ → List ℕ
+    → Result (ResponseKind × List ℕ) Memory → Records → Type 0
 Replies signs signatory before now request (Ok response) after =
     IsOcspResponse signs signatory.answers before now request response.0 response.1 × (after ≡ before)
 Replies signs signatory before now request (Err memory) after = after ≡ before

@@ -51,7 +51,8 @@ pub trait Office {
 
     /// The OCSP response (RFC 6960 4.2) to the bytes of a request, at its moment.
     fn ocsp(&mut self, alloc: Global, now: Moment, request: &[u8]) -> Result<Vec<u8>, Memory>
-        ensures { Leads is_clean stands (OcspStep signs now request.now (items_of result)) self.old self.new };
+        ensures { Leads is_clean stands (OcspStep signs now request.now (items_of result))
+            self.old self.new };
 
     /// Begins the same response: where a signer has a key, the response is left unsigned, and the caller requests its signature. The
     /// response of a signer without a key is ready, and so is a refusal.
@@ -93,7 +94,8 @@ pub trait Office {
     /// It walks the requests. Errors: `Memory`, `Store`.
     fn intake(&mut self, now: Moment, serial: Serial, most: u64) -> Result<Intake, Fault>
         requires { most < 2 ^ 63 }
-        ensures looks { Looks is_clean stands (λ records. HasIntake records now serial most result) self.old self.new }
+        ensures looks { Looks is_clean stands (λ records. HasIntake records now serial most result)
+            self.old self.new }
         ensures faults { IfErr result IsOfStore };
 
     /// The longest validity in days that an order and the policy allow from a moment on; `None` where there is no such order.

@@ -29,24 +29,29 @@ pub record IsOpenedAgain {S : Type 0} (g : Ghosts S) (held again : Held S) : Typ
 abbrev pub OpensEmptyOrMade : {S : Type 0} → Ghosts S → Type 0
 OpensEmptyOrMade {S = S} g =
     (old new again : Held S) (issuer : Issuer) (policy : Terms)
-    → IsTrue (state g old).is_open → IsLive (state g old) → Survives (state g old) (state g new) (IsCreated old issuer policy) → IsOpenedAgain g new again
-    → ∥ ((state g again).now ≡ (state g old).committed) ⊎ ((old.schema ≡ no_schema) × ShowsKept g again (no_records issuer policy)) ∥₁
+    → IsTrue (state g old).is_open → IsLive (state g old)
+    → Survives (state g old) (state g new) (IsCreated old issuer policy) → IsOpenedAgain g new again
+    → ∥ ((state g again).now ≡ (state g old).committed)
+    ⊎ ((old.schema ≡ no_schema) × ShowsKept g again (no_records issuer policy)) ∥₁
 
 -- After a stop while a register is opened: one of the program's version is as it was, and shows what it showed. One of an older version, with
 -- sound records, shows the same records, in the tables of that version or of the program's, with derived tables that match them.
 abbrev pub OpensWithTheSame : {S : Type 0} → Ghosts S → Type 0
 OpensWithTheSame {S = S} g =
     (old new again : Held S)
-    → IsTrue (state g old).is_open → IsLive (state g old) → Survives (state g old) (state g new) (IsOpened g old) → IsOpenedAgain g new again
+    → IsTrue (state g old).is_open → IsLive (state g old)
+    → Survives (state g old) (state g new) (IsOpened g old) → IsOpenedAgain g new again
     → ((records : Records) → Shows g old records → (state g again).now ≡ (state g old).committed)
     × ((records : Records) → ShowsKept g old records → ShowsKept g again records)
-    × ((version : OlderVersion) (records : Records) → ShowsOlder version g old records → SoundRows records → ∥ ShowsOlder version g again records ⊎ ShowsKept g again records ∥₁)
+    × ((version : OlderVersion) (records : Records) → ShowsOlder version g old records → SoundRows records
+    → ∥ ShowsOlder version g again records ⊎ ShowsKept g again records ∥₁)
 
 -- after a stop while a schedule is set, the register that is opened shows the records with the schedule before the call, or with the new one
 abbrev pub OpensWithASchedule : {S : Type 0} → Ghosts S → Type 0
 OpensWithASchedule {S = S} g =
     (old new again : Held S) (records : Records) (steps : List (ℕ × ℕ))
-    → ShowsKept g old records → IsTrue (state g old).is_open → IsLive (state g old) → Survives (state g old) (state g new) (IsScheduled g old steps) → IsOpenedAgain g new again
+    → ShowsKept g old records → IsTrue (state g old).is_open → IsLive (state g old)
+    → Survives (state g old) (state g new) (IsScheduled g old steps) → IsOpenedAgain g new again
     → ∥ ShowsKept g again records ⊎ ShowsKept g again (with_schedule records steps) ∥₁
 
 -- after a stop while an issuer with the same key as before is set, the register that is opened shows the records with the issuer before the call,
@@ -54,5 +59,7 @@ OpensWithASchedule {S = S} g =
 abbrev pub OpensWithAnIssuer : {S : Type 0} → Ghosts S → Type 0
 OpensWithAnIssuer {S = S} g =
     (old new again : Held S) (records : Records) (issuer : Issuer)
-    → ShowsKept g old records → records.issuer.key ≡ issuer.key → IsTrue (state g old).is_open → IsLive (state g old) → Survives (state g old) (state g new) (IsNamed g old issuer) → IsOpenedAgain g new again
+    → ShowsKept g old records → records.issuer.key ≡ issuer.key → IsTrue (state g old).is_open
+    → IsLive (state g old) → Survives (state g old) (state g new) (IsNamed g old issuer)
+    → IsOpenedAgain g new again
     → ∥ ShowsKept g again records ⊎ ShowsKept g again (with_issuer records issuer) ∥₁

@@ -47,7 +47,8 @@ impl<S: Alter> DerefMut for Store<S> {
     ghost deref_mut_gives = { λ store tables. tables ≡ store };
 
     fn deref_mut(&mut self) -> &mut Tables<S>
-        ensures* writes_back { sem 𝓛 (Lends (the_row S.row S.Store) (tables_row S.row S.Store) self.entry result (λ tables. tables)) }
+        ensures* writes_back { sem 𝓛
+            (Lends (the_row S.row S.Store) (tables_row S.row S.Store) self.entry result (λ tables. tables)) }
         ensures shows { result.now ≡ self.old }
     {
         &mut self.tables

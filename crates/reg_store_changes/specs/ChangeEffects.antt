@@ -29,11 +29,13 @@ TurnsOne change columns = Unit {0}
 -- the state letters and the rows of `listed` after a change
 abbrev pub kept_rows_after : Change → Columns → Columns
 kept_rows_after (Certificate row) columns = with_good row.serial row.not_after columns
-kept_rows_after (Revocation row not_after) columns = with_unlisted row not_after (with_revoked_letter row.serial columns)
+kept_rows_after (Revocation row not_after) columns =
+    with_unlisted row not_after (with_revoked_letter row.serial columns)
 kept_rows_after (NewCrl row der) columns = marked row.number row.this_update columns
 kept_rows_after change columns = columns
 
 -- the derived tables after a change at a moment
 abbrev pub columns_after : ℕ → Change → Columns → Columns
 columns_after now change columns =
-    with_counts (shifted columns.counts (ended_by now columns) (lost change) (added change)) (kept_rows_after change (swept now columns))
+    with_counts (shifted columns.counts (ended_by now columns) (lost change) (added change))
+    (kept_rows_after change (swept now columns))

@@ -22,23 +22,29 @@ use Rattle.reg_store_changes.specs.ColumnEffects.{good_at, swept, with_revoked_l
 abbrev pub Revokes : RevocationRow → ℕ → Database → Database → Type 0
 Revokes row not_after old new =
     (records : Records) (columns : Columns) → AreBoth old records columns
-    → (good_at row.serial columns ≡ 1) × AreBoth new (with_revocation records records.last row) (with_unlisted row not_after (with_revoked_letter row.serial columns))
+    → (good_at row.serial columns ≡ 1) × AreBoth new (with_revocation records records.last row)
+    (with_unlisted row not_after (with_revoked_letter row.serial columns))
 
 -- the rows of a change, and the derived tables except the counts
 pub record Puts (change : Change) (old new : Database) : Type 0 where
-  pub turns : (records : Records) (columns : Columns) (now : ℕ) → SoundRows records → Fits records now change → AreBoth old records columns
+  pub turns : (records : Records) (columns : Columns) (now : ℕ) → SoundRows records → Fits records now change
+      → AreBoth old records columns
       → AreBoth new (changed_by records records.last change) (kept_rows_after change columns)
   pub one : (records : Records) (columns : Columns) → AreBoth old records columns → TurnsOne change columns
 
 -- a whole change at a moment, if these counts are the stored ones
 pub record Enters (now : ℕ) (change : Change) (counts : Counts) (old new : Database) : Type 0 where
-  pub turns : (records : Records) (columns : Columns) → counts ≡ columns.counts → SoundRows records → Fits records now change → AreBoth old records columns
+  pub turns : (records : Records) (columns : Columns) → counts ≡ columns.counts → SoundRows records
+      → Fits records now change → AreBoth old records columns
       → AreBoth new (changed_by records now change) (columns_after now change columns) × IsDatabase new
-  pub one : (records : Records) (columns : Columns) → AreBoth old records columns → TurnsOne change (swept now columns)
+  pub one : (records : Records) (columns : Columns) → AreBoth old records columns
+      → TurnsOne change (swept now columns)
 
 -- another issuer with the same key
 abbrev pub Renames : Issuer → Database → Database → Type 0
-Renames issuer = TurnsWhere (λ records. records.issuer.key ≡ issuer.key) (λ records. with_issuer records issuer) (λ columns. columns)
+Renames issuer =
+    TurnsWhere (λ records. records.issuer.key ≡ issuer.key) (λ records. with_issuer records issuer)
+    (λ columns. columns)
 
 -- all steps of the schedule are deleted
 abbrev pub ClearsSteps : Database → Database → Type 0
@@ -47,4 +53,5 @@ ClearsSteps old new = (base : Trees) (steps : List (ℕ × ℕ)) → IsStaged ba
 -- these steps replace those before
 pub record WritesSchedule (steps : List (ℕ × ℕ)) (old new : Database) : Type 0 where
   pub sound : IsSchedule steps
-  pub staged : (base : Trees) (before : List (ℕ × ℕ)) → IsStaged base before old → IsStaged base steps new × IsDatabase new
+  pub staged : (base : Trees) (before : List (ℕ × ℕ)) → IsStaged base before old
+      → IsStaged base steps new × IsDatabase new

@@ -10,7 +10,8 @@ lettered letter row = record row { letter = letter }
 
 -- the letters of good certificates that ended before a moment become expired
 abbrev pub swept : ℕ → Columns → Columns
-swept now columns = record columns { letters = map (turned (ends_before now) (lettered expired)) columns.letters }
+swept now columns =
+    record columns { letters = map (turned (ends_before now) (lettered expired)) columns.letters }
 
 -- how many good certificates ended before a moment
 abbrev pub ended_by : ℕ → Columns → ℕ
@@ -22,7 +23,8 @@ is_good_at serial row = (row.serial == serial) && is_good_letter row.letter
 
 -- the letter of the good certificate with a serial number becomes revoked
 abbrev pub with_revoked_letter : ℕ → Columns → Columns
-with_revoked_letter serial columns = record columns { letters = map (turned (is_good_at serial) (lettered revoked)) columns.letters }
+with_revoked_letter serial columns =
+    record columns { letters = map (turned (is_good_at serial) (lettered revoked)) columns.letters }
 
 -- how many good letters a serial number has
 abbrev pub good_at : ℕ → Columns → ℕ
@@ -31,13 +33,23 @@ good_at serial columns = length (filter (is_good_at serial) columns.letters)
 -- the derived tables with the letter of one more certificate, which is good
 abbrev pub with_good : ℕ → ℕ → Columns → Columns
 with_good serial not_after columns =
-    record columns { letters = columns.letters ++ (record { serial = serial; not_after = not_after; letter = good }) ∷ [] }
+    record columns {
+      letters = columns.letters
+          ++ (record { serial = serial; not_after = not_after; letter = good }) ∷ [];
+    }
 
 -- the derived tables with the `listed` row of one more revocation, without a last CRL
 abbrev pub with_unlisted : RevocationRow → ℕ → Columns → Columns
 with_unlisted row not_after columns =
     record columns {
-      listed = columns.listed ++ (record { serial = row.serial; at = row.at; reason = row.reason; first = row.first; not_after = not_after; last = None }) ∷ [];
+      listed = columns.listed ++ (record {
+        serial = row.serial;
+        at = row.at;
+        reason = row.reason;
+        first = row.first;
+        not_after = not_after;
+        last = None;
+      }) ∷ [];
     }
 
 -- the revocation has no last CRL yet, and its certificate ended before a moment
@@ -50,7 +62,8 @@ with_last_listing number row = record row { last = Some number }
 
 -- a CRL becomes the last one of each revocation that has none yet and whose certificate ended before it
 abbrev pub marked : ℕ → ℕ → Columns → Columns
-marked number now columns = record columns { listed = map (turned (has_passed now) (with_last_listing number)) columns.listed }
+marked number now columns =
+    record columns { listed = map (turned (has_passed now) (with_last_listing number)) columns.listed }
 
 -- the counts after some good certificates ended, some were revoked, and some were added
 abbrev pub shifted : Counts → ℕ → ℕ → ℕ → Counts

@@ -20,33 +20,43 @@ use Rattle.reg_store_changes.specs.ColumnEffects.{swept}
 -- if the tables show records that the change fits, the office's row keeps its days
 abbrev pub LeavesOfficeDays : {S A E : Type 0} → Ghosts S → Held S → Held S → ℕ → Change → Result A E → Type 0
 LeavesOfficeDays g old new now change result =
-    (records : Records) → ShowsKept g old records → SoundRows records → Fits records now change → OnOk result (KeepsOfficeDays g old new)
+    (records : Records) → ShowsKept g old records → SoundRows records → Fits records now change
+    → OnOk result (KeepsOfficeDays g old new)
 
 -- The change was made at a moment, or nothing has changed. If the records are sound and allow it, the tables show those after it, with derived
 -- tables that match them, and the office keeps its days. A serial number that it revoked had one good letter. An error leaves the tables as
 -- they were. A stop leaves what it would have left before, or the whole change.
-pub record MakesChange {S A E : Type 0} (g : Ghosts S) (old new : Held S) (now : ℕ) (change : Change) (result : Result A E) : Type 0 where
-  pub ok : (records : Records) → ShowsKept g old records → SoundRows records → records.last ≤ now → Fits records now change
+pub record MakesChange {S A E : Type 0} (g : Ghosts S) (old new : Held S) (now : ℕ) (change : Change)
+    (result : Result A E) : Type 0 where
+  pub ok : (records : Records) → ShowsKept g old records → SoundRows records → records.last ≤ now
+      → Fits records now change
       → OnOk result (ShowsKept g new (changed_by records now change))
-  pub one : HasCleanDisk (state g new) → (records : Records) (columns : Columns) → ShowsBoth g old records columns
+  pub one : HasCleanDisk (state g new) → (records : Records) (columns : Columns)
+      → ShowsBoth g old records columns
       → OnOk result (TurnsOne change (swept now columns))
   pub days : LeavesOfficeDays g old new now change result
   pub changed : Changed g old new (IsChanged g old now change) result
 
 -- A schedule of longest validities was set, or nothing has changed. The other records, the derived tables and the days of the office don't
 -- change.
-pub record SetsSchedule {S A E : Type 0} (g : Ghosts S) (old new : Held S) (steps : List (ℕ × ℕ)) (result : Result A E) : Type 0 where
-  pub ok : (records : Records) → ShowsKept g old records → OnOk result (ShowsKept g new (with_schedule records steps))
-  pub shown : (records : Records) → Shows g old records → OnOk result (Shows g new (with_schedule records steps))
+pub record SetsSchedule {S A E : Type 0} (g : Ghosts S) (old new : Held S) (steps : List (ℕ × ℕ))
+    (result : Result A E) : Type 0 where
+  pub ok : (records : Records) → ShowsKept g old records
+      → OnOk result (ShowsKept g new (with_schedule records steps))
+  pub shown : (records : Records) → Shows g old records
+      → OnOk result (Shows g new (with_schedule records steps))
   pub days : (records : Records) → Shows g old records → OnOk result (KeepsOfficeDays g old new)
   pub changed : Changed g old new (IsScheduled g old steps) result
   pub err : OnErr result (Stays (state g old) (state g new))
 
 -- An issuer with the same key was set, or nothing has changed. The other records, the derived tables and the days of the office don't
 -- change.
-pub record SetsIssuer {S A E : Type 0} (g : Ghosts S) (old new : Held S) (issuer : Issuer) (result : Result A E) : Type 0 where
-  pub ok : (records : Records) → ShowsKept g old records → (HasCleanDisk (state g new) → records.issuer.key ≡ issuer.key)
+pub record SetsIssuer {S A E : Type 0} (g : Ghosts S) (old new : Held S) (issuer : Issuer)
+    (result : Result A E) : Type 0 where
+  pub ok : (records : Records) → ShowsKept g old records
+      → (HasCleanDisk (state g new) → records.issuer.key ≡ issuer.key)
       → OnOk result (ShowsKept g new (with_issuer records issuer))
-  pub days : (records : Records) → ShowsKept g old records → records.issuer.key ≡ issuer.key → OnOk result (KeepsOfficeDays g old new)
+  pub days : (records : Records) → ShowsKept g old records → records.issuer.key ≡ issuer.key
+      → OnOk result (KeepsOfficeDays g old new)
   pub changed : Changed g old new (IsNamed g old issuer) result
   pub err : OnErr result (Stays (state g old) (state g new))

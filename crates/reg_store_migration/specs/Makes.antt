@@ -28,7 +28,8 @@ pub record DefinesTable (schema : Schema) (text : List ℕ) (table : Table) : Ty
   pub uncounted : lacks_sequence (created schema table) ≡ false
 
 -- in a database with this schema, the text is one statement, which makes this index on the table with number `at`
-pub record DefinesIndex (schema : Schema) (text : List ℕ) (at : ℕ) (table : Table) (index : Index) : Type 0 where
+pub record DefinesIndex (schema : Schema) (text : List ℕ) (at : ℕ) (table : Table)
+    (index : Index) : Type 0 where
   pub plain : IsPlain (understood schema text)
   pub is : command_of (understood schema text) ≡ CreateIndex at
   pub whole : statement_of text (understood schema text) ≡ text

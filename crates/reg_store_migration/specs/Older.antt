@@ -34,7 +34,8 @@ older_schema Second = kept_tables
 -- office: one, version, name, pubkey, days, crl_life, ocsp_life, cap, last_at; days is the longest validity at any moment
 abbrev pub stored_older : OlderVersion → ℕ → Issuer → Terms → ℕ → Row
 stored_older version days issuer policy last =
-    number 1 ∷ Null ∷ number (version_number version) ∷ Blob issuer.name ∷ Blob issuer.key ∷ number days ∷ number policy.crl_life ∷ number policy.ocsp_life ∷ number policy.cap ∷ number last ∷ []
+    number 1 ∷ Null ∷ number (version_number version) ∷ Blob issuer.name ∷ Blob issuer.key ∷ number days
+    ∷ number policy.crl_life ∷ number policy.ocsp_life ∷ number policy.cap ∷ number last ∷ []
 
 -- each record is one row of its table, and each row is one record, as in a register of the program's version
 pub record AreRecords (trees : Trees) (records : Records) : Type 0 where
@@ -55,7 +56,9 @@ pub record AreRecords (trees : Trees) (records : Records) : Type 0 where
 -- the derived tables of version 2 may have any rows whose rowids are numbers: they are rebuilt
 abbrev pub HasBeside : OlderVersion → Trees → Type 0
 HasBeside First trees = Unit {0}
-HasBeside Second trees = AllByRecursion IsNumbered (trees 12) × AllByRecursion IsNumbered (trees 14) × AllByRecursion IsNumbered (trees 15)
+HasBeside Second trees =
+    AllByRecursion IsNumbered (trees 12) × AllByRecursion IsNumbered (trees 14)
+    × AllByRecursion IsNumbered (trees 15)
 
 -- the database has the schema of an older version, and its tables show the records, whose schedule has one step
 pub record IsShownByOlder (version : OlderVersion) (db : Database) (records : Records) : Type 0 where

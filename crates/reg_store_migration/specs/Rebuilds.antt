@@ -28,77 +28,95 @@ use Rattle.reg_store_migration.specs.declared.version.OlderVersion.{OlderVersion
 
 -- a text that defines a table or an index makes it, and all rows stay
 pub record Defines (text : List ℕ) (old new : Database) : Type 0 where
-  pub table : (schema : Schema) (table : Table) (rows : Trees) → DefinesTable schema text table → rows (next_tree schema) ≡ [] → HasRows schema rows old
+  pub table : (schema : Schema) (table : Table) (rows : Trees) → DefinesTable schema text table
+      → rows (next_tree schema) ≡ [] → HasRows schema rows old
       → HasRows (created schema table) rows new
-  pub index : (schema : Schema) (at : ℕ) (table : Table) (index : Index) (rows : Trees) → DefinesIndex schema text at table index → HasRows schema rows old
+  pub index : (schema : Schema) (at : ℕ) (table : Table) (index : Index) (rows : Trees)
+      → DefinesIndex schema text at table index → HasRows schema rows old
       → HasRows (indexed schema table index) rows new
 
 -- the derived tables are made
 abbrev pub AddsKept : Database → Database → Type 0
-AddsKept old new = (rows : Trees) → HasRows record_tables rows old → HasRows kept_tables (records_alone rows) new
+AddsKept old new =
+    (rows : Trees) → HasRows record_tables rows old → HasRows kept_tables (records_alone rows) new
 
 -- the table of the schedule is made, and the indexes
 abbrev pub AddsSchedule : Database → Database → Type 0
-AddsSchedule old new = (rows : Trees) → rows 17 ≡ [] → HasRows kept_tables rows old → HasRows register_schema rows new
+AddsSchedule old new =
+    (rows : Trees) → rows 17 ≡ [] → HasRows kept_tables rows old → HasRows register_schema rows new
 
 -- tables of an older version become those of a schema, and the derived tables are empty
 pub record Rebuilds (version : OlderVersion) (later : Schema) (old new : Database) : Type 0 where
-  pub rows : (rows : Trees) → HasBeside version rows → HasRows (older_schema version) rows old → HasRows later (records_alone rows) new
+  pub rows : (rows : Trees) → HasBeside version rows → HasRows (older_schema version) rows old
+      → HasRows later (records_alone rows) new
   pub schema : old.schema ≡ older_schema version → new.schema ≡ later
 
 -- the row of an older office gets the number of the program's version
 abbrev pub SetsVersion : Database → Database → Type 0
 SetsVersion old new =
-    (rows : Trees) (version : OlderVersion) (days : ℕ) (issuer : Issuer) (policy : Terms) (last : ℕ) → rows 0 ≡ stored_older version days issuer policy last ∷ []
-    → HasRows register_schema rows old → HasRows register_schema (with_rows 0 (stored_office (pos days) issuer policy last ∷ []) rows) new
+    (rows : Trees) (version : OlderVersion) (days : ℕ) (issuer : Issuer) (policy : Terms) (last : ℕ)
+    → rows 0 ≡ stored_older version days issuer policy last ∷ []
+    → HasRows register_schema rows old
+    → HasRows register_schema (with_rows 0 (stored_office (pos days) issuer policy last ∷ []) rows) new
 
 -- the row of counts is inserted, with counts of 0
 abbrev pub PutsCounts : Database → Database → Type 0
 PutsCounts old new =
-    (rows : Trees) → rows 14 ≡ [] → HasRows register_schema rows old → HasRows register_schema (with_rows 14 (stored_counts no_counts ∷ []) rows) new
+    (rows : Trees) → rows 14 ≡ [] → HasRows register_schema rows old
+    → HasRows register_schema (with_rows 14 (stored_counts no_counts ∷ []) rows) new
 
 -- older tables become those of the program's version, with empty derived tables
 pub record BeginsTables (version : OlderVersion) (days : ℕ) (old new : Database) : Type 0 where
-  pub both : (records : Records) → records.policy.schedule ≡ one_step days → IsShownByOlder version old records
+  pub both : (records : Records) → records.policy.schedule ≡ one_step days
+      → IsShownByOlder version old records
       → AreBoth new records (no_columns records.policy.schedule)
   pub schema : old.schema ≡ older_schema version → new.schema ≡ register_schema
 
 -- each certificate gets its letter at the last accepted moment
 abbrev pub FillsLetters : ℕ → Database → Database → Type 0
 FillsLetters last old new =
-    (records : Records) (columns : Columns) → SoundRows records → records.last ≡ last → columns.letters ≡ [] → AreBoth old records columns
-    → (letters : List Standing) × IsPermutation (map (standing_of records) records.certificates) letters × AreBoth new records (with_letters letters columns)
+    (records : Records) (columns : Columns) → SoundRows records → records.last ≡ last → columns.letters ≡ []
+    → AreBoth old records columns
+    → (letters : List Standing) × IsPermutation (map (standing_of records) records.certificates) letters
+    × AreBoth new records (with_letters letters columns)
 
 -- a revocation gets its row of `listed`, with the last of these CRLs that lists it
 abbrev pub ListsOne : RevocationRow → List CrlRow → ℕ → Database → Database → Type 0
-ListsOne row crls not_after old new = AreIssued crls → Turns (λ records. records) (with_listed (listed_by crls row not_after)) old new
+ListsOne row crls not_after old new =
+    AreIssued crls → Turns (λ records. records) (with_listed (listed_by crls row not_after)) old new
 
 -- `ListsOne`, with the notAfter of the revocation's certificate
 abbrev pub RelistsOne : RevocationRow → List CrlRow → Database → Database → Type 0
 RelistsOne row crls old new =
     (records : Records) (columns : Columns) → AreIssued crls → AreBoth old records columns
-    → IsSomeAnd (certificate_in records.certificates row.serial) (λ certificate. AreBoth new records (with_listed (listed_by crls row certificate.not_after) columns))
+    → IsSomeAnd (certificate_in records.certificates row.serial)
+    (λ certificate. AreBoth new records (with_listed (listed_by crls row certificate.not_after) columns))
 
 -- these revocations get their rows of `listed`, if they are those of the records, and so are the CRLs
 abbrev pub RelistsEach : List RevocationRow → List CrlRow → Database → Database → Type 0
 RelistsEach revocations crls old new =
-    (records : Records) → SoundRows records → revocations ≡ records.revocations → crls ≡ map row_of records.crls → HasRelisted old records 0
+    (records : Records) → SoundRows records → revocations ≡ records.revocations
+    → crls ≡ map row_of records.crls → HasRelisted old records 0
     → HasRelisted new records (length records.revocations)
 
 -- each revocation gets its row of `listed`
 abbrev pub Relists : Database → Database → Type 0
-Relists old new = (records : Records) → SoundRows records → HasRelisted old records 0 → HasRelisted new records (length records.revocations)
+Relists old new =
+    (records : Records) → SoundRows records → HasRelisted old records 0
+    → HasRelisted new records (length records.revocations)
 
 -- the derived tables are rebuilt: they match the records at the last accepted moment
 pub record Refills (last : ℕ) (old new : Database) : Type 0 where
-  pub kept : (records : Records) → SoundRows records → records.last ≡ last → AreBoth old records (no_columns records.policy.schedule)
+  pub kept : (records : Records) → SoundRows records → records.last ≡ last
+      → AreBoth old records (no_columns records.policy.schedule)
       → HasKept new records × HasGreatestDays new records × IsDatabase new
   pub schema : old.schema ≡ register_schema → new.schema ≡ register_schema
 
 -- Tables of an older version, with this longest validity in days and this last accepted moment, become those of the program's version.
 pub record MakesNewer (version : OlderVersion) (days last : ℕ) (old new : Database) : Type 0 where
   -- they show the same records, with derived tables that match them, and the office has the greatest days of their schedule
-  pub kept : (records : Records) → IsShownByOlder version old records → SoundRows records → records.policy.schedule ≡ one_step days → records.last ≡ last
+  pub kept : (records : Records) → IsShownByOlder version old records → SoundRows records
+      → records.policy.schedule ≡ one_step days → records.last ≡ last
       → HasKept new records × HasGreatestDays new records × IsDatabase new
   -- whatever the rows are, the tables are those of a register
   pub schema : old.schema ≡ older_schema version → new.schema ≡ register_schema

@@ -11,7 +11,8 @@ use Rattle.reg_store_tables.specs.Shows.{AreBoth, IsShownBy}
 
 -- the rows are what a text reads of a register's tables
 abbrev pub AreAnswer : List ℕ → Row → List Row → Database → Type 0
-AreAnswer text params rows db = db.schema ≡ register_schema → Reads (command_of (understood register_schema text)) db params rows
+AreAnswer text params rows db =
+    db.schema ≡ register_schema → Reads (command_of (understood register_schema text)) db params rows
 
 -- `Holds` holds of any records that the tables show
 abbrev pub OfRecords : (Records → Type 0) → Database → Type 0
@@ -19,4 +20,6 @@ OfRecords Holds db = (records : Records) → IsShownBy db records → Holds reco
 
 -- `Holds` holds of the derived tables, if there are at most as many letters as a register may have
 abbrev pub OfColumns : (Columns → Type 0) → Database → Type 0
-OfColumns Holds db = (records : Records) (columns : Columns) → length columns.letters ≤ 1000000 → AreBoth db records columns → Holds columns
+OfColumns Holds db =
+    (records : Records) (columns : Columns) → length columns.letters ≤ 1000000
+    → AreBoth db records columns → Holds columns

@@ -18,7 +18,8 @@ no_counts = record { good = 0; revoked = 0; expired = 0 }
 
 -- empty derived tables, with counts of 0; the office's days are the greatest of a schedule
 abbrev pub no_columns : List (ℕ × ℕ) → Columns
-no_columns schedule = record { letters = []; counts = no_counts; listed = []; days = pos (greatest_of schedule) }
+no_columns schedule =
+    record { letters = []; counts = no_counts; listed = []; days = pos (greatest_of schedule) }
 
 -- the derived tables with these letters
 abbrev pub with_letters : List Standing → Columns → Columns
@@ -34,7 +35,9 @@ AreIssued crls = NumberedFrom (λ crl. crl.number) 1 crls × NeverFalls (λ crl.
 
 -- the number of the first CRL from a number on whose thisUpdate is past a moment (RFC 5280 3.3)
 abbrev pub last_in : List CrlRow → ℕ → ℕ → Option ℕ
-last_in crls first not_after = option_map (λ crl. crl.number) (find (λ crl. nat_le first crl.number && nat_lt not_after crl.this_update) crls)
+last_in crls first not_after =
+    option_map (λ crl. crl.number)
+    (find (λ crl. nat_le first crl.number && nat_lt not_after crl.this_update) crls)
 
 -- the row of `listed` of a revocation whose certificate has this notAfter, given these CRLs
 abbrev pub listed_by : List CrlRow → RevocationRow → ℕ → Listed
@@ -54,7 +57,8 @@ with_listed row columns = record columns { listed = columns.listed ++ row ∷ []
 -- the letters match the records, the first `n` revocations have their rows of `listed`, and the office's days are the greatest of the schedule
 abbrev pub HasRelisted : Database → Records → ℕ → Type 0
 HasRelisted db records n =
-    (columns : Columns) × AreBoth db records columns × HasLetters columns records × (columns.listed ≡ map (listed_of records) (take n records.revocations))
+    (columns : Columns) × AreBoth db records columns × HasLetters columns records
+    × (columns.listed ≡ map (listed_of records) (take n records.revocations))
     × (columns.days ≡ pos (greatest_of records.policy.schedule))
 
 -- the tables show the records, with derived tables that match them

@@ -20,4 +20,6 @@ IsCreated old issuer policy trees = (old.schema ≡ no_schema) × IsAtRest (no_r
 -- the rows after an opening that writes: tables of an older version were migrated to the program's version, and show the same
 -- records, with derived tables that match them
 abbrev pub IsOpened : {S : Type 0} → Ghosts S → Held S → Trees → Type 0
-IsOpened g old trees = IsOlder (state g old).now × ((version : OlderVersion) (records : Records) → ShowsOlder version g old records → SoundRows records → IsAtRest records trees)
+IsOpened g old trees =
+    IsOlder (state g old).now × ((version : OlderVersion) (records : Records)
+    → ShowsOlder version g old records → SoundRows records → IsAtRest records trees)

@@ -32,12 +32,15 @@ Grows tables later old new = IsBlank tables old → IsBlank later new
 
 -- only the office's row, with the greatest days of the schedule and 0 as last accepted moment
 abbrev pub office_alone : Issuer → Terms → Trees
-office_alone issuer policy = with_rows 0 (stored_office (pos (greatest_of policy.schedule)) issuer policy 0 ∷ []) no_rows
+office_alone issuer policy =
+    with_rows 0 (stored_office (pos (greatest_of policy.schedule)) issuer policy 0 ∷ []) no_rows
 
 -- the office's row is inserted into the empty tables of a register
 abbrev pub PutsOffice : Issuer → Terms → Database → Database → Type 0
-PutsOffice issuer policy old new = IsBlank register_schema old → IsPolicy policy × HasRows register_schema (office_alone issuer policy) new
+PutsOffice issuer policy old new =
+    IsBlank register_schema old → IsPolicy policy × HasRows register_schema (office_alone issuer policy) new
 
 -- tables of a schema, which have no rows, become those of a register with no records, and obey their schema
 abbrev pub Founds : Schema → Issuer → Terms → Database → Database → Type 0
-Founds tables issuer policy old new = IsBlank tables old → AreBoth new (no_records issuer policy) (no_columns policy.schedule) × IsDatabase new
+Founds tables issuer policy old new =
+    IsBlank tables old → AreBoth new (no_records issuer policy) (no_columns policy.schedule) × IsDatabase new

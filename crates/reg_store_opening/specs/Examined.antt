@@ -35,17 +35,21 @@ found_version (Some older) = Some older.version
 module _ {S : Type 0} (g : Ghosts S) (old new : Held S) where
   -- `Told` holds of a result and of the database, which was open
   abbrev pub ReportsState : {T E : Type 0} → Result T E → (T → Database → Type 0) → Type 0
-  ReportsState result Told = HasCleanDisk (state g new) → IfOk result (λ found. IsTrue (state g old).is_open × Told found (state g old).now)
+  ReportsState result Told =
+      HasCleanDisk (state g new)
+      → IfOk result (λ found. IsTrue (state g old).is_open × Told found (state g old).now)
 
   -- a refusal is true of the database: it has a newer version; or `Refused` holds of it
   abbrev pub ReportsNewer : {T : Type 0} → Result T StoreFault → Type 0
   ReportsNewer result = HasCleanDisk (state g new) → result ≡ Err NewVersion → IsNewer (state g old).now
 
   abbrev pub ReportsNone : {T : Type 0} → Result T StoreFault → (Database → Type 0) → Type 0
-  ReportsNone result Refused = HasCleanDisk (state g new) → result ≡ Err NotARegister → Refused (state g old).now
+  ReportsNone result Refused =
+      HasCleanDisk (state g new) → result ≡ Err NotARegister → Refused (state g old).now
 
   -- If the tables show records, what was found matches them; and if these are in their ranges, only a failure of memory or the database refuses them.
-  abbrev pub Finds : {T : Type 0} → Result T StoreFault → (Database → Records → Type 0) → (T → Records → Type 0) → Type 0
+  abbrev pub Finds : {T : Type 0} → Result T StoreFault → (Database → Records → Type 0)
+      → (T → Records → Type 0) → Type 0
   Finds result Shown Found =
       HasCleanDisk (state g new) → (records : Records) → WhileOpen (state g old) (λ db. Shown db records)
       → MatchResult result (λ found. Found found records) (λ fault. InRange records → IsDatabaseFault fault)

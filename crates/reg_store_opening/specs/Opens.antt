@@ -26,16 +26,19 @@ pub record Opens {S : Type 0} (g : Ghosts S) (old new : Held S) : Type 0 where
   -- and the derived tables still match them
   pub kept : (records : Records) → ShowsKept g old records → ShowsKept g new records
   -- the tables show sound records that older tables showed, with derived tables that match them
-  pub migrated : (version : OlderVersion) (records : Records) → ShowsOlder version g old records → SoundRows records → ShowsKept g new records
+  pub migrated : (version : OlderVersion) (records : Records) → ShowsOlder version g old records
+      → SoundRows records → ShowsKept g new records
   -- the office's row keeps its days
   pub days : (records : Records) → Shows g old records → KeepsOfficeDays g old new
   -- the office's row of an older register gets the greatest days of the schedule
-  pub older_days : (version : OlderVersion) (records : Records) → ShowsOlder version g old records → SoundRows records
+  pub older_days : (version : OlderVersion) (records : Records) → ShowsOlder version g old records
+      → SoundRows records
       → HasOfficeDays g new (greatest_of records.policy.schedule)
   -- the tables are those of a register
   pub registers : IsRegister (state g new)
   -- they had the program's version and an office, and nothing has changed; or they had an older version and its office
-  pub said : HasCleanDisk (state g new) → (Stays (state g old) (state g new) × IsCurrent (state g old).now) ⊎ IsOlder (state g old).now
+  pub said : HasCleanDisk (state g new)
+      → (Stays (state g old) (state g new) × IsCurrent (state g old).now) ⊎ IsOlder (state g old).now
   -- a stop leaves what it would have left before, or the migrated tables
   pub survives : Survives (state g old) (state g new) (IsOpened g old)
 
@@ -44,7 +47,8 @@ pub record IsUnopened {S : Type 0} (g : Ghosts S) (old new : Held S) (fault : St
   -- the tables are as they were
   pub same : Stays (state g old) (state g new)
   -- a register whose values are within their ranges is refused only if memory or the database fails
-  pub shown : (version : Option OlderVersion) (records : Records) → InRange records → ShowsAs version g old records
+  pub shown : (version : Option OlderVersion) (records : Records) → InRange records
+      → ShowsAs version g old records
       → HasCleanDisk (state g new) → IsDatabaseFault fault
   -- `NewVersion` is reported only if the tables have a newer version
   pub newer : HasCleanDisk (state g new) → fault ≡ NewVersion → IsNewer (state g old).now
@@ -58,7 +62,8 @@ pub record IsUnopened {S : Type 0} (g : Ghosts S) (old new : Held S) (fault : St
   pub survives : Survives (state g old) (state g new) (IsOpened g old)
 
 -- A database with no table, no index and no view, in which a register without records was created.
-pub record Creates {S : Type 0} (g : Ghosts S) (old new : Held S) (issuer : Issuer) (policy : Terms) : Type 0 where
+pub record Creates {S : Type 0} (g : Ghosts S) (old new : Held S) (issuer : Issuer)
+    (policy : Terms) : Type 0 where
   -- it shows no records, with derived tables that match them
   pub kept : ShowsKept g new (no_records issuer policy)
   -- the office's row has the greatest days of the schedule
@@ -68,7 +73,8 @@ pub record Creates {S : Type 0} (g : Ghosts S) (old new : Held S) (issuer : Issu
   pub survives : Survives (state g old) (state g new) (IsCreated old issuer policy)
 
 -- A database in which no register can be created, and the fault that gives the reason.
-pub record IsUncreated {S : Type 0} (g : Ghosts S) (old new : Held S) (issuer : Issuer) (policy : Terms) (fault : StoreFault) : Type 0 where
+pub record IsUncreated {S : Type 0} (g : Ghosts S) (old new : Held S) (issuer : Issuer) (policy : Terms)
+    (fault : StoreFault) : Type 0 where
   -- the tables are as they were
   pub same : Stays (state g old) (state g new)
   -- `NotEmpty` is reported exactly if the database has a table, an index or a view

@@ -52,13 +52,15 @@ pub record NeverWrites (text : List ℕ) (compiled : Compiled) : Type 0 where
   pub whole : length text ≤ compiled.tail
 
 abbrev pub IsQuery : List ℕ → Type 0
-IsQuery text = (schema : Schema) (compiled : Compiled) → understood schema text ≡ Ok compiled → NeverWrites text compiled
+IsQuery text =
+    (schema : Schema) (compiled : Compiled) → understood schema text ≡ Ok compiled → NeverWrites text compiled
 
 -- over the tables of a schema, the statement fails only if memory or the disk does, or by the limit on steps
 pub record IsNeverRefused (schema : Schema) (text : List ℕ) : Type 0 where
   pub plain : IsPlain (understood schema text)
   pub unlisted : reads_listing schema text ≡ false
-  pub never : (limit : Option ℕ) (db : Database) (e : Error) → db.schema ≡ schema → RefusesToRead limit (command_of (understood schema text)) db [] e → IsTrue (is_call_error e)
+  pub never : (limit : Option ℕ) (db : Database) (e : Error) → db.schema ≡ schema
+      → RefusesToRead limit (command_of (understood schema text)) db [] e → IsTrue (is_call_error e)
 
 -- the rows are what a text reads of a database
 pub record IsRead (db : Database) (text : List ℕ) (rows : List Row) : Type 0 where
@@ -115,7 +117,8 @@ abbrev pub AreSteps : List Row → List (ℕ × ℕ) → Type 0
 AreSteps [] [] = Unit {0}
 AreSteps [] (step ∷ steps) = ⊥
 AreSteps (row ∷ rows) [] = ⊥
-AreSteps (row ∷ rows) (step ∷ steps) = (column row 0 ≡ number step.0) × (column row 1 ≡ number step.1) × AreSteps rows steps
+AreSteps (row ∷ rows) (step ∷ steps) =
+    (column row 0 ≡ number step.0) × (column row 1 ≡ number step.1) × AreSteps rows steps
 
 -- each step begins at a moment
 abbrev pub HaveMoments : List (ℕ × ℕ) → Type 0
@@ -125,7 +128,8 @@ HaveMoments steps = AllByRecursion (λ step. IsMoment step.0) steps
 abbrev pub HasPolicy : List (ℕ × ℕ) → Row → Terms → Type 0
 HasPolicy schedule row policy =
     IsPolicy policy × (policy.schedule ≡ schedule)
-    × (column row 2 ≡ number policy.crl_life) × (column row 3 ≡ number policy.ocsp_life) × (column row 4 ≡ number policy.cap)
+    × (column row 2 ≡ number policy.crl_life) × (column row 3 ≡ number policy.ocsp_life)
+    × (column row 4 ≡ number policy.cap)
 
 -- it has this last accepted moment, which is before the clock's end
 abbrev pub HasLast : Row → ℕ → Type 0
@@ -137,7 +141,9 @@ HasIssuer row issuer = IsIssuer issuer × (column row 0 ≡ Blob issuer.name) ×
 
 -- it has an issuer, a policy with this schedule, and a last accepted moment
 abbrev pub KeepsTo : List (ℕ × ℕ) → Row → Type 0
-KeepsTo schedule row = ((issuer : Issuer) × HasIssuer row issuer) × ((policy : Terms) × HasPolicy schedule row policy) × ((last : ℕ) × HasLast row last)
+KeepsTo schedule row =
+    ((issuer : Issuer) × HasIssuer row issuer) × ((policy : Terms) × HasPolicy schedule row policy)
+    × ((last : ℕ) × HasLast row last)
 
 -- the fault for rows that are refused: out of memory; or they are no register's, and `Told` holds of them
 abbrev pub Refuses : Type 0 → StoreFault → Type 0
@@ -153,15 +159,19 @@ HaveSteps rows steps = AreSteps rows steps × HaveMoments steps
 
 -- the one row of the office and the steps of its schedule, each value within its range
 abbrev pub AreOfficeRows : List Row → List Row → Type 0
-AreOfficeRows rows steps = (schedule : List (ℕ × ℕ)) × HaveMoments schedule × AreSteps steps schedule × IsOne (KeepsTo schedule) rows
+AreOfficeRows rows steps =
+    (schedule : List (ℕ × ℕ)) × HaveMoments schedule × AreSteps steps schedule × IsOne (KeepsTo schedule) rows
 
 -- the tables have an office, each value within its range
 abbrev pub SaysOffice : Database → Type 0
-SaysOffice db = (rows : List Row) × (steps : List Row) × IsRead db OFFICE.now rows × IsRead db STEPS.now steps × AreOfficeRows rows steps
+SaysOffice db =
+    (rows : List Row) × (steps : List Row) × IsRead db OFFICE.now rows × IsRead db STEPS.now steps
+    × AreOfficeRows rows steps
 
 -- the row of an older office: its days and its last accepted moment, and a schedule of the one step
 abbrev pub IsOlderRow : ℕ → ℕ → Row → Type 0
-IsOlderRow days last row = (column row 6 ≡ number days) × (column row 5 ≡ number last) × KeepsTo (one_step days) row
+IsOlderRow days last row =
+    (column row 6 ≡ number days) × (column row 5 ≡ number last) × KeepsTo (one_step days) row
 
 -- the one row of an older office, each value within its range
 abbrev pub AreOlderOffice : ℕ → ℕ → List Row → Type 0
@@ -181,7 +191,9 @@ SaysOlder db = (days : ℕ) × (last : ℕ) × ReadsOlder db days last
 
 -- the schema is that of an older version, and the tables have its number and its office
 abbrev pub IsOlder : Database → Type 0
-IsOlder db = (version : OlderVersion) × (db.schema ≡ older_schema version) × HasVersion db (version_number version) × SaysOlder db
+IsOlder db =
+    (version : OlderVersion) × (db.schema ≡ older_schema version)
+    × HasVersion db (version_number version) × SaysOlder db
 
 -- a statement that compiles fails over these rows, even without a limit on steps
 pub record IsRefusedOverRows (db : Database) (text : List ℕ) : Type 0 where
@@ -194,29 +206,38 @@ pub record IsRefusedOverRows (db : Database) (text : List ℕ) : Type 0 where
 
 -- a statement fails over these tables: it does not compile, or it fails over their rows
 abbrev pub IsRefusedText : Database → List ℕ → Type 0
-IsRefusedText db text = ((error : CompileError) × (understood db.schema text ≡ Err error)) ⊎ IsRefusedOverRows db text
+IsRefusedText db text =
+    ((error : CompileError) × (understood db.schema text ≡ Err error)) ⊎ IsRefusedOverRows db text
 
 -- the tables have no version: its statement fails, or does not return one row with a number from 1 on
 abbrev pub SaysNoVersion : Database → Type 0
-SaysNoVersion db = IsRefusedText db VERSION.now ⊎ ((rows : List Row) × IsRead db VERSION.now rows × ((n : ℕ) → 1 ≤ n → ¬ AreVersionRows n rows))
+SaysNoVersion db =
+    IsRefusedText db VERSION.now
+    ⊎ ((rows : List Row) × IsRead db VERSION.now rows × ((n : ℕ) → 1 ≤ n → ¬ AreVersionRows n rows))
 
 -- the tables have no office: its statements fail, or a value is out of its range
 abbrev pub SaysNoOffice : Database → Type 0
 SaysNoOffice db =
     (IsRefusedText db OFFICE.now ⊎ IsRefusedText db STEPS.now)
-    ⊎ ((rows : List Row) × (steps : List Row) × IsRead db OFFICE.now rows × IsRead db STEPS.now steps × (¬ AreOfficeRows rows steps))
+    ⊎ ((rows : List Row) × (steps : List Row) × IsRead db OFFICE.now rows × IsRead db STEPS.now steps
+    × (¬ AreOfficeRows rows steps))
 
 -- the tables have no older office: its statement fails, or a value is out of its range
 abbrev pub SaysNoOlder : Database → Type 0
-SaysNoOlder db = IsRefusedText db OLDER_OFFICE.now ⊎ ((rows : List Row) × IsRead db OLDER_OFFICE.now rows × ((days last : ℕ) → ¬ AreOlderOffice days last rows))
+SaysNoOlder db =
+    IsRefusedText db OLDER_OFFICE.now ⊎ ((rows : List Row) × IsRead db OLDER_OFFICE.now rows
+    × ((days last : ℕ) → ¬ AreOlderOffice days last rows))
 
 -- the tables have no register of any version: no version; or version 3, but no office; or an older version, but no older office
 abbrev pub SaysNoRegister : Database → Type 0
-SaysNoRegister db = SaysNoVersion db ⊎ ((HasVersion db 3 × SaysNoOffice db) ⊎ ((version : OlderVersion) × HasVersion db (version_number version) × SaysNoOlder db))
+SaysNoRegister db =
+    SaysNoVersion db ⊎ ((HasVersion db 3 × SaysNoOffice db)
+    ⊎ ((version : OlderVersion) × HasVersion db (version_number version) × SaysNoOlder db))
 
 -- the tables have a version up to the program's, but the schema is not that of this version
 abbrev pub HasOthers : Database → Type 0
-HasOthers db = (version : Option OlderVersion) × HasVersion db (version_of version) × (db.schema ≢ schema_of version)
+HasOthers db =
+    (version : Option OlderVersion) × HasVersion db (version_of version) × (db.schema ≢ schema_of version)
 
 -- the database has no register: its tables have none, or its schema is not that of their version
 abbrev pub IsNoRegister : Database → Type 0
@@ -230,7 +251,8 @@ SaysOfficeOf (Some version) db = SaysOlder db
 -- if there is no view: any version from 1 on that the tables have is one up to the program's, without its office, or not of this schema
 abbrev pub HoldsNoRegister : Database → Type 0
 HoldsNoRegister db =
-    db.schema.views ≡ [] → (n : ℕ) → 1 ≤ n → HasVersion db n → (version : Option OlderVersion) × (n ≡ version_of version) × ((¬ SaysOfficeOf version db) ⊎ (db.schema ≢ schema_of version))
+    db.schema.views ≡ [] → (n : ℕ) → 1 ≤ n → HasVersion db n → (version : Option OlderVersion)
+    × (n ≡ version_of version) × ((¬ SaysOfficeOf version db) ⊎ (db.schema ≢ schema_of version))
 
 -- the issuer, the moments of the schedule, and the last accepted moment are within their ranges, as those of a register always are
 pub record InRange (records : Records) : Type 0 where
@@ -246,4 +268,5 @@ version_or_ours (Some Second) = version.Second
 
 -- a schema is found to be that of a version exactly if it is
 abbrev pub SchemaHasVersion : Option Version → Schema → Type 0
-SchemaHasVersion tables schema = (version : Option OlderVersion) → (tables ≡ Some (version_or_ours version)) ↔ (schema ≡ schema_of version)
+SchemaHasVersion tables schema =
+    (version : Option OlderVersion) → (tables ≡ Some (version_or_ours version)) ↔ (schema ≡ schema_of version)

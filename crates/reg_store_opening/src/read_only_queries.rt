@@ -33,7 +33,8 @@ fn unread(error: Error) -> StoreFault
 pub(crate) fn peek<S: Alter>(tx: &mut Transaction<'_, S>, sql: &str) -> Result<Vec<Row>, StoreFault>
     requires { IsQuery sql.now }
     ensures asked { Asks S.Store tx.old tx.new result (λ rows db. IsRead db sql.now rows.items) }
-    ensures none { ReportsNone S.Store tx.old.conn.now tx.new.conn.now result (λ db. IsRefusedText db sql.now) }
+    ensures none { ReportsNone S.Store tx.old.conn.now tx.new.conn.now result
+        (λ db. IsRefusedText db sql.now) }
     ensures refused { HasCleanDisk (state S.Store tx.new.conn.now)
         → (schema : Schema) → IsNeverRefused schema sql.now
         → WhileOpen (state S.Store tx.old.conn.now) (λ db. db.schema ≡ schema)

@@ -76,7 +76,8 @@ fn test_older<S: Alter>(tx: &mut Transaction<'_, S>) -> Result<(u64, Moment), St
 
 /// Checks the tables, the version first. Returns what an older office has; `None` if they are of the program's version.
 fn test_tables<S: Alter>(tx: &mut Transaction<'_, S>) -> Result<Option<OlderOffice>, StoreFault>
-    ensures told { ReportsState S.Store tx.old.conn.now tx.new.conn.now result (λ found db. SaysFound db found) }
+    ensures told { ReportsState S.Store tx.old.conn.now tx.new.conn.now result
+        (λ found db. SaysFound db found) }
     ensures newer { ReportsNewer S.Store tx.old.conn.now tx.new.conn.now result }
     ensures none { ReportsNone S.Store tx.old.conn.now tx.new.conn.now result SaysNoRegister }
     ensures shown { (version : Option OlderVersion)

@@ -36,7 +36,8 @@ fn add_key(
 
 /// Adds the automatic index of each UNIQUE of a table.
 fn add_keys(alloc: Global, indexes: &mut Items<Index>, table: &Table) -> Result<(), AllocError>
-    ensures { OnOk result (indexes.new ≡ indexes.old ++ automatics table.now 0 (table.now.tree + 1) table.now.uniques) }
+    ensures { OnOk result
+        (indexes.new ≡ indexes.old ++ automatics table.now 0 (table.now.tree + 1) table.now.uniques) }
 {
     let Ok(name) = std::str::from_utf8(table.name.as_slice()) else {
         return Err(AllocError);
@@ -56,7 +57,8 @@ fn next_tree(made: &Schema) -> Result<u32, AllocError>
 
 /// Adds the table that a CREATE TABLE defines.
 fn add_table(alloc: Global, made: &mut Schema, text: &str) -> Result<(), AllocError>
-    ensures { (table : Table) → table_defined_by text.now ≡ Ok table → OnOk result (made.new ≡ created made.old table) }
+    ensures { (table : Table) → table_defined_by text.now ≡ Ok table
+        → OnOk result (made.new ≡ created made.old table) }
 {
     let Ok(defined) = define_table(alloc, text.as_bytes()) else {
         return Err(AllocError);
@@ -69,7 +71,8 @@ fn add_table(alloc: Global, made: &mut Schema, text: &str) -> Result<(), AllocEr
 
 /// Adds the index that a CREATE INDEX defines, on the table with number `at`.
 fn add_index(alloc: Global, made: &mut Schema, at: usize, text: &str) -> Result<(), AllocError>
-    ensures { (table : Table) → (index : Index) → slice_get made.old.tables at ≡ Some table → index_defined_by table text.now ≡ Ok index
+    ensures { (table : Table) → (index : Index) → slice_get made.old.tables at ≡ Some table
+        → index_defined_by table text.now ≡ Ok index
         → OnOk result (made.new ≡ indexed made.old table index) }
 {
     let tree = next_tree(made)?;

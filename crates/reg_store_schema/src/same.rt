@@ -101,7 +101,8 @@ impl Same for Stamps {
 
 /// Whether two tables have the same name and tree, columns, rowid and AUTOINCREMENT.
 fn have_same_columns(left: &Table, right: &Table) -> bool
-    ensures { IsTrue result ↔ ((left.now.name ≡ right.now.name) × (left.now.tree ≡ right.now.tree) × (left.now.columns ≡ right.now.columns)
+    ensures { IsTrue result ↔ ((left.now.name ≡ right.now.name) × (left.now.tree ≡ right.now.tree)
+        × (left.now.columns ≡ right.now.columns)
         × (left.now.key ≡ right.now.key) × (left.now.is_counted ≡ right.now.is_counted)) }
 {
     left.name.is_same(&right.name)
@@ -122,7 +123,8 @@ fn have_same_keys(left: &Table, right: &Table) -> bool
 
 /// Whether two tables have the same CHECKs, references and computed defaults.
 fn have_same_rules(left: &Table, right: &Table) -> bool
-    ensures { IsTrue result ↔ ((left.now.checks ≡ right.now.checks) × (left.now.references ≡ right.now.references)
+    ensures { IsTrue result
+        ↔ ((left.now.checks ≡ right.now.checks) × (left.now.references ≡ right.now.references)
         × (left.now.computed ≡ right.now.computed) × (left.now.stamps ≡ right.now.stamps)) }
 {
     left.checks.is_same(&right.checks)

@@ -16,7 +16,8 @@ use std::alloc::{AllocError, Global};
 /// # Errors
 /// There is not enough memory.
 pub fn version_of(alloc: Global, schema: &Schema) -> Result<Option<Version>, AllocError>
-    ensures { IfOk result (λ found. (version : Version) → (found ≡ Some version) ↔ (schema.now ≡ version_schema version)) }
+    ensures { IfOk result
+        (λ found. (version : Version) → (found ≡ Some version) ↔ (schema.now ≡ version_schema version)) }
 {
     let mut made = Schema::new(alloc);
     add_records(alloc, &mut made)?;

@@ -28,7 +28,8 @@ impl Same for Value {
 fn node_at<'a>(term: Place<'a>) -> Option<(&'a Op, usize)>
     ensures falls { IfSome result (λ found. found.1 < term.entry.depth) }
     ensures is { MatchOption result (term_to term.entry.nodes.now term.entry.depth term.entry.at ≡ lit Null)
-        (λ found. term_to term.entry.nodes.now term.entry.depth term.entry.at ≡ op_term (term_to term.entry.nodes.now found.1) found.0.now) }
+        (λ found. term_to term.entry.nodes.now term.entry.depth term.entry.at
+        ≡ op_term (term_to term.entry.nodes.now found.1) found.0.now) }
 {
     if term.depth == 0 || term.at >= term.nodes.len() {
         return None;

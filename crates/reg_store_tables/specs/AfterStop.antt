@@ -17,4 +17,5 @@ AreARegisters trees = IsSound register_schema trees
 
 -- as the rows of a register's tables, these show the records, with derived tables that match them
 abbrev pub IsAtRest : Records → Trees → Type 0
-IsAtRest records trees = (columns : Columns) × AreRowsOf records columns trees × Kept columns records × AreARegisters trees
+IsAtRest records trees =
+    (columns : Columns) × AreRowsOf records columns trees × Kept columns records × AreARegisters trees

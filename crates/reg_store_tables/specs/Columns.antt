@@ -44,7 +44,12 @@ with_letter test rows = length (filter (λ row. test row.letter) rows)
 
 -- how many rows have each letter
 abbrev pub letter_counts : List Standing → Counts
-letter_counts rows = record { good = with_letter is_good_letter rows; revoked = with_letter is_revoked_letter rows; expired = with_letter is_expired_letter rows }
+letter_counts rows =
+    record {
+      good = with_letter is_good_letter rows;
+      revoked = with_letter is_revoked_letter rows;
+      expired = with_letter is_expired_letter rows;
+    }
 
 -- the certificate is good, and ends before a moment
 abbrev pub ends_before : ℕ → Standing → Bool
@@ -77,7 +82,8 @@ stored_standing row = serial_value row.serial ∷ number row.not_after ∷ Text 
 
 -- kept: one, n_good, n_revoked, n_expired
 abbrev pub stored_counts : Counts → Row
-stored_counts counts = number 1 ∷ Null ∷ number counts.good ∷ number counts.revoked ∷ number counts.expired ∷ []
+stored_counts counts =
+    number 1 ∷ Null ∷ number counts.good ∷ number counts.revoked ∷ number counts.expired ∷ []
 
 abbrev pub number_or_null : Option ℕ → Value
 number_or_null None = Null
@@ -85,7 +91,9 @@ number_or_null (Some n) = number n
 
 -- listed: serial, at, reason, first_crl, not_after, last_listed
 abbrev pub stored_listed : Listed → Row
-stored_listed row = serial_value row.serial ∷ number row.at ∷ number row.reason ∷ number row.first ∷ number row.not_after ∷ number_or_null row.last ∷ []
+stored_listed row =
+    serial_value row.serial ∷ number row.at ∷ number row.reason ∷ number row.first ∷ number row.not_after
+    ∷ number_or_null row.last ∷ []
 
 -- a value that passes the test is changed, and any other stays
 abbrev pub turned : {A : Type 0} → (A → Bool) → (A → A) → A → A

@@ -10,9 +10,11 @@ use Rattle.reg_store_tables.specs.Stays.{Stays}
 -- The call that commits a transaction.
 pub record Ends {S T E : Type 0} (g : Ghosts S) (entered ended : Held S) (result : Result T E) : Type 0 where
   -- if it succeeds, what was written is committed
-  pub committed : HasCleanDisk (state g ended) → OnOk result (Shows (state g entered) (state g ended) (state g entered).now (state g entered).now false)
+  pub committed : HasCleanDisk (state g ended) → OnOk result
+      (Shows (state g entered) (state g ended) (state g entered).now (state g entered).now false)
   -- if it fails, what was written is rolled back
-  pub undone : HasCleanDisk (state g ended) → OnErr result ((state g entered).in_transaction ≡ true → IsRolledBack (state g entered) (state g ended))
+  pub undone : HasCleanDisk (state g ended) → OnErr result
+      ((state g entered).in_transaction ≡ true → IsRolledBack (state g entered) (state g ended))
   -- a stop leaves what it would have left before, or all that was written
   pub survives : Survives (state g entered) (state g ended) (λ trees. trees ≡ (state g entered).now.trees)
   pub idle : ended.in_transaction ≡ false
@@ -29,7 +31,8 @@ abbrev pub AreLed : State → (Database → Database → Type 0) → Trees → T
 AreLed old Leads trees = IsTrue old.is_open × (db : Database) × (trees ≡ db.trees) × Leads old.now db
 
 -- One transaction; `Leads` relates the database before it to the one after it.
-pub record Commits {S T E : Type 0} (g : Ghosts S) (old new : Held S) (result : Result T E) (Leads : Database → Database → Type 0) : Type 0 where
+pub record Commits {S T E : Type 0} (g : Ghosts S) (old new : Held S) (result : Result T E)
+    (Leads : Database → Database → Type 0) : Type 0 where
   pub made : HasCleanDisk (state g new) → OnOk result (IsMade (state g old) (state g new) Leads)
   -- an error leaves the tables as they were
   pub stays : OnErr result (Stays (state g old) (state g new))

@@ -27,7 +27,8 @@ HasFailed old new = MoreFaults old.faults new.faults ⊎ ((old.is_open ≡ false
 
 -- if a call reports this failure, the database failed
 abbrev pub FailsWith : {T E : Type 0} → E → State → State → Result T E → Type 0
-FailsWith failure old new result = HasCleanDisk new → IfErr result (λ fault. fault ≡ failure → HasFailed old new)
+FailsWith failure old new result =
+    HasCleanDisk new → IfErr result (λ fault. fault ≡ failure → HasFailed old new)
 
 -- the tables show records that a register writes, with derived tables that match them
 pub record ShowsWritten {S : Type 0} (g : Ghosts S) (h : Held S) (records : Records) : Type 0 where
@@ -46,4 +47,5 @@ IsTaken (Err error) text params = ⊥
 -- over the tables of a register, the statement with these parameters fails only because of a limit on its steps
 pub record IsAsked (text : List ℕ) (params : Row) : Type 0 where
   pub taken : IsTaken (understood register_schema text) text params
-  pub never : (limit : Option ℕ) (db : Database) (error : Error) → db.schema ≡ register_schema → RefusesToRead limit (command_of (understood register_schema text)) db params error → IsSome limit
+  pub never : (limit : Option ℕ) (db : Database) (error : Error) → db.schema ≡ register_schema
+      → RefusesToRead limit (command_of (understood register_schema text)) db params error → IsSome limit

@@ -29,7 +29,9 @@ standing_of records certificate = record {
 
 -- the notAfter of a serial number's certificate (RFC 5280 4.1.2.5)
 abbrev pub not_after_of : Records → ℕ → ℕ
-not_after_of records serial = unwrap_or (option_map (λ certificate. certificate.not_after) (certificate_in records.certificates serial)) 0
+not_after_of records serial =
+    unwrap_or (option_map (λ certificate. certificate.not_after)
+    (certificate_in records.certificates serial)) 0
 
 -- a revocation's row of `listed`: its entry, and the last CRL that lists it, if that has been issued (RFC 5280 3.3)
 abbrev pub listed_of : Records → RevocationRow → Listed

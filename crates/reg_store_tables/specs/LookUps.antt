@@ -18,43 +18,57 @@ use Rattle.reg_store_tables.specs.declared.fault.DatabaseFault.TheVariants.{Stor
 -- ---- one statement
 
 -- A query: it changes nothing, its result is these rows, and it reports `Store` only if the database failed.
-pub record Queries {C T : Type 0} (g : Ghosts C) (old new : Held C) (text : List ℕ) (params : Row) (result : Result T DatabaseFault) (view : T → List Row) : Type 0 where
+pub record Queries {C T : Type 0} (g : Ghosts C) (old new : Held C) (text : List ℕ) (params : Row)
+    (result : Result T DatabaseFault) (view : T → List Row) : Type 0 where
   pub looked : Looked g old new
-  pub rows : IsRegister (state g old) → HasCleanDisk (state g new) → IfOk result (λ found. Answers (state g old) text params (view found))
-  pub fails : IsAsked text params → IsRegister (state g old) → FailsWith Store (state g old) (state g new) result
-
--- A statement that reads: it changes nothing, it finds what its rows show, and it does not fail for a value that a register writes.
-pub record ReadsBy {C T W : Type 0} (g : Ghosts C) (old new : Held C) (text : List ℕ) (params : Row) (result : Result T DatabaseFault)
-    (view : T → W) (Shown ShownWell : State → List ℕ → Row → W → Type 0) : Type 0 where
-  pub looked : Looked g old new
-  pub live : IsRegister (state g old) → HasCleanDisk (state g new) → OnOk result (IsTrue (state g old).is_open)
-  pub found : (wanted : W) → IsRegister (state g old) → HasCleanDisk (state g new) → Shown (state g old) text params wanted
-      → IfOk result (λ found. view found ≡ wanted)
-  pub fails : (wanted : W) → IsAsked text params → IsRegister (state g old) → ShownWell (state g old) text params wanted
+  pub rows : IsRegister (state g old) → HasCleanDisk (state g new)
+      → IfOk result (λ found. Answers (state g old) text params (view found))
+  pub fails : IsAsked text params → IsRegister (state g old)
       → FailsWith Store (state g old) (state g new) result
 
-module _ {C R : Type 0} (is_keyed has_values : R → Type 0) (shown : R → Row) (g : Ghosts C) (old new : Held C) (text : List ℕ) (params : Row) where
+-- A statement that reads: it changes nothing, it finds what its rows show, and it does not fail for a value that a register writes.
+pub record ReadsBy {C T W : Type 0} (g : Ghosts C) (old new : Held C) (text : List ℕ) (params : Row)
+    (result : Result T DatabaseFault)
+    (view : T → W) (Shown ShownWell : State → List ℕ → Row → W → Type 0) : Type 0 where
+  pub looked : Looked g old new
+  pub live : IsRegister (state g old) → HasCleanDisk (state g new)
+      → OnOk result (IsTrue (state g old).is_open)
+  pub found : (wanted : W) → IsRegister (state g old) → HasCleanDisk (state g new)
+      → Shown (state g old) text params wanted
+      → IfOk result (λ found. view found ≡ wanted)
+  pub fails : (wanted : W) → IsAsked text params → IsRegister (state g old)
+      → ShownWell (state g old) text params wanted
+      → FailsWith Store (state g old) (state g new) result
+
+module _ {C R : Type 0} (is_keyed has_values : R → Type 0) (shown : R → Row) (g : Ghosts C) (old new : Held C)
+    (text : List ℕ) (params : Row) where
   -- a statement that reads at most one row
   abbrev pub ReadsRow : Result (Option R) DatabaseFault → Type 0
   ReadsRow result =
-      ReadsBy g old new text params result (λ found. found) (ShowsRow is_keyed shown) (ShowsOneRow (λ it. is_keyed it × has_values it) shown)
+      ReadsBy g old new text params result (λ found. found) (ShowsRow is_keyed shown)
+      (ShowsOneRow (λ it. is_keyed it × has_values it) shown)
 
   -- a statement that reads exactly one row
   abbrev pub ReadsOne : Result R DatabaseFault → Type 0
   ReadsOne result =
-      ReadsBy g old new text params result (λ found. found) (ShowsOnly is_keyed shown) (ShowsOnly (λ it. is_keyed it × has_values it) shown)
+      ReadsBy g old new text params result (λ found. found) (ShowsOnly is_keyed shown)
+      (ShowsOnly (λ it. is_keyed it × has_values it) shown)
 
 -- ---- a look-up
 
 -- A look-up: it changes nothing, and `IsSo` holds of the records that the tables show and of its result, if the disk returned what was written.
 -- Over rows that a register writes, and if `MayBeAsked` holds, it reports a failure of the store only if the database failed.
-pub record FindsIf {C T : Type 0} (MayBeAsked : Records → Type 0) (g : Ghosts C) (old new : Held C) (result : Result T DatabaseFault) (IsSo : Records → T → Type 0) : Type 0 where
+pub record FindsIf {C T : Type 0} (MayBeAsked : Records → Type 0) (g : Ghosts C) (old new : Held C)
+    (result : Result T DatabaseFault) (IsSo : Records → T → Type 0) : Type 0 where
   pub looked : Looked g old new
-  pub found : (records : Records) → Shows g old records → HasCleanDisk (state g new) → IfOk result (IsSo records)
-  pub fails : (records : Records) → MayBeAsked records → ShowsWritten g old records → FailsWith Store (state g old) (state g new) result
+  pub found : (records : Records) → Shows g old records → HasCleanDisk (state g new)
+      → IfOk result (IsSo records)
+  pub fails : (records : Records) → MayBeAsked records → ShowsWritten g old records
+      → FailsWith Store (state g old) (state g new) result
 
 -- a look-up that may always be asked
-abbrev pub Finds : {C T : Type 0} → Ghosts C → Held C → Held C → Result T DatabaseFault → (Records → T → Type 0) → Type 0
+abbrev pub Finds : {C T : Type 0} → Ghosts C → Held C → Held C → Result T DatabaseFault
+    → (Records → T → Type 0) → Type 0
 Finds g old new result IsSo = FindsIf (λ records. Unit {0}) g old new result IsSo
 
 -- ---- look-ups, one after another
@@ -62,8 +76,10 @@ Finds g old new result IsSo = FindsIf (λ records. Unit {0}) g old new result Is
 -- They change nothing, and `Tells` holds of the records, if the tables show sound records, with derived tables that match them.
 pub record LooksUp {C : Type 0} (g : Ghosts C) (old new : Held C) (Tells : Records → Type 0) : Type 0 where
   pub looked : Looked g old new
-  pub found : (records : Records) → ShowsKept g old records → SoundRows records → HasCleanDisk (state g new) → Tells records
+  pub found : (records : Records) → ShowsKept g old records → SoundRows records
+      → HasCleanDisk (state g new) → Tells records
 
 -- `IsSo` holds of the records and of the result, if the look-ups succeed
-abbrev pub Learns : {C T E : Type 0} → Ghosts C → Held C → Held C → Result T E → (Records → T → Type 0) → Type 0
+abbrev pub Learns : {C T E : Type 0} → Ghosts C → Held C → Held C → Result T E
+    → (Records → T → Type 0) → Type 0
 Learns g old new result IsSo = LooksUp g old new (λ records. IfOk result (IsSo records))

@@ -28,7 +28,8 @@ command_of (Err error) = Nothing
 
 -- whatever the tables are, the text is no write that returns rows
 pub record NeverReturns (text : List ℕ) : Type 0 where
-  pub none : (schema : Schema) (compiled : Compiled) → understood schema text ≡ Ok compiled → compiled.returning ≡ None
+  pub none : (schema : Schema) (compiled : Compiled) → understood schema text ≡ Ok compiled
+      → compiled.returning ≡ None
 
 -- over the tables of a register, the text is one statement, which reads neither the clock nor the list of tables; over any tables, it has
 -- no RETURNING
@@ -50,13 +51,17 @@ abbrev pub shown_order : OrderRow → Row
 shown_order row = number row.id ∷ number row.subscriber ∷ number row.days ∷ []
 
 abbrev pub shown_certificate : CertRow → Row
-shown_certificate row = serial_value row.serial ∷ number row.order ∷ number row.not_before ∷ number row.not_after ∷ []
+shown_certificate row =
+    serial_value row.serial ∷ number row.order ∷ number row.not_before ∷ number row.not_after ∷ []
 
 abbrev pub shown_request : RequestRow → Row
-shown_request row = number row.id ∷ serial_value row.serial ∷ number (ground_index row.ground) ∷ number row.received ∷ number (cond row.declined 1 0) ∷ []
+shown_request row =
+    number row.id ∷ serial_value row.serial ∷ number (ground_index row.ground) ∷ number row.received
+    ∷ number (cond row.declined 1 0) ∷ []
 
 abbrev pub shown_revocation : RevocationRow → Row
-shown_revocation row = serial_value row.serial ∷ number row.at ∷ number row.reason ∷ number row.request ∷ number row.first ∷ []
+shown_revocation row =
+    serial_value row.serial ∷ number row.at ∷ number row.reason ∷ number row.request ∷ number row.first ∷ []
 
 abbrev pub shown_crl : CrlRow → Row
 shown_crl row = number row.number ∷ number row.this_update ∷ []

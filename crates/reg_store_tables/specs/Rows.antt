@@ -54,7 +54,8 @@ version = 3
 -- office: one, version, name, pubkey, days, crl_life, ocsp_life, cap, last_at; days is as it was first written (Shows.HasOfficeDays), and no command reads it
 abbrev pub stored_office : ℤ → Issuer → Terms → ℕ → Row
 stored_office days issuer policy last =
-    number 1 ∷ Null ∷ number version ∷ Blob issuer.name ∷ Blob issuer.key ∷ Int days ∷ number policy.crl_life ∷ number policy.ocsp_life ∷ number policy.cap ∷ number last ∷ []
+    number 1 ∷ Null ∷ number version ∷ Blob issuer.name ∷ Blob issuer.key ∷ Int days ∷ number policy.crl_life
+    ∷ number policy.ocsp_life ∷ number policy.cap ∷ number last ∷ []
 
 -- subscriber: id, name
 abbrev pub stored_subscriber : SubscriberRow → Row
@@ -66,16 +67,19 @@ stored_order row = number row.id ∷ Null ∷ number row.subscriber ∷ number r
 
 -- cert: serial, order_id, not_before, not_after
 abbrev pub stored_certificate : CertRow → Row
-stored_certificate row = serial_value row.serial ∷ number row.order ∷ number row.not_before ∷ number row.not_after ∷ []
+stored_certificate row =
+    serial_value row.serial ∷ number row.order ∷ number row.not_before ∷ number row.not_after ∷ []
 
 -- request: id, serial, ground, received, declined
 abbrev pub stored_request : RequestRow → Row
 stored_request row =
-    number row.id ∷ Null ∷ serial_value row.serial ∷ number (ground_index row.ground) ∷ number row.received ∷ number (cond row.declined 1 0) ∷ []
+    number row.id ∷ Null ∷ serial_value row.serial ∷ number (ground_index row.ground) ∷ number row.received
+    ∷ number (cond row.declined 1 0) ∷ []
 
 -- revocation: serial, at, reason, request, first_crl
 abbrev pub stored_revocation : RevocationRow → Row
-stored_revocation row = serial_value row.serial ∷ number row.at ∷ number row.reason ∷ number row.request ∷ number row.first ∷ []
+stored_revocation row =
+    serial_value row.serial ∷ number row.at ∷ number row.reason ∷ number row.request ∷ number row.first ∷ []
 
 -- crl: number, this_update, der
 abbrev pub stored_crl : Crl → Row

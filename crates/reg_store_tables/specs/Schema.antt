@@ -19,7 +19,14 @@ use Rattle.sqlite_catalog.specs.Change.{created, indexed}
 -- a column of a STRICT table, NOT NULL or one that may be NULL
 abbrev pub column_of : List ℕ → Kind → Bool → Column
 column_of name kind not_null =
-    record { name = name; kind = kind; is_strict = true; not_null = not_null; default = Null; collation = Binary }
+    record {
+      name = name;
+      kind = kind;
+      is_strict = true;
+      not_null = not_null;
+      default = Null;
+      collation = Binary;
+    }
 
 abbrev pub required : List ℕ → Kind → Column
 required name kind = column_of name kind true
@@ -40,7 +47,8 @@ refers place parent parent_column = record {
 }
 
 -- a table: its columns, the column that is its rowid, the columns of its PRIMARY KEY and of each UNIQUE, its CHECKs and references
-abbrev pub table_of : List ℕ → ℕ → List Column → Option ℕ → List ℕ → List (List ℕ) → List Term → List Reference → Table
+abbrev pub table_of : List ℕ → ℕ → List Column → Option ℕ → List ℕ → List (List ℕ) → List Term
+    → List Reference → Table
 table_of name tree columns key primary uniques checks references = record {
   name = name;
   tree = tree;
@@ -75,7 +83,9 @@ office = table_of (codes "office") 0
     (Some 0) (0 ∷ []) [] only_one []
 
 abbrev pub subscriber : Table
-subscriber = table_of (codes "subscriber") 1 (key_column (codes "id") ∷ required (codes "name") Text ∷ []) (Some 0) (0 ∷ []) ((2 ∷ []) ∷ []) [] []
+subscriber =
+    table_of (codes "subscriber") 1 (key_column (codes "id") ∷ required (codes "name") Text ∷ []) (Some 0)
+    (0 ∷ []) ((2 ∷ []) ∷ []) [] []
 
 abbrev pub orders : Table
 orders = table_of (codes "orders") 3
@@ -109,7 +119,8 @@ revocation = table_of (codes "revocation") 8
     ∷ required (codes "request") Integer
     ∷ required (codes "first_crl") Integer
     ∷ [])
-    None (1 ∷ []) ((1 ∷ []) ∷ (4 ∷ []) ∷ []) [] (refers 1 (codes "cert") (codes "serial") ∷ refers 4 (codes "request") (codes "id") ∷ [])
+    None (1 ∷ []) ((1 ∷ []) ∷ (4 ∷ []) ∷ []) []
+    (refers 1 (codes "cert") (codes "serial") ∷ refers 4 (codes "request") (codes "id") ∷ [])
 
 abbrev pub crl : Table
 crl = table_of (codes "crl") 11
@@ -118,7 +129,8 @@ crl = table_of (codes "crl") 11
 
 abbrev pub standing : Table
 standing = table_of (codes "standing") 12
-    (required (codes "serial") Blob ∷ required (codes "not_after") Integer ∷ required (codes "state") Text ∷ [])
+    (required (codes "serial") Blob ∷ required (codes "not_after") Integer
+    ∷ required (codes "state") Text ∷ [])
     None (1 ∷ []) ((1 ∷ []) ∷ []) [] (refers 1 (codes "cert") (codes "serial") ∷ [])
 
 abbrev pub kept : Table
@@ -148,7 +160,8 @@ longest = table_of (codes "longest") 17
 
 -- the indexes crl (number, this_update) and standing (state, not_after), by the numbers of their columns
 abbrev pub index_of : List ℕ → Table → List ℕ → Index
-index_of name table places = record { name = name; tree = 0; table = table.tree; columns = places; order = plain; is_unique = false }
+index_of name table places =
+    record { name = name; tree = 0; table = table.tree; columns = places; order = plain; is_unique = false }
 
 abbrev pub crl_at : Index
 crl_at = index_of (codes "crl_at") crl (0 ∷ 2 ∷ [])
@@ -161,7 +174,9 @@ no_schema = record { tables = []; indexes = []; views = [] }
 
 -- the tables of the records, in the order in which they are made
 abbrev pub record_tables : Schema
-record_tables = created (created (created (created (created (created (created no_schema office) subscriber) orders) cert) request) revocation) crl
+record_tables =
+    created (created (created (created (created (created (created no_schema office) subscriber) orders) cert)
+    request) revocation) crl
 
 -- and then the derived tables
 abbrev pub kept_tables : Schema

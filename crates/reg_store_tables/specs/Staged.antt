@@ -19,7 +19,9 @@ AreBefore moment steps = AllByRecursion (λ step. step.0 < moment) steps
 
 -- a step is inserted after those with earlier moments
 abbrev pub AddsStep : ℕ → ℕ → Database → Database → Type 0
-AddsStep from days old new = (base : Trees) (steps : List (ℕ × ℕ)) → AreBefore from steps → IsStaged base steps old → IsStaged base (steps ++ (from, days) ∷ []) new
+AddsStep from days old new =
+    (base : Trees) (steps : List (ℕ × ℕ)) → AreBefore from steps → IsStaged base steps old
+    → IsStaged base (steps ++ (from, days) ∷ []) new
 
 -- all steps are inserted into an empty table
 abbrev pub AddsSteps : List (ℕ × ℕ) → Database → Database → Type 0

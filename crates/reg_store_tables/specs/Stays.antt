@@ -42,7 +42,8 @@ pub record Stepped {S : Type 0} (g : Ghosts S) (old new : Transaction S) : Type 
 
 -- A change: if it succeeds, the connection is open; an error leaves the tables as they were; a stop leaves what it would have
 -- left before, or the whole change.
-pub record Changed {S T E : Type 0} (g : Ghosts S) (old new : Held S) (Made : Trees → Type 0) (result : Result T E) : Type 0 where
+pub record Changed {S T E : Type 0} (g : Ghosts S) (old new : Held S) (Made : Trees → Type 0)
+    (result : Result T E) : Type 0 where
   pub live : HasCleanDisk (state g new) → OnOk result (IsTrue (state g new).is_open)
   pub err : IsRegister (state g old) → OnErr result (Stays (state g old) (state g new))
   pub survives : Survives (state g old) (state g new) Made

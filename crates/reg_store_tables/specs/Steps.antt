@@ -35,7 +35,8 @@ module _ {S : Type 0} (g : Ghosts S) (old new : Transaction S) where
   abbrev pub Yields : {T E : Type 0} → Result T E → (T → Database → Database → Type 0) → Type 0
   Yields result Leads =
       HasCleanDisk (state g new.conn.now)
-      → IfOk result (λ given. Moves (state g old.conn.now) (state g new.conn.now) (Leads given (state g old.conn.now).now))
+      → IfOk result (λ given.
+      Moves (state g old.conn.now) (state g new.conn.now) (Leads given (state g old.conn.now).now))
 
   -- `Yields` for a step without a value
   abbrev pub Makes : {T E : Type 0} → Result T E → (Database → Database → Type 0) → Type 0
@@ -57,17 +58,21 @@ module _ {S : Type 0} (g : Ghosts S) (old new : Transaction S) where
   abbrev pub Asks : {T E : Type 0} → Result T E → (T → Database → Type 0) → Type 0
   Asks result Told =
       HasCleanDisk (state g new.conn.now)
-      → IfOk result (λ told. IsUnchanged (state g old.conn.now) (state g new.conn.now) × Told told (state g old.conn.now).now)
+      → IfOk result (λ told. IsUnchanged (state g old.conn.now) (state g new.conn.now)
+      × Told told (state g old.conn.now).now)
 
 -- if the tables show records that fit, with some derived tables, they then show these records and derived tables
-abbrev pub TurnsWhere : (Records → Type 0) → (Records → Records) → (Columns → Columns) → Database → Database → Type 0
+abbrev pub TurnsWhere : (Records → Type 0) → (Records → Records) → (Columns → Columns) → Database
+    → Database → Type 0
 TurnsWhere Fits records_after columns_after old new =
-    (records : Records) (columns : Columns) → Fits records → AreBoth old records columns → AreBoth new (records_after records) (columns_after columns)
+    (records : Records) (columns : Columns) → Fits records → AreBoth old records columns
+    → AreBoth new (records_after records) (columns_after columns)
 
 -- `TurnsWhere` for any records
 abbrev pub Turns : (Records → Records) → (Columns → Columns) → Database → Database → Type 0
 Turns records_after columns_after old new =
-    (records : Records) (columns : Columns) → AreBoth old records columns → AreBoth new (records_after records) (columns_after columns)
+    (records : Records) (columns : Columns) → AreBoth old records columns
+    → AreBoth new (records_after records) (columns_after columns)
 
 -- the records become these, and the derived tables stay
 abbrev pub TurnsRecords : (Records → Records) → Database → Database → Type 0
@@ -80,4 +85,5 @@ TurnsColumns columns_after = Turns (λ records. records) columns_after
 -- `TurnsColumns`, with the number of rows that change
 abbrev pub TurnsCounted : (Columns → Columns) → (Columns → ℕ) → ℕ → Database → Database → Type 0
 TurnsCounted columns_after turned count old new =
-    (records : Records) (columns : Columns) → AreBoth old records columns → AreBoth new records (columns_after columns) × (count ≡ turned columns)
+    (records : Records) (columns : Columns) → AreBoth old records columns
+    → AreBoth new records (columns_after columns) × (count ≡ turned columns)

@@ -26,7 +26,8 @@ impl<S: Alter> Tables<S> {
     /// The DER of a CRL, by its number.
     pub fn crl(&mut self, number: u64) -> Result<Option<Vec<u8>>, DatabaseFault>
         ensures { Finds S.Store self.old self.new result (λ records der.
-            option_map (λ bytes. bytes.items) der ≡ option_map (λ crl. crl.bytes) (crl_in records.crls number)) }
+            option_map (λ bytes. bytes.items) der
+            ≡ option_map (λ crl. crl.bytes) (crl_in records.crls number)) }
     {
         crl(&mut self.connection, number)
     }

@@ -107,7 +107,8 @@ fn responding_in(alloc: Global, row: &Row) -> Result<(Moment, Issuer, u64), Data
 
 fn terms<S: Alter>(conn: &mut Connection<S>) -> Result<(u64, u64, u64), DatabaseFault>
     ensures { Finds S.Store conn.old conn.new result (λ records terms.
-        (terms.0 ≡ records.policy.crl_life) × (terms.1 ≡ records.policy.ocsp_life) × (terms.2 ≡ records.policy.cap)) }
+        (terms.0 ≡ records.policy.crl_life) × (terms.1 ≡ records.policy.ocsp_life)
+        × (terms.2 ≡ records.policy.cap)) }
 {
     look_up_one::<S, Terms>(conn, TERMS, &[])
 }

@@ -28,7 +28,8 @@ fn undeclined_of<S: Alter>(
     most: u64,
 ) -> Result<u64, DatabaseFault>
     ensures { FindsIf (λ _. most < 2 ^ 63) S.Store conn.old conn.new result (λ records count.
-        count ≡ min most (length (filter (λ row. not row.declined && (row.serial == serial)) records.requests))) }
+        count ≡ min most (length
+        (filter (λ row. not row.declined && (row.serial == serial)) records.requests))) }
 {
     let limit = sql_number(most)?;
     let newest = read(
@@ -74,7 +75,8 @@ impl<S: Alter> Tables<S> {
 
     fn is_late(&mut self, request: RequestRow, now: Moment) -> Result<bool, DatabaseFault>
         ensures { FindsIf (λ records. IsSome (certificate_in records.certificates request.serial))
-            S.Store self.old self.new result (λ records late. late ≡ (is_good (status records request.serial now) && nat_lt (deadline request) now)) }
+            S.Store self.old self.new result (λ records late.
+            late ≡ (is_good (status records request.serial now) && nat_lt (deadline request) now)) }
     {
         let deadline = request.received.secs() + request.ground.limit_secs();
         let is_past = deadline < now.secs();
@@ -115,7 +117,8 @@ impl<S: Alter> Tables<S> {
     /// How many requests for a serial number are open at a moment, at most `most` of them. `Store` too for a `most` above 2^63 - 1.
     pub fn open_of(&mut self, serial: Serial, now: Moment, most: u64) -> Result<u64, DatabaseFault>
         ensures { FindsIf (λ _. most < 2 ^ 63) S.Store self.old self.new result (λ records count.
-            count ≡ min most (length (filter (λ row. (row.serial == serial) && is_open records now row) records.requests))) }
+            count ≡ min most (length
+            (filter (λ row. (row.serial == serial) && is_open records now row) records.requests))) }
     {
         let certificate = self.cert(serial)?;
         let revoked = self.revocation(serial)?;

@@ -68,7 +68,8 @@ impl<S: Alter> Tables<S> {
 
     /// The CRLs past a number, without their bytes, in ascending order. `Store` too for a number above 2^63 - 1.
     pub fn crls_after(&mut self, after: u64, most: u64) -> Result<Vec<CrlRow>, DatabaseFault>
-        ensures { FindsIf (λ _. (after < 2 ^ 63) × (most < 2 ^ 63)) S.Store self.old self.new result (λ records found.
+        ensures { FindsIf (λ _. (after < 2 ^ 63) × (most < 2 ^ 63))
+            S.Store self.old self.new result (λ records found.
             found.items ≡ map row_of (take most (past (λ crl. crl.number) after records.crls))) }
     {
         let limit = sql_number(most)?;

@@ -32,7 +32,8 @@ pub(crate) fn look_up<S: Alter, T: ShownRow>(
     params: &[ValueRef<'_>],
 ) -> Result<Option<T::Record>, DatabaseFault>
     ensures reads { IsReading sql.now
-        → ReadsRow T.is_keyed T.has_values T.shown S.Store conn.old conn.new sql.now (bound params.now) result }
+        → ReadsRow T.is_keyed T.has_values T.shown S.Store conn.old conn.new sql.now
+        (bound params.now) result }
     ensures idle { conn.old.in_transaction ≡ false → conn.new.in_transaction ≡ false }
 {
     let rows = read(conn, sql, params)?;
@@ -46,7 +47,8 @@ pub(crate) fn look_up_one<S: Alter, T: ShownRow>(
     params: &[ValueRef<'_>],
 ) -> Result<T::Record, DatabaseFault>
     ensures reads { IsReading sql.now
-        → ReadsOne T.is_keyed T.has_values T.shown S.Store conn.old conn.new sql.now (bound params.now) result }
+        → ReadsOne T.is_keyed T.has_values T.shown S.Store conn.old conn.new sql.now
+        (bound params.now) result }
     ensures idle { conn.old.in_transaction ≡ false → conn.new.in_transaction ≡ false }
 {
     let found = look_up::<S, T>(conn, sql, params)?;

@@ -43,7 +43,8 @@ fn earliest_above<S: Alter>(
     number: u64,
 ) -> Result<Option<Moment>, DatabaseFault>
     ensures { FindsIf (λ _. number < 2 ^ 63) S.Store conn.old conn.new result
-        (λ records at. IsTrue (state S.Store conn.old).is_open × (at ≡ earliest (filter (λ row. nat_lt number row.first) records.revocations))) }
+        (λ records at. IsTrue (state S.Store conn.old).is_open
+        × (at ≡ earliest (filter (λ row. nat_lt number row.first) records.revocations))) }
 {
     let value = sql_number(number)?;
     look_up::<S, ClockMoment>(conn, EARLIEST_ABOVE, params![&value])

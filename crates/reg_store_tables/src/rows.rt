@@ -318,7 +318,8 @@ pub fn rows_in<T: ShownRow>(alloc: Global, rows: &[Row]) -> Result<Vec<T::Record
     ensures read { (shown : List T.Record) → AllByRecursion T.is_keyed shown → rows.now ≡ map T.shown shown
         → IfOk result (λ read. read.items ≡ shown) }
     ensures has { (shown : List T.Record) → AllByRecursion T.is_keyed shown
-        → AllByRecursion T.has_values shown → rows.now ≡ map T.shown shown → IfErr result (λ why. why ≡ Unshown.Memory) }
+        → AllByRecursion T.has_values shown → rows.now ≡ map T.shown shown
+        → IfErr result (λ why. why ≡ Unshown.Memory) }
 {
     let mut found = Vec::new(alloc);
     for row in rows {
@@ -335,7 +336,8 @@ pub(crate) fn row_in<T: ShownRow>(rows: &[Row]) -> Result<Option<T::Record>, Dat
     ensures read { (wanted : Option T.Record) → IsRowOf T.is_keyed T.shown rows.now wanted
         → IfOk result (λ found. found ≡ wanted) }
     ensures has { (wanted : Option T.Record)
-        → IsRowOf (λ it. T.is_keyed it × T.has_values it) T.shown rows.now wanted → OnErr result (2 ≤ length rows.now) }
+        → IsRowOf (λ it. T.is_keyed it × T.has_values it) T.shown rows.now wanted
+        → OnErr result (2 ≤ length rows.now) }
 {
     match rows {
         [] => Ok(None),

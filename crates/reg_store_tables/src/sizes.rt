@@ -61,7 +61,8 @@ pub(crate) fn none_past<S: Alter, T>(
     number: u64,
 ) -> Result<Option<T>, DatabaseFault>
     ensures { FindsIf (λ _. 2 ^ 63 ≤ number) S.Store conn.old conn.new result
-        (λ records found. (found ≡ None) × IsTrue (state S.Store conn.old).is_open × (rows_of records table < number)) }
+        (λ records found. (found ≡ None) × IsTrue (state S.Store conn.old).is_open
+        × (rows_of records table < number)) }
 {
     let rows = held(conn, table)?;
     if rows < number {

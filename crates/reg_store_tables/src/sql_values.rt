@@ -39,7 +39,8 @@ pub(crate) fn sql_number(n: u64) -> Result<Value, DatabaseFault>
 /// The number in a column.
 pub fn number_at(row: &Row, at: usize) -> Option<u64>
     ensures read { (n : ℕ) → column row.now at ≡ number n → IsSomeAnd result (λ read. read ≡ n) }
-    ensures told { MatchOption result ((n : ℕ) → column row.now at ≢ number n) (λ n. column row.now at ≡ number n) }
+    ensures told { MatchOption result ((n : ℕ) → column row.now at ≢ number n)
+        (λ n. column row.now at ≡ number n) }
 {
     match row.get_ref(at) {
         Ok(ValueRef::Int(n)) => match u64::try_from(n) {
@@ -176,7 +177,8 @@ pub fn reason_at(row: &Row, at: usize) -> Option<u8>
 pub fn bytes_at(row: &Row, at: usize) -> Option<&[u8]>
     ensures read { (bytes : List ℕ) → column row.now at ≡ Blob bytes
         → IsSomeAnd result (λ read. read.now ≡ bytes) }
-    ensures told { MatchOption result ((bytes : List ℕ) → column row.now at ≢ Blob bytes) (λ bytes. column row.now at ≡ Blob bytes.now) }
+    ensures told { MatchOption result ((bytes : List ℕ) → column row.now at ≢ Blob bytes)
+        (λ bytes. column row.now at ≡ Blob bytes.now) }
 {
     match row.get_ref(at) {
         Ok(ValueRef::Blob(bytes)) => Some(bytes),

@@ -22,7 +22,8 @@ impl<S: Alter> Tables<S> {
     /// How many registered certificates are good, revoked and expired at a moment, which must not be before the last accepted one.
     pub fn counts(&mut self, now: Moment) -> Result<Counts, DatabaseFault>
         ensures { Finds S.Store self.old self.new result (λ records found.
-            ShowsKept S.Store self.old records → SoundRows records → records.last ≤ now → found ≡ status.counts records now) }
+            ShowsKept S.Store self.old records → SoundRows records → records.last ≤ now
+            → found ≡ status.counts records now) }
     {
         let kept = kept_counts(&mut self.connection)?;
         let ended = ended_before(&mut self.connection, now)?;
