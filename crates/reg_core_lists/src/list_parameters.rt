@@ -157,7 +157,7 @@ fn with_after(params: Params, value: &[u8]) -> Option<Params>
     if params.after.is_some() {
         return None;
     }
-    let after = Some(read_key(value)?);
+    let after = Some(read_label(value)?);
     Some(Params { after, ..params })
 }
 
@@ -207,7 +207,7 @@ fn filtered_by_name(filter: Filter, value: &[u8]) -> Option<Filter>
     if filter.subscriber.is_some() {
         return None;
     }
-    let subscriber = Some(read_key(value)?);
+    let subscriber = Some(read_label(value)?);
     Some(Filter {
         subscriber,
         ..filter
@@ -244,7 +244,8 @@ fn filtered_to(filter: Filter, value: &[u8]) -> Option<Filter>
     Some(Filter { to, ..filter })
 }
 
-fn read_key(text: &[u8]) -> Option<Label>
+/// The label with these bytes; `None` if there are no bytes, or more than 64.
+pub fn read_label(text: &[u8]) -> Option<Label>
     ensures { result ≡ label_of text.now }
 {
     Label::of(text)
@@ -255,7 +256,7 @@ pub fn read_prefix(text: &[u8]) -> Option<Label>
     ensures { result ≡ prefix_of text.now }
 {
     if are_digits(text) && text.len() <= MOST_DIGITS {
-        read_key(text)
+        read_label(text)
     } else {
         None
     }
@@ -267,7 +268,8 @@ fn are_digits(text: &[u8]) -> bool
     text.iter().all(|digit| digit.is_ascii_hexdigit())
 }
 
-fn read_moment(text: &[u8]) -> Option<Moment>
+/// The moment with this text, as [`Moment::read`] reads it.
+pub fn read_moment(text: &[u8]) -> Option<Moment>
     ensures { result ≡ moment_of text.now }
 {
     Moment::read(text)

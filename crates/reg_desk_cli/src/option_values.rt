@@ -2,7 +2,6 @@
 
 ghost use Rattle.std.specs.Prelude.{◌≡◌, ◌≤◌, ◌==◌, IfOk, IfSome, List, ℕ, map, option_and_then, option_map, position};
 ghost use Rattle.reg_core.specs.Calendar.{moment_of};
-ghost use Rattle.reg_core_lists.specs.ListParameters.{label_of};
 ghost use Rattle.clap.specs.Words.{all_of, first_of, found_of, rows_of};
 ghost use Rattle.reg_desk_cli.specs.Jobs.{answerer_in, answerer_by, given, value_or_usual, chosen, filter_in, has_own_key, holder_by_options, holder_chosen, holder_in, has_flag, label_given, loopback_in, loopback_named, moment_given, number_in, order_terms_given, prefix_given, way_in};
 ghost use Rattle.reg_desk_cli.specs.WordValues.{order_terms_of, step_of, step_from, steps_of, within};
@@ -11,7 +10,7 @@ use crate::job::{Answerer, KeyHolder, Loopback, OrderTerms, Way};
 use crate::word::{Steps, Word};
 use clap::ArgMatches;
 use reg_core::{Label, Moment, read_number};
-use reg_core_lists::{Filter, read_prefix};
+use reg_core_lists::{Filter, read_label, read_moment, read_prefix};
 use reg_crl_signer::Algorithm;
 use std::alloc::{AllocError, Global};
 
@@ -137,12 +136,6 @@ pub(crate) fn label_option(matches: &ArgMatches<'_>, id: &str) -> Option<Option<
         Some(text) => Some(Some(read_label(text.as_bytes())?)),
         None => Some(None),
     }
-}
-
-fn read_label(text: &[u8]) -> Option<Label>
-    ensures { result ≡ label_of text.now }
-{
-    Label::of(text)
 }
 
 /// The hexadecimal digits of an option, if it is given; `None` if it is not 1 to 40 of them.
@@ -340,10 +333,4 @@ fn step_by(from: &[u8], days: &[u8]) -> Option<(Moment, u64)>
 {
     let days = read_number(days)?;
     Some((read_moment(from)?, days))
-}
-
-fn read_moment(text: &[u8]) -> Option<Moment>
-    ensures { result ≡ moment_of text.now }
-{
-    Moment::read(text)
 }

@@ -2,7 +2,6 @@
 //! it, at the control socket of an open desk.
 
 ghost use Rattle.std.specs.Prelude.{◌≡◌, ◌<◌, ◌==◌, ◌↔◌, IfErr, IfOk, IfSome, IsTrue, length, option_map, position};
-ghost use Rattle.reg_core_lists.specs.ListParameters.{label_of};
 ghost use Rattle.reg_desk_jobs.specs.Conversations.{IsOfTalk};
 ghost use Rattle.reg_desk_jobs.specs.RowTasks.{AnswersRow, IsRowDone, LineReplied, OrdersRow, RegistersRow, RevokesRow, SendsRows, SendsRowsAt, SendsRowsOver, has_first_word, header_of, is_passed_over, link_of, parted_by_comma, registration_row_in, revocation_row_in, row_order, row_registration, row_request, row_revocation, row_status};
 
@@ -11,8 +10,8 @@ use crate::log_entries::{first_word, second_word};
 use crate::log_lines::{put_number, put_word};
 use crate::machine::Machine;
 use crate::output_lines::print_text;
-use crate::syntax::read_moment;
 use reg_core::{Fault, Label, Moment, Serial};
+use reg_core_lists::{read_label, read_moment};
 use reg_desk_cli::{Failure, OrderTerms, RowTask};
 use reg_lines::{is_accepted, without_end};
 use std::alloc::{AllocError, Global};
@@ -281,12 +280,6 @@ fn first_comma(text: &[u8]) -> Option<usize>
     ensures within { IfSome result (λ comma. comma < length text.now) }
 {
     text.iter().position(|byte| *byte == b',')
-}
-
-fn read_label(text: &[u8]) -> Option<Label>
-    ensures { result ≡ label_of text.now }
-{
-    Label::of(text)
 }
 
 fn request_line(alloc: Global, row: &RevocationRow) -> Result<Vec<u8>, AllocError>

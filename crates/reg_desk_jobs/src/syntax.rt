@@ -6,7 +6,8 @@ ghost use Rattle.reg_core_lists.specs.ListParameters.{label_of};
 ghost use Rattle.reg_desk_jobs.specs.Syntax.{fields_wanted, first_wrong, form_text, is_written, name_text, wrong_in, wrong_text};
 ghost use Rattle.reg_lines.specs.Fields.{fields_of};
 
-use reg_core::{Label, Moment, Serial, read_number};
+use reg_core::{Label, Serial, read_number};
+use reg_core_lists::read_moment;
 use reg_lines::Fields;
 use std::alloc::{AllocError, Global};
 
@@ -125,12 +126,6 @@ fn is_moment(text: &[u8]) -> bool
     ensures { result ≡ is_some (moment_of text.now) }
 {
     read_moment(text).is_some()
-}
-
-pub(crate) fn read_moment(text: &[u8]) -> Option<Moment>
-    ensures { result ≡ moment_of text.now }
-{
-    Moment::read(text)
 }
 
 pub(crate) fn wrong_words(alloc: Global, wrong: WrongField) -> Result<Vec<u8>, AllocError>

@@ -1,14 +1,13 @@
 //! Reads a line at the control socket.
 
 ghost use Rattle.std.specs.Prelude.{◌≡◌, IfOk};
-ghost use Rattle.reg_core.specs.Calendar.{moment_of};
-ghost use Rattle.reg_core_lists.specs.ListParameters.{label_of};
 ghost use Rattle.reg_desk_cli.specs.WordValues.{steps_of};
 ghost use Rattle.reg_desk_jobs.specs.ControlWords.{IsWord, accepted_by_word, accepted_in, serial_decision_by, serial_decision_in, shown_by, shown_in, steps_set};
 ghost use Rattle.reg_lines.specs.Fields.{fields_of};
 
 use crate::copy_job::{is_copy_line, path_in};
 use reg_core::{Command, Label, Moment, Serial, read_number};
+use reg_core_lists::{read_label, read_moment};
 use reg_desk_cli::{Steps, read_step};
 use reg_lines::{Fields, command_in, without_end};
 use std::alloc::{AllocError, Global};
@@ -113,16 +112,10 @@ fn read_shown(mut fields: Fields<'_>) -> Option<Shown>
     if first == b"request".as_slice() {
         Some(Shown::Request(read_number(second)?))
     } else if first == b"subscriber".as_slice() {
-        Some(Shown::Subscriber(read_name(second)?))
+        Some(Shown::Subscriber(read_label(second)?))
     } else {
         None
     }
-}
-
-fn read_name(text: &[u8]) -> Option<Label>
-    ensures { result ≡ label_of text.now }
-{
-    Label::of(text)
 }
 
 pub(crate) fn serial_decision_in(text: &[u8]) -> Option<SerialDecision>
@@ -178,12 +171,6 @@ fn read_accepted(word: &[u8], moment: &[u8]) -> Option<Moment>
     } else {
         None
     }
-}
-
-fn read_moment(text: &[u8]) -> Option<Moment>
-    ensures { result ≡ moment_of text.now }
-{
-    Moment::read(text)
 }
 
 fn steps_in(alloc: Global, text: &[u8]) -> Result<Option<Steps>, AllocError>

@@ -16,6 +16,7 @@ use base64::engine::general_purpose::STANDARD;
 use http::Method;
 use percent_encoding::percent_decode;
 use reg_core::{Label, Memory, Serial, read_number};
+use reg_core_lists::read_label;
 use reg_http_head::status;
 use serde_json::{Category, Error, Value};
 use std::alloc::Global;
@@ -103,16 +104,10 @@ fn serial_in(value: &Value) -> Option<Serial>
     Serial::read(string_at(value, "serial")?.as_bytes())
 }
 
-fn label_of(text: &[u8]) -> Option<Label>
-    ensures { result ≡ label_in text.now }
-{
-    Label::of(text)
-}
-
 fn word_in(value: &Value) -> Option<Label>
     ensures { result ≡ option_and_then label_in (text_at (codes "ground") (view value.now)) }
 {
-    label_of(string_at(value, "ground")?.as_bytes())
+    read_label(string_at(value, "ground")?.as_bytes())
 }
 
 #[tactic(auto, unfolding(crate::specs::RoutedRequests::wanted_in))]
