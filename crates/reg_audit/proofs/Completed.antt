@@ -4,8 +4,8 @@ use Rattle.sqlite_trees.specs.declared.store.Store.{Ghosts}
 use Rattle.sqlite.specs.Effect.{Database}
 use Rattle.sqlite.specs.Held.{Held}
 use Rattle.reg_core.specs.Records.{Records}
-use Rattle.reg_store_tables.specs.Columns.{Columns, office_days}
-use Rattle.reg_store_tables.specs.Shows.{AreBoth, Holds, ShowsBoth}
+use Rattle.reg_store_tables.specs.DerivedRows.{DerivedRows, office_days}
+use Rattle.reg_store_tables.specs.Shows.{AreRecordsAndDerived, Holds, ShowsBoth}
 use Rattle.reg_audit.specs.Complete.{AreTables, AreCounts, AreOffice, ShowSome, SubscribersAgree, OrdersAgree, CertificatesAgree, RequestsAgree, RevocationsAgree, CrlsAgree, LettersAgree, ListingsAgree}
 use Rattle.reg_audit.specs.Faults.{EndsAtBrokenRow, IsDenied}
 use Rattle.reg_audit.specs.declared.fault.AuditFault.{AuditFault}
@@ -61,11 +61,11 @@ some_shown db are office subscribers orders certificates requests revocations cr
 }
 
 -- what the tables show that a connection has, it shows
-pub holds_both : {S : Type 0} (g : Ghosts S) (h : Held S) (db : Database) (records : Records) (columns : Columns) → Holds g h (λ now. now ≡ db) → AreBoth db records columns → ShowsBoth g h records columns
-holds_both g h db records columns these both = record { saved = these.saved; tables = λ clean up. subst (λ now. AreBoth now records columns) (sym (these.tables clean up)) both }
+pub holds_both : {S : Type 0} (g : Ghosts S) (h : Held S) (db : Database) (records : Records) (columns : DerivedRows) → Holds g h (λ now. now ≡ db) → AreRecordsAndDerived db records columns → ShowsBoth g h records columns
+holds_both g h db records columns these both = record { saved = these.saved; tables = λ clean up. subst (λ now. AreRecordsAndDerived now records columns) (sym (these.tables clean up)) both }
 
 -- an audit that tells no row as broken denies nothing
-pub not_broken_denied : (records : Records) (columns : Columns) (fault : AuditFault) → (EndsAtBrokenRow fault → ⊥) → IsDenied fault records columns
+pub not_broken_denied : (records : Records) (columns : DerivedRows) (fault : AuditFault) → (EndsAtBrokenRow fault → ⊥) → IsDenied fault records columns
 not_broken_denied records columns Memory never = tt
 not_broken_denied records columns Store never = tt
 not_broken_denied records columns (Broken row) never = absurd (never tt)

@@ -14,13 +14,13 @@ use Rattle.reg_core.specs.Records.{Records, Crl, crl_in}
 use Rattle.reg_core.specs.Sound.{NumberedFrom, KeysDiffer, CrlsSigned, SoundRows}
 use Rattle.reg_core.specs.declared.rows.CrlRow.{CrlRow}
 use Rattle.reg_core_laws.proofs.PublicLaws.{revocations_within, all_map, all_weaker, each_found}
-use Rattle.reg_store_tables.specs.Columns as column
-use Rattle.reg_store_tables.specs.Columns.{Columns}
+use Rattle.reg_store_tables.specs.DerivedRows as column
+use Rattle.reg_store_tables.specs.DerivedRows.{DerivedRows}
 use Rattle.reg_store_tables.specs.Kept.{Kept, listed_of}
 use Rattle.reg_store_tables.proofs.PublicLaws.{mapped}
 use Rattle.reg_audit_rows.proofs.PublicLaws.{keys_made}
 use Rattle.reg_audit_rows.specs.KeptAsRead.{listed_in}
-use Rattle.reg_audit_rows.specs.declared.kept.Listed.{Listed}
+use Rattle.reg_audit_rows.specs.declared.derived_rows.Listed.{Listed}
 use Rattle.reg_audit.proofs.Signed.{numbers_differ}
 use Rattle.reg_audit.specs.Faults.{EndsAtBrokenRow, IsBrokenRow, IsDenied}
 use Rattle.reg_audit.specs.Stored.{CanList, IsSomeCrl, IsStored}
@@ -81,7 +81,7 @@ differ_mapped f key (row ∷ rest) differ = (unmapped f (λ other. key (f row) �
     unmapped f P (row ∷ rest) all = (all.0, unmapped f P rest all.1)
 
 -- what was read of the listings can be listed, where the records are sound and what is kept follows from them
-pub can_list : {listed : List Listed} (records : Records) (columns : Columns) → IsPolicy records.policy → SoundRows records → Kept columns records → map listed_in listed ≡ columns.listed → CanList listed
+pub can_list : {listed : List Listed} (records : Records) (columns : DerivedRows) → IsPolicy records.policy → SoundRows records → Kept columns records → map listed_in listed ≡ columns.listed → CanList listed
 can_list {listed} records columns policy sound kept are =
     let made = map (listed_of records) records.revocations in
     let same : IsPermutation made (map listed_in listed) = subst (IsPermutation made) (sym are) kept.listed in
@@ -121,7 +121,7 @@ updates_before records sound =
 
 -- ---- what is denied
 
-module _ (records : Records) (columns : Columns) where
+module _ (records : Records) (columns : DerivedRows) where
   -- where the rows are no sound records
   pub rows_denied : (fault : AuditFault) → (EndsAtBrokenRow fault → ¬ (HasValues records × SoundRows records × Kept columns records)) → IsDenied fault records columns
   rows_denied Memory never = tt

@@ -14,8 +14,8 @@ use Rattle.reg_audit_rows.specs.declared.audit_result.AuditResult.{AuditResult}
 use Rattle.reg_audit_rows.specs.declared.audit_result.AuditResult.TheVariants as audit_result
 use Rattle.reg_audit.specs.declared.fault.AuditFault.{AuditFault}
 use Rattle.reg_audit.specs.declared.fault.AuditFault.TheVariants as audit_fault
-use Rattle.reg_store_opening.specs.Examined.{SaysFound}
-use Rattle.reg_store_opening.specs.Said.{HasVersion, SaysNoRegister}
+use Rattle.reg_store_opening.specs.Examined.{HasVersionAndOffice}
+use Rattle.reg_store_opening.specs.VersionAndOffice.{HasVersion, HasNoRegister}
 use Rattle.reg_store_opening.specs.declared.version_check.OlderOffice.{OlderOffice}
 use Rattle.reg_audit.specs.Judged.{IsJudged}
 use Rattle.reg_audit.specs.AuditResults.{ReportsTables, audit_result_of}
@@ -33,7 +33,7 @@ module _ {S : Type 0} (g : Ghosts S) (old new : Held S) (same : Stays (state g o
   pub failed_first :
       (result : Result AuditResult StoreFault) (why : StoreFault) → IsErrAnd result (λ told. told ≡ why)
       → (HasCleanDisk (state g new) → fails_by why ≡ Err fault.NewVersion → (n : ℕ) × (3 < n) × HasVersion (state g old).now n)
-      → (HasCleanDisk (state g new) → fails_by why ≡ Err fault.NotARegister → SaysNoRegister (state g old).now)
+      → (HasCleanDisk (state g new) → fails_by why ≡ Err fault.NotARegister → HasNoRegister (state g old).now)
       → why ≢ fault.NotEmpty → IsJudged g old new result
   failed_first (Ok answer) why is newer none other = absurd is
   failed_first (Err told) why is newer none other = record {
@@ -83,19 +83,19 @@ module _ {S : Type 0} (g : Ghosts S) (old new : Held S) (same : Stays (state g o
   }
 
 -- an older version that was found is told
-pub says_older : (db : Database) (found : Option OlderOffice) → is_some found ≡ true → SaysFound db found → ReportsTables audit_result.Older db
+pub says_older : (db : Database) (found : Option OlderOffice) → is_some found ≡ true → HasVersionAndOffice db found → ReportsTables audit_result.Older db
 says_older db None some says = absurd (let bad : ⊥ = cc in bad)
 says_older db (Some older) some says = (older, says)
 
 -- rows that were looked at are those of the program's version, in a register's tables
-told_of : (db : Database) (audited : Result Audited AuditFault) → SaysFound db None × (db.schema ≡ register_schema) → IfOk (audit_result_of audited) (λ answer. ReportsTables answer db)
+told_of : (db : Database) (audited : Result Audited AuditFault) → HasVersionAndOffice db None × (db.schema ≡ register_schema) → IfOk (audit_result_of audited) (λ answer. ReportsTables answer db)
 told_of db (Ok found) says = says
 told_of db (Err (audit_fault.Broken broken)) says = says
 told_of db (Err audit_fault.Memory) says = tt
 told_of db (Err audit_fault.Store) says = tt
 
 pub tells_said : (db : Database) (audited : Result Audited AuditFault) (result : Result AuditResult StoreFault) → result ≡ audit_result_of audited
-    → SaysFound db None × (db.schema ≡ register_schema) → IfOk result (λ answer. ReportsTables answer db)
+    → HasVersionAndOffice db None × (db.schema ≡ register_schema) → IfOk result (λ answer. ReportsTables answer db)
 tells_said db audited result is says = subst (λ (r : Result AuditResult StoreFault). IfOk r (λ answer. ReportsTables answer db)) (sym is) (told_of db audited says)
 
 -- who looks at rows has no fault of the version

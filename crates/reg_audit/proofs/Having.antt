@@ -10,7 +10,7 @@ use Rattle.reg_core.specs.Sound.{SoundRows}
 use Rattle.reg_core.specs.declared.rows.CertRow.{CertRow}
 use Rattle.reg_core.specs.declared.rows.RevocationRow.{RevocationRow}
 use Rattle.reg_core_laws.proofs.PublicLaws.{all_map, all_weaker}
-use Rattle.reg_store_tables.specs.Columns.{Columns, Standing, Listed}
+use Rattle.reg_store_tables.specs.DerivedRows.{DerivedRows, Standing, Listed}
 use Rattle.reg_store_tables.specs.Kept.{Kept, standing_of, listed_of, not_after_of}
 use Rattle.reg_store_tables.proofs.PublicLaws.{received_early, revocations_have, updated_early}
 use Rattle.reg_audit.specs.ReadableValues.{IsValidity, AreMomentAndReason, HasValues, AreReadable}
@@ -27,7 +27,7 @@ found_below value end test (row ∷ rows) some all = go (test row) all.0 (found_
     go true here later = here
     go false here later = later
 
-module _ (records : Records) (columns : Columns) (values : HasValues records) (sound : SoundRows records) (kept : Kept columns records) where
+module _ (records : Records) (columns : DerivedRows) (values : HasValues records) (sound : SoundRows records) (kept : Kept columns records) where
   -- a certificate that is looked up ends at a moment
   ends : (serial : ℕ) → IsMoment (not_after_of records serial)
   ends serial =

@@ -17,7 +17,7 @@ use Rattle.reg_core.specs.Policy.{Terms, IsPolicy}
 use Rattle.reg_core.specs.Records.{Records}
 use Rattle.reg_core.specs.Schedule.{IsDays}
 use Rattle.reg_core.specs.declared.command.Counts.{Counts}
-use Rattle.reg_store_tables.specs.Columns.{Columns, office_days, stored_counts}
+use Rattle.reg_store_tables.specs.DerivedRows.{DerivedRows, office_days, stored_counts}
 use Rattle.reg_store_tables.specs.ReadStatements.{command_of, shown_step}
 use Rattle.reg_store_tables.specs.Rows.{number, version, stored_office, stored_step}
 use Rattle.reg_store_tables.specs.Schema.{register_schema, key_column, required, office, kept, longest}
@@ -63,7 +63,7 @@ unfolding understood everything register_schema
 terms_mean = refl
 
 -- the one row that was read has the days of what the tables show
-pub days_read : (records : Records) (columns : Columns) (rows : List Row) → IsReadOf records columns OfTerms rows → (row : Row) × (rows ≡ row ∷ []) × (column row 6 ≡ Int columns.days)
+pub days_read : (records : Records) (columns : DerivedRows) (rows : List Row) → IsReadOf records columns OfTerms rows → (row : Row) × (rows ≡ row ∷ []) × (column row 6 ≡ Int columns.days)
 days_read records columns rows is =
     let shown = is.both.shown.rows in
     let policy = records.policy in
@@ -74,14 +74,14 @@ days_read records columns rows is =
     (row, only, sym (ap office_days shown.office) ∙ is.both.kept.days)
 
 -- so has the row that stands first
-pub days_at : (records : Records) (columns : Columns) (rows : List Row) (row : Row) → IsReadOf records columns OfTerms rows → 1 ≤ length rows → row ≡ get_or rows 0 row → column row 6 ≡ Int columns.days
+pub days_at : (records : Records) (columns : DerivedRows) (rows : List Row) (row : Row) → IsReadOf records columns OfTerms rows → 1 ≤ length rows → row ≡ get_or rows 0 row → column row 6 ≡ Int columns.days
 days_at records columns rows row is some first =
     let read = days_read records columns rows is in
     let same : row ≡ read.0 = first ∙ ap (λ (l : List Row). get_or l 0 row) read.1 in
     ap (λ (r : Row). column r 6) same ∙ read.2
 
 -- days in that row that a schedule can allow are the office's
-pub allowed_days : (columns : Columns) (row : Row) → column row 6 ≡ Int columns.days → (days : ℕ) × (column row 6 ≡ number days) × IsDays days → HasAllowedDays columns
+pub allowed_days : (columns : DerivedRows) (row : Row) → column row 6 ≡ Int columns.days → (days : ℕ) × (column row 6 ≡ number days) × IsDays days → HasAllowedDays columns
 allowed_days columns row at days = (days.0, int_same columns.days (pos days.0) (sym at ∙ days.1), days.2)
   where
     int_same : (left right : ℤ) → Int left ≡ Int right → left ≡ right
@@ -142,12 +142,12 @@ is_office : (row : Row) (found : Found) (policy : Terms) → Fits (Some 0) offic
 is_office row found policy fit cells =
     let behind_days : Bool = are_present (Some 0) 5 (drop 5 office.columns) row in
     let behind_key : Bool = not (is_null (column row 5)) && behind_days in
-    let behind_name : Bool = not (is_null (column row 4)) && behind_key in
-    let behind_version : Bool = not (is_null (column row 3)) && behind_name in
+    let after_name : Bool = not (is_null (column row 4)) && behind_key in
+    let behind_version : Bool = not (is_null (column row 3)) && after_name in
     let from_name = and_right (not (is_null (column row 2))) behind_version fit.present in
-    let from_key = and_right (not (is_null (column row 3))) behind_name from_name in
+    let from_key = and_right (not (is_null (column row 3))) after_name from_name in
     let from_days = and_right (not (is_null (column row 4))) behind_key from_key in
-    let name_some : is_null (column row 3) ≡ false = not_false (is_null (column row 3)) (and_left (not (is_null (column row 3))) behind_name from_name) in
+    let name_some : is_null (column row 3) ≡ false = not_false (is_null (column row 3)) (and_left (not (is_null (column row 3))) after_name from_name) in
     let key_some : is_null (column row 4) ≡ false = not_false (is_null (column row 4)) (and_left (not (is_null (column row 4))) behind_key from_key) in
     let days_some : is_null (column row 5) ≡ false = not_false (is_null (column row 5)) (and_left (not (is_null (column row 5))) behind_days from_days) in
     let name = blob_is (column row 3) name_some (cell_typed (key_column (codes "one")) office_rest row fit.typed 1 (required (codes "name") kind.Blob) refl (some_below row 3 name_some)) in

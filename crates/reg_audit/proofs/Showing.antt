@@ -19,8 +19,8 @@ use Rattle.reg_core.specs.Sound.{NumberedFrom}
 use Rattle.reg_core.specs.declared.rows.OrderRow.{OrderRow}
 use Rattle.reg_core.specs.declared.rows.RequestRow.{RequestRow}
 use Rattle.reg_core.specs.declared.rows.SubscriberRow.{SubscriberRow}
-use Rattle.reg_store_tables.specs.Columns as column
-use Rattle.reg_store_tables.specs.Columns.{Columns, letter_text, stored_standing, stored_counts, stored_listed}
+use Rattle.reg_store_tables.specs.DerivedRows as column
+use Rattle.reg_store_tables.specs.DerivedRows.{DerivedRows, letter_text, stored_standing, stored_counts, stored_listed}
 use Rattle.reg_store_tables.specs.Rows.{number, serial_value, counted_rows, stored_office, stored_subscriber, stored_order, stored_certificate, stored_request, stored_revocation, stored_crl}
 use Rattle.reg_store_tables.specs.Schema.{register_schema}
 use Rattle.reg_store_tables.specs.Shows.{HaveSerials}
@@ -92,7 +92,7 @@ pub office_mean : command_of (understood register_schema OFFICE.now) ≡ as_comm
 unfolding understood everything register_schema
 office_mean = refl
 
-pub office_is : (records : Records) (columns : Columns) (rows : List Row) → IsReadOf records columns Office rows → rows ≡ shown_office (record { cap = records.policy.cap; last = records.last }) ∷ []
+pub office_is : (records : Records) (columns : DerivedRows) (rows : List Row) → IsReadOf records columns Office rows → rows ≡ shown_office (record { cap = records.policy.cap; last = records.last }) ∷ []
 office_is records columns rows is =
     let shown = is.both.shown.rows in
     only_is (stored_office shown.days records.issuer records.policy records.last) (shown_office (record { cap = records.policy.cap; last = records.last })) 0 office_columns OFFICE.now office_names office_mean is.db refl rows is.reads
@@ -108,7 +108,7 @@ pub subscribers_mean : command_of (understood register_schema SUBSCRIBERS.now) �
 unfolding understood everything register_schema
 subscribers_mean = refl
 
-pub subscribers_are : (records : Records) (columns : Columns) (rows : List Row) → IsReadOf records columns Subscribers rows → rows ≡ map shown_subscriber records.subscribers
+pub subscribers_are : (records : Records) (columns : DerivedRows) (rows : List Row) → IsReadOf records columns Subscribers rows → rows ≡ map shown_subscriber records.subscribers
 subscribers_are records columns rows is =
     let shown = is.both.shown.rows in
     keyed_are (λ (row : SubscriberRow). row.id) stored_subscriber shown_subscriber records.subscribers shown.subscribers_numbered 1 subscribers_columns SUBSCRIBERS.now subscribers_names subscribers_mean is.db refl rows is.reads shown.subscribers (λ row. refl)
@@ -123,7 +123,7 @@ pub orders_mean : command_of (understood register_schema ORDERS.now) ≡ as_comm
 unfolding understood everything register_schema
 orders_mean = refl
 
-pub orders_are : (records : Records) (columns : Columns) (rows : List Row) → IsReadOf records columns Orders rows → rows ≡ map shown_order records.orders
+pub orders_are : (records : Records) (columns : DerivedRows) (rows : List Row) → IsReadOf records columns Orders rows → rows ≡ map shown_order records.orders
 orders_are records columns rows is =
     let shown = is.both.shown.rows in
     keyed_are (λ (row : OrderRow). row.id) stored_order shown_order records.orders shown.orders_numbered 3 orders_columns ORDERS.now orders_names orders_mean is.db refl rows is.reads shown.orders (λ row. refl)
@@ -138,7 +138,7 @@ pub certificates_mean : command_of (understood register_schema CERTIFICATES.now)
 unfolding understood everything register_schema
 certificates_mean = refl
 
-pub certificates_are : (records : Records) (columns : Columns) (rows : List Row) → IsReadOf records columns Certificates rows → rows ≡ map shown_certificate records.certificates
+pub certificates_are : (records : Records) (columns : DerivedRows) (rows : List Row) → IsReadOf records columns Certificates rows → rows ≡ map shown_certificate records.certificates
 certificates_are records columns rows is =
     counted_are stored_certificate shown_certificate records.certificates 4 certificates_columns CERTIFICATES.now certificates_names certificates_mean is.db refl rows is.reads is.both.shown.rows.certificates (λ row. refl)
 
@@ -152,7 +152,7 @@ pub requests_mean : command_of (understood register_schema REQUESTS.now) ≡ as_
 unfolding understood everything register_schema
 requests_mean = refl
 
-pub requests_are : (records : Records) (columns : Columns) (rows : List Row) → IsReadOf records columns Requests rows → rows ≡ map shown_request records.requests
+pub requests_are : (records : Records) (columns : DerivedRows) (rows : List Row) → IsReadOf records columns Requests rows → rows ≡ map shown_request records.requests
 requests_are records columns rows is =
     let shown = is.both.shown.rows in
     keyed_are (λ (row : RequestRow). row.id) stored_request shown_request records.requests shown.requests_numbered 7 requests_columns REQUESTS.now requests_names requests_mean is.db refl rows is.reads shown.requests (λ row. refl)
@@ -167,7 +167,7 @@ pub revocations_mean : command_of (understood register_schema REVOCATIONS.now) �
 unfolding understood everything register_schema
 revocations_mean = refl
 
-pub revocations_are : (records : Records) (columns : Columns) (rows : List Row) → IsReadOf records columns Revocations rows → rows ≡ map shown_revocation records.revocations
+pub revocations_are : (records : Records) (columns : DerivedRows) (rows : List Row) → IsReadOf records columns Revocations rows → rows ≡ map shown_revocation records.revocations
 revocations_are records columns rows is =
     counted_are stored_revocation shown_revocation records.revocations 8 revocations_columns REVOCATIONS.now revocations_names revocations_mean is.db refl rows is.reads is.both.shown.rows.revocations (λ row. refl)
 
@@ -184,7 +184,7 @@ crls_mean = refl
 abbrev view_of_crl : Crl → Row
 view_of_crl crl = shown_crl (row_of crl)
 
-pub crls_are : (records : Records) (columns : Columns) (rows : List Row) → IsReadOf records columns Crls rows → rows ≡ map shown_crl (map row_of records.crls)
+pub crls_are : (records : Records) (columns : DerivedRows) (rows : List Row) → IsReadOf records columns Crls rows → rows ≡ map shown_crl (map row_of records.crls)
 crls_are records columns rows is =
     let shown = is.both.shown.rows in
     keyed_are (λ (crl : Crl). crl.number) stored_crl view_of_crl records.crls shown.crls_numbered 11 crls_columns CRLS.now crls_names crls_mean is.db refl rows is.reads shown.crls (λ row. refl)
@@ -227,7 +227,7 @@ pub letters_mean : command_of (understood register_schema STANDINGS.now) ≡ as_
 unfolding understood everything register_schema
 letters_mean = refl
 
-pub letters_are : (records : Records) (columns : Columns) (rows : List Row) → IsReadOf records columns Standings rows → rows ≡ map shown_standing (map standing_out columns.letters)
+pub letters_are : (records : Records) (columns : DerivedRows) (rows : List Row) → IsReadOf records columns Standings rows → rows ≡ map shown_standing (map standing_out columns.letters)
 letters_are records columns rows is =
     counted_are stored_standing stored_standing columns.letters 12 letters_columns STANDINGS.now letters_names letters_mean is.db refl rows is.reads is.both.kept.letters (λ row. refl)
     ∙ sym (letters_shown columns.letters)
@@ -242,7 +242,7 @@ pub counts_mean : command_of (understood register_schema COUNTS.now) ≡ as_comm
 unfolding understood everything register_schema
 counts_mean = refl
 
-pub counts_is : (records : Records) (columns : Columns) (rows : List Row) → IsReadOf records columns Counts rows → rows ≡ shown_counts columns.counts ∷ []
+pub counts_is : (records : Records) (columns : DerivedRows) (rows : List Row) → IsReadOf records columns Counts rows → rows ≡ shown_counts columns.counts ∷ []
 counts_is records columns rows is =
     only_is (stored_counts columns.counts) (shown_counts columns.counts) 14 counts_columns COUNTS.now counts_names counts_mean is.db refl rows is.reads is.both.kept.counts refl
 
@@ -256,7 +256,7 @@ pub listed_mean : command_of (understood register_schema LISTINGS.now) ≡ as_co
 unfolding understood everything register_schema
 listed_mean = refl
 
-pub listed_are : (records : Records) (columns : Columns) (rows : List Row) → IsReadOf records columns Listings rows → rows ≡ map shown_listed (map listed_out columns.listed)
+pub listed_are : (records : Records) (columns : DerivedRows) (rows : List Row) → IsReadOf records columns Listings rows → rows ≡ map shown_listed (map listed_out columns.listed)
 listed_are records columns rows is =
     counted_are stored_listed stored_listed columns.listed 15 listed_columns LISTINGS.now listed_names listed_mean is.db refl rows is.reads is.both.kept.listed (λ row. refl)
     ∙ listings_shown columns.listed

@@ -9,11 +9,11 @@ use Rattle.reg_core.specs.Issuer.{Issuer}
 use Rattle.reg_core.specs.Records.{Records, Crl, crl_in}
 use Rattle.reg_core.specs.Sound.{NumberedFrom, KeysDiffer, CrlsSigned}
 use Rattle.reg_core_laws.proofs.PublicLaws.{all_push, all_weaker, numbered_above, each_found}
-use Rattle.reg_store_tables.specs.Columns.{Columns}
+use Rattle.reg_store_tables.specs.DerivedRows.{DerivedRows}
 use Rattle.reg_store_tables.specs.Kept.{Kept, listed_of}
 use Rattle.reg_audit_rows.specs.KeptAsRead.{listed_in}
 use Rattle.reg_audit_rows.specs.Crls.{Lists}
-use Rattle.reg_audit_rows.specs.declared.kept.Listed.{Listed}
+use Rattle.reg_audit_rows.specs.declared.derived_rows.Listed.{Listed}
 use Rattle.reg_audit.specs.Faults.{EndsAtBrokenRow, IsBrokenRow}
 use Rattle.reg_audit.specs.declared.fault.AuditFault.{AuditFault}
 use Rattle.reg_audit.specs.declared.fault.AuditFault.TheVariants.{Memory, Store, Broken}
@@ -50,7 +50,7 @@ pub all_more : {Row : Type 0} (P : Row → Type 0) (rows : List Row) (i : ℕ) (
 all_more P rows i row within is all one = subst (AllByRecursion P) (sym (take_more rows i row within)) (all_push P (take i rows) (get_or rows i row) all (subst P is one))
 
 -- what was read of the office and of the listings is that of the records
-pub lists_are : {issuer : Issuer} {crl_life : ℕ} {listed : List Listed} (records : Records) (columns : Columns) → issuer ≡ records.issuer → crl_life ≡ records.policy.crl_life → NumberedFrom (λ crl. crl.number) 1 records.crls → map listed_in listed ≡ columns.listed
+pub lists_are : {issuer : Issuer} {crl_life : ℕ} {listed : List Listed} (records : Records) (columns : DerivedRows) → issuer ≡ records.issuer → crl_life ≡ records.policy.crl_life → NumberedFrom (λ crl. crl.number) 1 records.crls → map listed_in listed ≡ columns.listed
     → Kept columns records → Lists issuer crl_life listed records
 lists_are records columns by_issuer by_life numbered listed kept = record {
   by_issuer = by_issuer;

@@ -19,15 +19,15 @@ use Rattle.reg_core.specs.declared.rows.OrderRow.{OrderRow}
 use Rattle.reg_core.specs.declared.rows.RequestRow.{RequestRow}
 use Rattle.reg_core.specs.declared.rows.RevocationRow.{RevocationRow}
 use Rattle.reg_core.specs.declared.rows.SubscriberRow.{SubscriberRow}
-use Rattle.reg_store_tables.specs.Columns as kept
-use Rattle.reg_store_tables.specs.Columns.{stored_standing, stored_listed}
+use Rattle.reg_store_tables.specs.DerivedRows as kept
+use Rattle.reg_store_tables.specs.DerivedRows.{stored_standing, stored_listed}
 use Rattle.reg_store_tables.specs.ReadStatements.{command_of, shown_subscriber, shown_order, shown_certificate, shown_request, shown_revocation, shown_crl}
 use Rattle.reg_store_tables.specs.Rows.{number, stored_subscriber, stored_order, stored_certificate, stored_request, stored_revocation, stored_crl}
 use Rattle.reg_store_tables.specs.Schema.{register_schema, key_column, required, subscriber, orders, cert, request, revocation, crl, standing}
 use Rattle.reg_store_tables.proofs.PublicLaws.{selects, as_command, no_limit}
 use Rattle.reg_audit_rows.specs.KeptAsRead.{standing_in, listed_in}
-use Rattle.reg_audit_rows.specs.declared.kept.Standing.{Standing}
-use Rattle.reg_audit_rows.specs.declared.kept.Listed.{Listed}
+use Rattle.reg_audit_rows.specs.declared.derived_rows.Standing.{Standing}
+use Rattle.reg_audit_rows.specs.declared.derived_rows.Listed.{Listed}
 use Rattle.reg_audit.specs.Cells.{CountedFrom, IsOfSomeRecord}
 use Rattle.reg_audit.specs.Complete.{AreTables, SubscribersAgree, OrdersAgree, CertificatesAgree, RequestsAgree, RevocationsAgree, CrlsAgree, LettersAgree, ListingsAgree}
 use Rattle.reg_audit.specs.ReadTexts.{IsReadFrom}

@@ -4,7 +4,7 @@ use Rattle.std.specs.Prelude.{Option}
 use Rattle.sqlite.specs.Effect.{Database}
 use Rattle.sqlite.specs.State.{State}
 use Rattle.reg_core.specs.Records.{Records}
-use Rattle.reg_store_tables.specs.Columns.{Columns}
+use Rattle.reg_store_tables.specs.DerivedRows.{DerivedRows}
 use Rattle.reg_store_tables.specs.Schema.{register_schema}
 use Rattle.reg_store_tables.specs.Stays.{IsRegister}
 use Rattle.reg_store_tables.specs.declared.fault.StoreFault.{StoreFault}
@@ -13,7 +13,7 @@ use Rattle.reg_audit.specs.declared.fault.AuditFault.{AuditFault}
 use Rattle.reg_audit.specs.declared.fault.AuditFault.TheVariants as audit_fault
 use Rattle.reg_audit.specs.Numbers.{AreNumbersOf}
 use Rattle.reg_audit.specs.Faults.{IsDenied}
-use Rattle.reg_store_opening.specs.Examined.{SaysFound}
+use Rattle.reg_store_opening.specs.Examined.{HasVersionAndOffice}
 use Rattle.reg_store_opening.specs.declared.version_check.OlderOffice.{OlderOffice}
 use Rattle.reg_audit.specs.AuditResults.{CountedBy, DeniedBy, IsSound, audit_result_of}
 use Rattle.reg_audit_rows.specs.declared.audit_result.AuditResult.{AuditResult}
@@ -35,7 +35,7 @@ module _ (P : Type 0) where
   always_said (Ok audit_result) holds = λ sound. holds
   always_said (Err fault) holds = tt
 
-module _ (records : Records) (columns : Columns) where
+module _ (records : Records) (columns : DerivedRows) where
   well_denied : (audited : Result Audited AuditFault) → IfErr audited (λ reason. IsDenied reason records columns) → IfOk (audit_result_of audited) (λ audit_result. DeniedBy audit_result records columns)
   well_denied (Err (audit_fault.Broken broken)) denied = denied
   well_denied other denied = tt
@@ -59,6 +59,6 @@ pub register_by : (s : State) → s.now.schema ≡ register_schema → (IsTrue s
 register_by s is saved = record { now = λ clean up. is; committed = λ clean up. ap (λ (db : Database). db.schema) (sym (saved up)) ∙ is }
 
 -- what was found, where it is none older, says the program's version and an office
-pub says_third : (db : Database) (found : Option OlderOffice) → is_some found ≡ false → SaysFound db found → SaysFound db None
+pub says_third : (db : Database) (found : Option OlderOffice) → is_some found ≡ false → HasVersionAndOffice db found → HasVersionAndOffice db None
 says_third db None none says = says
 says_third db (Some older) none says = absurd (let bad : ⊥ = cc in bad)

@@ -2,11 +2,11 @@
 use Rattle.std.specs.Prelude.{◌≡◌, ◌≢◌, None, Some, Result, Ok, Err}
 use Rattle.sqlite.specs.Effect.{Database}
 use Rattle.reg_core.specs.Records.{Records}
-use Rattle.reg_store_tables.specs.Columns.{Columns}
+use Rattle.reg_store_tables.specs.DerivedRows.{DerivedRows}
 use Rattle.reg_store_tables.specs.Schema.{register_schema}
 use Rattle.reg_store_tables.specs.declared.fault.StoreFault.{StoreFault}
 use Rattle.reg_store_tables.specs.declared.fault.StoreFault.TheVariants as fault
-use Rattle.reg_store_opening.specs.Examined.{SaysFound}
+use Rattle.reg_store_opening.specs.Examined.{HasVersionAndOffice}
 use Rattle.reg_store_opening.specs.declared.version_check.OlderOffice.{OlderOffice}
 use Rattle.reg_audit_rows.specs.declared.audit_result.Audited.{Audited}
 use Rattle.reg_audit.specs.Numbers.{AreNumbersOf}
@@ -34,14 +34,14 @@ CountedBy (Sound found) records = AreNumbersOf records found
 CountedBy _ records = Unit {0}
 
 -- what a reported row denies of records that the tables show, and of what is kept beside them
-abbrev pub DeniedBy : AuditResult → Records → Columns → Type 0
+abbrev pub DeniedBy : AuditResult → Records → DerivedRows → Type 0
 DeniedBy (Broken row) records columns = Denies row records columns
 DeniedBy _ records columns = Unit {0}
 
 -- what an answer says of the tables that were read: an older version and its office; or the program's version and an office,
 -- in tables that are not a register's, or that are, and whose rows were looked at
 abbrev pub ReportsTables : AuditResult → Database → Type 0
-ReportsTables Older db = (office : OlderOffice) × SaysFound db (Some office)
-ReportsTables OtherSchema db = SaysFound db None × (db.schema ≢ register_schema)
-ReportsTables (Sound found) db = SaysFound db None × (db.schema ≡ register_schema)
-ReportsTables (Broken row) db = SaysFound db None × (db.schema ≡ register_schema)
+ReportsTables Older db = (office : OlderOffice) × HasVersionAndOffice db (Some office)
+ReportsTables OtherSchema db = HasVersionAndOffice db None × (db.schema ≢ register_schema)
+ReportsTables (Sound found) db = HasVersionAndOffice db None × (db.schema ≡ register_schema)
+ReportsTables (Broken row) db = HasVersionAndOffice db None × (db.schema ≡ register_schema)

@@ -15,11 +15,11 @@ use Rattle.reg_core.specs.declared.rows.OrderRow.{OrderRow}
 use Rattle.reg_core.specs.declared.rows.RequestRow.{RequestRow}
 use Rattle.reg_core.specs.declared.rows.RevocationRow.{RevocationRow}
 use Rattle.reg_core.specs.declared.rows.SubscriberRow.{SubscriberRow}
-use Rattle.reg_store_tables.specs.Columns.{Columns, Standing, Listed, stored_standing, stored_counts, stored_listed}
+use Rattle.reg_store_tables.specs.DerivedRows.{DerivedRows, Standing, Listed, stored_standing, stored_counts, stored_listed}
 use Rattle.reg_store_tables.specs.Kept.{Kept}
 use Rattle.reg_store_tables.specs.Rows.{number, version, counted_rows, stored_office, stored_subscriber, stored_order, stored_certificate, stored_request, stored_revocation, stored_crl, stored_step}
 use Rattle.reg_store_tables.specs.Schema.{register_schema, table_trees}
-use Rattle.reg_store_tables.specs.Shows.{AreBoth}
+use Rattle.reg_store_tables.specs.Shows.{AreRecordsAndDerived}
 use Rattle.reg_audit.specs.Cells.{HasCells}
 use Rattle.reg_audit.specs.Stored.{IsSomeCrl}
 use Rattle.reg_audit.specs.declared.complete.Terms.{Terms as Found}
@@ -100,14 +100,14 @@ pub record IsTermsOf (rows : List Row) (found : Found) : Type 0 where
 -- there are records that the tables show, and columns beside them
 pub record ShowSome (db : Database) : Type 0 where
   pub records : Records
-  pub columns : Columns
-  pub both : AreBoth db records columns
+  pub columns : DerivedRows
+  pub both : AreRecordsAndDerived db records columns
 
 -- there are records that the tables show, sound, with each CRL's bytes those of what it lists, and columns beside them that
 -- follow from them
 pub record ShowsSound (db : Database) : Type 0 where
   pub records : Records
-  pub columns : Columns
-  pub both : AreBoth db records columns
+  pub columns : DerivedRows
+  pub both : AreRecordsAndDerived db records columns
   pub sound : Sound IsSomeCrl records
   pub kept : Kept columns records

@@ -6,7 +6,7 @@ use Rattle.reg_audit_rows.specs.declared.broken_row.BrokenRow.{BrokenRow as Row}
 use Rattle.reg_audit_rows.specs.declared.fault.CheckFault.{CheckFault}
 use Rattle.reg_audit_rows.specs.declared.fault.CheckFault.TheVariants as found
 use Rattle.reg_audit_rows.specs.declared.broken_row.Defect.TheVariants.{OtherBytes}
-use Rattle.reg_store_tables.specs.Columns.{Columns}
+use Rattle.reg_store_tables.specs.DerivedRows.{DerivedRows}
 use Rattle.reg_store_tables.specs.Kept.{Kept}
 use Rattle.reg_store_tables.specs.declared.fault.DatabaseFault.{DatabaseFault}
 use Rattle.reg_store_tables.specs.declared.fault.DatabaseFault.TheVariants as fault
@@ -48,13 +48,13 @@ IsBrokenRow (Broken broken) = broken.why ≢ OtherBytes
 -- What a reported row denies of records that tables show, and of what is kept beside them: that the records have a register's
 -- values and are sound with each CRL's bytes those of what it lists, that what is kept follows from them, and that the office was
 -- made with days that a schedule can allow. Of a row that is not told for its bytes also whatever the bytes of CRLs are.
-pub record Denies (row : Row) (records : Records) (columns : Columns) : Type 0 where
+pub record Denies (row : Row) (records : Records) (columns : DerivedRows) : Type 0 where
   pub whole : HasValues records → Sound IsSomeCrl records → Kept columns records → HasAllowedDays columns → ⊥
   pub rows : row.why ≢ OtherBytes → HasValues records → SoundRows records → Kept columns records
       → HasAllowedDays columns → ⊥
 
 -- an audit that ends so denies it by the row that it reports
-abbrev pub IsDenied : AuditFault → Records → Columns → Type 0
+abbrev pub IsDenied : AuditFault → Records → DerivedRows → Type 0
 IsDenied Memory records columns = Unit {0}
 IsDenied Store records columns = Unit {0}
 IsDenied (Broken row) records columns = Denies row records columns

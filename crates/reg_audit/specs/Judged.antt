@@ -4,36 +4,37 @@ use Rattle.sqlite_trees.specs.declared.store.Store.{Ghosts}
 use Rattle.sqlite.specs.Held.{Held, state}
 use Rattle.sqlite.specs.State.{HasCleanDisk}
 use Rattle.reg_core.specs.Records.{Records}
-use Rattle.reg_store_tables.specs.Columns.{Columns}
+use Rattle.reg_store_tables.specs.DerivedRows.{DerivedRows}
 use Rattle.reg_store_tables.specs.Shows.{ShowsBoth}
 use Rattle.reg_store_tables.specs.Stays.{IsRegister, Stays}
 use Rattle.reg_store_tables.specs.declared.fault.StoreFault.{StoreFault}
 use Rattle.reg_store_tables.specs.declared.fault.StoreFault.TheVariants.{NewVersion, NotARegister, NotEmpty}
-use Rattle.reg_store_opening.specs.Said.{HasVersion, SaysNoRegister}
+use Rattle.reg_store_opening.specs.VersionAndOffice.{HasVersion, HasNoRegister}
 use Rattle.reg_audit.specs.Complete.{ShowsSound}
 use Rattle.reg_audit_rows.specs.declared.audit_result.AuditResult.{AuditResult}
 use Rattle.reg_audit.specs.Presumed.{IsPresumed}
+use Rattle.reg_audit.specs.ReadableValues.{IsSoundRegister}
 use Rattle.reg_audit.specs.AuditResults.{CountedBy, DeniedBy, IsSound, ReportsTables}
 
 -- What is sound is so whatever records the tables show, and is shown where what is presumed holds; it is counted; what is broken shows no
 -- such records; what else is told is what the tables are. A fault is the version's, memory's or the database's. Nothing is changed.
 pub record IsJudged {S : Type 0} (g : Ghosts S) (old new : Held S)
     (result : Result AuditResult StoreFault) : Type 0 where
-  pub sound : (records : Records) (columns : Columns) → ShowsBoth g old records columns
+  pub sound : (records : Records) (columns : DerivedRows) → ShowsBoth g old records columns
       → HasCleanDisk (state g new)
       → IfOk result (λ audit_result. IsSound audit_result → IsSoundRegister records columns)
   pub shown : (HasCleanDisk (state g old) → IsTrue (state g old).is_open) → IsPresumed g old
       → HasCleanDisk (state g new)
       → IfOk result (λ audit_result. IsSound audit_result → ShowsSound (state g old).now)
-  pub counted : (records : Records) (columns : Columns) → ShowsBoth g old records columns
+  pub counted : (records : Records) (columns : DerivedRows) → ShowsBoth g old records columns
       → HasCleanDisk (state g new) → IfOk result (λ audit_result. CountedBy audit_result records)
-  pub broken : (records : Records) (columns : Columns) → ShowsBoth g old records columns
+  pub broken : (records : Records) (columns : DerivedRows) → ShowsBoth g old records columns
       → HasCleanDisk (state g new) → IfOk result (λ audit_result. DeniedBy audit_result records columns)
   pub tells : HasCleanDisk (state g new)
       → IfOk result (λ audit_result. ReportsTables audit_result (state g old).now)
   pub newer : HasCleanDisk (state g new) → result ≡ Err NewVersion
       → (n : ℕ) × (3 < n) × HasVersion (state g old).now n
-  pub none : HasCleanDisk (state g new) → result ≡ Err NotARegister → SaysNoRegister (state g old).now
+  pub none : HasCleanDisk (state g new) → result ≡ Err NotARegister → HasNoRegister (state g old).now
   pub register : IfOk result (λ audit_result. IsSound audit_result → IsRegister (state g new))
   pub same : Stays (state g old) (state g new)
   pub idle : new.in_transaction ≡ false

@@ -4,10 +4,10 @@ use Rattle.sqlite_value.specs.Order.{Row}
 use Rattle.sqlite.specs.Effect.{Database, Reads}
 use Rattle.sqlite.specs.Listing.{understood}
 use Rattle.reg_core.specs.Records.{Records}
-use Rattle.reg_store_tables.specs.Columns.{Columns}
+use Rattle.reg_store_tables.specs.DerivedRows.{DerivedRows}
 use Rattle.reg_store_tables.specs.ReadStatements.{command_of}
 use Rattle.reg_store_tables.specs.Schema.{register_schema}
-use Rattle.reg_store_tables.specs.Shows.{AreBoth}
+use Rattle.reg_store_tables.specs.Shows.{AreRecordsAndDerived}
 use Rattle.reg_audit.specs.declared.sql.What.{What}
 use Rattle.reg_audit.specs.declared.sql.What.TheVariants.{Office, Subscribers, Orders, Certificates, Requests, Revocations, Crls, Standings, Counts, Listings, CertificateRowids, RevocationRowids, StandingRowids, CountsRowid, ListingRowids, Terms, Steps}
 use Rattle.reg_audit.specs.declared.sql.TheConstants.{OFFICE, SUBSCRIBERS, ORDERS, CERTIFICATES, REQUESTS, REVOCATIONS, CRLS, STANDINGS, COUNTS, LISTINGS, CERTIFICATE_ROWIDS, REVOCATION_ROWIDS, STANDING_ROWIDS, COUNTS_ROWID, LISTING_ROWIDS, TERMS, STEPS}
@@ -37,9 +37,9 @@ abbrev pub IsReadFrom : Database → What → List Row → Type 0
 IsReadFrom db what rows = Reads (command_of (understood register_schema (text_of what))) db [] rows
 
 -- the rows are what a text reads of tables that show these records, and beside them these columns
-pub record IsReadOf (records : Records) (columns : Columns) (what : What) (rows : List Row) : Type 0 where
+pub record IsReadOf (records : Records) (columns : DerivedRows) (what : What) (rows : List Row) : Type 0 where
   pub db : Database
-  pub both : AreBoth db records columns
+  pub both : AreRecordsAndDerived db records columns
   pub reads : Reads (command_of (understood register_schema (text_of what))) db [] rows
 
 -- there are rows for each text, in this order
@@ -51,7 +51,7 @@ AreEach Is (what ∷ whats) [] items = ⊥
 AreEach Is (what ∷ whats) (rows ∷ more) items = Is what (items rows) × AreEach Is whats more items
 
 -- which are what it reads of tables that show these records
-abbrev pub AreRead : {Rows : Type 0} → Records → Columns → List What → List Rows → (Rows → List Row) → Type 0
+abbrev pub AreRead : {Rows : Type 0} → Records → DerivedRows → List What → List Rows → (Rows → List Row) → Type 0
 AreRead records columns = AreEach (IsReadOf records columns)
 
 -- or of these tables

@@ -5,7 +5,7 @@ use Rattle.sqlite_value.specs.Order.{Row}
 use Rattle.sqlite.specs.Held.{Held, state}
 use Rattle.sqlite.specs.State.{HasCleanDisk}
 use Rattle.reg_core.specs.Records.{Records}
-use Rattle.reg_store_tables.specs.Columns.{Columns}
+use Rattle.reg_store_tables.specs.DerivedRows.{DerivedRows}
 use Rattle.reg_store_tables.specs.Shows.{ShowsBoth}
 use Rattle.reg_audit.specs.Faults.{NoBrokenRow}
 use Rattle.reg_audit.specs.ReadTexts.{AreRead, IsReadOf, whole}
@@ -14,24 +14,24 @@ use Rattle.reg_audit.specs.declared.fault.AuditFault.{AuditFault}
 use Rattle.reg_audit.specs.declared.sql.What.{What}
 
 -- what holds of the records and derived columns that the tables show before a call, where its disk is clean behind it
-abbrev pub OnShown : {S : Type 0} → Ghosts S → Held S → Held S → (Records → Columns → Type 0) → Type 0
+abbrev pub OnShown : {S : Type 0} → Ghosts S → Held S → Held S → (Records → DerivedRows → Type 0) → Type 0
 OnShown g old new Has =
-    (records : Records) → (columns : Columns) → ShowsBoth g old records columns → HasCleanDisk (state g new)
+    (records : Records) → (columns : DerivedRows) → ShowsBoth g old records columns → HasCleanDisk (state g new)
     → Has records columns
 
 -- what holds of those that the rows of a table were read of
-abbrev pub OnRead : What → List Row → (Records → Columns → Type 0) → Type 0
+abbrev pub OnRead : What → List Row → (Records → DerivedRows → Type 0) → Type 0
 OnRead what rows Has =
-    (records : Records) → (columns : Columns) → IsReadOf records columns what rows → Has records columns
+    (records : Records) → (columns : DerivedRows) → IsReadOf records columns what rows → Has records columns
 
 -- what holds of those that the rows of these tables were read of
 abbrev pub OnEachRead : {Rows : Type 0} → List What → List Rows → (Rows → List Row)
-    → (Records → Columns → Type 0) → Type 0
+    → (Records → DerivedRows → Type 0) → Type 0
 OnEachRead whats all items Has =
-    (records : Records) → (columns : Columns) → AreRead records columns whats all items → Has records columns
+    (records : Records) → (columns : DerivedRows) → AreRead records columns whats all items → Has records columns
 
 -- what holds of those that the rows of all tables were read of
-abbrev pub OnAllRead : {Z : Type 0} → List (Vec Row Z) → (Records → Columns → Type 0) → Type 0
+abbrev pub OnAllRead : {Z : Type 0} → List (Vec Row Z) → (Records → DerivedRows → Type 0) → Type 0
 OnAllRead all Has = OnEachRead whole all (λ rows. rows.items) Has
 
 -- the rows of a table with a register's values are read: none is broken

@@ -8,7 +8,7 @@ use Rattle.reg_core.specs.declared.rows.CrlRow.{CrlRow}
 use Rattle.reg_crl.specs.Signing.{IsAlgorithm}
 use Rattle.reg_der.specs.ValueReading.{Parts, value_at}
 use Rattle.reg_audit_rows.specs.Crls.{IsCrlOf}
-use Rattle.reg_audit_rows.specs.declared.kept.Listed.{Listed}
+use Rattle.reg_audit_rows.specs.declared.derived_rows.Listed.{Listed}
 
 -- the bytes are the CRL of what is listed (RFC 5280 5.1), under one AlgorithmIdentifier, whatever its signature is: at most 2^28 bytes
 pub record IsSomeCrl (crl : CertList) (bytes : List ℕ) : Type 0 where

@@ -6,7 +6,7 @@ ghost use Rattle.sqlite.specs.State.{HasCleanDisk};
 ghost use Rattle.reg_core.specs.Sound.{Sound};
 ghost use Rattle.reg_store_tables.specs.Schema.{register_schema};
 ghost use Rattle.reg_store_tables.specs.Stays.{IsRegister, Stays};
-ghost use Rattle.reg_store_opening.specs.Said.{HasVersion, SaysNoRegister};
+ghost use Rattle.reg_store_opening.specs.VersionAndOffice.{HasVersion, HasNoRegister};
 ghost use Rattle.reg_audit.specs.Complete.{ShowsSound};
 ghost use Rattle.reg_audit.specs.ReadableValues.{IsSoundRegister};
 ghost use Rattle.reg_audit.specs.Judged.{IsJudged};
@@ -81,7 +81,7 @@ pub fn judge<S: Alter, W: ProgressObserver>(
     ensures newer { HasCleanDisk (state S.Store conn.new) → result ≡ Err StoreFault.NewVersion
         → (n : ℕ) × (3 < n) × HasVersion (state S.Store conn.old).now n }
     ensures none { HasCleanDisk (state S.Store conn.new) → result ≡ Err StoreFault.NotARegister
-        → SaysNoRegister (state S.Store conn.old).now }
+        → HasNoRegister (state S.Store conn.old).now }
     ensures register { IfOk result
         (λ audit_result. IsSound audit_result → IsRegister (state S.Store conn.new)) }
     ensures same { Stays (state S.Store conn.old) (state S.Store conn.new) }

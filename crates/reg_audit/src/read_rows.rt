@@ -4,7 +4,7 @@ ghost use Rattle.std.specs.Prelude.{◌<◌, List, get_or, length, IfOk};
 ghost use Rattle.sqlite.specs.Effect.{Database};
 ghost use Rattle.reg_core.specs.Records.{Records};
 ghost use Rattle.reg_core.specs.Sound.{SoundRows};
-ghost use Rattle.reg_store_tables.specs.Columns.{Columns};
+ghost use Rattle.reg_store_tables.specs.DerivedRows.{DerivedRows};
 ghost use Rattle.reg_store_tables.specs.Kept.{Kept};
 ghost use Rattle.reg_audit.specs.Numbers.{AreNumbersOf};
 ghost use Rattle.reg_audit.specs.ReadTexts.{IsReadOf, IsReadFrom, AreRead, AreReadFrom};
@@ -18,12 +18,12 @@ use crate::tables::{
     certificates, counts, crls, letters, listings, office, orders, requests, revocations,
     subscribers,
 };
-use reg_audit_rows::{Audited, KeptRows, Rows, check};
+use reg_audit_rows::{Audited, Rows, StoredDerivedRows, check};
 use sqlite::Row;
 use std::alloc::Global;
 
 pub(crate) fn rows_at(all: &[Vec<Row>], row_index: usize) -> &[Row]
-    ensures read { (records : Records) → (columns : Columns) → (whats : List What) → (other : What)
+    ensures read { (records : Records) → (columns : DerivedRows) → (whats : List What) → (other : What)
         → AreRead records columns whats all.now (λ rows. rows.items) → row_index < length whats
         → IsReadOf records columns (get_or whats row_index other) result.now }
     ensures from { (db : Database) → (whats : List What) → (other : What)
@@ -66,7 +66,7 @@ pub(crate) fn check_read(alloc: Global, all: &[Vec<Row>]) -> Result<Audited, Aud
         revocations: &revocations,
         crls: &crls,
     };
-    let beside = KeptRows {
+    let beside = StoredDerivedRows {
         letters: &letters,
         counts,
         listed: &listed,

@@ -11,7 +11,7 @@ ghost use Rattle.reg_core.specs.Sound.{CrlsSigned, SoundRows};
 ghost use Rattle.reg_crl.specs.Signing.{IsAlgorithm};
 ghost use Rattle.reg_der.specs.Der.{IsTlv};
 ghost use Rattle.reg_der.specs.ValueReading.{Gives};
-ghost use Rattle.reg_store_tables.specs.Columns.{Columns};
+ghost use Rattle.reg_store_tables.specs.DerivedRows.{DerivedRows};
 ghost use Rattle.reg_store_tables.specs.Kept.{Kept};
 ghost use Rattle.reg_store_tables.specs.Shows.{Shows, ShowsBoth};
 ghost use Rattle.reg_store_tables.specs.Stays.{Looked};
@@ -199,10 +199,10 @@ pub(crate) fn check_crls<S: Alter, W: ProgressObserver>(
     all: &[Vec<Row>],
     observer: &mut W,
 ) -> Result<(), AuditFault>
-    ensures bytes { (records : Records) → (columns : Columns) → ShowsBoth S.Store conn.old records columns
+    ensures bytes { (records : Records) → (columns : DerivedRows) → ShowsBoth S.Store conn.old records columns
         → AreRead records columns whole all.now (λ rows. rows.items) → Kept columns records
         → HasCleanDisk (state S.Store conn.new) → OnOk result (CrlsSigned IsSomeCrl records) }
-    ensures others { (records : Records) → (columns : Columns) → ShowsBoth S.Store conn.old records columns
+    ensures others { (records : Records) → (columns : DerivedRows) → ShowsBoth S.Store conn.old records columns
         → AreRead records columns whole all.now (λ rows. rows.items) → HasValues records → SoundRows records
         → Kept columns records → HasCleanDisk (state S.Store conn.new)
         → NoBrokenRowIf (CrlsSigned IsSomeCrl records) result }

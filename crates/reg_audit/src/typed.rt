@@ -8,7 +8,7 @@ use crate::fault::{AuditFault, broken_at};
 use crate::sql_values::letter_at;
 use reg_audit_rows::{Defect, Listed, RegisterTable, Standing};
 use reg_core::Moment;
-use reg_store_tables::Unshown;
+use reg_store_tables::RowFault;
 use reg_store_tables::rows::{ShownRow, rows_in};
 use reg_store_tables::sql_values::{
     clock_moment_at, moment_at, number_at, number_or_null_at, reason_at, serial_at,
@@ -109,8 +109,8 @@ pub(crate) fn typed<T: ShownRow>(
 {
     match rows_in::<T>(alloc, rows) {
         Ok(found) => Ok(found),
-        Err(Unshown::Memory) => Err(AuditFault::Memory),
-        Err(Unshown::At(row_index)) => Err(broken_at(table, row_index, Defect::NoValue)),
+        Err(RowFault::Memory) => Err(AuditFault::Memory),
+        Err(RowFault::At(row_index)) => Err(broken_at(table, row_index, Defect::NoValue)),
     }
 }
 

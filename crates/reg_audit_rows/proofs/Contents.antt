@@ -6,17 +6,17 @@ use Rattle.std.specs.List.Sorted.{IsPermutation, IsNonDecreasingBy}
 use Rattle.std.proofs.lemmas.Bool.{cases_Bool, le-ltb, ltb-true, ltb-false}
 use Rattle.std.proofs.lemmas.List.Sorted.{IsPermutation-map, IsPermutation-trans, IsPermutation-sym, length_permutation}
 use Rattle.sqlite_trees.proofs.ListLemmas.{filter-map, map-map, IsPermutation-filter}
-use Rattle.reg_core.specs.Crls.{EntriesAscend, entries, entry_of, content, is_on, is_past_on, CertList}
+use Rattle.reg_core.specs.Crls.{EntriesAscend, entries, entry_of, content, is_listed_on, ends_listing, CertList}
 use Rattle.reg_core.specs.Records.{Records, Crl}
 use Rattle.reg_core.specs.Sound.{NumberedFrom, KeysDiffer}
 use Rattle.reg_core.specs.declared.rows.Entry.{Entry}
 use Rattle.reg_core.specs.declared.rows.RevocationRow.{RevocationRow}
-use Rattle.reg_store_tables.specs.Columns as column
+use Rattle.reg_store_tables.specs.DerivedRows as column
 use Rattle.reg_store_tables.specs.Kept.{listed_of}
 use Rattle.reg_store_tables.proofs.PublicLaws.{serial_of, ascending_same, ascending_sorted, Rises, sorted_same, and_true, and_false, not_le, is_le}
 use Rattle.reg_audit_rows.specs.KeptAsRead.{listed_in}
 use Rattle.reg_audit_rows.specs.Crls.{still_on, lists_row, listed_entry, IsCrlOf, signature_at}
-use Rattle.reg_audit_rows.specs.declared.kept.Listed.{Listed}
+use Rattle.reg_audit_rows.specs.declared.derived_rows.Listed.{Listed}
 use Rattle.std.proofs.lemmas.List.{length-map}
 use Rattle.reg_core_laws.proofs.PublicLaws.{keys_kept}
 use Rattle.reg_audit_rows.proofs.Following.{keys_made}
@@ -62,14 +62,14 @@ same_filter p q same [] = refl
 same_filter p q same (x ∷ xs) = rw (same x, same_filter p q same xs) refl
 
 module _ (records : Records) (n : ℕ) (numbered : NumberedFrom (λ (crl : Crl). crl.number) 1 records.crls) where
-  listed_on : (row : RevocationRow) → kept_lists n (listed_of records row) ≡ is_on records.certificates records.crls n row
-  listed_on row = ap (λ b. nat_le row.first n && b) (sym (first_any (is_past_on records.certificates row) n 1 records.crls numbered))
+  listed_on : (row : RevocationRow) → kept_lists n (listed_of records row) ≡ is_listed_on records.certificates records.crls n row
+  listed_on row = ap (λ b. nat_le row.first n && b) (sym (first_any (ends_listing records.certificates row) n 1 records.crls numbered))
 
   entries_listed : map kept_entry (filter (kept_lists n) (map (listed_of records) records.revocations)) ≡ map entry_of (content records n)
   entries_listed =
       ap (map kept_entry) (filter-map (kept_lists n) (listed_of records) records.revocations)
       ∙ map-map kept_entry (listed_of records) (filter (λ row. kept_lists n (listed_of records row)) records.revocations)
-      ∙ ap (map entry_of) (same_filter (λ row. kept_lists n (listed_of records row)) (is_on records.certificates records.crls n) listed_on records.revocations)
+      ∙ ap (map entry_of) (same_filter (λ row. kept_lists n (listed_of records row)) (is_listed_on records.certificates records.crls n) listed_on records.revocations)
 
   read_entries : (listed : List Listed) → map kept_entry (filter (kept_lists n) (map listed_in listed)) ≡ map listed_entry (filter (lists_row n) listed)
   read_entries listed = ap (map kept_entry) (filter-map (kept_lists n) listed_in listed) ∙ map-map kept_entry listed_in (filter (lists_row n) listed)

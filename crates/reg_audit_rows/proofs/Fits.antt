@@ -6,7 +6,7 @@ use Rattle.std.proofs.lemmas.List.{length-map}
 use Rattle.reg_core.specs.Crls.{row_of}
 use Rattle.reg_core.specs.Records.{Crl, Records, certificate_in, request_in}
 use Rattle.reg_core.specs.Calendar.{clock_end}
-use Rattle.reg_core.specs.Sound.{NumberedFrom, NeverFalls, SoundRevocation, SoundCrls, SoundRevocations, SoundSubscribers, SoundOrders, SoundCertificates, SoundRequests, SoundRows}
+use Rattle.reg_core.specs.Sound.{NumberedFrom, NeverDecreases, SoundRevocation, SoundCrls, SoundRevocations, SoundSubscribers, SoundOrders, SoundCertificates, SoundRequests, SoundRows}
 use Rattle.reg_core.specs.declared.rows.CertRow.{CertRow}
 use Rattle.reg_core.specs.declared.rows.CrlRow.{CrlRow}
 use Rattle.reg_core.specs.declared.rows.RequestRow.{RequestRow}
@@ -79,18 +79,18 @@ numbered_of : (from : ℕ) (crls : List Crl) → NumberedFrom number_of from (ma
 numbered_of from [] numbered = tt
 numbered_of from (crl ∷ crls) numbered = (numbered.0, numbered_of (from + 1) crls numbered.1)
 
-falls_to : (crls : List Crl) → NeverFalls (λ (crl : Crl). crl.this_update) crls → NeverFalls update_of (map row_of crls)
+falls_to : (crls : List Crl) → NeverDecreases (λ (crl : Crl). crl.this_update) crls → NeverDecreases update_of (map row_of crls)
 falls_to [] never = tt
 falls_to (crl ∷ crls) never = (all_map (λ later. crl.this_update ≤ later.this_update) row_of crls never.0, falls_to crls never.1)
 
-falls_of : (crls : List Crl) → NeverFalls update_of (map row_of crls) → NeverFalls (λ (crl : Crl). crl.this_update) crls
+falls_of : (crls : List Crl) → NeverDecreases update_of (map row_of crls) → NeverDecreases (λ (crl : Crl). crl.this_update) crls
 falls_of [] never = tt
 falls_of (crl ∷ crls) never = (all_unmap (λ later. crl.this_update ≤ later.this_update) row_of crls never.0, falls_of crls never.1)
 
 pub crls_to : (cap last : ℕ) (crls : List Crl) → SoundCrls cap last crls → AreCrls cap last (map row_of crls)
 crls_to cap last crls sound = record {
   numbered = numbered_to 1 crls sound.numbered;
-  updates_never_fall = falls_to crls sound.updates_never_fall;
+  updates_never_decrease = falls_to crls sound.updates_never_decrease;
   updates_by_last = all_map (λ crl. crl.this_update ≤ last) row_of crls sound.updates_by_last;
   within_cap = rw length-map sound.within_cap;
 }
@@ -98,7 +98,7 @@ crls_to cap last crls sound = record {
 pub crls_of : (cap last : ℕ) (crls : List Crl) → AreCrls cap last (map row_of crls) → SoundCrls cap last crls
 crls_of cap last crls are = record {
   numbered = numbered_of 1 crls are.numbered;
-  updates_never_fall = falls_of crls are.updates_never_fall;
+  updates_never_decrease = falls_of crls are.updates_never_decrease;
   updates_by_last = all_unmap (λ crl. crl.this_update ≤ last) row_of crls are.updates_by_last;
   within_cap = rw length-map at are.within_cap;
 }
@@ -159,8 +159,8 @@ module _ (rows : Rows) (records : Records) (are : AreOf rows records) where
       each = rw (are.revocations, are.last, are.requests, are.crls)
           (all_weaker (SoundRevocation records.last records.certificates records.requests records.crls) (λ row. FitsIn records.last (found row.serial) (request_in records.requests row.request) (map row_of records.crls) row)
           (λ row one. subst (λ o. FitsIn records.last o (request_in records.requests row.request) (map row_of records.crls) row) (sym (found_is row.serial)) (fits_of records.last records.certificates records.requests records.crls row one)) records.revocations sound.revocations.each);
-      moments_never_fall = rw are.revocations sound.revocations.moments_never_fall;
-      firsts_never_fall = rw are.revocations sound.revocations.firsts_never_fall;
+      moments_never_decrease = rw are.revocations sound.revocations.moments_never_decrease;
+      firsts_never_decrease = rw are.revocations sound.revocations.firsts_never_decrease;
       none_after = rw (are.revocations, are.requests) sound.revocations.none_after;
     }
 
@@ -172,8 +172,8 @@ module _ (rows : Rows) (records : Records) (are : AreOf rows records) where
           all_weaker (λ row. FitsIn records.last (found row.serial) (request_in records.requests row.request) (map row_of records.crls) row) (SoundRevocation records.last records.certificates records.requests records.crls)
           (λ row one. sound_of records.last records.certificates records.requests records.crls row (subst (λ o. FitsIn records.last o (request_in records.requests row.request) (map row_of records.crls) row) (found_is row.serial) one)) records.revocations
           (rw (are.revocations, are.last, are.requests, are.crls) at read.each);
-      moments_never_fall = rw are.revocations at read.moments_never_fall;
-      firsts_never_fall = rw are.revocations at read.firsts_never_fall;
+      moments_never_decrease = rw are.revocations at read.moments_never_decrease;
+      firsts_never_decrease = rw are.revocations at read.firsts_never_decrease;
       none_after = rw (are.revocations, are.requests) at read.none_after;
     }
 

@@ -6,7 +6,7 @@ use Rattle.std.specs.List.Sorted.{IsPermutation}
 use Rattle.std.proofs.lemmas.Bool.{cases_Bool}
 use Rattle.std.proofs.lemmas.List.Sorted.{IsPermutation-map}
 use Rattle.sqlite_trees.proofs.ListLemmas.{filter-map, map-map}
-use Rattle.reg_core.specs.Crls.{row_of, last_listing, is_past_on}
+use Rattle.reg_core.specs.Crls.{row_of, last_listing, ends_listing}
 use Rattle.reg_core.specs.Records.{Records, Crl, certificate_in, revocation_in}
 use Rattle.reg_core.specs.Sound.{KeysDiffer, SoundRows, SoundRevocation}
 use Rattle.reg_core.specs.Status.{status_by, counts, is_good, is_revoked, is_expired}
@@ -16,16 +16,16 @@ use Rattle.reg_core.specs.declared.rows.CertRow.{CertRow}
 use Rattle.reg_core.specs.declared.rows.CrlRow.{CrlRow}
 use Rattle.reg_core.specs.declared.rows.RevocationRow.{RevocationRow}
 use Rattle.reg_core_laws.proofs.PublicLaws.{all_map, all_weaker, each_found, some_and_of, same_length, past_end_is}
-use Rattle.reg_store_tables.specs.Columns as column
+use Rattle.reg_store_tables.specs.DerivedRows as column
 use Rattle.reg_store_tables.specs.Kept.{letter_of, standing_of, not_after_of, listed_of}
 use Rattle.reg_store_tables.proofs.PublicLaws.{mapped}
 use Rattle.reg_store_migration.specs.Refilled.{last_in}
 use Rattle.reg_audit_rows.specs.KeptAsRead.{letter_in, standing_in, listed_in, letter_by, standing_by, found_end, listed_with, same_letter, found_counts}
 use Rattle.reg_audit_rows.specs.Read.{AreOf}
-use Rattle.reg_audit_rows.specs.declared.kept.Letter.{Letter}
-use Rattle.reg_audit_rows.specs.declared.kept.Letter.TheVariants.{Good, Revoked, Expired}
-use Rattle.reg_audit_rows.specs.declared.kept.Listed.{Listed}
-use Rattle.reg_audit_rows.specs.declared.kept.Standing.{Standing}
+use Rattle.reg_audit_rows.specs.declared.derived_rows.Letter.{Letter}
+use Rattle.reg_audit_rows.specs.declared.derived_rows.Letter.TheVariants.{Good, Revoked, Expired}
+use Rattle.reg_audit_rows.specs.declared.derived_rows.Listed.{Listed}
+use Rattle.reg_audit_rows.specs.declared.derived_rows.Standing.{Standing}
 use Rattle.reg_audit_rows.specs.declared.rows.Rows.{Rows}
 
 map_same : {A B : Type 0} (f g : A → B) (xs : List A) → AllByRecursion (λ x. f x ≡ g x) xs → map f xs ≡ map g xs
@@ -89,17 +89,17 @@ tells last certificate None = elim (cases_Bool (nat_lt certificate.not_after las
 -- ---- the last listing of a revocation whose certificate is known
 
 module _ (certificates : List CertRow) (row : RevocationRow) (certificate : CertRow) (known : certificate_in certificates row.serial ≡ Some certificate) where
-  past_same : (crl : Crl) → is_past_on certificates row crl ≡ (nat_le row.first crl.number && nat_lt certificate.not_after crl.this_update)
+  past_same : (crl : Crl) → ends_listing certificates row crl ≡ (nat_le row.first crl.number && nat_lt certificate.not_after crl.this_update)
   past_same crl = ap (λ b. nat_le row.first crl.number && b) (past_end_is certificates row.serial crl.this_update certificate known)
 
-  found_rows : (crls : List Crl) → last_in (map row_of crls) row.first certificate.not_after ≡ option_map (λ (crl : Crl). crl.number) (find (is_past_on certificates row) crls)
+  found_rows : (crls : List Crl) → last_in (map row_of crls) row.first certificate.not_after ≡ option_map (λ (crl : Crl). crl.number) (find (ends_listing certificates row) crls)
   found_rows [] = refl
-  found_rows (crl ∷ crls) = go (is_past_on certificates row crl) (sym (past_same crl)) (found_rows crls)
+  found_rows (crl ∷ crls) = go (ends_listing certificates row crl) (sym (past_same crl)) (found_rows crls)
     where
       go : (b : Bool) → (nat_le row.first crl.number && nat_lt certificate.not_after crl.this_update) ≡ b
-          → last_in (map row_of crls) row.first certificate.not_after ≡ option_map (λ (crl : Crl). crl.number) (find (is_past_on certificates row) crls)
+          → last_in (map row_of crls) row.first certificate.not_after ≡ option_map (λ (crl : Crl). crl.number) (find (ends_listing certificates row) crls)
           → last_in (map row_of (crl ∷ crls)) row.first certificate.not_after
-          ≡ option_map (λ (crl : Crl). crl.number) (cond b (Some crl) (find (is_past_on certificates row) crls))
+          ≡ option_map (λ (crl : Crl). crl.number) (cond b (Some crl) (find (ends_listing certificates row) crls))
       go true is rest = ap (λ c. option_map (λ (crl : CrlRow). crl.number) (cond c (Some (row_of crl)) (find (λ (crl : CrlRow). nat_le row.first crl.number && nat_lt certificate.not_after crl.this_update) (map row_of crls)))) is
       go false is rest =
           ap (λ c. option_map (λ (crl : CrlRow). crl.number) (cond c (Some (row_of crl)) (find (λ (crl : CrlRow). nat_le row.first crl.number && nat_lt certificate.not_after crl.this_update) (map row_of crls)))) is ∙ rest

@@ -5,7 +5,7 @@ use Rattle.std.specs.Ordering.{nat_cmp, is_eq}
 use Rattle.std.proofs.lemmas.Bool.{cases_Bool}
 use Rattle.std.proofs.lemmas.Bool.Decides.{nat_tests}
 use Rattle.std.proofs.lemmas.List.{append_assoc, length-take-le, take-append-drop, take_all, take_more}
-use Rattle.reg_core.specs.Sound.{NumberedFrom, KeysDiffer, NeverFalls}
+use Rattle.reg_core.specs.Sound.{NumberedFrom, KeysDiffer, NeverDecreases}
 use Rattle.reg_core_laws.proofs.PublicLaws.{all_push, all_back, all_weaker, find_back, find_none, find_past, numbered_push, keys_push, falls_push, key_new, all_found, find_passes, none_passes, some_of}
 use Rattle.std.specs.Str.{bytes_eq}
 use Rattle.std.specs.Cmp.Lexicographic.{slice_cmp}
@@ -19,15 +19,15 @@ use Rattle.reg_core.specs.declared.rows.SubscriberRow.{SubscriberRow}
 all_at : {Row : Type 0} (P : Row → Type 0) (front : List Row) (row : Row) (rest : List Row) → AllByRecursion P (front ++ row ∷ rest) → P row
 all_at P front row rest all = (all_back P front (row ∷ rest) all).0
 
-numbered_at : {Row : Type 0} (number : Row → ℕ) (from : ℕ) (front : List Row) (row : Row) (rest : List Row) → NumberedFrom number from (front ++ row ∷ rest) → number row ≡ from + length front
-numbered_at number from [] row rest numbered = omega (arith, numbered.0)
-numbered_at number from (first ∷ front) row rest numbered = omega (arith, numbered_at number (from + 1) front row rest numbered.1)
+crl_number_at : {Row : Type 0} (number : Row → ℕ) (from : ℕ) (front : List Row) (row : Row) (rest : List Row) → NumberedFrom number from (front ++ row ∷ rest) → number row ≡ from + length front
+crl_number_at number from [] row rest numbered = omega (arith, numbered.0)
+crl_number_at number from (first ∷ front) row rest numbered = omega (arith, crl_number_at number (from + 1) front row rest numbered.1)
 
 keys_at : {Row Key : Type 0} (key : Row → Key) (front : List Row) (row : Row) (rest : List Row) → KeysDiffer key (front ++ row ∷ rest) → AllByRecursion (λ other. key other ≢ key row) front
 keys_at key [] row rest differ = tt
 keys_at key (first ∷ front) row rest differ = (all_at (λ other. key first ≢ key other) front row rest differ.0, keys_at key front row rest differ.1)
 
-falls_at : {Row : Type 0} (value : Row → ℕ) (front : List Row) (row : Row) (rest : List Row) → NeverFalls value (front ++ row ∷ rest) → AllByRecursion (λ other. value other ≤ value row) front
+falls_at : {Row : Type 0} (value : Row → ℕ) (front : List Row) (row : Row) (rest : List Row) → NeverDecreases value (front ++ row ∷ rest) → AllByRecursion (λ other. value other ≤ value row) front
 falls_at value [] row rest never = tt
 falls_at value (first ∷ front) row rest never = (all_at (λ other. value first ≤ value other) front row rest never.0, falls_at value front row rest never.1)
 
@@ -68,8 +68,8 @@ module _ {Row : Type 0} (rows : List Row) (i : ℕ) (row : Row) (within : i < le
   pub keys_more : {Key : Type 0} (key : Row → Key) → KeysDiffer key (take i rows) → AllByRecursion (λ other. key other ≢ key row) (take i rows) → KeysDiffer key (take (i + 1) rows)
   keys_more key differ new = subst (KeysDiffer key) (sym more) (keys_push key (take i rows) row differ new)
 
-  pub falls_more : (value : Row → ℕ) → NeverFalls value (take i rows) → AllByRecursion (λ other. value other ≤ value row) (take i rows) → NeverFalls value (take (i + 1) rows)
-  falls_more value never new = subst (NeverFalls value) (sym more) (falls_push value (take i rows) row never new)
+  pub falls_more : (value : Row → ℕ) → NeverDecreases value (take i rows) → AllByRecursion (λ other. value other ≤ value row) (take i rows) → NeverDecreases value (take (i + 1) rows)
+  falls_more value never new = subst (NeverDecreases value) (sym more) (falls_push value (take i rows) row never new)
 
   -- what the whole list says of the row
 
@@ -77,13 +77,13 @@ module _ {Row : Type 0} (rows : List Row) (i : ℕ) (row : Row) (within : i < le
   all_here P all = all_at P (take i rows) row (drop (i + 1) rows) (subst (AllByRecursion P) parted all)
 
   pub numbered_here : (number : Row → ℕ) → NumberedFrom number 1 rows → number row ≡ i + 1
-  numbered_here number numbered = omega (arith, numbered_at number 1 (take i rows) row (drop (i + 1) rows) (subst (NumberedFrom number 1) parted numbered), size)
+  numbered_here number numbered = omega (arith, crl_number_at number 1 (take i rows) row (drop (i + 1) rows) (subst (NumberedFrom number 1) parted numbered), size)
 
   pub keys_here : {Key : Type 0} (key : Row → Key) → KeysDiffer key rows → AllByRecursion (λ other. key other ≢ key row) (take i rows)
   keys_here key differ = keys_at key (take i rows) row (drop (i + 1) rows) (subst (KeysDiffer key) parted differ)
 
-  pub falls_here : (value : Row → ℕ) → NeverFalls value rows → AllByRecursion (λ other. value other ≤ value row) (take i rows)
-  falls_here value never = falls_at value (take i rows) row (drop (i + 1) rows) (subst (NeverFalls value) parted never)
+  pub falls_here : (value : Row → ℕ) → NeverDecreases value rows → AllByRecursion (λ other. value other ≤ value row) (take i rows)
+  falls_here value never = falls_at value (take i rows) row (drop (i + 1) rows) (subst (NeverDecreases value) parted never)
 
   -- whether a row passes, with one more
 

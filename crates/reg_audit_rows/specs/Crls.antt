@@ -12,7 +12,7 @@ use Rattle.reg_crl.specs.Crl.{tbs_of, certificate_list}
 use Rattle.reg_der.specs.ValueReading.{value_at}
 use Rattle.reg_store_tables.specs.Kept.{listed_of}
 use Rattle.reg_audit_rows.specs.KeptAsRead.{listed_in}
-use Rattle.reg_audit_rows.specs.declared.kept.Listed.{Listed}
+use Rattle.reg_audit_rows.specs.declared.derived_rows.Listed.{Listed}
 
 -- the bytes are this CRL, with this algorithm, and any signature of at most 65,536 bytes
 abbrev pub IsCrlOf : List ℕ → CertList → List ℕ → Type 0

@@ -7,13 +7,13 @@ use Rattle.reg_core.specs.declared.command.Status.TheVariants as state
 use Rattle.reg_core.specs.declared.rows.CertRow.{CertRow}
 use Rattle.reg_core.specs.declared.rows.CrlRow.{CrlRow}
 use Rattle.reg_core.specs.declared.rows.RevocationRow.{RevocationRow}
-use Rattle.reg_store_tables.specs.Columns as column
+use Rattle.reg_store_tables.specs.DerivedRows as column
 use Rattle.reg_store_migration.specs.Refilled.{last_in}
-use Rattle.reg_audit_rows.specs.declared.kept.KeptRows.{KeptRows}
-use Rattle.reg_audit_rows.specs.declared.kept.Letter.{Letter}
-use Rattle.reg_audit_rows.specs.declared.kept.Letter.TheVariants.{Good, Revoked, Expired}
-use Rattle.reg_audit_rows.specs.declared.kept.Standing.{Standing}
-use Rattle.reg_audit_rows.specs.declared.kept.Listed.{Listed}
+use Rattle.reg_audit_rows.specs.declared.derived_rows.StoredDerivedRows.{StoredDerivedRows}
+use Rattle.reg_audit_rows.specs.declared.derived_rows.Letter.{Letter}
+use Rattle.reg_audit_rows.specs.declared.derived_rows.Letter.TheVariants.{Good, Revoked, Expired}
+use Rattle.reg_audit_rows.specs.declared.derived_rows.Standing.{Standing}
+use Rattle.reg_audit_rows.specs.declared.derived_rows.Listed.{Listed}
 
 -- a letter as it is stored
 abbrev pub letter_in : Letter → column.Letter
@@ -36,7 +36,7 @@ listed_in row =
     }
 
 -- the rows are these ones of the derived tables
-pub record AreColumnsOf (kept : KeptRows) (columns : column.Columns) : Type 0 where
+pub record AreColumnsOf (kept : StoredDerivedRows) (columns : column.DerivedRows) : Type 0 where
   pub letters : map standing_in kept.letters.now ≡ columns.letters
   pub counts : kept.counts ≡ columns.counts
   pub listed : map listed_in kept.listed.now ≡ columns.listed

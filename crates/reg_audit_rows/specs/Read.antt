@@ -7,14 +7,14 @@ use Rattle.reg_core.specs.Checks.{validity_seconds}
 use Rattle.reg_core.specs.Crls.{row_of}
 use Rattle.reg_core.specs.Policy.{IsPolicy}
 use Rattle.reg_core.specs.Records.{Records, order_in, request_in, revocation_in, subscriber_in}
-use Rattle.reg_core.specs.Sound.{LeadsTo, NumberedFrom, KeysDiffer, NeverFalls}
+use Rattle.reg_core.specs.Sound.{LeadsTo, NumberedFrom, KeysDiffer, NeverDecreases}
 use Rattle.reg_core.specs.declared.rows.CertRow.{CertRow}
 use Rattle.reg_core.specs.declared.rows.OrderRow.{OrderRow}
 use Rattle.reg_core.specs.declared.rows.SubscriberRow.{SubscriberRow}
 use Rattle.reg_core.specs.declared.rows.RequestRow.{RequestRow}
 use Rattle.reg_core.specs.declared.rows.RevocationRow.{RevocationRow}
 use Rattle.reg_core.specs.declared.rows.CrlRow.{CrlRow}
-use Rattle.reg_audit_rows.specs.declared.rows.Found.{Found}
+use Rattle.reg_audit_rows.specs.declared.rows.RowsBySerial.{RowsBySerial}
 use Rattle.reg_audit_rows.specs.declared.rows.Rows.{Rows}
 
 -- the rows are those of the records, each list in the order of entry, the CRLs without their bytes; the policy is valid
@@ -93,7 +93,7 @@ FitTogether last certificate_with requests crls revocations =
 -- CRL numbers are 1, 2, 3 and so on (RFC 5280 5.2.3), thisUpdates do not fall, and none is after the last accepted moment
 pub record AreCrls (cap last : ℕ) (crls : List CrlRow) : Type 0 where
   pub numbered : NumberedFrom (λ crl. crl.number) 1 crls
-  pub updates_never_fall : NeverFalls (λ crl. crl.this_update) crls
+  pub updates_never_decrease : NeverDecreases (λ crl. crl.this_update) crls
   pub updates_by_last : AllByRecursion (λ crl. crl.this_update ≤ last) crls
   pub within_cap : length crls ≤ cap
 
@@ -105,12 +105,12 @@ pub record AreRevocations (found : ℕ → Option CertRow) (rows : Rows) : Type 
   pub each : AllByRecursion (λ row.
       FitsIn rows.last (found row.serial) (request_in rows.requests.now row.request) rows.crls.now row)
       rows.revocations.now
-  pub moments_never_fall : NeverFalls (λ row. row.at) rows.revocations.now
-  pub firsts_never_fall : NeverFalls (λ row. row.first) rows.revocations.now
+  pub moments_never_decrease : NeverDecreases (λ row. row.at) rows.revocations.now
+  pub firsts_never_decrease : NeverDecreases (λ row. row.first) rows.revocations.now
   pub none_after : AllByRecursion
       (λ row. IsBefore row (revocation_in rows.revocations.now row.serial)) rows.requests.now
 
 -- the rows are found by their serial numbers
-pub record IsIndexOf (rows : Rows) (found : Found) : Type 0 where
+pub record IsIndexOf (rows : Rows) (found : RowsBySerial) : Type 0 where
   pub certificates : Indexes (λ row. row.serial) rows.certificates.now (get nat_cmp found.certificates)
   pub revocations : Indexes (λ row. row.serial) rows.revocations.now (get nat_cmp found.revocations)

@@ -35,14 +35,14 @@ pub(crate) fn days_are_allowed(orders: &[OrderRow]) -> Result<(), CheckFault>
 }
 
 /// Checks that no notBefore is after its notAfter (RFC 5280 4.1.2.5).
-pub(crate) fn run_forward(certificates: &[CertRow]) -> Result<(), CheckFault>
+pub(crate) fn validities_are_forward(certificates: &[CertRow]) -> Result<(), CheckFault>
     ensures ok { OnOk result (AllByRecursion (λ row. row.not_before ≤ row.not_after) certificates.now) }
     ensures broken { NotBrokenIf
         (AllByRecursion (λ row. row.not_before ≤ row.not_after) certificates.now) result }
 {
     for (row_index, certificate) in certificates.iter().enumerate() {
         if certificate.not_before > certificate.not_after {
-            return Err(broken_at(RegisterTable::Cert, row_index, Defect::Backwards));
+            return Err(broken_at(RegisterTable::Cert, row_index, Defect::ReversedValidity));
         }
     }
     Ok(())

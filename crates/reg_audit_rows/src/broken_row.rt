@@ -36,7 +36,7 @@ pub enum Defect {
     NoSubscriber,
     NoOrder,
     /// Its notBefore is after its notAfter (RFC 5280 4.1.2.5).
-    Backwards,
+    ReversedValidity,
     TooLong,
     NoCertificate,
     /// There is no such request, or it is for another serial number.
@@ -58,9 +58,9 @@ pub enum Defect {
     /// Its first CRL is before that of the previous row.
     EarlierFirst,
     /// Its thisUpdate (RFC 5280 5.1.2.4) is before that of the previous CRL.
-    BeforeThePrevious,
+    ThisUpdateDecreases,
     /// It does not match the records, or the row of a lower serial number is missing.
-    NotKept,
+    DerivedMismatch,
     /// Its bytes are not those of a CRL with the entries that the records have for it (RFC 5280 5.1).
     OtherBytes,
     /// The counts are not those of the letters.

@@ -2,7 +2,7 @@
 
 ghost use Rattle.std.specs.Prelude.{◌≡◌, ◌≤◌, OnOk};
 ghost use Rattle.std.specs.List.{AllByRecursion};
-ghost use Rattle.reg_core.specs.Sound.{NumberedFrom, NeverFalls};
+ghost use Rattle.reg_core.specs.Sound.{NumberedFrom, NeverDecreases};
 ghost use Rattle.reg_audit_rows.specs.Faults.{NotBrokenIf};
 
 use crate::fault::{CheckFault, broken_at};
@@ -99,13 +99,13 @@ impl Dated for CrlRow {
 }
 
 /// Checks that moments do not fall from one row to a later one.
-pub(crate) fn moments_never_fall<T: Dated>(
+pub(crate) fn moments_never_decrease<T: Dated>(
     table: RegisterTable,
     rows: &[T],
     why: Defect,
 ) -> Result<(), CheckFault>
-    ensures ok { OnOk result (NeverFalls T.moment rows.now) }
-    ensures broken { NotBrokenIf (NeverFalls T.moment rows.now) result }
+    ensures ok { OnOk result (NeverDecreases T.moment rows.now) }
+    ensures broken { NotBrokenIf (NeverDecreases T.moment rows.now) result }
 {
     let mut latest = Moment::EPOCH;
     for (row_index, row) in rows.iter().enumerate() {
@@ -119,9 +119,9 @@ pub(crate) fn moments_never_fall<T: Dated>(
 }
 
 /// Checks that the numbers of the first CRLs do not fall from one revocation to a later one.
-pub(crate) fn firsts_never_fall(revocations: &[RevocationRow]) -> Result<(), CheckFault>
-    ensures ok { OnOk result (NeverFalls (λ row. row.first) revocations.now) }
-    ensures broken { NotBrokenIf (NeverFalls (λ row. row.first) revocations.now) result }
+pub(crate) fn firsts_never_decrease(revocations: &[RevocationRow]) -> Result<(), CheckFault>
+    ensures ok { OnOk result (NeverDecreases (λ row. row.first) revocations.now) }
+    ensures broken { NotBrokenIf (NeverDecreases (λ row. row.first) revocations.now) result }
 {
     let mut latest = 0;
     for (row_index, revocation) in revocations.iter().enumerate() {

@@ -9,8 +9,8 @@ ghost use Rattle.reg_der.specs.ValueReading.{Gives};
 ghost use Rattle.reg_audit_rows.specs.Crls.{IsCrlOf, Lists, crl_with_entries, listed_entries, lists_row, signature_at};
 ghost use Rattle.reg_audit_rows.specs.Faults.{NotBrokenIf, NotBroken};
 
+use crate::derived_rows::Listed;
 use crate::fault::{CheckFault, broken_at};
-use crate::kept::Listed;
 use crate::{Defect, RegisterTable};
 use reg_core::{CrlRow, Entry, Moment};
 use reg_crl::{crl_tbs, crl_whole};
@@ -42,7 +42,7 @@ fn signature_of(crl: &[u8]) -> &[u8]
     }
 }
 
-fn is_on(row: &Listed, number: u64) -> bool
+fn is_listed_on(row: &Listed, number: u64) -> bool
     ensures { result ≡ lists_row number row.now }
 {
     match row.last {
@@ -57,7 +57,7 @@ fn listed_by(alloc: Global, listed: &[Listed], number: u64) -> Result<Vec<Entry>
 {
     let mut entries = Vec::new(alloc);
     for row in listed {
-        if is_on(row, number) {
+        if is_listed_on(row, number) {
             entries.push(Entry {
                 serial: row.serial,
                 at: row.at,

@@ -52,7 +52,7 @@ fn row_with<T: Numbered + Copy>(rows: &[T], number: u64) -> Option<T>
 }
 
 /// Why a certificate does not match its order; `None` if it does.
-fn unordered(certificate: &CertRow, order: Option<OrderRow>) -> Option<Defect>
+fn certificate_defect(certificate: &CertRow, order: Option<OrderRow>) -> Option<Defect>
     ensures { NoDefectIff (IsAsOrdered certificate.now order) result }
 {
     let Some(order) = order else {
@@ -78,7 +78,7 @@ pub(crate) fn are_as_ordered(
 {
     for (row_index, certificate) in certificates.iter().enumerate() {
         let order = row_with(orders, certificate.order);
-        if let Some(why) = unordered(certificate, order) {
+        if let Some(why) = certificate_defect(certificate, order) {
             return Err(broken_at(RegisterTable::Cert, row_index, why));
         }
     }
@@ -86,7 +86,7 @@ pub(crate) fn are_as_ordered(
 }
 
 /// Why a request is not for a certificate that had not ended; `None` if it is.
-fn untimely(request: &RequestRow, certificate: Option<CertRow>) -> Option<Defect>
+fn request_defect(request: &RequestRow, certificate: Option<CertRow>) -> Option<Defect>
     ensures { NoDefectIff (IsInTime request.now certificate) result }
 {
     let Some(certificate) = certificate else {
@@ -107,7 +107,7 @@ pub(crate) fn are_in_time(
 {
     for (row_index, request) in requests.iter().enumerate() {
         let certificate = certificates.get(&request.serial).copied();
-        if let Some(why) = untimely(request, certificate) {
+        if let Some(why) = request_defect(request, certificate) {
             return Err(broken_at(RegisterTable::Request, row_index, why));
         }
     }
@@ -140,7 +140,7 @@ pub(crate) fn none_after(
 }
 
 /// Why a revocation can't be by this request; `None` if it can.
-fn not_led(request: &RequestRow, revocation: &RevocationRow) -> Option<Defect>
+fn request_mismatch(request: &RequestRow, revocation: &RevocationRow) -> Option<Defect>
     ensures { NoDefectIff (LeadsTo revocation.now request.now) result }
 {
     if request.serial != revocation.serial {
@@ -179,7 +179,7 @@ fn are_around(crls: &[CrlRow], first: u64, at: Moment) -> bool
 }
 
 /// Why a revocation does not fit the certificate, the request and the CRLs that were looked up; `None` if it does.
-fn misfit(
+fn revocation_defect(
     revocation: &RevocationRow,
     certificate: Option<CertRow>,
     request: Option<RequestRow>,
@@ -194,7 +194,7 @@ fn misfit(
     let Some(request) = request else {
         return Some(Defect::NoRequest);
     };
-    if let Some(why) = not_led(&request, revocation) {
+    if let Some(why) = request_mismatch(&request, revocation) {
         return Some(why);
     }
     if revocation.at > certificate.not_after {
@@ -231,7 +231,7 @@ pub(crate) fn revocations_fit(
     for (row_index, revocation) in revocations.iter().enumerate() {
         let certificate = certificates.get(&revocation.serial).copied();
         let request = row_with(requests, revocation.request);
-        if let Some(why) = misfit(revocation, certificate, request, crls, last) {
+        if let Some(why) = revocation_defect(revocation, certificate, request, crls, last) {
             return Err(broken_at(RegisterTable::Revocation, row_index, why));
         }
     }

@@ -10,8 +10,8 @@ ghost use Rattle.reg_core.specs.Sound.{SoundRows, SoundSubscribers, SoundOrders,
 ghost use Rattle.reg_audit_rows.specs.Read.{AreCrls, AreOf, AreRevocations, Indexes, IsIndexOf, IsLastSet};
 ghost use Rattle.reg_audit_rows.specs.Faults.{NotBrokenIf};
 
-use crate::alone::{days_are_allowed, names_are_good, run_forward};
-use crate::chain::{are_by_last, firsts_never_fall, in_order, moments_never_fall};
+use crate::alone::{days_are_allowed, names_are_good, validities_are_forward};
+use crate::chain::{are_by_last, firsts_never_decrease, in_order, moments_never_decrease};
 use crate::fault::{CheckFault, broken_at, within_cap};
 use crate::index::{
     certificates_by_order, certificates_by_serial, names_differ, revocations_by_request,
@@ -82,7 +82,7 @@ fn check_certificates(
         → NotBrokenIf (SoundCertificates cap orders.now rows.now) result }
 {
     within_cap(RegisterTable::Cert, rows.len(), cap)?;
-    run_forward(rows)?;
+    validities_are_forward(rows)?;
     are_as_ordered(rows, orders)?;
     certificates_by_order(alloc, rows)?;
     certificates_by_serial(alloc, rows)
@@ -105,7 +105,7 @@ fn check_requests(
     within_cap(RegisterTable::Request, rows.len(), cap)?;
     in_order(RegisterTable::Request, rows)?;
     are_by_last(RegisterTable::Request, rows, last)?;
-    moments_never_fall(RegisterTable::Request, rows, Defect::Earlier)?;
+    moments_never_decrease(RegisterTable::Request, rows, Defect::Earlier)?;
     are_in_time(rows, certificates)
 }
 
@@ -116,7 +116,7 @@ fn check_crls(rows: &[CrlRow], last: Moment, cap: u64) -> Result<(), CheckFault>
 {
     within_cap(RegisterTable::Crl, rows.len(), cap)?;
     in_order(RegisterTable::Crl, rows)?;
-    moments_never_fall(RegisterTable::Crl, rows, Defect::BeforeThePrevious)?;
+    moments_never_decrease(RegisterTable::Crl, rows, Defect::ThisUpdateDecreases)?;
     are_by_last(RegisterTable::Crl, rows, last)
 }
 
@@ -139,8 +139,8 @@ fn check_revocations(
         rows.crls,
         rows.last,
     )?;
-    moments_never_fall(RegisterTable::Revocation, rows.revocations, Defect::Earlier)?;
-    firsts_never_fall(rows.revocations)?;
+    moments_never_decrease(RegisterTable::Revocation, rows.revocations, Defect::Earlier)?;
+    firsts_never_decrease(rows.revocations)?;
     revocations_by_request(alloc, rows.revocations)?;
     let revocations = revocations_by_serial(alloc, rows.revocations)?;
     none_after(rows.requests, &revocations)?;
@@ -179,12 +179,12 @@ fn check_last_set(rows: &Rows<'_>) -> Result<(), CheckFault>
 
 /// The certificates and the revocations, by their serial numbers.
 #[derive(Drop)]
-pub(crate) struct Found {
+pub(crate) struct RowsBySerial {
     pub(crate) certificates: BTreeMap<Serial, CertRow>,
     pub(crate) revocations: BTreeMap<Serial, RevocationRow>,
 }
 
-pub(crate) fn check_rows(alloc: Global, rows: &Rows<'_>) -> Result<Found, CheckFault>
+pub(crate) fn check_rows(alloc: Global, rows: &Rows<'_>) -> Result<RowsBySerial, CheckFault>
     ensures ok { (records : Records) → AreOf rows.now records → OnOk result (SoundRows records) }
     ensures found { IfOk result (IsIndexOf rows.now) }
     ensures broken { (records : Records) → AreOf rows.now records → NotBrokenIf (SoundRows records) result }
@@ -197,7 +197,7 @@ pub(crate) fn check_rows(alloc: Global, rows: &Rows<'_>) -> Result<Found, CheckF
     check_requests(&certificates, rows.requests, rows.last, rows.cap)?;
     check_crls(rows.crls, rows.last, rows.cap)?;
     let revocations = check_revocations(alloc, &certificates, rows)?;
-    Ok(Found {
+    Ok(RowsBySerial {
         certificates,
         revocations,
     })

@@ -3,29 +3,29 @@
 ghost use Rattle.std.specs.Prelude.{◌≡◌, OnOk};
 ghost use Rattle.reg_core.specs.Records.{Records};
 ghost use Rattle.reg_core.specs.Sound.{SoundRows};
-ghost use Rattle.reg_store_tables.specs.Columns.{Columns};
+ghost use Rattle.reg_store_tables.specs.DerivedRows.{DerivedRows};
 ghost use Rattle.reg_store_tables.specs.Kept.{Kept};
 ghost use Rattle.reg_audit_rows.specs.KeptAsRead.{AreColumnsOf};
 ghost use Rattle.reg_audit_rows.specs.Read.{AreOf, IsIndexOf};
 ghost use Rattle.reg_audit_rows.specs.Faults.{NotBrokenIf};
 
 use crate::RegisterTable;
+use crate::derived_rows::{StoredDerivedRows, check_counts, listings, same_rows, standings};
 use crate::fault::CheckFault;
-use crate::kept::{KeptRows, check_counts, listings, same_rows, standings};
-use crate::rows::{Found, Rows, check_rows};
+use crate::rows::{Rows, RowsBySerial, check_rows};
 use std::alloc::Global;
 
-fn check_kept(
+fn check_derived(
     alloc: Global,
     rows: &Rows<'_>,
-    found: &Found,
-    beside: &KeptRows<'_>,
+    found: &RowsBySerial,
+    beside: &StoredDerivedRows<'_>,
 ) -> Result<(), CheckFault>
     ensures ok { IsIndexOf rows.now found.now → (records : Records) → AreOf rows.now records
-        → SoundRows records → (columns : Columns) → AreColumnsOf beside.now columns
+        → SoundRows records → (columns : DerivedRows) → AreColumnsOf beside.now columns
         → OnOk result (Kept columns records) }
     ensures broken { IsIndexOf rows.now found.now → (records : Records) → AreOf rows.now records
-        → SoundRows records → (columns : Columns) → AreColumnsOf beside.now columns
+        → SoundRows records → (columns : DerivedRows) → AreColumnsOf beside.now columns
         → NotBrokenIf (Kept columns records) result }
 {
     let letters = standings(alloc, rows.certificates, &found.revocations, rows.last)?;
@@ -38,14 +38,18 @@ fn check_kept(
 /// Checks that the rows are those of sound records, and that the derived tables match them: the letters, their counts, and the
 /// entries of CRLs. It does not check the bytes of CRLs. Errors: `Memory`; `Broken` with a row that breaks a rule. It takes
 /// O(n log n) steps for n rows, and one step for each pair of a revocation and a CRL.
-pub fn check(alloc: Global, rows: &Rows<'_>, beside: &KeptRows<'_>) -> Result<(), CheckFault>
+pub fn check(
+    alloc: Global,
+    rows: &Rows<'_>,
+    beside: &StoredDerivedRows<'_>,
+) -> Result<(), CheckFault>
     ensures sound { (records : Records) → AreOf rows.now records → OnOk result (SoundRows records) }
-    ensures kept { (records : Records) → AreOf rows.now records → (columns : Columns)
+    ensures kept { (records : Records) → AreOf rows.now records → (columns : DerivedRows)
         → AreColumnsOf beside.now columns → OnOk result (Kept columns records) }
-    ensures broken { (records : Records) → AreOf rows.now records → (columns : Columns)
+    ensures broken { (records : Records) → AreOf rows.now records → (columns : DerivedRows)
         → AreColumnsOf beside.now columns
         → NotBrokenIf (SoundRows records × Kept columns records) result }
 {
     let found = check_rows(alloc, rows)?;
-    check_kept(alloc, rows, &found, beside)
+    check_derived(alloc, rows, &found, beside)
 }

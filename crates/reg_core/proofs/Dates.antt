@@ -9,7 +9,7 @@ use Rattle.jiff_core.proofs.DateLemmas.{epoch_day_injective, civil}
 use Rattle.jiff_core.proofs.StandardFacts.{known_days}
 use Rattle.jiff_core.proofs.SignedLemmas.{signed_arith}
 use Rattle.reg_core.specs.declared.calendar.Civil.{Civil}
-use Rattle.reg_core.specs.Calendar.{IsMoment, IsShownAt, IsCivil, month_length, date_after, shown_of}
+use Rattle.reg_core.specs.Calendar.{IsMoment, IsCivilAt, IsCivil, month_length, date_after, civil_of}
 
 -- the first of the next month comes after the days of this one
 next_month : (y m : ℕ) → 1 ≤ m → m ≤ 12 → day_count (pos (y + m / 12)) (m % 12 + 1) 1 ≡ day_count (pos y) m 1 + month_length y m
@@ -75,8 +75,8 @@ epoch_is d h =
     rw (h.0, month, day) known_days.0
 
 -- what a moment shows, in jiff's words
-pub shown : (s : ℕ) → IsMoment s → IsShownAt s (shown_of s)
-unfolding shown_of
+pub shown : (s : ℕ) → IsMoment s → IsCivilAt s (civil_of s)
+unfolding civil_of
 shown s h =
     let days = s / 86400 in
     let on = reaches days 1970 1 days (omega arith) (omega arith) (omega arith) in
@@ -90,14 +90,14 @@ shown s h =
       second = refl;
     }
 
-not_before : (s : ℕ) → 1970 ≤ (shown_of s).year
-unfolding shown_of
+not_before : (s : ℕ) → 1970 ≤ (civil_of s).year
+unfolding civil_of
 not_before s = (reaches (s / 86400) 1970 1 (s / 86400) (omega arith) (omega arith) (omega arith)).later
 
-pub ranges : (s : ℕ) → IsMoment s → IsCivil (shown_of s)
+pub ranges : (s : ℕ) → IsMoment s → IsCivil (civil_of s)
 ranges s h =
     let at = shown s h in
-    let c = shown_of s in
+    let c = civil_of s in
     let long = days_in_month_bounds (pos c.year) c.month in
     record {
       first_year = omega (arith, not_before s);
@@ -119,7 +119,7 @@ pub same_parts : (y m d h n s y₂ m₂ d₂ h₂ n₂ s₂ : ℕ) → y ≡ y�
 same_parts y m d h n s y₂ m₂ d₂ h₂ n₂ s₂ ey em ed eh en es = cc
 
 -- one date and time alone is shown at a moment
-pub shown_only : (s : ℕ) (a b : Civil) → IsShownAt s a → IsShownAt s b → a ≡ b
+pub shown_only : (s : ℕ) (a b : Civil) → IsCivilAt s a → IsCivilAt s b → a ≡ b
 unfolding day_of
 shown_only s a b at_a at_b =
     let day = epoch_day_injective (day_of a at_a.date) (day_of b at_b.date) (at_a.day_number ∙ sym at_b.day_number) in
@@ -127,30 +127,30 @@ shown_only s a b at_a at_b =
     same_parts _ _ _ _ _ _ _ _ _ _ _ _ year day.1 day.2 (at_a.hour ∙ sym at_b.hour) (at_a.minute ∙ sym at_b.minute) (at_a.second ∙ sym at_b.second)
 
 -- and at one moment alone
-pub shown_once : (s t : ℕ) (c : Civil) → IsShownAt s c → IsShownAt t c → s ≡ t
+pub shown_once : (s t : ℕ) (c : Civil) → IsCivilAt s c → IsCivilAt t c → s ≡ t
 shown_once s t c at_s at_t =
     omega (arith, signed_arith, sym at_s.day_number ∙ at_t.day_number, at_s.hour, at_s.minute, at_s.second, at_t.hour, at_t.minute, at_t.second)
 
-pub shown_injective : (s t : ℕ) → IsMoment s → IsMoment t → shown_of s ≡ shown_of t → s ≡ t
-shown_injective s t hs ht e = shown_once s t (shown_of t) (rw e at (shown s hs)) (shown t ht)
+pub shown_injective : (s t : ℕ) → IsMoment s → IsMoment t → civil_of s ≡ civil_of t → s ≡ t
+shown_injective s t hs ht e = shown_once s t (civil_of t) (rw e at (shown s hs)) (shown t ht)
 
 -- the date with the moment's day number is the one shown
-pub date_shown : (s : ℕ) (d : Date) → IsMoment s → epoch_day d ≡ pos (s / 86400) → (d.year ≡ pos (shown_of s).year) × (d.month ≡ (shown_of s).month) × (d.day ≡ (shown_of s).day)
+pub date_shown : (s : ℕ) (d : Date) → IsMoment s → epoch_day d ≡ pos (s / 86400) → (d.year ≡ pos (civil_of s).year) × (d.month ≡ (civil_of s).month) × (d.day ≡ (civil_of s).day)
 unfolding day_of
-date_shown s d h e = epoch_day_injective d (day_of (shown_of s) (shown s h).date) (e ∙ sym (shown s h).day_number)
+date_shown s d h e = epoch_day_injective d (day_of (civil_of s) (shown s h).date) (e ∙ sym (shown s h).day_number)
 
 -- parts that are computed from that date and by division
-pub parts_shown : (s y m d h n k : ℕ) → IsMoment s → y ≡ (shown_of s).year → m ≡ (shown_of s).month → d ≡ (shown_of s).day → h ≡ s % 86400 / 3600 → n ≡ s % 86400 / 60 % 60 → k ≡ s % 86400 % 60
-    → (let A : Civil = record { year = y; month = m; day = d; hour = h; minute = n; second = k } in A ≡ shown_of s)
+pub parts_shown : (s y m d h n k : ℕ) → IsMoment s → y ≡ (civil_of s).year → m ≡ (civil_of s).month → d ≡ (civil_of s).day → h ≡ s % 86400 / 3600 → n ≡ s % 86400 / 60 % 60 → k ≡ s % 86400 % 60
+    → (let A : Civil = record { year = y; month = m; day = d; hour = h; minute = n; second = k } in A ≡ civil_of s)
 parts_shown s y m d h n k low ey em ed eh en ek =
     let at = shown s low in
-    same_parts _ _ _ _ _ _ (shown_of s).year (shown_of s).month (shown_of s).day (shown_of s).hour (shown_of s).minute (shown_of s).second ey em ed (omega (arith, at.hour)) (omega (arith, at.minute)) (omega (arith, at.second))
+    same_parts _ _ _ _ _ _ (civil_of s).year (civil_of s).month (civil_of s).day (civil_of s).hour (civil_of s).minute (civil_of s).second ey em ed (omega (arith, at.hour)) (omega (arith, at.minute)) (omega (arith, at.second))
 
 -- what holds of parts that some moment shows
-pub parts_at : (s : ℕ) (c : Civil) → IsMoment s → shown_of s ≡ c → IsShownAt s c
+pub parts_at : (s : ℕ) (c : Civil) → IsMoment s → civil_of s ≡ c → IsCivilAt s c
 parts_at s c h e = rw e at (shown s h)
 
-pub parts_in : (s : ℕ) (c : Civil) → IsMoment s → shown_of s ≡ c → IsCivil c
+pub parts_in : (s : ℕ) (c : Civil) → IsMoment s → civil_of s ≡ c → IsCivil c
 parts_in s c h e = rw e at (ranges s h)
 
 same_civil : (y y₂ : ℤ) (m m₂ d d₂ : ℕ) → y ≡ y₂ → m ≡ m₂ → d ≡ d₂ → IsCivilDate y m d → IsCivilDate y₂ m₂ d₂
@@ -163,12 +163,12 @@ date_is d c e = (same_civil _ _ _ _ _ _ e.0 e.1 e.2 (civil d), rw (← e.0, ← 
 
 -- the moment of a date and a time of day
 pub moment_at : (c : Civil) (days : ℕ) → days < 2932897 → IsCivilDate (pos c.year) c.month c.day → days_from_civil (pos c.year) c.month c.day ≡ pos days → c.hour ≤ 23 → c.minute ≤ 59 → c.second ≤ 59
-    → (let s : ℕ = days * 86400 + (c.hour * 60 + c.minute) * 60 + c.second in IsMoment s × (shown_of s ≡ c))
+    → (let s : ℕ = days * 86400 + (c.hour * 60 + c.minute) * 60 + c.second in IsMoment s × (civil_of s ≡ c))
 moment_at c days few date number hour minute second =
     let s = days * 86400 + (c.hour * 60 + c.minute) * 60 + c.second in
     let low : IsMoment s = omega arith in (
       low,
-      shown_only s (shown_of s) c (shown s low) (record {
+      shown_only s (civil_of s) c (shown s low) (record {
         date = date;
         day_number = let day : s / 86400 ≡ days = omega arith in rw day number;
         hour = omega arith;

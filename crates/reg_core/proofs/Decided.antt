@@ -1,7 +1,7 @@
 -- What follows from a request that can be settled.
 use Rattle.std.proofs.Common.{◌≡◌, true, List, [], ◌∷◌, ◌++◌, refl, ap, Option, Some, None, Result, Ok, IfSome}
 use Rattle.std.specs.Prelude.{⊤}
-use Rattle.reg_core.specs.Checks.{clock_checks, first_of_all, settle_checks}
+use Rattle.reg_core.specs.Checks.{clock_checks, first_of_all, pending_request_checks}
 use Rattle.reg_core.specs.Decisions.{IsDecided, IsDecidedBy, DecidesDecline, DecidesRegister, DecidesRevoke, is_same, revocation_by}
 use Rattle.reg_core.specs.declared.refusal.Refusal.{Refusal}
 use Rattle.reg_core.specs.declared.rows.Head.{Head}
@@ -45,7 +45,7 @@ abbrev pub Settles : Head → Option RequestRow → Option CertRow → Option Re
 Settles head request certificate revocation result =
     IsDecided
     head
-    (settle_checks head.now request certificate revocation)
+    (pending_request_checks head.now request certificate revocation)
     (λ row. IfSome request (λ known. row ≡ known))
     result
 

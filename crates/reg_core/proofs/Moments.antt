@@ -4,7 +4,7 @@ use Rattle.std.specs.Prelude.{MatchOption}
 use Rattle.std.specs.List.{All}
 use Rattle.std.proofs.lemmas.List.Elements.{All-cons}
 use Rattle.reg_core.specs.declared.calendar.Civil.{Civil}
-use Rattle.reg_core.specs.Calendar.{IsMoment, IsCivil, IsTextByte, HasDigits, shown_of, date_time, moment_text}
+use Rattle.reg_core.specs.Calendar.{IsMoment, IsCivil, IsTextByte, HasDigits, civil_of, date_time, moment_text}
 use Rattle.reg_core.proofs.Dates.{same_parts, shown_injective}
 
 pub digits_of : (c : Civil) → IsCivil c → HasDigits c
@@ -29,7 +29,7 @@ date_time_injective a b e =
 -- and one moment alone
 pub moment_text_injective : (a b : ℕ) → IsMoment a → IsMoment b → moment_text a ≡ moment_text b → a ≡ b
 unfolding moment_text
-moment_text_injective a b ha hb e = shown_injective a b ha hb (date_time_injective (shown_of a) (shown_of b) e)
+moment_text_injective a b ha hb e = shown_injective a b ha hb (date_time_injective (civil_of a) (civil_of b) e)
 
 -- what `Moment::of_secs` gives for a moment
 pub given : (r : Option ℕ) (s : ℕ) → IsMoment s → MatchOption r (253402300800 ≤ s) (λ m. (m ≡ s) × IsMoment s) → r ≡ Some s

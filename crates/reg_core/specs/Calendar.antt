@@ -35,8 +35,8 @@ date_after (suc steps) year month days =
     ]
 
 -- the date and time of a moment: days of 86,400 seconds from 1 January 1970, without leap seconds
-unfoldable pub shown_of : ℕ → Civil
-shown_of seconds =
+unfoldable pub civil_of : ℕ → Civil
+civil_of seconds =
     let days = seconds / 86400 in
     let date = date_after days 1970 1 days in
     record {
@@ -49,7 +49,7 @@ shown_of seconds =
     }
 
 -- the date and time of a moment, by the calendar of jiff: a date that exists, with the day number of the moment
-pub record IsShownAt (seconds : ℕ) (c : Civil) : Type 0 where
+pub record IsCivilAt (seconds : ℕ) (c : Civil) : Type 0 where
   pub date : IsCivilDate (pos c.year) c.month c.day
   pub day_number : days_from_civil (pos c.year) c.month c.day ≡ pos (seconds / 86400)
   pub hour : c.hour ≡ seconds % 86400 / 3600
@@ -110,7 +110,7 @@ generalized_time c =
 
 -- the register's own text of a moment
 unfoldable pub moment_text : ℕ → List ℕ
-moment_text seconds = date_time (shown_of seconds)
+moment_text seconds = date_time (civil_of seconds)
 
 -- the first number below a bound that passes a test
 unfoldable pub first_below : (ℕ → Bool) → ℕ → Option ℕ
@@ -123,11 +123,11 @@ moment_of text = first_below (λ m. bytes_eq text (moment_text m)) 253402300800
 
 -- the contents of the UTCTime of a moment: a two-digit year means 1950 to 2049
 unfoldable pub utc_text : ℕ → List ℕ
-utc_text seconds = utc_time (shown_of seconds)
+utc_text seconds = utc_time (civil_of seconds)
 
 -- the contents of the GeneralizedTime of a moment
 unfoldable pub general_text : ℕ → List ℕ
-general_text seconds = generalized_time (shown_of seconds)
+general_text seconds = generalized_time (civil_of seconds)
 
 -- a byte within the range of those in the register's text (`-`, digits, `:`, `T`, `Z`): no space, no line end, none above 127
 abbrev pub IsTextByte : ℕ → Type 0

@@ -101,9 +101,9 @@ request_checks now certificate word revocation full =
     ∷ (live_checks now certificate revocation ++ when full Full ∷ [])
 
 -- a request that can be declined or lead to a revocation: it was not declined, and its certificate is neither revoked nor expired
-abbrev pub settle_checks : ℕ → Option RequestRow → Option CertRow → Option RevocationRow
+abbrev pub pending_request_checks : ℕ → Option RequestRow → Option CertRow → Option RevocationRow
     → List (Option Refusal)
-settle_checks now request certificate revocation =
+pending_request_checks now request certificate revocation =
     where_none request NoRequest
     ∷ where_some request (λ row. row.declined) (λ row. DeclinedBefore)
     ∷ live_checks now certificate revocation

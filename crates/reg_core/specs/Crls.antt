@@ -36,25 +36,25 @@ is_past_end certificates serial moment = ended (certificate_in certificates seri
     ended None = false
 
 -- the CRL can list the revocation, and its thisUpdate is past the certificate's notAfter
-abbrev pub is_past_on : List CertRow → RevocationRow → Crl → Bool
-is_past_on certificates revocation crl =
+abbrev pub ends_listing : List CertRow → RevocationRow → Crl → Bool
+ends_listing certificates revocation crl =
     nat_le revocation.first crl.number && is_past_end certificates revocation.serial crl.this_update
 
 -- CRL n lists the revocation: n is not below the first CRL that can, and no earlier CRL that can is past the certificate's
 -- notAfter (an entry stays until it appears on one regularly scheduled CRL issued beyond the validity, RFC 5280 3.3)
-abbrev pub is_on : List CertRow → List Crl → ℕ → RevocationRow → Bool
-is_on certificates crls n revocation =
+abbrev pub is_listed_on : List CertRow → List Crl → ℕ → RevocationRow → Bool
+is_listed_on certificates crls n revocation =
     nat_le revocation.first n
-    && not (list_any (λ crl. nat_lt crl.number n && is_past_on certificates revocation crl) crls)
+    && not (list_any (λ crl. nat_lt crl.number n && ends_listing certificates revocation crl) crls)
 
 -- the revocations that CRL n lists
 abbrev pub content : Records → ℕ → List RevocationRow
-content records n = filter (is_on records.certificates records.crls n) records.revocations
+content records n = filter (is_listed_on records.certificates records.crls n) records.revocations
 
 -- the number of the last CRL that lists the revocation: the first one past its certificate's notAfter, if that is issued
 abbrev pub last_listing : Records → RevocationRow → Option ℕ
 last_listing records revocation =
-    option_map (λ crl. crl.number) (find (is_past_on records.certificates revocation) records.crls)
+    option_map (λ crl. crl.number) (find (ends_listing records.certificates revocation) records.crls)
 
 -- the entry of a revocation
 abbrev pub entry_of : RevocationRow → Entry

@@ -1,6 +1,6 @@
 -- The result of each decision over the rows that were looked up: a refusal, or the row to add or change.
 use Rattle.std.specs.Prelude.{◌≡◌, ℕ, Bool, true, false, cond, ◌+◌, nat_le, nat_lt, List, [], ◌++◌, Option, Some, None, Result, Ok, Err, IfSome, IsOkAnd}
-use Rattle.reg_core.specs.Checks.{first_of_all, clock_checks, subscriber_checks, order_checks, register_checks, request_checks, settle_checks, crl_checks}
+use Rattle.reg_core.specs.Checks.{first_of_all, clock_checks, subscriber_checks, order_checks, register_checks, request_checks, pending_request_checks, crl_checks}
 use Rattle.reg_core.specs.Crls.{number_after}
 use Rattle.reg_core.specs.Due.{deadline}
 use Rattle.reg_core.specs.Grounds.{ground_or_refusal, reason_of}
@@ -99,7 +99,7 @@ abbrev pub DecidesDecline : Head → Option RequestRow → Option CertRow → Op
 DecidesDecline head request certificate revocation result =
     IsDecided
     head
-    (settle_checks head.now request certificate revocation)
+    (pending_request_checks head.now request certificate revocation)
     (λ row. IfSome request (λ known. row ≡ record known { declined = true }))
     result
 
@@ -122,7 +122,7 @@ abbrev pub DecidesRevoke : Head → Option RequestRow → Option CertRow → Opt
 DecidesRevoke head request certificate revocation latest result =
     IsDecided
     head
-    (settle_checks head.now request certificate revocation)
+    (pending_request_checks head.now request certificate revocation)
     (λ answer. IfSome request (λ known. answer ≡ revocation_by head known latest))
     result
 

@@ -25,9 +25,9 @@ KeysDiffer key [] = Unit {0}
 KeysDiffer key (row ∷ rest) = AllByRecursion (λ other. key row ≢ key other) rest × KeysDiffer key rest
 
 -- no later row has a smaller value
-abbrev pub NeverFalls : {Row : Type 0} → (Row → ℕ) → List Row → Type 0
-NeverFalls value [] = Unit {0}
-NeverFalls value (row ∷ rest) = AllByRecursion (λ later. value row ≤ value later) rest × NeverFalls value rest
+abbrev pub NeverDecreases : {Row : Type 0} → (Row → ℕ) → List Row → Type 0
+NeverDecreases value [] = Unit {0}
+NeverDecreases value (row ∷ rest) = AllByRecursion (λ later. value row ≤ value later) rest × NeverDecreases value rest
 
 -- ids are 1, 2, 3 and so on; names are allowed, and differ; there are at most `cap` rows
 pub record SoundSubscribers (cap : ℕ) (subscribers : List SubscriberRow) : Type 0 where
@@ -60,7 +60,7 @@ pub record SoundRequests (cap last : ℕ) (certificates : List CertRow)
   pub within_validity : AllByRecursion (λ row.
       IsSomeAnd (certificate_in certificates row.serial)
       (λ certificate. row.received ≤ certificate.not_after)) requests
-  pub receipts_never_fall : NeverFalls (λ row. row.received) requests
+  pub receipts_never_decrease : NeverDecreases (λ row. row.received) requests
   pub received_by_last : AllByRecursion (λ row. row.received ≤ last) requests
   pub within_cap : length requests ≤ cap
 
@@ -92,8 +92,8 @@ pub record SoundRevocations (last : ℕ) (certificates : List CertRow) (requests
   pub serials_differ : KeysDiffer (λ row. row.serial) revocations
   pub requests_differ : KeysDiffer (λ row. row.request) revocations
   pub each : AllByRecursion (SoundRevocation last certificates requests crls) revocations
-  pub moments_never_fall : NeverFalls (λ row. row.at) revocations
-  pub firsts_never_fall : NeverFalls (λ row. row.first) revocations
+  pub moments_never_decrease : NeverDecreases (λ row. row.at) revocations
+  pub firsts_never_decrease : NeverDecreases (λ row. row.first) revocations
   pub none_after : AllByRecursion (λ request.
       IfSome (revocation_in revocations request.serial)
       (λ revocation. request.received ≤ revocation.at)) requests
@@ -101,7 +101,7 @@ pub record SoundRevocations (last : ℕ) (certificates : List CertRow) (requests
 -- CRL numbers are 1, 2, 3 and so on (RFC 5280 5.2.3); no thisUpdate is before an earlier CRL's, or after the last accepted moment
 pub record SoundCrls (cap last : ℕ) (crls : List Crl) : Type 0 where
   pub numbered : NumberedFrom (λ crl. crl.number) 1 crls
-  pub updates_never_fall : NeverFalls (λ crl. crl.this_update) crls
+  pub updates_never_decrease : NeverDecreases (λ crl. crl.this_update) crls
   pub updates_by_last : AllByRecursion (λ crl. crl.this_update ≤ last) crls
   pub within_cap : length crls ≤ cap
 

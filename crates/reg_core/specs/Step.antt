@@ -2,7 +2,7 @@
 use Rattle.std.specs.Prelude.{◌≡◌, ℕ, Bool, false, cond, ◌==◌, ◌&&◌, ◌+◌, nat_le, nat_lt, List, [], ◌++◌, length, Option, Some, None, option_and_then, Result, Ok, Err}
 use Rattle.std.specs.List.{list_any}
 use Rattle.reg_core.specs.Records.{Records, subscriber_in, subscriber_named, order_in, certificate_in, certificate_of_order, request_in, revocation_in}
-use Rattle.reg_core.specs.Checks.{first_of_all, clock_checks, subscriber_checks, order_checks, register_checks, request_checks, settle_checks, crl_checks}
+use Rattle.reg_core.specs.Checks.{first_of_all, clock_checks, subscriber_checks, order_checks, register_checks, request_checks, pending_request_checks, crl_checks}
 use Rattle.reg_core.specs.Changes.{changed_by, with_crl, with_revocation}
 use Rattle.reg_core.specs.Crls.{CertList, cert_list, content, next_number}
 use Rattle.reg_core.specs.Due.{deadline}
@@ -81,10 +81,10 @@ checks records now (Request serial word) =
     (revocation_in records.revocations serial)
     (is_full records records.requests)
 checks records now (Decline id) =
-    settle_checks now (request_in records.requests id) (certificate_of_request records id)
+    pending_request_checks now (request_in records.requests id) (certificate_of_request records id)
     (revocation_of_request records id)
 checks records now (Revoke id) =
-    settle_checks now (request_in records.requests id) (certificate_of_request records id)
+    pending_request_checks now (request_in records.requests id) (certificate_of_request records id)
     (revocation_of_request records id)
 checks records now IssueCrl = crl_checks (is_full records records.crls)
 

@@ -18,12 +18,12 @@ pub struct Civil {
 }
 
 impl Civil {
-    ghost use Rattle.reg_core.specs.Calendar.{IsCivil, IsShownAt, HasDigits, shown_of, date_time};
+    ghost use Rattle.reg_core.specs.Calendar.{IsCivil, IsCivilAt, HasDigits, civil_of, date_time};
 
     pub(crate) fn at(seconds: u64) -> Civil
         requires { IsMoment seconds }
-        ensures exact { result ≡ shown_of seconds }
-        ensures shown { IsShownAt seconds result }
+        ensures exact { result ≡ civil_of seconds }
+        ensures shown { IsCivilAt seconds result }
         ensures ranges { IsCivil result }
     {
         let date = date_after_epoch(seconds / 86_400);
@@ -40,8 +40,8 @@ impl Civil {
 
     /// The seconds since 1970-01-01T00:00:00Z; `None` if there is no such date or time, and before 1970.
     pub(crate) fn seconds(self) -> Option<u64>
-        ensures { MatchOption result ((s : ℕ) → IsMoment s → shown_of s ≢ self)
-            (λ s. IsMoment s × (shown_of s ≡ self)) }
+        ensures { MatchOption result ((s : ℕ) → IsMoment s → civil_of s ≢ self)
+            (λ s. IsMoment s × (civil_of s ≡ self)) }
     {
         if self.hour > 23 || self.minute > 59 || self.second > 59 {
             return None;

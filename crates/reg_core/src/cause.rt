@@ -67,7 +67,7 @@ fn words(text: &[u8]) -> Label
 }
 
 /// The cause of a failed system call, by the kind of its error; `None` for other kinds.
-pub fn of_io(kind: ErrorKind) -> Option<Cause>
+pub fn io_cause_of(kind: ErrorKind) -> Option<Cause>
     ensures no_file { kind ≡ ErrorKind.NotFound → result ≡ Some Cause.NoFile }
     ensures no_right { kind ≡ ErrorKind.PermissionDenied → result ≡ Some Cause.NoRight }
     ensures in_use { kind ≡ ErrorKind.AddrInUse → result ≡ Some Cause.InUse }
@@ -91,24 +91,24 @@ pub fn create_cause_of(kind: ErrorKind) -> Option<Cause>
 {
     match kind {
         ErrorKind::AlreadyExists => Some(Cause::Taken),
-        other => of_io(other),
+        other => io_cause_of(other),
     }
 }
 
 /// The cause if a port could not be bound, by the kind of the error; `None` for other kinds.
-pub fn of_port(kind: ErrorKind) -> Option<Cause>
+pub fn port_cause_of(kind: ErrorKind) -> Option<Cause>
     ensures in_use { kind ≡ ErrorKind.AddrInUse → result ≡ Some Cause.PortInUse }
     ensures no_right { kind ≡ ErrorKind.PermissionDenied → result ≡ Some Cause.NoRight }
 {
     match kind {
         ErrorKind::AddrInUse => Some(Cause::PortInUse),
-        other => of_io(other),
+        other => io_cause_of(other),
     }
 }
 
 /// The first value of a policy that is out of its range; `None` if all are in range.
 #[tactic(auto, unfolding(crate::specs::Causes::terms_cause))]
-pub fn of_terms(days: u64, crl_life: u64, ocsp_life: u64, cap: u64) -> Option<Cause>
+pub fn policy_cause_of(days: u64, crl_life: u64, ocsp_life: u64, cap: u64) -> Option<Cause>
     ensures { result ≡ terms_cause days crl_life ocsp_life cap }
 {
     if days < 1 || days > 398 {

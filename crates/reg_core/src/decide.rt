@@ -2,7 +2,7 @@
 //! that applies. No decision changes anything.
 
 ghost use Rattle.std.specs.Prelude.{◌≡◌, ℕ, ◌+◌, ◌<◌, ◌^◌, false, IfSome, ⊤};
-ghost use Rattle.reg_core.specs.Checks.{clock_checks, first_of_all, live_checks, settle_checks, validity_checks, when};
+ghost use Rattle.reg_core.specs.Checks.{clock_checks, first_of_all, live_checks, pending_request_checks, validity_checks, when};
 ghost use Rattle.reg_core.specs.Crls.{number_after};
 ghost use Rattle.reg_core.specs.Decisions.{head_is_full, IsDecided, IsDecidedBy, DecidesSubscriber, DecidesOrder, DecidesRegister, DecidesRequest, DecidesDecline, DecidesRevoke, DecidesCrl};
 
@@ -142,7 +142,7 @@ pub fn decide_decline(
 ) -> Result<RequestRow, Refusal>
     ensures { DecidesDecline head.entry.now request certificate revocation result }
 {
-    let request = settle(head, request, certificate, revocation)?;
+    let request = pending_request(head, request, certificate, revocation)?;
     Ok(RequestRow {
         id: request.id,
         serial: request.serial,
@@ -165,7 +165,7 @@ pub fn decide_revoke(
     requires { IfSome latest (λ crl. crl.number < 10 ^ 18) }
     ensures { DecidesRevoke head.entry.now request certificate revocation latest result }
 {
-    let request = settle(head, request, certificate, revocation)?;
+    let request = pending_request(head, request, certificate, revocation)?;
     let late = head.now.secs() > request.received.secs() + request.ground.limit_secs();
     let row = RevocationRow {
         serial: request.serial,
@@ -257,7 +257,7 @@ fn check_live(
 }
 
 /// The request, if it can be declined or lead to a revocation: it exists, is not declined, and its certificate is not revoked or expired.
-fn settle(
+fn pending_request(
     head: &Head,
     request: Option<RequestRow>,
     certificate: Option<CertRow>,
@@ -265,7 +265,7 @@ fn settle(
 ) -> Result<RequestRow, Refusal>
     ensures { IsDecided
         head.entry.now
-        (settle_checks head.entry.now.now request certificate revocation)
+        (pending_request_checks head.entry.now.now request certificate revocation)
         (λ row. IfSome request (λ known. row ≡ known))
         result }
 {

@@ -21,7 +21,7 @@ mod signed;
 mod status;
 
 pub use calendar::Civil;
-pub use cause::{Cause, create_cause_of, of_io, of_port, of_terms};
+pub use cause::{Cause, create_cause_of, io_cause_of, policy_cause_of, port_cause_of};
 pub use change::Change;
 pub use command::{Command, Counts, Listing, Outcome, Overdue, Query, Reply, Status};
 pub use decide::{

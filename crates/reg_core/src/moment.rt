@@ -25,7 +25,7 @@ impl Model for Moment {
 const END: u64 = 253_402_300_800;
 
 impl Moment {
-    ghost use Rattle.reg_core.specs.Calendar.{IsMoment, IsCivil, IsShownAt, shown_of, moment_text};
+    ghost use Rattle.reg_core.specs.Calendar.{IsMoment, IsCivil, IsCivilAt, civil_of, moment_text};
 
     /// 1970-01-01T00:00:00Z, where the register's clock begins.
     pub const EPOCH: Moment = Moment { seconds: 0 };
@@ -66,8 +66,8 @@ impl Moment {
 
     /// The date of the Gregorian calendar and the time of day in UTC, in days of 86,400 seconds.
     pub fn civil(self) -> Civil
-        ensures exact { result ≡ shown_of self }
-        ensures shown { IsShownAt self result }
+        ensures exact { result ≡ civil_of self }
+        ensures shown { IsCivilAt self result }
         ensures ranges { IsCivil result }
     {
         Civil::at(self.secs())

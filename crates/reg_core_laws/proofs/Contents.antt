@@ -3,7 +3,7 @@ use Rattle.std.proofs.Common.{◌≡◌, ℕ, ◌+◌, ◌<◌, ◌≤◌, Bool,
 use Rattle.std.specs.List.{AllByRecursion}
 use Rattle.std.proofs.lemmas.Bool.Decides.{nat_tests}
 use Rattle.std.proofs.lemmas.List.Elements.{filter-append}
-use Rattle.reg_core.specs.Crls.{content, cert_list, entry_of, ascending, is_on, is_past_on, next_number}
+use Rattle.reg_core.specs.Crls.{content, cert_list, entry_of, ascending, is_listed_on, ends_listing, next_number}
 use Rattle.reg_core.specs.Records.{Records, Crl, certificate_in}
 use Rattle.reg_core.specs.Sound.{SoundRows, SoundRevocation, NumberedFrom}
 use Rattle.reg_core.specs.declared.rows.CertRow.{CertRow}
@@ -74,7 +74,7 @@ next_is (first ∷ rest) numbered = omega (arith, next_from 1 first rest numbere
 
 -- whether a CRL is past the end of a recorded revocation's certificate stays as it was
 pub is_past_on_kept : (rows more : List CertRow) (revocation : RevocationRow) (crl : Crl) (certificate : CertRow)
-    → certificate_in rows revocation.serial ≡ Some certificate → is_past_on (rows ++ more) revocation crl ≡ is_past_on rows revocation crl
+    → certificate_in rows revocation.serial ≡ Some certificate → ends_listing (rows ++ more) revocation crl ≡ ends_listing rows revocation crl
 is_past_on_kept rows more revocation crl certificate found =
     let front : certificate_in (rows ++ more) revocation.serial ≡ Some certificate =
     find_front (λ row. row.serial == revocation.serial) rows more certificate found in
@@ -83,15 +83,15 @@ is_past_on_kept rows more revocation crl certificate found =
 -- over rows and CRLs that were added: up to the least new number, whether a CRL lists a revocation stays as it was
 is_on_added : (rows more_rows : List CertRow) (crls more_crls : List Crl) (n : ℕ) (revocation : RevocationRow) (certificate : CertRow)
     → certificate_in rows revocation.serial ≡ Some certificate → AllByRecursion (λ crl. n ≤ crl.number) more_crls
-    → is_on (rows ++ more_rows) (crls ++ more_crls) n revocation ≡ is_on rows crls n revocation
+    → is_listed_on (rows ++ more_rows) (crls ++ more_crls) n revocation ≡ is_listed_on rows crls n revocation
 is_on_added rows more_rows crls more_crls n revocation certificate found above =
     ap (λ past. nat_le revocation.first n && not past) (any_past after crls more_crls late ∙ any_same after before crls same)
   where
     after : Crl → Bool
-    after crl = nat_lt crl.number n && is_past_on (rows ++ more_rows) revocation crl
+    after crl = nat_lt crl.number n && ends_listing (rows ++ more_rows) revocation crl
 
     before : Crl → Bool
-    before crl = nat_lt crl.number n && is_past_on rows revocation crl
+    before crl = nat_lt crl.number n && ends_listing rows revocation crl
 
     late : AllByRecursion (λ crl. IsFalse (after crl)) more_crls
     late = all_weaker _ _ (λ crl least. grind (arith, nat_tests)) more_crls above
@@ -101,18 +101,18 @@ is_on_added rows more_rows crls more_crls n revocation certificate found above =
 
 -- what the CRL with a number up to the next lists of the recorded revocations stays as it was
 old_content_kept : (before after : Records) → SoundRows before → Grows before after → (n : ℕ) → n ≤ length before.crls + 1
-    → filter (is_on after.certificates after.crls n) before.revocations ≡ content before n
+    → filter (is_listed_on after.certificates after.crls n) before.revocations ≡ content before n
 old_content_kept before after sound grows n recorded = filter_same _ _ before.revocations (all_weaker _ _ same before.revocations sound.revocations.each)
   where
     above : AllByRecursion (λ crl. n ≤ crl.number) grows.more_crls
     above = all_weaker _ _ (λ crl new. omega arith) grows.more_crls grows.new_numbers
 
     same : (revocation : RevocationRow) → SoundRevocation before.last before.certificates before.requests before.crls revocation
-        → is_on after.certificates after.crls n revocation ≡ is_on before.certificates before.crls n revocation
+        → is_listed_on after.certificates after.crls n revocation ≡ is_listed_on before.certificates before.crls n revocation
     same revocation holds =
         let found =
         some_and_of (λ certificate. revocation.at ≤ certificate.not_after) (certificate_in before.certificates revocation.serial) holds.within_validity in
-        ap₂ (λ (rows : List CertRow) (crls : List Crl). is_on rows crls n revocation) grows.certificates grows.crls
+        ap₂ (λ (rows : List CertRow) (crls : List Crl). is_listed_on rows crls n revocation) grows.certificates grows.crls
         ∙ is_on_added before.certificates grows.more_certificates before.crls grows.more_crls n revocation found.0 found.1 above
 
 -- what a recorded CRL lists stays as it was
@@ -122,7 +122,7 @@ content_kept before after sound grows n recorded =
     ∙ ap₂ ◌++◌ (old_content_kept before after sound grows n (omega arith)) (filter_none test grows.more_revocations fails) ∙ append-nil (content before n)
   where
     test : RevocationRow → Bool
-    test = is_on after.certificates after.crls n
+    test = is_listed_on after.certificates after.crls n
 
     fails : AllByRecursion (λ revocation. IsFalse (test revocation)) grows.more_revocations
     fails = all_weaker _ _ (λ revocation new. grind (arith, nat_tests)) grows.more_revocations grows.new_firsts
@@ -151,4 +151,4 @@ pub next_cert_list_kept : (before after : Records) → SoundRows before → Grow
     → n ≤ length before.crls + 1 → cert_list after n this_update ≡ cert_list before n this_update
 next_cert_list_kept before after sound grows same n this_update recorded =
     cert_list_by before after n this_update grows.issuer grows.policy
-    (ap (filter (is_on after.certificates after.crls n)) same ∙ old_content_kept before after sound grows n recorded)
+    (ap (filter (is_listed_on after.certificates after.crls n)) same ∙ old_content_kept before after sound grows n recorded)

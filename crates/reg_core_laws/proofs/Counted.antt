@@ -17,7 +17,7 @@ use Rattle.reg_core.specs.declared.command.Command.TheVariants.{Register, Revoke
 use Rattle.reg_core.specs.declared.command.Reply.TheVariants.{Registered, Same, Revoked as RevokedNow}
 use Rattle.reg_core.specs.declared.command.Status.{Status}
 use Rattle.reg_core.specs.declared.command.Status.TheVariants.{Good, Expired}
-use Rattle.reg_core_laws.specs.Headline.{ExactlyOne, Parted, StandsInExactlyOne, TimeMoves, ends_between, CountsMove, CountsMoveExactly}
+use Rattle.reg_core_laws.specs.Headline.{ExactlyOne, PartitionedByStatus, HasExactlyOneStatus, TimeMoves, ends_between, CountsMove, CountsMoveExactly}
 use Rattle.reg_core_laws.proofs.Accepted.{SettleAccepted, accepted_register, accepted_revoke}
 use Rattle.reg_core_laws.proofs.CountFacts.{one_if, filter_push, sum_of_two, sum_of_three, same_length, one_has}
 use Rattle.reg_core_laws.proofs.Lists.{all_weaker, all_found, all_any, each_found, key_found, key_new, key_pushed}
@@ -32,7 +32,7 @@ one_status : (moment : ℕ) (row : CertRow) (known : Option CertRow) (revocation
 one_status moment row known revocation found = grind arith
 
 -- of all certificates of sound records
-parted : (records : Records) (moment : ℕ) → SoundRows records → Parted records moment
+parted : (records : Records) (moment : ℕ) → SoundRows records → PartitionedByStatus records moment
 parted records moment sound = record { each = each; together = sum_of_three _ _ _ records.certificates each }
   where
     each : AllByRecursion (λ row. ExactlyOne (is_good (status records row.serial moment)) (is_revoked (status records row.serial moment))
@@ -42,7 +42,7 @@ parted records moment sound = record { each = each; together = sum_of_three _ _ 
         records.certificates (each_found (λ row. row.serial) records.certificates sound.certificates.serials_differ)
 
 -- certificates are only ever added, and each stands in exactly one, after every run
-pub stands_in_exactly_one : (signed : CertList → List ℕ → Type 0) → StandsInExactlyOne signed
+pub stands_in_exactly_one : (signed : CertList → List ℕ → Type 0) → HasExactlyOneStatus signed
 stands_in_exactly_one signed records after commands outcomes sound run =
     let grows = run_grows signed records after commands outcomes sound run in (
       (grows.more_certificates, grows.certificates),

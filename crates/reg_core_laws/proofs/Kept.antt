@@ -215,7 +215,7 @@ module _ (records : Records) (now : ℕ) (sound : SoundRows records) (clock : On
       sound.certificates (record {
         numbered = numbered_push _ 1 _ row sound.requests.numbered (omega arith);
         within_validity = all_push _ _ row sound.requests.within_validity (some_and_here _ _ passes.0 passes.1 passes.3);
-        receipts_never_fall = falls_push _ _ row sound.requests.receipts_never_fall later.requests.received_by_last;
+        receipts_never_decrease = falls_push _ _ row sound.requests.receipts_never_decrease later.requests.received_by_last;
         received_by_last = all_push _ _ row later.requests.received_by_last (omega arith);
         within_cap = omega (arith, length-append records.requests (row ∷ []), room);
       }) (assumption (each, after)) later.crls
@@ -238,7 +238,7 @@ module _ (records : Records) (now : ℕ) (sound : SoundRows records) (clock : On
       sound.certificates (record {
         numbered = numbered_map _ _ (λ row. (declined_is id row).0) 1 _ sound.requests.numbered;
         within_validity = each_declined id _ (λ row holds. holds) _ sound.requests.within_validity;
-        receipts_never_fall = falls_map _ _ (λ row. (declined_is id row).1) _ sound.requests.receipts_never_fall;
+        receipts_never_decrease = falls_map _ _ (λ row. (declined_is id row).1) _ sound.requests.receipts_never_decrease;
         received_by_last = each_declined id _ (λ row holds. holds) _ later.requests.received_by_last;
         within_cap = omega (arith, length-map records.requests (declined_if id), sound.requests.within_cap);
       }) (assumption (each, after)) later.crls
@@ -266,10 +266,10 @@ module _ (records : Records) (now : ℕ) (sound : SoundRows records) (clock : On
         serials_differ = keys_push _ _ row sound.revocations.serials_differ (key_new (λ other. other.serial) _ _ is.not_revoked);
         requests_differ = keys_push _ _ row sound.revocations.requests_differ (fresh_request records is.request.id is.request sound found is.not_revoked);
         each = all_push _ _ row later.revocations.each new;
-        moments_never_fall =
-            falls_push _ _ row sound.revocations.moments_never_fall (all_weaker _ _ (λ other holds. holds.at_by_last) _ later.revocations.each);
-        firsts_never_fall =
-            falls_push _ _ row sound.revocations.firsts_never_fall
+        moments_never_decrease =
+            falls_push _ _ row sound.revocations.moments_never_decrease (all_weaker _ _ (λ other holds. holds.at_by_last) _ later.revocations.each);
+        firsts_never_decrease =
+            falls_push _ _ row sound.revocations.firsts_never_decrease
             (all_weaker _ _ (λ other holds. omega (arith, holds.first_by_next, next)) _ later.revocations.each);
         none_after =
             all_join _ _ _ (λ asked old received. if_some_push _ (λ other. other.serial == asked.serial) _ row old received)
@@ -314,7 +314,7 @@ module _ (records : Records) (now : ℕ) (sound : SoundRows records) (clock : On
       rows_of _ sound.policy clock.before_end (λ empty. inr (any_last _ records.crls crl (grind (arith, nat_tests)))) sound.subscribers sound.orders
       sound.certificates later.requests (assumption each) (record {
         numbered = numbered_push _ 1 _ crl sound.crls.numbered (omega (arith, next));
-        updates_never_fall = falls_push _ _ crl sound.crls.updates_never_fall later.crls.updates_by_last;
+        updates_never_decrease = falls_push _ _ crl sound.crls.updates_never_decrease later.crls.updates_by_last;
         updates_by_last = all_push _ _ crl later.crls.updates_by_last (omega arith);
         within_cap = omega (arith, length-append records.crls (crl ∷ []), room);
       })

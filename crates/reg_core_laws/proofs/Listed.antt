@@ -3,7 +3,7 @@
 use Rattle.std.proofs.Common.{◌≡◌, ◌↔◌, ℕ, ◌<◌, ◌≤◌, Bool, false, ◌&&◌, ◌==◌, nat_lt, List, find, Option, Some, None, option_map, IsTrue, IsFalse, IfSome, refl, sym, ap, ◌∙◌, arith}
 use Rattle.std.specs.List.{AllByRecursion, list_any}
 use Rattle.std.proofs.lemmas.Bool.Decides.{nat_tests}
-use Rattle.reg_core.specs.Crls.{is_past_end, is_past_on, is_on, content, last_listing, entry_of, entries}
+use Rattle.reg_core.specs.Crls.{is_past_end, ends_listing, is_listed_on, content, last_listing, entry_of, entries}
 use Rattle.reg_core.specs.Records.{Records, Crl, certificate_in, revocation_in}
 use Rattle.reg_core.specs.Sound.{NumberedFrom, SoundRevocation, SoundRows}
 use Rattle.reg_core.specs.Status.{status}
@@ -20,7 +20,7 @@ use Rattle.reg_core_laws.proofs.ListFacts.{all_that_pass, any_unfound, any_with_
 
 -- a CRL below n after which the revocation need not be listed
 abbrev ends_before : List CertRow → RevocationRow → ℕ → Crl → Bool
-ends_before certificates revocation n crl = nat_lt crl.number n && is_past_on certificates revocation crl
+ends_before certificates revocation n crl = nat_lt crl.number n && ends_listing certificates revocation crl
 
 -- the end of a registered certificate
 pub past_end_is : (certificates : List CertRow) (serial moment : ℕ) (certificate : CertRow) → certificate_in certificates serial ≡ Some certificate
@@ -30,7 +30,7 @@ past_end_is certificates serial moment certificate is = rw (is, is_past_end)
 -- CRL n lists a revocation just where it can, and no CRL before that one that can was issued past the end
 pub on_means : (certificates : List CertRow) (crls : List Crl) (n : ℕ) (revocation : RevocationRow) (certificate : CertRow)
     → certificate_in certificates revocation.serial ≡ Some certificate
-    → IsTrue (is_on certificates crls n revocation) ↔ ((revocation.first ≤ n) × NonePastBetween crls revocation.first n certificate.not_after)
+    → IsTrue (is_listed_on certificates crls n revocation) ↔ ((revocation.first ≤ n) × NonePastBetween crls revocation.first n certificate.not_after)
 on_means certificates crls n revocation certificate is = (there, back)
   where
     told : (crl : Crl)
@@ -40,21 +40,21 @@ on_means certificates crls n revocation certificate is = (there, back)
         past_end_is certificates revocation.serial crl.this_update certificate is in
         (λ fails can below. grind (arith, nat_tests), λ within. grind (arith, nat_tests))
 
-    there : IsTrue (is_on certificates crls n revocation) → (revocation.first ≤ n) × NonePastBetween crls revocation.first n certificate.not_after
+    there : IsTrue (is_listed_on certificates crls n revocation) → (revocation.first ≤ n) × NonePastBetween crls revocation.first n certificate.not_after
     there on = (grind (arith, nat_tests), all_weaker _ _ (λ crl. (told crl).0) crls (none_any (ends_before certificates revocation n) crls (grind arith)))
 
-    back : (revocation.first ≤ n) × NonePastBetween crls revocation.first n certificate.not_after → IsTrue (is_on certificates crls n revocation)
+    back : (revocation.first ≤ n) × NonePastBetween crls revocation.first n certificate.not_after → IsTrue (is_listed_on certificates crls n revocation)
     back facts =
         let none : list_any (ends_before certificates revocation n) crls ≡ false = any_none _ crls (all_weaker _ _ (λ crl. (told crl).1) crls facts.1) in
         grind (arith, nat_tests, facts.0)
 
 -- and just where it can and is not past the revocation's last listing
 on_from_first_to_last : (records : Records) (n : ℕ) (revocation : RevocationRow) → NumberedFrom (λ crl. crl.number) 1 records.crls
-    → IsTrue (is_on records.certificates records.crls n revocation) ↔ ((revocation.first ≤ n) × IfSome (last_listing records revocation) (λ last. n ≤ last))
-on_from_first_to_last records n revocation numbered = go (find (is_past_on records.certificates revocation) records.crls) refl
+    → IsTrue (is_listed_on records.certificates records.crls n revocation) ↔ ((revocation.first ≤ n) × IfSome (last_listing records revocation) (λ last. n ≤ last))
+on_from_first_to_last records n revocation numbered = go (find (ends_listing records.certificates revocation) records.crls) refl
   where
-    go : (found : Option Crl) → find (is_past_on records.certificates revocation) records.crls ≡ found
-        → IsTrue (is_on records.certificates records.crls n revocation) ↔
+    go : (found : Option Crl) → find (ends_listing records.certificates revocation) records.crls ≡ found
+        → IsTrue (is_listed_on records.certificates records.crls n revocation) ↔
         ((revocation.first ≤ n) × IfSome (option_map (λ crl. crl.number) found) (λ last. n ≤ last))
     go None is =
         let none : list_any (ends_before records.certificates revocation n) records.crls ≡ false =
@@ -69,10 +69,10 @@ on_from_first_to_last records n revocation numbered = go (find (is_past_on recor
 
 -- a CRL has an entry of a revoked serial number just where it lists the revocation
 pub lists_is : (records : Records) (n serial : ℕ) (revocation : RevocationRow) → SoundRows records → revocation_in records.revocations serial ≡ Some revocation
-    → lists records n serial ≡ is_on records.certificates records.crls n revocation
+    → lists records n serial ≡ is_listed_on records.certificates records.crls n revocation
 lists_is records n serial revocation sound is =
     any_entry (λ entry. entry.serial == serial) records n
-    ∙ any_with_key (λ row. row.serial) (is_on records.certificates records.crls n) serial records.revocations revocation sound.revocations.serials_differ is
+    ∙ any_with_key (λ row. row.serial) (is_listed_on records.certificates records.crls n) serial records.revocations revocation sound.revocations.serials_differ is
 
 -- the certificate of a revocation
 pub record RevokedCertificate (records : Records) (serial : ℕ) (revocation : RevocationRow) : Type 0 where
@@ -107,7 +107,7 @@ due_entries records n sound =
     (each_found (λ revocation. revocation.serial) records.revocations sound.revocations.serials_differ))))
   where
     due : (revocation : RevocationRow) → revocation_in records.revocations revocation.serial ≡ Some revocation
-        → IsTrue (is_on records.certificates records.crls n revocation) → IsDueEntry records n (entry_of revocation)
+        → IsTrue (is_listed_on records.certificates records.crls n revocation) → IsDueEntry records n (entry_of revocation)
     due revocation is on =
         let its = certificate_of records revocation.serial revocation sound is in
         let told = (on_means records.certificates records.crls n revocation its.certificate its.registered).0 on in

@@ -2,7 +2,7 @@
 use Rattle.std.proofs.Common.{◌≡◌, ◌≢◌, ℕ, zero, suc, ◌+◌, ◌<◌, ◌≤◌, Bool, cond, not, ◌||◌, ◌==◌, List, [], ◌∷◌, ◌++◌, length, map, filter, find, Option, Some, None, option_map, is_some, IfSome, IsTrue, IsFalse, IsSome, IsSomeAnd, refl, ◌∙◌, arith}
 use Rattle.std.specs.List.{AllByRecursion, list_any}
 use Rattle.std.proofs.lemmas.Bool.Decides.{nat_tests}
-use Rattle.reg_core.specs.Sound.{NumberedFrom, KeysDiffer, NeverFalls}
+use Rattle.reg_core.specs.Sound.{NumberedFrom, KeysDiffer, NeverDecreases}
 
 -- WHAT HOLDS OF EACH ROW
 
@@ -182,14 +182,14 @@ pub keys_push : {Row Key : Type 0} (key : Row → Key) (rows : List Row) (row : 
 keys_push key [] row differ new = (tt, tt)
 keys_push key (first ∷ rest) row differ new = (all_push _ rest row differ.0 new.0, keys_push key rest row differ.1 new.1)
 
-pub falls_push : {Row : Type 0} (value : Row → ℕ) (rows : List Row) (row : Row) → NeverFalls value rows
-    → AllByRecursion (λ other. value other ≤ value row) rows → NeverFalls value (rows ++ row ∷ [])
+pub falls_push : {Row : Type 0} (value : Row → ℕ) (rows : List Row) (row : Row) → NeverDecreases value rows
+    → AllByRecursion (λ other. value other ≤ value row) rows → NeverDecreases value (rows ++ row ∷ [])
 falls_push value [] row never new = (tt, tt)
 falls_push value (first ∷ rest) row never new = (all_push _ rest row never.0 new.0, falls_push value rest row never.1 new.1)
 
 -- a change of rows that leaves the value
 pub falls_map : {Row : Type 0} (value : Row → ℕ) (f : Row → Row) → ((row : Row) → value (f row) ≡ value row) → (rows : List Row)
-    → NeverFalls value rows → NeverFalls value (map f rows)
+    → NeverDecreases value rows → NeverDecreases value (map f rows)
 falls_map value f same [] never = tt
 falls_map value f same (first ∷ rest) never =
     (all_map _ f rest (all_weaker _ _ (λ later le. omega (arith, le, same first, same later)) rest never.0), falls_map value f same rest never.1)

@@ -2,7 +2,7 @@
 use Rattle.std.proofs.Common.{◌≡◌, ◌↔◌, ℕ, ◌+◌, ◌<◌, ◌≤◌, List, [], ◌∷◌, ◌++◌, length, Bool, Some, Ok, IsTrue, IsFalse, refl, sym, ap, ◌∙◌, subst, arith}
 use Rattle.std.specs.List.{AllByRecursion}
 use Rattle.std.proofs.lemmas.Bool.Decides.{nat_tests}
-use Rattle.reg_core.specs.Crls.{CertList, cert_list, is_on, next_number}
+use Rattle.reg_core.specs.Crls.{CertList, cert_list, is_listed_on, next_number}
 use Rattle.reg_core.specs.Records.{Records, Crl, certificate_in, revocation_in}
 use Rattle.reg_core.specs.Sound.{SoundRows, NumberedFrom}
 use Rattle.reg_core.specs.Step.{reply, changed}
@@ -11,7 +11,7 @@ use Rattle.reg_core.specs.declared.rows.RevocationRow.{RevocationRow}
 use Rattle.reg_core.specs.declared.command.Command.{Command}
 use Rattle.reg_core.specs.declared.command.Reply.TheVariants.{Revoked}
 use Rattle.reg_core_laws.specs.Headline.{lists, NonePastBetween, ListedByCrls, ListsRevoked}
-use Rattle.reg_core_laws.specs.History.{HistoryStands}
+use Rattle.reg_core_laws.specs.History.{HistoryIsKept}
 use Rattle.reg_core_laws.proofs.Contents.{next_is, content_kept, cert_list_kept}
 use Rattle.reg_core_laws.proofs.Listed.{on_means, lists_is, RevokedCertificate, certificate_of, due_entries, listed_from_first_to_last}
 use Rattle.reg_core_laws.proofs.Lists.{all_front, all_back, all_weaker, each_found, key_found, numbered_above, numbered_below}
@@ -29,12 +29,12 @@ while_none_past : (records : Records) (revocation : RevocationRow) (certificate 
     → (n < revocation.first → IsFalse (lists records n certificate.serial))
     × (revocation.first ≤ n → IsTrue (lists records n certificate.serial) ↔ NonePastBetween records.crls revocation.first n certificate.not_after)
 while_none_past records revocation certificate n sound registered stands =
-    let is : lists records n certificate.serial ≡ is_on records.certificates records.crls n revocation =
+    let is : lists records n certificate.serial ≡ is_listed_on records.certificates records.crls n revocation =
     lists_is records n certificate.serial revocation sound stands in
     let means = on_means records.certificates records.crls n revocation certificate registered in
     (λ less. is ∙ too_early less, λ can. (λ listed. (means.0 (sym is ∙ listed)).1, λ none. is ∙ means.1 (can, none)))
   where
-    too_early : n < revocation.first → IsFalse (is_on records.certificates records.crls n revocation)
+    too_early : n < revocation.first → IsFalse (is_listed_on records.certificates records.crls n revocation)
     too_early less = grind (arith, nat_tests)
 
 -- a revocation that was entered at the end, with the next CRL number as its first, as the CRLs of later records tell it
@@ -107,7 +107,7 @@ lists_revoked signed records before next after front rest early late now command
 
 -- RECORDED CRLS
 
-pub history_stands : (signed : CertList → List ℕ → Type 0) → HistoryStands signed
+pub history_stands : (signed : CertList → List ℕ → Type 0) → HistoryIsKept signed
 history_stands signed records after commands outcomes sound run =
     let sound_after = keeps_sound signed records after commands outcomes sound run in
     let grows = run_grows signed records after commands outcomes sound run in

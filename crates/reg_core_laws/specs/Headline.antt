@@ -60,7 +60,7 @@ ExactlyOne first second third =
     ⊎ (IsFalse first × IsFalse second × IsTrue third)
 
 -- each registered serial number is exactly one of good, revoked and expired, and the three counts add up to their number
-pub record Parted (records : Records) (moment : ℕ) : Type 0 where
+pub record PartitionedByStatus (records : Records) (moment : ℕ) : Type 0 where
   pub each : AllByRecursion
       (λ row. ExactlyOne
       (is_good (status records row.serial moment))
@@ -72,15 +72,15 @@ pub record Parted (records : Records) (moment : ℕ) : Type 0 where
       ≡ length records.certificates
 
 -- registered serial numbers stay, and each is exactly one of the three at any moment from the last accepted one on
-abbrev pub StandsInExactlyOne : (CertList → List ℕ → Type 0) → Type 0
-StandsInExactlyOne signed =
+abbrev pub HasExactlyOneStatus : (CertList → List ℕ → Type 0) → Type 0
+HasExactlyOneStatus signed =
     (records after : Records)
     (commands : List (ℕ × Command))
     (outcomes : List (Result Reply Fault))
     → Sound signed records
     → Run signed records commands outcomes after
     → ((more : List CertRow) × (after.certificates ≡ records.certificates ++ more))
-    × ((moment : ℕ) → after.last ≤ moment → moment < clock_end → Parted after moment)
+    × ((moment : ℕ) → after.last ≤ moment → moment < clock_end → PartitionedByStatus after moment)
 
 -- the counts after a command: a registration adds one to good, a revocation moves one from good to revoked, and any
 -- other outcome leaves them as they are

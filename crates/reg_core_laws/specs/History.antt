@@ -34,8 +34,8 @@ pub record CrlsStay (signed : CertList → List ℕ → Type 0) (records after :
       records.crls
 
 -- all of this holds after every run
-abbrev pub HistoryStands : (CertList → List ℕ → Type 0) → Type 0
-HistoryStands signed =
+abbrev pub HistoryIsKept : (CertList → List ℕ → Type 0) → Type 0
+HistoryIsKept signed =
     (records after : Records)
     (commands : List (ℕ × Command))
     (outcomes : List (Result Reply Fault))

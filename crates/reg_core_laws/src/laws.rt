@@ -1,7 +1,7 @@
 //! Each function here does nothing when it runs: its contract is a law, which the prover checks.
 
-ghost use Rattle.reg_core_laws.specs.Headline.{CreatedSound, KeepsSound, RunsInParts, StandsInExactlyOne, CountsMoveExactly, ListsRevoked, RefusalsChangeNothing};
-ghost use Rattle.reg_core_laws.specs.History.{HistoryStands};
+ghost use Rattle.reg_core_laws.specs.Headline.{CreatedSound, KeepsSound, RunsInParts, HasExactlyOneStatus, CountsMoveExactly, ListsRevoked, RefusalsChangeNothing};
+ghost use Rattle.reg_core_laws.specs.History.{HistoryIsKept};
 ghost use Rattle.reg_core_laws.specs.Import.{ImportsTwice};
 ghost use Rattle.reg_core_laws.specs.Revocations.{RevocationsMoveExactly};
 
@@ -15,7 +15,7 @@ pub fn headline<S: SignsCrls>()
     ensures created { (signer : S) → CreatedSound (S.signed signer) }
     ensures sound { (signer : S) → KeepsSound (S.signed signer) }
     ensures parts { (signer : S) → RunsInParts (S.signed signer) }
-    ensures exactly_one { (signer : S) → StandsInExactlyOne (S.signed signer) }
+    ensures exactly_one { (signer : S) → HasExactlyOneStatus (S.signed signer) }
     ensures counts { (signer : S) → CountsMoveExactly (S.signed signer) }
     ensures lists { (signer : S) → ListsRevoked (S.signed signer) }
     ensures refused { (signer : S) → RefusalsChangeNothing (S.signed signer) }
@@ -25,7 +25,7 @@ pub fn headline<S: SignsCrls>()
 /// there is no last. No CRL lists anything else. A recorded CRL never changes, nor do its entries and the fields that are
 /// signed in it, and it stays signed.
 pub fn history<S: SignsCrls>()
-    ensures { (signer : S) → HistoryStands (S.signed signer) }
+    ensures { (signer : S) → HistoryIsKept (S.signed signer) }
 {}
 
 /// A revocation is added only by a command with the reply `Revoked`: it is of its request's serial number, at the command's moment,

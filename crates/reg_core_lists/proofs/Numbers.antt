@@ -4,7 +4,7 @@ use Rattle.std.specs.Prelude.{nat_lt, filter_map, option_and_then}
 use Rattle.std.specs.List.{filter, find, AllByRecursion, cons_option}
 use Rattle.std.proofs.lemmas.Bool.Decides.{nat_tests}
 use Rattle.reg_core.specs.Sound.{KeysDiffer, NumberedFrom}
-use Rattle.reg_core_lists.specs.Lists.{put_in, in_order, past}
+use Rattle.reg_core_lists.specs.Lists.{insert_by_key, in_order, past}
 use Rattle.reg_core_lists.proofs.Orders.{all_above, put_front}
 
 module _ {A : Type 0} (key : A → ℕ) where
@@ -29,7 +29,7 @@ module _ {A : Type 0} (key : A → ℕ) where
   in_order_already : (from : ℕ) (xs : List A) → NumberedFrom key from xs → in_order key xs ≡ xs
   in_order_already from [] numbered = refl
   in_order_already from (x ∷ xs) numbered =
-      ap (put_in key x) (in_order_already (from + 1) xs numbered.1) ∙ put_front key x xs (from_on (key x) (from + 1) xs (omega (arith, numbered.0)) numbered.1)
+      ap (insert_by_key key x) (in_order_already (from + 1) xs numbered.1) ∙ put_front key x xs (from_on (key x) (from + 1) xs (omega (arith, numbered.0)) numbered.1)
 
   -- the first so many are not past their number
   filter_drop : (from gone : ℕ) (xs : List A) → NumberedFrom key (from + 1) xs → filter (λ a. nat_lt (from + gone) (key a)) xs ≡ drop gone xs

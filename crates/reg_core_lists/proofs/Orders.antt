@@ -4,7 +4,7 @@ use Rattle.std.specs.Prelude.{nat_lt, slice_get}
 use Rattle.std.specs.List.{filter, AllByRecursion}
 use Rattle.std.proofs.lemmas.Bool.Decides.{nat_tests}
 use Rattle.reg_core.specs.Sound.{KeysDiffer, NumberedFrom}
-use Rattle.reg_core_lists.specs.Lists.{put_in, in_order, past}
+use Rattle.reg_core_lists.specs.Lists.{insert_by_key, in_order, past}
 
 -- ---- what a filter keeps
 
@@ -33,7 +33,7 @@ module _ {A : Type 0} (key : A → ℕ) where
   weaken low high [] le all = tt
   weaken low high (x ∷ xs) le all = (omega arith, weaken low high xs le all.1)
 
-  all_put : (P : A → Type 0) (x : A) (xs : List A) → P x → AllByRecursion P xs → AllByRecursion P (put_in key x xs)
+  all_put : (P : A → Type 0) (x : A) (xs : List A) → P x → AllByRecursion P xs → AllByRecursion P (insert_by_key key x xs)
   all_put P x [] one all = (one, tt)
   all_put P x (y ∷ xs) one all = grind (arith, all_put P x xs one all.1)
 
@@ -41,14 +41,14 @@ module _ {A : Type 0} (key : A → ℕ) where
   all_ordered P [] all = tt
   all_ordered P (x ∷ xs) all = all_put P x (in_order key xs) all.0 (all_ordered P xs all.1)
 
-  put_rises : (x : A) (xs : List A) → Rises xs → AllByRecursion (λ a. key x ≢ key a) xs → Rises (put_in key x xs)
+  put_rises : (x : A) (xs : List A) → Rises xs → AllByRecursion (λ a. key x ≢ key a) xs → Rises (insert_by_key key x xs)
   put_rises x [] rises apart = (tt, tt)
   put_rises x (y ∷ xs) rises apart = grind (arith, nat_tests, apart.0, below, above, put_rises x xs rises.1 apart.1)
     where
       below : key x < key y → AllByRecursion (λ a. key x < key a) xs
       below less = weaken (key x) (key y) xs (omega arith) rises.0
 
-      above : key y < key x → AllByRecursion (λ a. key y < key a) (put_in key x xs)
+      above : key y < key x → AllByRecursion (λ a. key y < key a) (insert_by_key key x xs)
       above more = all_put (λ a. key y < key a) x xs more rises.0
 
   -- rows whose keys differ rise once they are in order
@@ -58,15 +58,15 @@ module _ {A : Type 0} (key : A → ℕ) where
 
   -- ---- the rows past a key are those of all that are in order
 
-  pub put_front : (x : A) (xs : List A) → AllByRecursion (λ a. key x < key a) xs → put_in key x xs ≡ x ∷ xs
+  pub put_front : (x : A) (xs : List A) → AllByRecursion (λ a. key x < key a) xs → insert_by_key key x xs ≡ x ∷ xs
   put_front x [] all = refl
   put_front x (y ∷ xs) all = grind (arith, nat_tests, all.0)
 
-  filter_put : (p : A → Bool) (x : A) (xs : List A) → Rises xs → filter p (put_in key x xs) ≡ cond (p x) (put_in key x (filter p xs)) (filter p xs)
+  filter_put : (p : A → Bool) (x : A) (xs : List A) → Rises xs → filter p (insert_by_key key x xs) ≡ cond (p x) (insert_by_key key x (filter p xs)) (filter p xs)
   filter_put p x [] rises = grind arith
   filter_put p x (y ∷ xs) rises = grind (arith, nat_tests, front, filter_put p x xs rises.1)
     where
-      front : key x < key y → put_in key x (filter p (y ∷ xs)) ≡ x ∷ filter p (y ∷ xs)
+      front : key x < key y → insert_by_key key x (filter p (y ∷ xs)) ≡ x ∷ filter p (y ∷ xs)
       front less = put_front x (filter p (y ∷ xs)) (kept_all (λ a. key x < key a) p (y ∷ xs) (less, weaken (key x) (key y) xs (omega arith) rises.0))
 
   pub order_filter : (p : A → Bool) (xs : List A) → KeysDiffer key xs → in_order key (filter p xs) ≡ filter p (in_order key xs)

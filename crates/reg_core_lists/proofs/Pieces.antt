@@ -4,7 +4,7 @@ use Rattle.std.specs.Prelude.{option_and_then}
 use Rattle.std.specs.List.{position_or_len}
 use Rattle.std.proofs.lemmas.Bool.{false≢true}
 use Rattle.std.proofs.lemmas.Bool.Decides.{nat_tests}
-use Rattle.reg_core_lists.specs.ListParameters.{no_params, params_from, params_of, with_piece}
+use Rattle.reg_core_lists.specs.ListParameters.{no_params, params_from, params_of, with_parameter}
 use Rattle.reg_core_lists.specs.declared.list_parameters.Params.{Params}
 
 module _ (left : ℕ) (rest : List ℕ) (params : Params) where
@@ -18,7 +18,7 @@ module _ (left : ℕ) (rest : List ℕ) (params : Params) where
   piece = take ends_at rest
 
   -- one piece, and what follows it
-  one_piece : params_from (suc left) rest params ≡ option_and_then goes_on (with_piece params piece)
+  one_piece : params_from (suc left) rest params ≡ option_and_then goes_on (with_parameter params piece)
   one_piece = refl
 
 -- With so many pieces read, where a piece ends.
@@ -26,23 +26,23 @@ module _ (read : ℕ) (rest : List ℕ) (params : Params) (end : ℕ) (below : r
   left_one : params_from (7 - read) rest params ≡ params_from (suc (7 - (read + 1))) rest params
   left_one = let more : 7 - read ≡ suc (7 - (read + 1)) = omega arith in ap (λ n. params_from n rest params) more
 
-  at_piece : (found : Option Params) → found ≡ with_piece params (take end rest) → params_from (7 - read) rest params ≡ option_and_then (goes_on (7 - (read + 1)) rest params) found
+  at_piece : (found : Option Params) → found ≡ with_parameter params (take end rest) → params_from (7 - read) rest params ≡ option_and_then (goes_on (7 - (read + 1)) rest params) found
   at_piece found told =
       left_one ∙ one_piece (7 - (read + 1)) rest params
-      ∙ ap (option_and_then (goes_on (7 - (read + 1)) rest params)) (sym (told ∙ ap (λ n. with_piece params (take n rest)) is))
+      ∙ ap (option_and_then (goes_on (7 - (read + 1)) rest params)) (sym (told ∙ ap (λ n. with_parameter params (take n rest)) is))
 
   -- it can't be read
-  pub unread_piece : None ≡ with_piece params (take end rest) → params_from (7 - read) rest params ≡ None
+  pub unread_piece : None ≡ with_parameter params (take end rest) → params_from (7 - read) rest params ≡ None
   unread_piece told = at_piece None told
 
   -- it is the last
-  pub last_piece : (more : Params) → Some more ≡ with_piece params (take end rest) → end ≡ length rest → params_from (7 - read) rest params ≡ Some more
+  pub last_piece : (more : Params) → Some more ≡ with_parameter params (take end rest) → end ≡ length rest → params_from (7 - read) rest params ≡ Some more
   last_piece more told last =
       let test : (position_or_len (λ byte. byte == 38) rest == length rest) ≡ true = grind (arith, nat_tests) in
       at_piece (Some more) told ∙ ap (λ b. cond b (Some more) (params_from (7 - (read + 1)) (drop (position_or_len (λ byte. byte == 38) rest + 1) rest) more)) test
 
   -- more follow
-  pub next_piece : (more : Params) → Some more ≡ with_piece params (take end rest) → (end ≡ length rest → ⊥)
+  pub next_piece : (more : Params) → Some more ≡ with_parameter params (take end rest) → (end ≡ length rest → ⊥)
       → params_from (7 - read) rest params ≡ params_from (7 - (read + 1)) (drop (end + 1) rest) more
   next_piece more told other =
       let test : (position_or_len (λ byte. byte == 38) rest == length rest) ≡ false = grind (arith, nat_tests) in

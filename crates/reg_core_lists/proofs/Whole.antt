@@ -10,7 +10,7 @@ use Rattle.reg_core.specs.declared.rows.OrderRow.{OrderRow}
 use Rattle.reg_core.specs.declared.rows.RequestRow.{RequestRow}
 use Rattle.reg_core.specs.declared.rows.RevocationRow.{RevocationRow}
 use Rattle.reg_core.specs.declared.rows.SubscriberRow.{SubscriberRow}
-use Rattle.reg_core_lists.specs.Lists.{certificate_row, crl_row, expiring_row, history_row, key_of, next_behind, open_row, order_row, overdue_row, page, past, revoked_row, rows_from, subscriber_row}
+use Rattle.reg_core_lists.specs.Lists.{certificate_row, crl_row, expiring_row, history_row, key_of, next_cursor, open_row, order_row, overdue_row, page, past, revoked_row, rows_from, subscriber_row}
 use Rattle.reg_core_lists.specs.Pages.{ArePages}
 use Rattle.reg_core_lists.specs.declared.cursor.Cursor.{Cursor}
 use Rattle.reg_core_lists.specs.declared.cursor.Cursor.TheVariants.{Revoked, Certificates, Ending, OpenRequests, Overdue, Requests, Subscribers, Orders, Crls}
@@ -30,7 +30,7 @@ split_at f (suc n) (x ∷ xs) = grind (arith, split_at f n xs)
 module _ (records : Records) (now m : ℕ) where
   -- one page of rows of a kind, whose list from a key on is known
   step_over : {A : Type 0} (key : A → ℕ) (row_for : A → Option Row) (at : ℕ → Cursor) (xs : List A) → KeysDiffer key xs → ((k : ℕ) → rows_from records now (at k) ≡ filter_map row_for (past key k xs)) → (after : ℕ)
-      → filter_map row_for (past key after xs) ≡ filter_map row_for (take (suc m) (past key after xs)) ++ rest_of records now (next_behind at (suc m) (map key (take (suc m) (past key after xs))))
+      → filter_map row_for (past key after xs) ≡ filter_map row_for (take (suc m) (past key after xs)) ++ rest_of records now (next_cursor at (suc m) (map key (take (suc m) (past key after xs))))
   step_over key row_for at xs differ list after =
       let rows = past key after xs in
       let keys = map key (take (suc m) rows) in
@@ -39,12 +39,12 @@ module _ (records : Records) (now m : ℕ) where
             let size : length keys ≡ suc m = grind (arith, nat_tests) in
             let last = last_of key m rows size in
             let index : length keys - 1 ≡ m = omega (arith, size) in
-            let next : next_behind at (suc m) keys ≡ Some (at (key last.0)) = rw (full, index, last.2) in
+            let next : next_cursor at (suc m) keys ≡ Some (at (key last.0)) = rw (full, index, last.2) in
             rw next (split_at row_for (suc m) rows ∙ ap (λ l. filter_map row_for (take (suc m) rows) ++ l)
             (sym (list (key last.0) ∙ ap (filter_map row_for) (past_behind key xs differ after m last.0 last.1))))
         | inr short ↦
             let part : length keys ≡ suc m → ⊥ = (λ full. grind (arith, nat_tests)) in
-            let next : next_behind at (suc m) keys ≡ None = rw short in
+            let next : next_cursor at (suc m) keys ≡ None = rw short in
             rw next (sym (append-nil (filter_map row_for rows)) ∙ ap (λ l. filter_map row_for l ++ []) (sym (taken_whole key (suc m) rows part)))
       ]
 

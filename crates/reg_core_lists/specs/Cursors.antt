@@ -9,8 +9,8 @@ use Rattle.reg_core_lists.specs.declared.fields.Cell.{Cell}
 use Rattle.reg_core_lists.specs.declared.fields.Cell.TheVariants.{Number}
 
 -- each list that takes no moment, by its name, from its first row on
-abbrev pub list_words : List (List ℕ × Cursor)
-list_words =
+abbrev pub list_names : List (List ℕ × Cursor)
+list_names =
     (codes "revoked", Revoked None)
     ∷ (codes "certificates", Certificates None)
     ∷ (codes "open-requests", OpenRequests 0)
@@ -24,7 +24,7 @@ list_words =
 -- the list with this name, from its first row on: `ending` with a moment, one of the others without
 abbrev pub cursor_named : List ℕ → Option ℕ → Option Cursor
 cursor_named word (Some before) = cond (bytes_eq word (codes "ending")) (Some (Ending before None)) None
-cursor_named word None = option_map (λ row. row.1) (find (λ row. bytes_eq word row.0) list_words)
+cursor_named word None = option_map (λ row. row.1) (find (λ row. bytes_eq word row.0) list_names)
 
 -- the same list, after the row whose key a text writes
 abbrev pub cursor_past : List ℕ → Cursor → Option Cursor
@@ -39,16 +39,16 @@ cursor_past key (Orders after) = option_map (λ id. Orders id) (number_of key)
 cursor_past key (Crls after) = option_map (λ number. Crls number) (number_of key)
 
 -- the name of a list
-abbrev pub list_word : Cursor → List ℕ
-list_word (Revoked after) = codes "revoked"
-list_word (Certificates after) = codes "certificates"
-list_word (Ending before after) = codes "ending"
-list_word (OpenRequests after) = codes "open-requests"
-list_word (Overdue after) = codes "overdue"
-list_word (Requests after) = codes "requests"
-list_word (Subscribers after) = codes "subscribers"
-list_word (Orders after) = codes "orders"
-list_word (Crls after) = codes "crls"
+abbrev pub list_name : Cursor → List ℕ
+list_name (Revoked after) = codes "revoked"
+list_name (Certificates after) = codes "certificates"
+list_name (Ending before after) = codes "ending"
+list_name (OpenRequests after) = codes "open-requests"
+list_name (Overdue after) = codes "overdue"
+list_name (Requests after) = codes "requests"
+list_name (Subscribers after) = codes "subscribers"
+list_name (Orders after) = codes "orders"
+list_name (Crls after) = codes "crls"
 
 -- the key after which a list continues, as a cell
 abbrev pub key_cell : Cursor → Cell

@@ -25,11 +25,11 @@ abbrev pub field_of_text : Field → List ℕ × Cell
 field_of_text field = (field.name.now, field.cell)
 
 -- the name of a status
-abbrev pub status_word : Status → List ℕ
-status_word Unknown = codes "unknown"
-status_word Good = codes "good"
-status_word Expired = codes "expired"
-status_word (Revoked at reason) = codes "revoked"
+abbrev pub status_name : Status → List ℕ
+status_name Unknown = codes "unknown"
+status_name Good = codes "good"
+status_name Expired = codes "expired"
+status_name (Revoked at reason) = codes "revoked"
 
 -- the moment of revocation (RFC 5280 5.1.2.6)
 abbrev pub revoked_at_cell : Status → Cell
@@ -39,12 +39,12 @@ revoked_at_cell Good = Empty
 revoked_at_cell Expired = Empty
 
 -- the state of a request, by whether it was declined and by the status of its certificate
-abbrev pub state_word : Bool → Status → List ℕ
-state_word true status = codes "declined"
-state_word false Good = codes "open"
-state_word false (Revoked at reason) = status_word (Revoked at reason)
-state_word false Expired = status_word Expired
-state_word false Unknown = status_word Unknown
+abbrev pub state_name : Bool → Status → List ℕ
+state_name true status = codes "declined"
+state_name false Good = codes "open"
+state_name false (Revoked at reason) = status_name (Revoked at reason)
+state_name false Expired = status_name Expired
+state_name false Unknown = status_name Unknown
 
 -- the moment at which the request's certificate was revoked; empty for a declined request, because no record has that moment
 abbrev pub decided_cell : Bool → Status → Cell
@@ -75,18 +75,18 @@ last_listing_cell None = Empty
 last_listing_cell (Some listing) = number_or_empty listing.last
 
 -- the name of a ground, as in a request for revocation
-abbrev pub ground_word : Ground → List ℕ
-ground_word Asked = codes "asked"
-ground_word Unauthorized = codes "unauthorized"
-ground_word KeyCompromise = codes "key-compromise"
-ground_word ControlLost = codes "control-lost"
-ground_word Affiliation = codes "affiliation"
-ground_word Superseded = codes "superseded"
-ground_word Cessation = codes "cessation"
-ground_word Misuse = codes "misuse"
-ground_word NameNotPermitted = codes "name-not-permitted"
-ground_word Nonconforming = codes "nonconforming"
-ground_word Inaccurate = codes "inaccurate"
+abbrev pub ground_name : Ground → List ℕ
+ground_name Asked = codes "asked"
+ground_name Unauthorized = codes "unauthorized"
+ground_name KeyCompromise = codes "key-compromise"
+ground_name ControlLost = codes "control-lost"
+ground_name Affiliation = codes "affiliation"
+ground_name Superseded = codes "superseded"
+ground_name Cessation = codes "cessation"
+ground_name Misuse = codes "misuse"
+ground_name NameNotPermitted = codes "name-not-permitted"
+ground_name Nonconforming = codes "nonconforming"
+ground_name Inaccurate = codes "inaccurate"
 
 -- the fields of each kind of row, in the order in which a header names them
 abbrev pub certificate_fields : CertificateLine → List (List ℕ × Cell)
@@ -97,7 +97,7 @@ certificate_fields line =
     ∷ (codes "order", Number line.certificate.order)
     ∷ (codes "notBefore", At line.certificate.not_before)
     ∷ (codes "notAfter", At line.certificate.not_after)
-    ∷ (codes "status", Text (status_word line.status))
+    ∷ (codes "status", Text (status_name line.status))
     ∷ (codes "revokedAt", revoked_at_cell line.status)
     ∷ (codes "reason", reason_cell line.status)
     ∷ (codes "firstCrl", first_listing line.listing)
@@ -109,7 +109,7 @@ abbrev pub revoked_fields : RevokedLine → List (List ℕ × Cell)
 revoked_fields line =
     certificate_fields line.certificate
     ++ ((codes "request", Number line.request.id)
-    ∷ (codes "ground", Text (ground_word line.request.ground))
+    ∷ (codes "ground", Text (ground_name line.request.ground))
     ∷ (codes "received", At line.request.received)
     ∷ (codes "due", At line.due)
     ∷ (codes "lateness", Number (line.revocation.at - line.due))
@@ -119,7 +119,7 @@ abbrev pub request_fields : RequestLine → List (List ℕ × Cell)
 request_fields line =
     (codes "request", Number line.request.id)
     ∷ (codes "serial", Serial line.request.serial)
-    ∷ (codes "ground", Text (ground_word line.request.ground))
+    ∷ (codes "ground", Text (ground_name line.request.ground))
     ∷ (codes "received", At line.request.received)
     ∷ (codes "due", At line.due)
     ∷ (codes "subscriber", Number line.subscriber.id)
@@ -132,7 +132,7 @@ request_fields line =
 abbrev pub history_fields : RequestHistory → List (List ℕ × Cell)
 history_fields history =
     request_fields history.request
-    ++ ((codes "state", Text (state_word history.request.request.declined history.status))
+    ++ ((codes "state", Text (state_name history.request.request.declined history.status))
     ∷ (codes "decided", decided_cell history.request.request.declined history.status)
     ∷ (codes "lateness", number_or_empty history.lateness)
     ∷ [])

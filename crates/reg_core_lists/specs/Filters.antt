@@ -74,18 +74,18 @@ keeps wanted row =
     && wanted_field (λ to time. nat_lt time to) wanted.to (time_of_row row)
 
 -- the rows that pass the filter, in their order
-abbrev pub wanted_rows : Filter → List Row → List Row
-wanted_rows wanted rows = filter (keeps wanted) rows
+abbrev pub filtered_rows : Filter → List Row → List Row
+filtered_rows wanted rows = filter (keeps wanted) rows
 
 -- the filter has no condition on time
-abbrev pub is_timeless : Filter → Bool
-is_timeless wanted = is_none wanted.from && is_none wanted.to
+abbrev pub has_no_time : Filter → Bool
+has_no_time wanted = is_none wanted.from && is_none wanted.to
 
 -- the rows of the list have the fields that the filter needs
 abbrev pub fits : Filter → Cursor → Bool
 fits wanted (cursor.Crls after) = is_none wanted.subscriber && is_none wanted.serial
-fits wanted (cursor.Subscribers after) = is_none wanted.serial && is_timeless wanted
-fits wanted (cursor.Orders after) = is_timeless wanted
+fits wanted (cursor.Subscribers after) = is_none wanted.serial && has_no_time wanted
+fits wanted (cursor.Orders after) = has_no_time wanted
 fits wanted (cursor.Revoked after) = true
 fits wanted (cursor.Certificates after) = true
 fits wanted (cursor.Ending before after) = true

@@ -80,8 +80,8 @@ with_value params name value =
     else with_filter params name value
 
 -- the parameters with one more, as `NAME=VALUE` (61 is the code of `=`)
-abbrev pub with_piece : Params → List ℕ → Option Params
-with_piece params piece =
+abbrev pub with_parameter : Params → List ℕ → Option Params
+with_parameter params piece =
     cond (position_or_len (λ byte. byte == 61) piece == length piece) None
     (with_value params (before_first (λ byte. byte == 61) piece) (after_first (λ byte. byte == 61) piece))
 
@@ -92,7 +92,7 @@ params_from (suc n) text params =
     option_and_then
     (λ more. cond (position_or_len (λ byte. byte == 38) text == length text) (Some more)
     (params_from n (after_first (λ byte. byte == 38) text) more))
-    (with_piece params (before_first (λ byte. byte == 38) text))
+    (with_parameter params (before_first (λ byte. byte == 38) text))
 
 -- the parameters in a text: at most seven
 abbrev pub params_of : List ℕ → Option Params

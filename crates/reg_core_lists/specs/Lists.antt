@@ -157,15 +157,15 @@ crl_row crl = Some (kind.Crl (row_of crl))
 -- ---- pages
 
 -- rows with one more, inserted before the first that has a greater key
-abbrev pub put_in : {A : Type 0} → (A → ℕ) → A → List A → List A
-put_in key row [] = row ∷ []
-put_in key row (next ∷ rest) =
-    cond (nat_lt (key row) (key next)) (row ∷ next ∷ rest) (next ∷ put_in key row rest)
+abbrev pub insert_by_key : {A : Type 0} → (A → ℕ) → A → List A → List A
+insert_by_key key row [] = row ∷ []
+insert_by_key key row (next ∷ rest) =
+    cond (nat_lt (key row) (key next)) (row ∷ next ∷ rest) (next ∷ insert_by_key key row rest)
 
 -- rows in ascending order of a key
 abbrev pub in_order : {A : Type 0} → (A → ℕ) → List A → List A
 in_order key [] = []
-in_order key (row ∷ rest) = put_in key row (in_order key rest)
+in_order key (row ∷ rest) = insert_by_key key row (in_order key rest)
 
 -- the rows with keys above this one, in ascending order of their keys
 abbrev pub past : {A : Type 0} → (A → ℕ) → ℕ → List A → List A
@@ -177,14 +177,14 @@ pub record ShownPage : Type 0 where
   pub next : Option Cursor
 
 -- the cursor of the next page, after the last key that was read; `None` if fewer rows were read than a page may read
-abbrev pub next_behind : (ℕ → Cursor) → ℕ → List ℕ → Option Cursor
-next_behind at most keys = cond (length keys == most) (option_map at (slice_get keys (length keys - 1))) None
+abbrev pub next_cursor : (ℕ → Cursor) → ℕ → List ℕ → Option Cursor
+next_cursor at most keys = cond (length keys == most) (option_map at (slice_get keys (length keys - 1))) None
 
 -- a page reads the first `most` rows after a key, and has those of them that are rows of the list
 abbrev pub page_over : {A : Type 0} → (A → ℕ) → (A → Option Row) → (ℕ → Cursor) → ℕ → ℕ → List A → ShownPage
 page_over key row_for at after most rows = record {
   rows = filter_map row_for (take most (past key after rows));
-  next = next_behind at most (map key (take most (past key after rows)));
+  next = next_cursor at most (map key (take most (past key after rows)));
 }
 
 -- the key after which a list by serial numbers continues: 0, which no serial number is, for the first row

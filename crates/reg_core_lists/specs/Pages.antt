@@ -5,14 +5,14 @@ use Rattle.reg_core.specs.Records.{Records}
 use Rattle.reg_core.specs.Sound.{SoundRows}
 use Rattle.reg_core.specs.declared.refusal.Fault.{Fault}
 use Rattle.reg_core.specs.declared.refusal.Fault.TheVariants.{Refused, Memory, Store, Signer, Read, Write}
-use Rattle.reg_core_lists.specs.Filters.{wanted_rows}
+use Rattle.reg_core_lists.specs.Filters.{filtered_rows}
 use Rattle.reg_core_lists.specs.Lists.{page, rows_from}
 use Rattle.reg_core_lists.specs.Texts.{list_text}
 use Rattle.reg_core_lists.specs.declared.cursor.Cursor.{Cursor}
 use Rattle.reg_core_lists.specs.declared.filter.Filter.{Filter}
 use Rattle.reg_core_lists.specs.declared.rows.Page.{Page}
 use Rattle.reg_core_lists.specs.declared.rows.Row.{Row}
-use Rattle.reg_core_lists.specs.declared.texts.Form.{Form}
+use Rattle.reg_core_lists.specs.declared.texts.Format.{Format}
 
 -- the returned page is that of the records at a moment
 pub record IsPage (records : Records) (now most : ℕ) (from : Cursor) (given : Page) : Type 0 where
@@ -51,10 +51,10 @@ ArePages records now most (Some from) rows (first ∷ rest) =
     × ArePages records now most (page records now most from).next others rest)
 
 -- the result for a whole list as a text: all its rows from a cursor on that pass the filter, each once and in order
-abbrev pub IsWholeList : Records → ℕ → Form → Filter → Cursor → Result (List ℕ) Fault → Type 0
+abbrev pub IsWholeList : Records → ℕ → Format → Filter → Cursor → Result (List ℕ) Fault → Type 0
 IsWholeList records now form wanted from (Ok text) =
     (first_of_all (clock_checks now records.last) ≡ None)
-    × (text ≡ list_text form from (wanted_rows wanted (rows_from records now from)))
+    × (text ≡ list_text form from (filtered_rows wanted (rows_from records now from)))
 IsWholeList records now form wanted from (Err (Refused refusal)) =
     first_of_all (clock_checks now records.last) ≡ Some refusal
 IsWholeList records now form wanted from (Err Memory) = Unit {0}
@@ -64,6 +64,6 @@ IsWholeList records now form wanted from (Err Read) = ⊥
 IsWholeList records now form wanted from (Err Write) = ⊥
 
 -- the result for a whole list, and the records stay the same
-abbrev pub GivesWholeList : Records → ℕ → Form → Filter → Cursor → Result (List ℕ) Fault → Records → Type 0
+abbrev pub GivesWholeList : Records → ℕ → Format → Filter → Cursor → Result (List ℕ) Fault → Records → Type 0
 GivesWholeList before now form wanted from given after =
     IsWholeList before now form wanted from given × (after ≡ before)

@@ -1,14 +1,14 @@
 -- Lists as CSV (RFC 4180, but records end with LF) and as JSON (RFC 8259). No field has a byte that needs quoting or escaping in
 -- either.
 use Rattle.std.specs.Prelude.{ℕ, List, [], ◌∷◌, ◌++◌, Option, Some, None, codes, flat_map}
-use Rattle.reg_core_lists.specs.Cursors.{key_cell, list_word}
+use Rattle.reg_core_lists.specs.Cursors.{key_cell, list_name}
 use Rattle.reg_core_lists.specs.Fields.{json_text, plain_text, row_fields}
 use Rattle.reg_core_lists.specs.declared.cursor.Cursor.{Cursor}
 use Rattle.reg_core_lists.specs.declared.cursor.Cursor.TheVariants.{Revoked, Certificates, Ending, OpenRequests, Overdue, Requests, Subscribers, Orders, Crls}
 use Rattle.reg_core_lists.specs.declared.fields.Cell.{Cell}
 use Rattle.reg_core_lists.specs.declared.rows.Row.{Row}
-use Rattle.reg_core_lists.specs.declared.texts.Form.{Form}
-use Rattle.reg_core_lists.specs.declared.texts.Form.TheVariants.{Csv, Json}
+use Rattle.reg_core_lists.specs.declared.texts.Format.{Format}
+use Rattle.reg_core_lists.specs.declared.texts.Format.TheVariants.{Csv, Json}
 
 -- the header of a list as CSV: the names of its fields
 abbrev pub header_text : Cursor → List ℕ
@@ -55,17 +55,17 @@ unfoldable pub object_text : List (List ℕ × Cell) → List ℕ
 object_text fields = 123 ∷ members_text fields ++ 125 ∷ []
 
 -- a row as a line
-unfoldable pub row_text : Form → Row → List ℕ
+unfoldable pub row_text : Format → Row → List ℕ
 row_text Csv row = record_text (row_fields row) ++ 10 ∷ []
 row_text Json row = object_text (row_fields row) ++ 10 ∷ []
 
 -- the text before the rows of a list: the header in CSV, nothing in JSON
-abbrev pub opening_text : Form → Cursor → List ℕ
+abbrev pub opening_text : Format → Cursor → List ℕ
 opening_text Csv from = header_text from
 opening_text Json from = []
 
 -- a whole list: a line for each row
-abbrev pub list_text : Form → Cursor → List Row → List ℕ
+abbrev pub list_text : Format → Cursor → List Row → List ℕ
 list_text form from rows = opening_text form from ++ flat_map (row_text form) rows
 
 -- a row of a page after another one
@@ -85,5 +85,5 @@ next_text (Some next) = 34 ∷ plain_text (key_cell next) ++ 34 ∷ []
 -- a page as an object: the name of its list, the key after which the next page begins, and its rows
 unfoldable pub page_body : Cursor → Option Cursor → List Row → List ℕ
 page_body from next rows =
-    codes "{\"list\":\"" ++ list_word from ++ codes "\",\"next\":" ++ next_text next ++ codes ",\"rows\":["
+    codes "{\"list\":\"" ++ list_name from ++ codes "\",\"next\":" ++ next_text next ++ codes ",\"rows\":["
     ++ rows_json rows ++ codes "]}"

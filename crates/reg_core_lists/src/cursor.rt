@@ -1,5 +1,5 @@
 ghost use Rattle.std.specs.Prelude.{◌≡◌, Some, None};
-ghost use Rattle.reg_core_lists.specs.Cursors.{cursor_named, cursor_past, list_word};
+ghost use Rattle.reg_core_lists.specs.Cursors.{cursor_named, cursor_past, list_name};
 
 use reg_core::{Moment, Serial, read_number};
 
@@ -59,7 +59,7 @@ impl Cursor {
     }
 
     pub(crate) fn word(self) -> &'static str
-        ensures { result.now ≡ list_word self }
+        ensures { result.now ≡ list_name self }
     {
         match self {
             Cursor::Revoked(_) => "revoked",

@@ -1,7 +1,7 @@
 //! The fields of a row: their names and values.
 
 ghost use Rattle.std.specs.Prelude.{◌≡◌, ◌≤◌, ◌-◌, IfOk, length, map};
-ghost use Rattle.reg_core_lists.specs.Fields.{certificate_fields, crl_fields, decided_cell, first_listing, ground_word, history_fields, last_listing_cell, number_or_empty, order_fields, reason_cell, request_fields, revoked_at_cell, revoked_fields, row_fields, serial_or_empty, state_word, status_word, subscriber_fields, field_of_text};
+ghost use Rattle.reg_core_lists.specs.Fields.{certificate_fields, crl_fields, decided_cell, first_listing, ground_name, history_fields, last_listing_cell, number_or_empty, order_fields, reason_cell, request_fields, revoked_at_cell, revoked_fields, row_fields, serial_or_empty, state_name, status_name, subscriber_fields, field_of_text};
 
 use crate::rows::{CertificateLine, OrderLine, RequestHistory, RequestLine, RevokedLine, Row};
 use reg_core::{CrlRow, Ground, Label, Listing, Moment, Serial, Status, SubscriberRow};
@@ -166,7 +166,7 @@ fn word(text: &[u8]) -> Cell
 }
 
 fn word_of(status: Status) -> Cell
-    ensures { result ≡ Cell.Text (status_word status) }
+    ensures { result ≡ Cell.Text (status_name status) }
 {
     match status {
         Status::Unknown => word(b"unknown"),
@@ -177,7 +177,7 @@ fn word_of(status: Status) -> Cell
 }
 
 fn state_in(declined: bool, status: Status) -> Cell
-    ensures { result ≡ Cell.Text (state_word declined status) }
+    ensures { result ≡ Cell.Text (state_name declined status) }
 {
     match status {
         _ if declined => word(b"declined"),
@@ -254,7 +254,7 @@ pub(crate) fn serial_in(serial: Option<Serial>) -> Cell
 }
 
 fn ground_in(ground: Ground) -> Cell
-    ensures { result ≡ Cell.Text (ground_word ground) }
+    ensures { result ≡ Cell.Text (ground_name ground) }
 {
     match ground {
         Ground::Asked => word(b"asked"),

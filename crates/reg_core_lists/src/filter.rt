@@ -1,6 +1,6 @@
 ghost use Rattle.std.specs.Prelude.{◌≡◌, ◌≤◌, ◌==◌, IfOk, bytes_eq, drop, length, nat_le, nat_lt, not};
 ghost use Rattle.std.specs.List.{position, position_or_len};
-ghost use Rattle.reg_core_lists.specs.Filters.{begins_with, fits, keeps, name_of_row, serial_of_row, starts_in_any_case, time_of_row, wanted_rows, wanted_field};
+ghost use Rattle.reg_core_lists.specs.Filters.{begins_with, fits, keeps, name_of_row, serial_of_row, starts_in_any_case, time_of_row, filtered_rows, wanted_field};
 
 use crate::cursor::Cursor;
 use crate::rows::Row;
@@ -37,7 +37,7 @@ impl Filter {
 
     /// The rows that pass the filter, in their order.
     pub fn kept(&self, alloc: Global, rows: &[Row]) -> Result<Vec<Row>, AllocError>
-        ensures { IfOk result (λ kept. kept.items ≡ wanted_rows self.now rows.now) }
+        ensures { IfOk result (λ kept. kept.items ≡ filtered_rows self.now rows.now) }
     {
         let mut kept = Vec::new(alloc);
         for row in rows {

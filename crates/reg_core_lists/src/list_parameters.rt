@@ -5,7 +5,7 @@ ghost use Rattle.std.specs.Prelude.{◌≡◌, ◌≤◌, ◌<◌, ◌+◌, ◌=
 ghost use Rattle.std.specs.Char.{is_ascii_hexdigit};
 ghost use Rattle.std.specs.List.{list_all, position, position_or_len};
 ghost use Rattle.reg_core.specs.Calendar.{moment_of};
-ghost use Rattle.reg_core_lists.specs.ListParameters.{at_most, cursor_at, filter_with, label_of, page_query, params_of, prefix_of, with_after, with_before, with_filter, filtered_from, with_limit, with_piece, filtered_by_serial, filtered_by_name, filtered_to, with_value};
+ghost use Rattle.reg_core_lists.specs.ListParameters.{at_most, cursor_at, filter_with, label_of, page_query, params_of, prefix_of, with_after, with_before, with_filter, filtered_from, with_limit, with_parameter, filtered_by_serial, filtered_by_name, filtered_to, with_value};
 
 use crate::cursor::Cursor;
 use crate::filter::Filter;
@@ -42,10 +42,10 @@ pub struct PageQuery {
 /// Reads the query for a page, from the list's name and its parameters. The page reads at most 250 rows. `None` if there is no
 /// such list, if a parameter is repeated or is none of the seven, if a value can't be read, if the limit is not 1 to 1,000, or
 /// if the rows of the list don't have the fields that the filter needs.
-pub fn read_page(word: &[u8], told: &[u8]) -> Option<PageQuery>
-    ensures { result ≡ page_query word.now told.now }
+pub fn read_page(word: &[u8], query: &[u8]) -> Option<PageQuery>
+    ensures { result ≡ page_query word.now query.now }
 {
-    let params = read_params(told)?;
+    let params = read_params(query)?;
     let from = cursor_of(Cursor::named(word, params.before)?, params.after)?;
     let most = rows_of(params.limit)?;
     if !params.filter.fits(from) {
@@ -77,8 +77,8 @@ fn rows_of(limit: Option<u64>) -> Option<u64>
     }
 }
 
-fn read_params(told: &[u8]) -> Option<Params>
-    ensures { result ≡ params_of told.now }
+fn read_params(query: &[u8]) -> Option<Params>
+    ensures { result ≡ params_of query.now }
 {
     let mut params = Params {
         after: None,
@@ -91,13 +91,13 @@ fn read_params(told: &[u8]) -> Option<Params>
             to: None,
         },
     };
-    if told.is_empty() {
+    if query.is_empty() {
         return Some(params);
     }
-    let mut rest = told;
+    let mut rest = query;
     for _ in 0..MOST_PARAMS {
-        let end = place_of(rest, b'&');
-        params = with_piece(params, &rest[..end])?;
+        let end = index_of(rest, b'&');
+        params = with_parameter(params, &rest[..end])?;
         if end == rest.len() {
             return Some(params);
         }
@@ -113,7 +113,7 @@ fn behind(text: &[u8], index: usize) -> &[u8]
     &text[index + 1..]
 }
 
-fn place_of(text: &[u8], wanted: u8) -> usize
+fn index_of(text: &[u8], wanted: u8) -> usize
     ensures index { result ≡ position_or_len (λ byte. byte == wanted) text.now }
     ensures within { result ≤ length text.now }
 {
@@ -129,10 +129,10 @@ fn first_of(text: &[u8], wanted: u8) -> Option<usize>
     text.iter().position(|byte| *byte == wanted)
 }
 
-fn with_piece(params: Params, piece: &[u8]) -> Option<Params>
-    ensures { result ≡ with_piece params piece.now }
+fn with_parameter(params: Params, piece: &[u8]) -> Option<Params>
+    ensures { result ≡ with_parameter params piece.now }
 {
-    let end = place_of(piece, b'=');
+    let end = index_of(piece, b'=');
     if end == piece.len() {
         return None;
     }

@@ -15,7 +15,7 @@ use std::alloc::{AllocError, Global};
 
 /// The format of a list.
 #[derive(Clone, Copy, PartialEq, Eq)]
-pub enum Form {
+pub enum Format {
     /// A header, and then a record for each row.
     Csv,
     /// A JSON object for each row, each on its own line.
@@ -53,7 +53,7 @@ pub fn header(from: Cursor) -> &'static str
 pub fn put_rows(
     alloc: Global,
     out: &mut Vec<u8>,
-    form: Form,
+    form: Format,
     rows: &[Row],
 ) -> Result<(), AllocError>
     ensures { AppendsOnOk out.old out.new result (flat_map (row_text form) rows.now) }
@@ -65,13 +65,13 @@ pub fn put_rows(
 }
 
 #[tactic(auto, unfolding(crate::specs::Texts::row_text))]
-fn put_row(alloc: Global, out: &mut Vec<u8>, form: Form, row: &Row) -> Result<(), AllocError>
+fn put_row(alloc: Global, out: &mut Vec<u8>, form: Format, row: &Row) -> Result<(), AllocError>
     ensures { AppendsOnOk out.old out.new result (row_text form row.now) }
 {
     let fields = fields_of(alloc, row)?;
     match form {
-        Form::Csv => put_record(out, &fields)?,
-        Form::Json => put_object(out, &fields)?,
+        Format::Csv => put_record(out, &fields)?,
+        Format::Json => put_object(out, &fields)?,
     }
     out.push(b'\n')?;
     Ok(())

@@ -5,7 +5,7 @@ use Rattle.std.specs.List.{flat_map, AllByRecursion}
 use Rattle.std.proofs.lemmas.Bool.{cases_lt, lt-ltb, le-leb, eq-eqb, ne_eqb}
 use Rattle.std.proofs.lemmas.List.{length-append}
 use Rattle.std.proofs.Math.Nat.{mul-le-mul_right, pow-le-pow_right, pow-succ'}
-use Rattle.reg_core.specs.Calendar.{general_text, shown_of, utc_text}
+use Rattle.reg_core.specs.Calendar.{general_text, civil_of, utc_text}
 use Rattle.reg_core.specs.Integer.{IsInteger, integer, value}
 use Rattle.reg_core.specs.Sequence.{◌>>=◌}
 use Rattle.reg_core.specs.Serial.{IsSerial}
@@ -17,7 +17,7 @@ use Rattle.reg_der.specs.TaggedValues.{expect_at, optional_at, whole_at}
 use Rattle.reg_der.specs.WrittenValues.{bits_value, integer_value, time_value}
 use Rattle.reg_der.proofs.PublicLaws.{value_again, value_size}
 use Rattle.reg_crl.specs.Crl.{authority_key_identifier, certificate_list, crl_entry_extensions, crl_extensions, crl_number, extension, key_identifier, revoked_certificate, revoked_certificates, tbs_cert_list}
-use Rattle.reg_crl.specs.Reading.{AreEntries, CrlsAreRead, after_next_update, certificate_list_at, crl_extension_at, crl_number_of, header_at, is_time, numbered_at, revoked_entry_at, tbs_cert_list_at, time_at}
+use Rattle.reg_crl.specs.Reading.{AreEntries, CrlsAreRead, after_next_update, certificate_list_at, crl_extension_at, crl_number_of, header_at, is_time, crl_number_at, revoked_entry_at, tbs_cert_list_at, time_at}
 use Rattle.reg_crl.proofs.CrlNumber.{looks_begin, looks_on, number_is}
 
 -- ---- values of a known tag
@@ -96,11 +96,11 @@ next_read false utc general rest short = tagged_next 24 general rest (omega arit
 
 time_is : (moment : ℕ) (rest : List ℕ) → length (time_value moment) < 2 ^ 32 → time_at (time_value moment ++ rest) ≡ Some rest
 unfolding time_value
-time_is moment rest short = time_read (nat_le (shown_of moment).year 2049) (utc_text moment) (general_text moment) rest short
+time_is moment rest short = time_read (nat_le (civil_of moment).year 2049) (utc_text moment) (general_text moment) rest short
 
 next_is : (moment : ℕ) (rest : List ℕ) → length (time_value moment) < 2 ^ 32 → after_next_update (time_value moment ++ rest) ≡ Some rest
 unfolding time_value
-next_is moment rest short = next_read (nat_le (shown_of moment).year 2049) (utc_text moment) (general_text moment) rest short
+next_is moment rest short = next_read (nat_le (civil_of moment).year 2049) (utc_text moment) (general_text moment) rest short
 
 header_is : (one algorithm name rest : List ℕ) (this next : ℕ) → length one < 2 ^ 32 → length algorithm < 2 ^ 32 → length name < 2 ^ 32 → length (time_value this) < 2 ^ 32
     → length (time_value next) < 2 ^ 32 → header_at (tlv 2 one ++ (tlv 48 algorithm ++ (tlv 48 name ++ (time_value this ++ (time_value next ++ rest))))) ≡ Some rest
@@ -165,8 +165,8 @@ number_is_read (first ∷ rest) number is short =
 
 numbered_is : (identifier : List ℕ) (number : ℕ) → number < 2 ^ 160 → length (integer number) ≤ 8
     → length (tlv 160 (tlv 48 (authority_key_identifier identifier ++ crl_number number))) < 2 ^ 32
-    → numbered_at (tlv 160 (tlv 48 (authority_key_identifier identifier ++ crl_number number))) ≡ Some number
-unfolding numbered_at authority_key_identifier crl_number
+    → crl_number_at (tlv 160 (tlv 48 (authority_key_identifier identifier ++ crl_number number))) ≡ Some number
+unfolding crl_number_at authority_key_identifier crl_number
 numbered_is identifier number below few short =
     let first : List ℕ = extension (85 ∷ 29 ∷ 35 ∷ []) (tlv 48 (tlv 128 identifier)) in
     let second : List ℕ = extension (85 ∷ 29 ∷ 20 ∷ []) (integer_value number) in

@@ -59,8 +59,8 @@ number_among (suc fuel) (first ∷ rest) =
     else number_among fuel x.1
 
 -- the CRL number in crlExtensions, which nothing follows
-unfoldable pub numbered_at : List ℕ → Option ℕ
-numbered_at bytes =
+unfoldable pub crl_number_at : List ℕ → Option ℕ
+crl_number_at bytes =
     whole_at 0xA0 bytes >>= λ tagged. whole_at 0x30 tagged >>= λ extensions.
     number_among (length extensions) extensions
 
@@ -69,7 +69,7 @@ unfoldable pub tbs_cert_list_at : List ℕ → Option (ℕ × List ℕ)
 tbs_cert_list_at bytes = do
   after ← header_at bytes
   revoked ← optional_at 0x30 after
-  number ← numbered_at revoked.1
+  number ← crl_number_at revoked.1
   Some (number, unwrap_or revoked.0 [])
 
 -- the number, and the contents of revokedCertificates, in a CertificateList: a TBSCertList, an AlgorithmIdentifier and a BIT STRING (RFC 5280 5.1.1)

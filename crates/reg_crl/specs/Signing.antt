@@ -31,18 +31,18 @@ signed_by signs identity crl bytes =
 
 -- the CertificateList of an issuer without a key: it has a placeholder digest, the SHA-1 of the TBSCertList, in place of a signature, and the
 -- AlgorithmIdentifier of SHA-1
-abbrev pub seal_of : List ℕ → List ℕ
-seal_of tbs = certificate_list tbs sha1_algorithm (sha1 tbs)
+abbrev pub with_placeholder_digest : List ℕ → List ℕ
+with_placeholder_digest tbs = certificate_list tbs sha1_algorithm (sha1 tbs)
 
 -- the bytes are this CRL with the placeholder digest
-abbrev pub sealed : CertList → List ℕ → Type 0
-sealed crl bytes = bytes ≡ seal_of (tbs_of sha1_algorithm crl)
+abbrev pub has_placeholder_digest : CertList → List ℕ → Type 0
+has_placeholder_digest crl bytes = bytes ≡ with_placeholder_digest (tbs_of sha1_algorithm crl)
 
 -- The bytes are this CRL in a register that switched from the placeholder digest to a key at CRL number `since`: CRLs below it have the digest,
 -- the others are signed by the signer (RFC 5280 5.2.3).
-abbrev pub sealed_until : ℕ → (Identity → List ℕ → List ℕ → Type 0) → Identity → CertList → List ℕ → Type 0
-sealed_until since signs identity crl bytes =
-    ((crl.number < since) × sealed crl bytes) ⊎ ((since ≤ crl.number) × signed_by signs identity crl bytes)
+abbrev pub signed_since : ℕ → (Identity → List ℕ → List ℕ → Type 0) → Identity → CertList → List ℕ → Type 0
+signed_since since signs identity crl bytes =
+    ((crl.number < since) × has_placeholder_digest crl bytes) ⊎ ((since ≤ crl.number) × signed_by signs identity crl bytes)
 
 -- ---- laws
 

@@ -1,7 +1,7 @@
 //! Reads what is compared with a register from a CRL: its number, and the serial numbers of its entries (RFC 5280 5.1).
 
 ghost use Rattle.std.specs.Prelude.{◌≡◌, ◌<◌, ℕ, List, length, IfSome, MatchOption};
-ghost use Rattle.reg_crl.specs.Reading.{IsEntryAt, after_next_update, certificate_list_at, crl_extension_at, header_at, numbered_at, number_among, crl_number_of, revoked_entry_at, tbs_cert_list_at, time_at};
+ghost use Rattle.reg_crl.specs.Reading.{IsEntryAt, after_next_update, certificate_list_at, crl_extension_at, header_at, crl_number_at, number_among, crl_number_of, revoked_entry_at, tbs_cert_list_at, time_at};
 ghost use Rattle.reg_der.specs.ValueReading.{Gives};
 
 use crate::crl::CRL_NUMBER;
@@ -15,7 +15,7 @@ use reg_der::values::{expect, number, optional, whole};
 
 /// The number of a CRL, and its entries.
 #[derive(Clone, Copy)]
-pub struct PublishedCrl<'a> {
+pub struct ParsedCrl<'a> {
     /// The CRL number (RFC 5280 5.2.3).
     pub number: u64,
     /// The contents of revokedCertificates, for [`next_entry`]; empty if it is absent.
@@ -25,7 +25,7 @@ pub struct PublishedCrl<'a> {
 /// Reads the DER of a CRL, without verifying its signature. `None` for other bytes, for a CRL without a CRL number, and for a number of 2^63
 /// or more.
 #[tactic(auto, unfolding(crate::specs::Reading::certificate_list_at))]
-pub fn read_crl(bytes: &[u8]) -> Option<PublishedCrl<'_>>
+pub fn read_crl(bytes: &[u8]) -> Option<ParsedCrl<'_>>
     ensures { Gives (λ crl. (crl.number, crl.revoked.now)) result (certificate_list_at bytes.now) }
 {
     let (tbs, rest) = expect(SEQUENCE, whole(SEQUENCE, bytes)?)?;
@@ -57,12 +57,12 @@ fn serial_octets(entries: &[u8]) -> Option<(&[u8], &[u8])>
 }
 
 #[tactic(auto, unfolding(crate::specs::Reading::tbs_cert_list_at))]
-fn parts(bytes: &[u8]) -> Option<PublishedCrl<'_>>
+fn parts(bytes: &[u8]) -> Option<ParsedCrl<'_>>
     ensures { Gives (λ crl. (crl.number, crl.revoked.now)) result (tbs_cert_list_at bytes.now) }
 {
-    let (revoked, rest) = optional(SEQUENCE, behind_header(bytes)?)?;
+    let (revoked, rest) = optional(SEQUENCE, skip_header(bytes)?)?;
     let number = crl_number(rest)?;
-    Some(PublishedCrl {
+    Some(ParsedCrl {
         number,
         revoked: revoked.unwrap_or(&[]),
     })
@@ -70,18 +70,18 @@ fn parts(bytes: &[u8]) -> Option<PublishedCrl<'_>>
 
 /// What follows version, signature, issuer, thisUpdate and nextUpdate.
 #[tactic(auto, unfolding(crate::specs::Reading::header_at))]
-fn behind_header(bytes: &[u8]) -> Option<&[u8]>
+fn skip_header(bytes: &[u8]) -> Option<&[u8]>
     ensures { Gives (λ x. x.now) result (header_at bytes.now) }
 {
     let (_, rest) = optional(INTEGER, bytes)?;
     let (_, rest) = expect(SEQUENCE, rest)?;
     let (_, rest) = expect(SEQUENCE, rest)?;
-    behind_next_update(behind_time(rest)?)
+    skip_next_update(skip_time(rest)?)
 }
 
 /// What follows a Time (RFC 5280 5.1.2.4).
 #[tactic(auto, unfolding(crate::specs::Reading::time_at))]
-fn behind_time(bytes: &[u8]) -> Option<&[u8]>
+fn skip_time(bytes: &[u8]) -> Option<&[u8]>
     ensures { Gives (λ x. x.now) result (time_at bytes.now) }
 {
     let (time, rest) = take(bytes)?;
@@ -93,19 +93,19 @@ fn behind_time(bytes: &[u8]) -> Option<&[u8]>
 }
 
 #[tactic(auto, unfolding(crate::specs::Reading::after_next_update))]
-fn behind_next_update(bytes: &[u8]) -> Option<&[u8]>
+fn skip_next_update(bytes: &[u8]) -> Option<&[u8]>
     ensures { Gives (λ x. x.now) result (after_next_update bytes.now) }
 {
     match bytes {
-        [first, ..] if *first == UTC_TIME || *first == GENERALIZED_TIME => behind_time(bytes),
+        [first, ..] if *first == UTC_TIME || *first == GENERALIZED_TIME => skip_time(bytes),
         _ => Some(bytes),
     }
 }
 
 /// The CRL number in crlExtensions, which must be the last field.
-#[tactic(auto, unfolding(crate::specs::Reading::numbered_at))]
+#[tactic(auto, unfolding(crate::specs::Reading::crl_number_at))]
 fn crl_number(bytes: &[u8]) -> Option<u64>
-    ensures { result ≡ numbered_at bytes.now }
+    ensures { result ≡ crl_number_at bytes.now }
 {
     let extensions = whole(SEQUENCE, whole(TAGGED_0, bytes)?)?;
     number_among(extensions)

@@ -8,6 +8,6 @@ mod placeholder_digest;
 mod signer;
 
 pub use crl::{crl_tbs, crl_whole};
-pub use crl_reader::{PublishedCrl, next_entry, read_crl};
+pub use crl_reader::{ParsedCrl, next_entry, read_crl};
 pub use placeholder_digest::DigestSeal;
 pub use signer::{CrlSigner, SignFault, Signer};

@@ -82,7 +82,7 @@ pub struct CrlSigner<S> {
 }
 
 impl<S: Signer> SignsCrls for CrlSigner<S> {
-    ghost use Rattle.reg_crl.specs.Signing.{sealed_until};
+    ghost use Rattle.reg_crl.specs.Signing.{signed_since};
 
-    ghost signed = { λ it. sealed_until it.since S.signs (S.identity it.signer) };
+    ghost signed = { λ it. signed_since it.since S.signs (S.identity it.signer) };
 }

@@ -5,7 +5,7 @@ use Rattle.reg_crl.specs.Signatures.{SignsOrFails}
 use Rattle.reg_crl.specs.Signing.{Identity}
 use Rattle.reg_crl.specs.declared.signer.SignFault.{SignFault}
 use Rattle.reg_crl.specs.declared.signer.SignFault.TheVariants.{Device}
-use Rattle.reg_crl_signer.specs.Forms.{HasForm, IsKeyOf, IsSignature, identity_of}
+use Rattle.reg_crl_signer.specs.Forms.{HasForm, HasKeyForm, HasSignatureForm, identity_of}
 use Rattle.reg_crl_signer.specs.declared.algorithm.Algorithm.{Algorithm}
 use Rattle.reg_crl_signer.specs.declared.device.Device.{Ghosts}
 use Rattle.reg_crl_signer.specs.declared.signer.DeviceSigner.{DeviceSigner}
@@ -21,7 +21,7 @@ module _ {D : Type 0} (g : Ghosts D) where
     pub algorithm_is : signer.algorithm ≡ algorithm
     pub failures : signer.failures ≡ 0
     pub preset_signature : signer.preset_signature ≡ None
-    pub key : IsKeyOf algorithm (g.public_key device)
+    pub key : HasKeyForm algorithm (g.public_key device)
 
   -- a device with the identity's key gave the message this answer, which has the form of a signature
   abbrev pub SignsByDevice : Identity → List ℕ → List ℕ → Type 0
@@ -38,7 +38,7 @@ module _ {D : Type 0} (g : Ghosts D) where
   FailsToSign it message after =
       g.fails it.device message after.device
       ⊎ ((answer : List ℕ) × g.answers (g.public_key it.device) message answer
-      × ¬ (IsSignature it.algorithm (g.public_key it.device) answer))
+      × ¬ (HasSignatureForm it.algorithm (g.public_key it.device) answer))
 
   -- Without a preset, the signature is an answer of the device at its path. With one, it is an answer that another caller got there. It has at most
   -- 4,096 bytes. Without a preset, `Device` means that the device gave no signature. The path stays the same.

@@ -58,11 +58,11 @@ IsPoint size key =
 
 -- A public key of an algorithm, the bits of a subjectPublicKey: a point of P-256 or of P-384 with ECDSA, an RSAPublicKey with RSA,
 -- 32 octets with Ed25519 (RFC 8410 4)
-abbrev pub IsKeyOf : Algorithm → List ℕ → Type 0
-IsKeyOf EcdsaSha256 key = IsPoint 32 key
-IsKeyOf EcdsaSha384 key = IsPoint 48 key
-IsKeyOf RsaSha256 key = (size : ℕ) × IsRsaKey key size
-IsKeyOf Ed25519 key = length key ≡ 32
+abbrev pub HasKeyForm : Algorithm → List ℕ → Type 0
+HasKeyForm EcdsaSha256 key = IsPoint 32 key
+HasKeyForm EcdsaSha384 key = IsPoint 48 key
+HasKeyForm RsaSha256 key = (size : ℕ) × IsRsaKey key size
+HasKeyForm Ed25519 key = length key ≡ 32
 
 -- an Ecdsa-Sig-Value: r and s, both above 0 and below this bound (RFC 3279 2.2.3)
 pub record IsEcdsaValue (bound : ℕ) (signature : List ℕ) : Type 0 where
@@ -74,11 +74,11 @@ pub record IsEcdsaValue (bound : ℕ) (signature : List ℕ) : Type 0 where
 
 -- The form of a signature of an algorithm under a key. ECDSA: an Ecdsa-Sig-Value of numbers below 2^256 or 2^384. RSA: as many octets
 -- as the key's modulus (RFC 8017 8.2.1). Ed25519: 64 octets (RFC 8032 5.1.6)
-abbrev pub IsSignature : Algorithm → List ℕ → List ℕ → Type 0
-IsSignature EcdsaSha256 key signature = IsEcdsaValue (2 ^ 256) signature
-IsSignature EcdsaSha384 key signature = IsEcdsaValue (2 ^ 384) signature
-IsSignature RsaSha256 key signature = IsRsaKey key (length signature)
-IsSignature Ed25519 key signature = length signature ≡ 64
+abbrev pub HasSignatureForm : Algorithm → List ℕ → List ℕ → Type 0
+HasSignatureForm EcdsaSha256 key signature = IsEcdsaValue (2 ^ 256) signature
+HasSignatureForm EcdsaSha384 key signature = IsEcdsaValue (2 ^ 384) signature
+HasSignatureForm RsaSha256 key signature = IsRsaKey key (length signature)
+HasSignatureForm Ed25519 key signature = length signature ≡ 64
 
 -- the identity of a signer with this algorithm and this key
 abbrev pub identity_of : Algorithm → List ℕ → Identity
@@ -88,4 +88,4 @@ identity_of algorithm key = record { algorithm = identifier_of algorithm; public
 pub record HasForm (identity : Identity) (signature : List ℕ) : Type 0 where
   pub algorithm : Algorithm
   pub named : identity.algorithm ≡ identifier_of algorithm
-  pub form : IsSignature algorithm identity.public_key signature
+  pub form : HasSignatureForm algorithm identity.public_key signature

@@ -70,7 +70,7 @@ impl Algorithm {
     }
 
     /// The algorithm of an AlgorithmIdentifier. `None` for any other bytes.
-    pub fn identified(identifier: &[u8]) -> Option<Algorithm>
+    pub fn from_identifier(identifier: &[u8]) -> Option<Algorithm>
         ensures { MatchOption result ((algorithm : Algorithm) → identifier_of algorithm ≢ identifier.now)
             (λ algorithm. identifier_of algorithm ≡ identifier.now) }
     {

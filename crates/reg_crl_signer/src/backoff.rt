@@ -5,10 +5,10 @@ ghost use Rattle.std.specs.Duration.{as_nanos};
 ghost use Rattle.reg_crl_signer.specs.Backoff.{ExchangesUnlessBackedOff, IsBackedOff};
 
 use crate::device::{Device, DeviceFault};
-use crate::unix_connection::PATIENCE;
+use crate::unix_connection::TIMEOUT_SECS;
 use std::time::{Clock, Duration};
 
-const REST: u128 = 10_000_000_000;
+const BACKOFF_NANOS: u128 = 10_000_000_000;
 
 /// The back-off from a signer: after a timeout it is not asked again for ten seconds. Times are readings of one clock that never goes back.
 #[derive(Clone, Copy, Debug, PartialEq, Eq)]
@@ -41,7 +41,7 @@ impl Backoff {
         ensures { IsTrue result ↔ IsBackedOff self.now.since now }
     {
         match self.since {
-            Some(since) => now.saturating_sub(since).as_nanos() < REST,
+            Some(since) => now.saturating_sub(since).as_nanos() < BACKOFF_NANOS,
             None => false,
         }
     }
@@ -141,7 +141,7 @@ fn backoff_after<C: Clock>(clock: &C, began: Duration) -> Backoff
     ensures { IfSome result.since (λ since. 10000000000 ≤ as_nanos since - as_nanos began) }
 {
     match clock.monotonic() {
-        Ok(ended) => Backoff::after_failure(began, ended, Duration::from_secs(PATIENCE)),
+        Ok(ended) => Backoff::after_failure(began, ended, Duration::from_secs(TIMEOUT_SECS)),
         Err(_) => Backoff::none(),
     }
 }

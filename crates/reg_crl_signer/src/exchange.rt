@@ -89,7 +89,7 @@ impl<L: DeviceConnection + Drop> Device for SocketDevice<L> {
 
     fn exchange(&mut self, message: &[u8], room: &mut [u8]) -> Result<usize, DeviceFault> {
         match L::connect(&self.rt, self.path.as_str()) {
-            Ok(mut link) => converse(&mut link, message, room),
+            Ok(mut link) => exchange_message(&mut link, message, room),
             Err(_) => Err(DeviceFault),
         }
     }
@@ -97,7 +97,7 @@ impl<L: DeviceConnection + Drop> Device for SocketDevice<L> {
     fn reset_backoff(&mut self) {}
 }
 
-fn converse<L: DeviceConnection>(
+fn exchange_message<L: DeviceConnection>(
     link: &mut L,
     message: &[u8],
     room: &mut [u8],

@@ -2,7 +2,7 @@
 
 ghost use Rattle.std.specs.Prelude.{◌≡◌, ◌↔◌, ◌<◌, ◌^◌, IsTrue, length};
 ghost use Rattle.std.specs.Bool.{OnTrue};
-ghost use Rattle.reg_crl_signer.specs.Forms.{HasForm, IsEcdsaValue, IsKeyOf, IsPoint, IsRsaKey, IsSignature};
+ghost use Rattle.reg_crl_signer.specs.Forms.{HasForm, IsEcdsaValue, HasKeyForm, IsPoint, IsRsaKey, HasSignatureForm};
 
 use crate::algorithm::Algorithm;
 use crate::numbers::octets_of_pair;
@@ -22,7 +22,7 @@ const ED25519_SIGNATURE: usize = 64;
 impl Algorithm {
     /// Whether `key`, the bits of a subjectPublicKey (RFC 5280 4.1.2.7), has the form of a public key of the algorithm.
     pub fn is_key(self, key: &[u8]) -> bool
-        ensures { IsTrue result ↔ IsKeyOf self key.now }
+        ensures { IsTrue result ↔ HasKeyForm self key.now }
     {
         match self {
             Algorithm::EcdsaSha256 => is_point(key, P256_OCTETS),
@@ -34,7 +34,7 @@ impl Algorithm {
 
     /// Whether `signature` has the form of a signature of the algorithm under the key. The signature is not verified.
     pub fn is_signature(self, key: &[u8], signature: &[u8]) -> bool
-        ensures { IsTrue result ↔ IsSignature self key.now signature.now }
+        ensures { IsTrue result ↔ HasSignatureForm self key.now signature.now }
     {
         match self {
             Algorithm::EcdsaSha256 => is_ecdsa_value(signature, P256_OCTETS),
@@ -51,7 +51,7 @@ pub fn has_form(identifier: &[u8], key: &[u8], signature: &[u8]) -> bool
     ensures { OnTrue result
         (HasForm (record { algorithm = identifier.now; public_key = key.now }) signature.now) }
 {
-    match Algorithm::identified(identifier) {
+    match Algorithm::from_identifier(identifier) {
         Some(algorithm) => algorithm.is_signature(key, signature),
         None => false,
     }

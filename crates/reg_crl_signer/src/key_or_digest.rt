@@ -22,7 +22,7 @@ pub enum KeyOrDigest<D: Device> {
 
 impl<D: Device + Drop> KeyOrDigest<D> {
     /// This signer, but with nobody in place of the placeholder digest.
-    pub fn silent(self) -> KeyOrDigest<D>
+    pub fn without_digest(self) -> KeyOrDigest<D>
         ensures key { key_of D.Device result ≡ key_of D.Device self }
         ensures same_identity { either_identity D.Device result ≡ either_identity D.Device self }
         ensures nobody { key_of D.Device result ≡ None → IsNobody D.Device result }

@@ -2,7 +2,7 @@
 
 ghost use Rattle.std.specs.Prelude.{◌≡◌, ◌<◌, ◌≤◌, Some, None, IfOk, OnErr, length, vec_len};
 ghost use Rattle.std.specs.Bool.{OnFalse, OnTrue};
-ghost use Rattle.reg_crl_signer.specs.Forms.{IsKeyOf, IsSignature};
+ghost use Rattle.reg_crl_signer.specs.Forms.{HasKeyForm, HasSignatureForm};
 ghost use Rattle.reg_crl_signer.specs.PresetSignature.{IsPreset};
 
 use crate::algorithm::Algorithm;
@@ -36,7 +36,7 @@ impl<D: Device + Drop> DeviceSigner<D> {
     /// A signer without failures and without a preset. [`KeyFault`] if the device's public key doesn't have the algorithm's form.
     pub fn new(device: D, algorithm: Algorithm) -> Result<DeviceSigner<D>, KeyFault>
         ensures ok { IfOk result (IsNew D.Device device algorithm) }
-        ensures err { OnErr result (¬ (IsKeyOf algorithm (D.public_key device))) }
+        ensures err { OnErr result (¬ (HasKeyForm algorithm (D.public_key device))) }
     {
         if !algorithm.is_key(device.public_key()) {
             return Err(KeyFault);
@@ -115,7 +115,7 @@ impl<D: Device + Drop> DeviceSigner<D> {
     }
 
     fn is_signature(&self, answer: &[u8]) -> bool
-        ensures { OnTrue result (IsSignature self.now.algorithm (D.public_key self.now.device) answer.now
+        ensures { OnTrue result (HasSignatureForm self.now.algorithm (D.public_key self.now.device) answer.now
             × (length answer.now ≤ 4096)) }
     {
         answer.len() <= LONGEST_ANSWER

@@ -13,13 +13,13 @@ use std::time::{Duration, Instant};
 use std::{io, thread};
 
 /// How many seconds an exchange may take in all.
-pub(crate) const PATIENCE: u64 = 10;
+pub(crate) const TIMEOUT_SECS: u64 = 10;
 
 /// The milliseconds between two attempts to connect to a socket whose backlog is full.
 const PAUSE_MILLIS: u64 = 10;
 
 /// The most bytes of one write. In a longer one, the kernel may apply the timeout to each part anew.
-const LONGEST_PIECE: usize = 32_768;
+const MAX_WRITE: usize = 32_768;
 
 /// A connection to a Unix socket, for one exchange of at most ten seconds by the monotonic clock.
 #[derive(Drop)]
@@ -46,7 +46,7 @@ impl Read for UnixConnection {
 
 impl Write for UnixConnection {
     fn write(&mut self, bytes: &[u8]) -> io::Result<usize> {
-        let piece = &bytes[..bytes.len().min(LONGEST_PIECE)];
+        let piece = &bytes[..bytes.len().min(MAX_WRITE)];
         for _ in 0..u64::MAX {
             self.stream
                 .set_write_timeout(Some(time_left_now(&self.rt, self.began)?))?;
@@ -113,6 +113,6 @@ fn time_left(began: Instant, now: Instant) -> Option<Duration>
         (λ left. (as_nanos left + (instant_nanos now - instant_nanos began) ≡ 10000000000)
         × (0 < as_nanos left)) }
 {
-    let left = Duration::from_secs(PATIENCE).checked_sub(now.duration_since(began))?;
+    let left = Duration::from_secs(TIMEOUT_SECS).checked_sub(now.duration_since(began))?;
     if left.is_zero() { None } else { Some(left) }
 }

@@ -12,7 +12,7 @@ use Rattle.reg_core.specs.Sequence.{◌>>=◌}
 use Rattle.reg_core.proofs.PublicLaws.{octets_are_below, octets_are_lowest, is_bytes-take, is_bytes-append}
 use Rattle.reg_der.specs.Der.{tlv, IsTlv}
 use Rattle.reg_der.specs.ValueReading.{Parts, value_at}
-use Rattle.reg_der.specs.Authority.{IsIssuerName, IsKept, IsIssuer, name_in, behind_name, name_of, key_identifiers, key_identifier_at, identifier_value, identifier_at, identifiers_by, identifiers_at, identifier_for, but_for, others_than, with_identifier, HasIdentifier, IdentifiersFollow, IsPlain, NamesArePlain}
+use Rattle.reg_der.specs.Authority.{IsIssuerName, IsKept, IsIssuer, name_in, after_name, name_of, key_identifiers, key_identifier_at, identifier_value, identifier_at, identifiers_by, identifiers_at, identifier_for, but_for, others_than, with_identifier, HasIdentifier, IdentifiersFollow, IsPlain, NamesArePlain}
 use Rattle.reg_der.specs.declared.identifiers.KeyIdentifier.{KeyIdentifier}
 use Rattle.reg_der.proofs.ValueLemmas.{bind_then, value_takes, value_again, value_reads, length-tlv_at_least, is_bytes-tlv}
 
@@ -198,16 +198,16 @@ pub name_in-is : (name rest : List ℕ) → IsIssuerName name → name_in (name 
 unfolding name_in
 name_in-is name rest is = rw (front_is name rest is) (sym is.sequence.spelled)
 
-pub behind-is : (name rest : List ℕ) → IsIssuerName name → behind_name (name ++ rest) ≡ rest
-unfolding behind_name
+pub behind-is : (name rest : List ℕ) → IsIssuerName name → after_name (name ++ rest) ≡ rest
+unfolding after_name
 behind-is name rest is = rw (front_is name rest is) refl
 
 name_bytes : (name : List ℕ) → IsIssuerName name → IsBytes name
 name_bytes name is =
     subst IsBytes (sym is.sequence.spelled) (is_bytes-tlv 48 is.contents (omega arith) is.sequence.short is.sequence.byte_contents)
 
-behind_bytes : (kept : List ℕ) → IsBytes kept → IsBytes (behind_name kept)
-unfolding behind_name
+behind_bytes : (kept : List ℕ) → IsBytes kept → IsBytes (after_name kept)
+unfolding after_name
 behind_bytes kept each = by (value_at kept) refl
   where
     by : (read : Option (Parts × List ℕ)) → value_at kept ≡ read → IsBytes (unwrap_or (Rattle.std.specs.Prelude.option_map (λ (x : Parts × List ℕ). x.1) read) [])
@@ -215,11 +215,11 @@ behind_bytes kept each = by (value_at kept) refl
     by None is = λ i. omega arith
 
 -- a Name alone, as it was before there were key identifiers
-pub name_kept : (name : List ℕ) → IsIssuerName name → (IsKept name) × (name_in name ≡ name) × (behind_name name ≡ [])
+pub name_kept : (name : List ℕ) → IsIssuerName name → (IsKept name) × (name_in name ≡ name) × (after_name name ≡ [])
 name_kept name is =
     let whole : name ++ [] ≡ name = append-nil name in
     let front : name_in name ≡ name = ap name_in (sym whole) ∙ name_in-is name [] is in
-    let behind : behind_name name ≡ [] = ap behind_name (sym whole) ∙ behind-is name [] is in (
+    let behind : after_name name ≡ [] = ap after_name (sym whole) ∙ behind-is name [] is in (
       record {
         each = name_bytes name is;
         name = subst IsIssuerName (sym front) is;
@@ -291,19 +291,19 @@ pub identifiers_follow : IdentifiersFollow
 identifiers_follow issuer first octets is fits label =
     let kept = issuer.name in
     let name = name_in kept in
-    let was = behind_name kept in
+    let was = after_name kept in
     let others = others_are first was (behind_bytes kept is.name.each) is.name.identifiers in
     let old = others_than first was in
     let more = identifier_value first octets ++ old in
     let x : KeyIdentifier = record { first = first; octets = octets } in
     let name_is : name_in (name ++ more) ≡ name = name_in-is name more is.name.name in
-    let behind : behind_name (name ++ more) ≡ more = behind-is name more is.name.name in
+    let behind : after_name (name ++ more) ≡ more = behind-is name more is.name.name in
     let old_bytes = others.each in
     let more_bytes = is_bytes-append (identifier_value first octets) old (value_bytes first octets label) old_bytes in
     let read = identifier_again first octets old fits label in
     let step : identifiers_at more ≡ (identifiers_at old >>= with_first x) = identifiers_step more x old more_bytes (value_some first octets old) read in
     let some : IsSome (identifiers_at old >>= with_first x) = (more_some x (identifiers_at old)).0 others.some in
-    let all : all_of (behind_name (name ++ more)) ≡ x ∷ all_of old = ap all_of behind ∙ ap (λ (o : Option (List KeyIdentifier)). unwrap_or o []) step ∙ some_rest x (identifiers_at old) some in
+    let all : all_of (after_name (name ++ more)) ≡ x ∷ all_of old = ap all_of behind ∙ ap (λ (o : Option (List KeyIdentifier)). unwrap_or o []) step ∙ some_rest x (identifiers_at old) some in
     record {
       within = record {
         name = record {

@@ -29,8 +29,8 @@ unfoldable pub name_in : List ℕ → List ℕ
 name_in kept = unwrap_or (option_map (λ x. tlv x.0.tag x.0.contents) (value_at kept)) []
 
 -- the bytes after the Name
-unfoldable pub behind_name : List ℕ → List ℕ
-behind_name kept = unwrap_or (option_map (λ x. x.1) (value_at kept)) []
+unfoldable pub after_name : List ℕ → List ℕ
+after_name kept = unwrap_or (option_map (λ x. x.1) (value_at kept)) []
 
 -- the stored form of a key identifier of 1 to 64 octets (RFC 5280 4.2.1.2): tagged [0], the number of its first CRL in eight octets, then the identifier
 unfoldable pub identifier_value : ℕ → List ℕ → List ℕ
@@ -59,7 +59,7 @@ identifiers_at bytes = identifiers_by (length bytes) bytes
 pub record IsKept (kept : List ℕ) : Type 0 where
   pub each : IsBytes kept
   pub name : IsIssuerName (name_in kept)
-  pub identifiers : IsSome (identifiers_at (behind_name kept))
+  pub identifiers : IsSome (identifiers_at (after_name kept))
 
 -- the stored name and the key are valid
 pub record IsIssuer (issuer : core.Issuer) : Type 0 where
@@ -74,7 +74,7 @@ name_of issuer = name_in issuer.name
 
 -- the key identifiers that were set, the latest first
 abbrev pub key_identifiers : core.Issuer → List KeyIdentifier
-key_identifiers issuer = unwrap_or (identifiers_at (behind_name issuer.name)) []
+key_identifiers issuer = unwrap_or (identifiers_at (after_name issuer.name)) []
 
 -- the key identifier of the CRL with this number: the first in the list, and so the latest, whose first CRL is not after it
 abbrev pub identifier_for : List KeyIdentifier → ℕ → Option (List ℕ)
@@ -99,7 +99,7 @@ abbrev pub with_identifier : core.Issuer → ℕ → List ℕ → core.Issuer
 with_identifier issuer first octets =
     record {
       name = name_in issuer.name
-          ++ (identifier_value first octets ++ others_than first (behind_name issuer.name));
+          ++ (identifier_value first octets ++ others_than first (after_name issuer.name));
       key = issuer.key;
     }
 

@@ -1,6 +1,6 @@
 ghost use Rattle.std.specs.Prelude.{◌≡◌, ◌≤◌, ◌↔◌, ◌++◌, length, IfOk, IfSome, OnOk, IsErrOf, IsTrue};
 ghost use Rattle.sha1.specs.Sha1.{sha1};
-ghost use Rattle.reg_der.specs.Authority.{IsIssuerName, IsKey, IsKept, IsIssuer, name_in, behind_name, name_of, identifier_value, key_identifier_at, others_than, with_identifier, HasIdentifier};
+ghost use Rattle.reg_der.specs.Authority.{IsIssuerName, IsKey, IsKept, IsIssuer, name_in, after_name, name_of, identifier_value, key_identifier_at, others_than, with_identifier, HasIdentifier};
 ghost use Rattle.reg_der.specs.declared.issuer.IssuerFault.TheVariants.{Memory};
 ghost use Rattle.reg_core.specs.Buffers.{AppendsOnOk};
 
@@ -159,10 +159,10 @@ impl Issuer {
 }
 
 /// The Name at the front of `kept`, and the bytes after it.
-#[tactic(auto, unfolding(crate::specs::Authority::name_in, crate::specs::Authority::behind_name))]
+#[tactic(auto, unfolding(crate::specs::Authority::name_in, crate::specs::Authority::after_name))]
 fn parts(kept: &[u8]) -> (&[u8], &[u8])
     ensures name { result.0.now ≡ name_in kept.now }
-    ensures behind { result.1.now ≡ behind_name kept.now }
+    ensures behind { result.1.now ≡ after_name kept.now }
 {
     match take(kept) {
         Some((value, rest)) => (value.raw, rest),
@@ -181,7 +181,7 @@ fn kept_with(alloc: Global, kept: &[u8], first: u64, octets: &[u8]) -> Result<Ve
     requires { length octets.now ≤ 64 }
     ensures { IfOk result (λ made. made.items
         ≡ (name_in kept.now ++ identifier_value first octets.now)
-        ++ others_than first (behind_name kept.now)) }
+        ++ others_than first (after_name kept.now)) }
 {
     let (name, behind) = parts(kept);
     let mut made = copy_of(alloc, name)?;

@@ -90,7 +90,7 @@ pub fn put_bits(out: &mut Vec<u8>, bytes: &[u8]) -> Result<(), Memory>
     ensures full { LacksCapacityFor out.old result (bits_value bytes.now) }
     ensures room { vec_capacity out.old ≤ vec_capacity out.new }
 {
-    put_behind_zero(out, BIT_STRING, bytes)
+    put_with_leading_zero(out, BIT_STRING, bytes)
 }
 
 /// Appends the Time of the moment (RFC 5280 4.1.2.5, 5.1.2.4), in UTC: a UTCTime through the year 2049, a GeneralizedTime from
@@ -140,13 +140,13 @@ fn put_integer(out: &mut Vec<u8>, octets: &[u8]) -> Result<(), Memory>
     match digits {
         [first, ..] if *first < 128 => put(out, INTEGER, digits),
         // One more octet, a zero, keeps the sign bit clear. For the number 0 it is the only octet (X.690 8.3.3).
-        _ => put_behind_zero(out, INTEGER, digits),
+        _ => put_with_leading_zero(out, INTEGER, digits),
     }
 }
 
 /// Appends the value with this tag whose contents are a zero octet and the bytes.
 #[tactic(auto, unfolding(crate::specs::Der::tlv))]
-fn put_behind_zero(out: &mut Vec<u8>, tag: u8, bytes: &[u8]) -> Result<(), Memory>
+fn put_with_leading_zero(out: &mut Vec<u8>, tag: u8, bytes: &[u8]) -> Result<(), Memory>
     requires { length bytes.now + 1 < 2 ^ 32 }
     ensures ok { AppendsOnOk out.old out.new result (tlv tag (0 ∷ bytes.now)) }
     ensures longer { OnOk result (length out.new.items ≤ length out.old.items + length bytes.now + 7) }

@@ -12,29 +12,29 @@ use Rattle.reg_core_lists.specs.Cursors.{cursor_named}
 use Rattle.reg_core_lists.specs.Filters.{fits}
 use Rattle.reg_core_lists.specs.declared.cursor.Cursor.{Cursor}
 use Rattle.reg_core_lists.specs.declared.filter.Filter.{Filter}
-use Rattle.reg_core_lists.specs.declared.texts.Form.{Form}
-use Rattle.reg_core_lists.specs.declared.texts.Form.TheVariants.{Csv, Json}
+use Rattle.reg_core_lists.specs.declared.texts.Format.{Format}
+use Rattle.reg_core_lists.specs.declared.texts.Format.TheVariants.{Csv, Json}
 use Rattle.reg_desk_cli.specs.Desk.{desk_app}
 use Rattle.reg_desk_cli.specs.WordValues.{order_terms_of, steps_of, within}
 use Rattle.reg_crl_signer.specs.Algorithms.{algorithm_named}
-use Rattle.reg_desk_cli.specs.declared.job.Answerer.{Answerer}
-use Rattle.reg_desk_cli.specs.declared.job.Answerer.TheVariants.{Issuer, Delegate}
+use Rattle.reg_desk_cli.specs.declared.job.ResponderChoice.{ResponderChoice}
+use Rattle.reg_desk_cli.specs.declared.job.ResponderChoice.TheVariants.{Issuer, Delegate}
 use Rattle.reg_desk_cli.specs.declared.job.Endpoint.{Endpoint}
 use Rattle.reg_desk_cli.specs.declared.job.Loopback.{Loopback}
 use Rattle.reg_desk_cli.specs.declared.job.Loopback.TheVariants.{V4, V6}
 use Rattle.reg_desk_cli.specs.declared.job.Job.{Job}
 use Rattle.reg_desk_cli.specs.declared.job.Job.TheVariants.{Init, Script, Lines, Import, Crl, Serve, Open, At, EachRow, Replay, Schedule, KeyId, Listing, Copy, Audit}
-use Rattle.reg_desk_cli.specs.declared.job.KeyHolder.{KeyHolder}
+use Rattle.reg_desk_cli.specs.declared.job.SignerAddress.{SignerAddress}
 use Rattle.reg_desk_cli.specs.declared.job.Invocation.{Invocation}
 use Rattle.reg_desk_cli.specs.declared.job.OrderTerms.{OrderTerms}
 use Rattle.reg_desk_cli.specs.declared.job.RowTask.TheVariants.{Register, Revoke}
 use Rattle.reg_desk_cli.specs.declared.job.Usage.{Usage}
-use Rattle.reg_desk_cli.specs.declared.job.Way.{Way}
+use Rattle.reg_desk_cli.specs.declared.job.ScriptOptions.{ScriptOptions}
 use Rattle.reg_desk_cli.specs.declared.job.Usage.TheVariants.{Help, Version, Bad, Memory}
 
 -- the number of an option, or the default if the option is not given
-abbrev pub value_or_usual : ℕ → Text → List Row → Option ℕ
-value_or_usual usual id rows = option_map_or number_of (first_of id rows) (Some usual)
+abbrev pub value_or_default : ℕ → Text → List Row → Option ℕ
+value_or_default usual id rows = option_map_or number_of (first_of id rows) (Some usual)
 
 -- the number of an option, if it is given
 abbrev pub given : Text → List Row → Option (Option ℕ)
@@ -47,7 +47,7 @@ number_in least most id rows =
     option_and_then (within least most) (option_and_then number_of (first_of id rows))
 
 -- the signer, with both options or neither; one option alone is an error, and so is an unknown name of an algorithm
-abbrev pub key_holder_of : Option Text → Option Text → Option (Option KeyHolder)
+abbrev pub key_holder_of : Option Text → Option Text → Option (Option SignerAddress)
 key_holder_of (Some socket) (Some name) =
     option_map (λ algorithm. Some (record { socket = socket; algorithm = algorithm })) (algorithm_named name)
 key_holder_of (Some socket) None = None
@@ -55,16 +55,16 @@ key_holder_of None (Some name) = None
 key_holder_of None None = Some None
 
 -- the same for the ids of the two options
-abbrev pub holder_by_options : Text → Text → List Row → Option (Option KeyHolder)
+abbrev pub holder_by_options : Text → Text → List Row → Option (Option SignerAddress)
 holder_by_options socket algorithm rows = key_holder_of (first_of socket rows) (first_of algorithm rows)
 
 -- the signer, if one is given
-abbrev pub holder_in : List Row → Option (Option KeyHolder)
+abbrev pub holder_in : List Row → Option (Option SignerAddress)
 holder_in rows = holder_by_options (codes "signer") (codes "algorithm") rows
 
 -- the responder to OCSP requests, from the path of a responder's certificate, its signer, and the path of a certificate to embed in responses
 -- of the issuer: both of the first two are given and not the third, or neither, and then the third may be given
-abbrev pub answerer_by : Option Text → Option KeyHolder → Option Text → Option Answerer
+abbrev pub answerer_by : Option Text → Option SignerAddress → Option Text → Option ResponderChoice
 answerer_by (Some certificate) (Some holder) None = Some (Delegate certificate holder)
 answerer_by (Some certificate) (Some holder) (Some embedded) = None
 answerer_by (Some certificate) None embedded = None
@@ -72,7 +72,7 @@ answerer_by None (Some holder) embedded = None
 answerer_by None None embedded = Some (Issuer embedded)
 
 -- the responder to OCSP requests, from the words of these options
-unfoldable pub answerer_in : List Row → Option Answerer
+unfoldable pub answerer_in : List Row → Option ResponderChoice
 answerer_in rows = do
   holder ← holder_by_options (codes "responder-signer") (codes "responder-algorithm") rows
   answerer_by (first_of (codes "responder") rows) holder (first_of (codes "embed") rows)
@@ -82,13 +82,13 @@ abbrev pub has_flag : Text → List Row → Bool
 has_flag id rows = option_map_or (λ text. bytes_eq text (codes "true")) (first_of id rows) false
 
 -- whether the responder has a key of its own
-abbrev pub has_own_key : Answerer → Bool
+abbrev pub has_own_key : ResponderChoice → Bool
 has_own_key (Issuer certificate) = false
 has_own_key (Delegate certificate holder) = true
 
 -- the signer of CRLs for a job that must choose one: a signer, or `--unsigned`; neither and both are errors. With a responder that has a key of
 -- its own, it is a signer, or neither
-abbrev pub chosen : Option KeyHolder → Bool → Bool → Option (Option KeyHolder)
+abbrev pub chosen : Option SignerAddress → Bool → Bool → Option (Option SignerAddress)
 chosen (Some holder) false own = Some (Some holder)
 chosen (Some holder) true own = None
 chosen None false false = None
@@ -97,13 +97,13 @@ chosen None false true = Some None
 chosen None true true = None
 
 -- the signer of CRLs, from `--signer` with `--algorithm`; none with `--unsigned`, or with neither and a responder
-abbrev pub holder_chosen : Answerer → List Row → Option (Option KeyHolder)
+abbrev pub holder_chosen : ResponderChoice → List Row → Option (Option SignerAddress)
 holder_chosen answerer rows =
     option_and_then (λ signer. chosen signer (has_flag (codes "unsigned") rows) (has_own_key answerer))
     (holder_in rows)
 
 -- how a script runs
-abbrev pub way_in : List Row → Way
+abbrev pub way_in : List Row → ScriptOptions
 way_in rows = record {
   is_clocked = has_flag (codes "clock") rows;
   accepts_clock = has_flag (codes "accept-clock") rows;
@@ -111,7 +111,7 @@ way_in rows = record {
 }
 
 -- the job of `script`; only a script over a register at a path can run line by line
-abbrev pub script_by : Option Text → Option KeyHolder → Way → Option Job
+abbrev pub script_by : Option Text → Option SignerAddress → ScriptOptions → Option Job
 script_by None signer way = if way.is_clocked || way.is_strict then None else Some (Script None signer)
 script_by (Some file) signer way =
     if way.is_clocked || way.is_strict then Some (Lines (record { file = file; signer = signer; way = way }))
@@ -141,10 +141,10 @@ init_of rows = do
   file ← first_of (codes "file") rows
   name ← first_of (codes "name") rows
   key ← first_of (codes "key") rows
-  days ← value_or_usual 398 (codes "days") rows
-  crl_life ← value_or_usual 691200 (codes "crl-life") rows
-  ocsp_life ← value_or_usual 345600 (codes "ocsp-life") rows
-  cap ← value_or_usual 1000000 (codes "cap") rows
+  days ← value_or_default 398 (codes "days") rows
+  crl_life ← value_or_default 691200 (codes "crl-life") rows
+  ocsp_life ← value_or_default 345600 (codes "ocsp-life") rows
+  cap ← value_or_default 1000000 (codes "cap") rows
   Some (Init (record {
     file = file;
     name = name;
@@ -267,7 +267,7 @@ key_id_of rows = do
   Some (KeyId file key_id)
 
 -- the form of a list
-abbrev pub form_in : List Row → Form
+abbrev pub form_in : List Row → Format
 form_in rows = if has_flag (codes "json") rows then Json else Csv
 
 -- the text of an option, if it is given, of 1 to 64 bytes; and of 1 to 40 hexadecimal digits
@@ -346,12 +346,12 @@ abbrev pub job_found : Option (Text × List Row) → Option Job
 job_found found = option_and_then (λ found. job_in found.0 found.1) found
 
 -- whether an option without a value is given after the command
-abbrev pub has_flag_behind : Text → Option (Text × List Row) → Bool
-has_flag_behind id found = option_map_or (λ found. has_flag id found.1) found false
+abbrev pub has_flag_after : Text → Option (Text × List Row) → Bool
+has_flag_after id found = option_map_or (λ found. has_flag id found.1) found false
 
 -- the value of an option that is given after the command
-abbrev pub value_behind : Text → Option (Text × List Row) → Option Text
-value_behind id found = option_and_then (λ found. first_of id found.1) found
+abbrev pub value_after : Text → Option (Text × List Row) → Option Text
+value_after id found = option_and_then (λ found. first_of id found.1) found
 
 -- the job of words that clap accepts
 abbrev pub job_of : List Text → Option Job
@@ -365,9 +365,9 @@ ClapAccepts words = fault_of desk_app words ≡ []
 -- after it; and the log, by `--log` and `--log-file` after it
 abbrev pub IsInvocationIn : List Row → Option (Text × List Row) → Invocation → Type 0
 IsInvocationIn before found invocation = (job_found found ≡ Some invocation.job)
-    × (invocation.is_explained ≡ (has_flag (codes "why") before || has_flag_behind (codes "why") found))
-    × (invocation.has_log ≡ has_flag_behind (codes "log") found)
-    × (invocation.log_file ≡ value_behind (codes "log-file") found)
+    × (invocation.is_explained ≡ (has_flag (codes "why") before || has_flag_after (codes "why") found))
+    × (invocation.has_log ≡ has_flag_after (codes "log") found)
+    × (invocation.log_file ≡ value_after (codes "log-file") found)
 
 -- clap accepts the words, and this is their invocation
 abbrev pub IsInvocationOf : List Text → Invocation → Type 0

@@ -6,31 +6,32 @@ ghost use Rattle.clap.specs.Words.{found_of, rows_of};
 ghost use Rattle.reg_desk_cli.specs.Jobs.{job_in, serving_job_in, keeping_job_in, init_of, script_by, script_of, import_of, crl_job, number_in, serve_of, open_of, at_by, at_of, replay_of, schedule_of, key_id_of, filter_for, form_in, list_of, copy_of, audit_of};
 
 use crate::job::{
-    Endpoint, Job, KeptOpen, KeyHolder, LinedScript, ListToWrite, NewRegister, OrderTerms, RowTask,
-    RowsToImport, Serving, Way,
+    Endpoint, ImportJob, Job, LinedScript, ListJob, NewRegister, OpenJob, OrderTerms, RowTask,
+    ScriptOptions, ServeJob, SignerAddress,
 };
 use crate::option_values::{
-    answerer, chosen_holder, filter_option, is_set, key_holder, loopback, moment_option,
-    number_option, number_or, number_within, order_terms_option, steps, text_of, way_of, word_of,
+    answerer, chosen_signer, filter_option, is_set, key_holder, loopback, moment_option,
+    number_option, number_or, number_within, order_terms_option, script_options_of, steps, text_of,
+    word_of,
 };
 use crate::word::Word;
 use crate::wrong::{LAST_PORT, MOST_REQUESTS};
 use clap::ArgMatches;
 use reg_core::Moment;
-use reg_core_lists::{Cursor, Filter, Form};
+use reg_core_lists::{Cursor, Filter, Format};
 use std::alloc::{AllocError, Global};
 
 /// The longest validity in days of the default policy.
-const USUAL_DAYS: u64 = 398;
+const DEFAULT_DAYS: u64 = 398;
 
 /// The seconds from thisUpdate to nextUpdate of a CRL in the default policy: eight days.
-const USUAL_CRL_LIFE: u64 = 691_200;
+const DEFAULT_CRL_LIFE: u64 = 691_200;
 
 /// The seconds from thisUpdate to nextUpdate of an OCSP response in the default policy: four days.
-const USUAL_OCSP_LIFE: u64 = 345_600;
+const DEFAULT_OCSP_LIFE: u64 = 345_600;
 
 /// The most rows of a table in the default policy.
-const USUAL_CAP: u64 = 1_000_000;
+const DEFAULT_CAP: u64 = 1_000_000;
 
 #[tactic(auto, unfolding(crate::specs::Jobs::job_in))]
 pub(crate) fn read_command<'a>(
@@ -108,10 +109,10 @@ fn read_init<'a>(given: &ArgMatches<'a>) -> Option<Job<'a>>
         name: word_of(given, "name")?,
         key: word_of(given, "key")?,
         key_id: word_of(given, "key-id"),
-        days: number_or(given, "days", USUAL_DAYS)?,
-        crl_life: number_or(given, "crl-life", USUAL_CRL_LIFE)?,
-        ocsp_life: number_or(given, "ocsp-life", USUAL_OCSP_LIFE)?,
-        cap: number_or(given, "cap", USUAL_CAP)?,
+        days: number_or(given, "days", DEFAULT_DAYS)?,
+        crl_life: number_or(given, "crl-life", DEFAULT_CRL_LIFE)?,
+        ocsp_life: number_or(given, "ocsp-life", DEFAULT_OCSP_LIFE)?,
+        cap: number_or(given, "cap", DEFAULT_CAP)?,
     }))
 }
 
@@ -120,14 +121,14 @@ fn read_script<'a>(given: &ArgMatches<'a>) -> Option<Job<'a>>
     ensures { result ≡ script_of (rows_of (found_of given.now)) }
 {
     let signer = key_holder(given)?;
-    script_job(word_of(given, "file"), signer, way_of(given))
+    script_job(word_of(given, "file"), signer, script_options_of(given))
 }
 
 /// The job of `script`; only a script over FILE can run line by line.
 fn script_job<'a>(
     file: Option<Word<'a>>,
-    signer: Option<KeyHolder<'a>>,
-    way: Way,
+    signer: Option<SignerAddress<'a>>,
+    way: ScriptOptions,
 ) -> Option<Job<'a>>
     ensures { result ≡ script_by file.entry signer.entry way }
 {
@@ -143,7 +144,7 @@ fn script_job<'a>(
 fn read_import<'a>(given: &ArgMatches<'a>) -> Option<Job<'a>>
     ensures { result ≡ import_of (rows_of (found_of given.now)) }
 {
-    Some(Job::Import(RowsToImport {
+    Some(Job::Import(ImportJob {
         file: word_of(given, "file")?,
         moment: import_moment(given)?,
         accepts_clock: is_set(given, "accept-clock"),
@@ -199,7 +200,7 @@ fn endpoint_of(given: &ArgMatches<'_>) -> Option<Endpoint>
 fn read_serve<'a>(given: &ArgMatches<'a>) -> Option<Job<'a>>
     ensures { result ≡ serve_of (rows_of (found_of given.now)) }
 {
-    Some(Job::Serve(Serving {
+    Some(Job::Serve(ServeJob {
         file: word_of(given, "file")?,
         endpoint: endpoint_of(given)?,
         requests: number_within(given, "requests", 1, MOST_REQUESTS)? as u32,
@@ -217,8 +218,8 @@ fn read_open<'a>(given: &ArgMatches<'a>) -> Option<Job<'a>>
     let endpoint = endpoint_of(given)?;
     let control = word_of(given, "control")?;
     let answering = answerer(given)?;
-    let signer = chosen_holder(given, &answering)?;
-    Some(Job::Open(KeptOpen {
+    let signer = chosen_signer(given, &answering)?;
+    Some(Job::Open(OpenJob {
         file,
         endpoint,
         control,
@@ -306,7 +307,7 @@ fn read_list<'a>(given: &ArgMatches<'a>) -> Option<Job<'a>>
     let from = Cursor::named(word.as_bytes(), before)?;
     let moment = moment_option(given, "now")?;
     let filter = filter_for(given, &from)?;
-    Some(Job::Listing(ListToWrite {
+    Some(Job::Listing(ListJob {
         file,
         from,
         moment,
@@ -328,13 +329,13 @@ fn filter_for(given: &ArgMatches<'_>, list: &Cursor) -> Option<Filter>
     }
 }
 
-fn form_of(given: &ArgMatches<'_>) -> Form
+fn form_of(given: &ArgMatches<'_>) -> Format
     ensures { result ≡ form_in (rows_of (found_of given.now)) }
 {
     if is_set(given, "json") {
-        Form::Json
+        Format::Json
     } else {
-        Form::Csv
+        Format::Csv
     }
 }
 

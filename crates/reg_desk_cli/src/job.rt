@@ -5,19 +5,19 @@ ghost use Rattle.reg_desk_cli.specs.Statuses.{usage_status};
 
 use crate::word::{Steps, Word};
 use reg_core::Moment;
-use reg_core_lists::{Cursor, Filter, Form};
+use reg_core_lists::{Cursor, Filter, Format};
 use reg_crl_signer::Algorithm;
 
 /// A signer: the Unix socket at which it listens, and the algorithm of its signatures.
 #[derive(Drop)]
-pub struct KeyHolder<'a> {
+pub struct SignerAddress<'a> {
     pub socket: Word<'a>,
     pub algorithm: Algorithm,
 }
 
 /// The responder to OCSP requests for a register that is served (RFC 6960 2.2).
 #[derive(Drop)]
-pub enum Answerer<'a> {
+pub enum ResponderChoice<'a> {
     /// The signer of its CRLs. If the path of a certificate is given, this is embedded in each response.
     Issuer {
         certificate: Option<Word<'a>>,
@@ -25,13 +25,13 @@ pub enum Answerer<'a> {
     /// A responder with its own key and signer, and the path of its certificate, which is embedded in each response (RFC 6960 4.2.2.2).
     Delegate {
         certificate: Word<'a>,
-        holder: KeyHolder<'a>,
+        holder: SignerAddress<'a>,
     },
 }
 
 /// How a script runs that runs line by line.
 #[derive(Clone, Copy, PartialEq, Eq)]
-pub struct Way {
+pub struct ScriptOptions {
     /// The lines have no moments: they run at the moments of the machine's clock.
     pub is_clocked: bool,
     /// The lines run even if the clock is more than 30 days past the last accepted moment.
@@ -63,17 +63,17 @@ pub struct NewRegister<'a> {
 pub struct LinedScript<'a> {
     pub file: Word<'a>,
     /// The signer, if there is one.
-    pub signer: Option<KeyHolder<'a>>,
-    pub way: Way,
+    pub signer: Option<SignerAddress<'a>>,
+    pub way: ScriptOptions,
 }
 
 /// Rows to be registered.
 #[derive(Drop)]
-pub struct RowsToImport<'a> {
+pub struct ImportJob<'a> {
     pub file: Word<'a>,
     /// The moment of the import; `None` for that of the machine's clock when the import begins.
     pub moment: Option<Moment>,
-    /// As in [`Way`].
+    /// As in [`ScriptOptions`].
     pub accepts_clock: bool,
     /// The import ends at the first refusal or fault, and registers no last row without its line end.
     pub is_strict: bool,
@@ -98,38 +98,38 @@ pub struct Endpoint {
 
 /// A register that is served for a number of requests.
 #[derive(Drop)]
-pub struct Serving<'a> {
+pub struct ServeJob<'a> {
     pub file: Word<'a>,
     pub endpoint: Endpoint,
     pub requests: u32,
-    pub signer: Option<KeyHolder<'a>>,
-    pub answerer: Answerer<'a>,
+    pub signer: Option<SignerAddress<'a>>,
+    pub answerer: ResponderChoice<'a>,
     /// The path of a published CRL, all of which the register must have.
     pub published: Option<Word<'a>>,
 }
 
 /// A register that is kept open, with a control socket.
 #[derive(Drop)]
-pub struct KeptOpen<'a> {
+pub struct OpenJob<'a> {
     pub file: Word<'a>,
     pub endpoint: Endpoint,
     /// The path of the control socket.
     pub control: Word<'a>,
-    pub signer: Option<KeyHolder<'a>>,
-    pub answerer: Answerer<'a>,
+    pub signer: Option<SignerAddress<'a>>,
+    pub answerer: ResponderChoice<'a>,
     /// As in [`Serving`].
     pub published: Option<Word<'a>>,
 }
 
 /// A list of a register to be written.
 #[derive(Drop)]
-pub struct ListToWrite<'a> {
+pub struct ListJob<'a> {
     pub file: Word<'a>,
     pub from: Cursor,
     /// The moment for which the list is written; `None` for that of the machine's clock.
     pub moment: Option<Moment>,
     pub filter: Filter,
-    pub form: Form,
+    pub form: Format,
 }
 
 /// The order that is entered for each certificate: the number of its subscriber, and its days.
@@ -155,22 +155,22 @@ pub enum Job<'a> {
     /// Runs the script of standard input, without FILE over a register in memory. Without a signer, a placeholder digest replaces each signature.
     Script {
         file: Option<Word<'a>>,
-        signer: Option<KeyHolder<'a>>,
+        signer: Option<SignerAddress<'a>>,
     },
     /// Runs the script of standard input over FILE, line by line.
     Lines(LinedScript<'a>),
     /// Registers the rows of standard input, all at one moment.
-    Import(RowsToImport<'a>),
+    Import(ImportJob<'a>),
     /// Writes a CRL; the latest one if no number is given.
     Crl {
         file: Word<'a>,
         number: Option<u64>,
     },
     /// Answers a number of requests over HTTP at a port. Without a signer, a placeholder digest replaces each signature.
-    Serve(Serving<'a>),
+    Serve(ServeJob<'a>),
     /// Keeps a register open until the program ends: answers requests over HTTP at a port, and lines at a control socket. The signer signs; only
     /// with `--unsigned` a placeholder digest replaces each signature. With a responder and no signer, no CRL is signed.
-    Open(KeptOpen<'a>),
+    Open(OpenJob<'a>),
     /// Sends the lines of standard input to the control socket at a path; or the rows of a file.
     At {
         control_path: Word<'a>,
@@ -197,7 +197,7 @@ pub enum Job<'a> {
         key_id: Word<'a>,
     },
     /// Writes a list of the register, as CSV with a header or as one JSON object for each line, at a moment or at the machine's clock.
-    Listing(ListToWrite<'a>),
+    Listing(ListJob<'a>),
     /// Copies the register, which no program has open, to a path that has no file.
     Copy {
         file: Word<'a>,

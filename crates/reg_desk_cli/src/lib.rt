@@ -18,8 +18,8 @@ pub use checks::{
 pub use desk::VERSION;
 pub use failure::{Failure, status_of};
 pub use job::{
-    Answerer, Endpoint, Invocation, Job, KeptOpen, KeyHolder, LinedScript, ListToWrite, Loopback,
-    NewRegister, OrderTerms, RowTask, RowsToImport, Serving, Usage, Way,
+    Endpoint, ImportJob, Invocation, Job, LinedScript, ListJob, Loopback, NewRegister, OpenJob,
+    OrderTerms, ResponderChoice, RowTask, ScriptOptions, ServeJob, SignerAddress, Usage,
 };
 pub use option_values::read_step;
 pub use reading_words::{no_text, read_words};

@@ -3,10 +3,10 @@
 ghost use Rattle.std.specs.Prelude.{◌≡◌, ◌≤◌, ◌==◌, IfOk, IfSome, List, ℕ, map, option_and_then, option_map, position};
 ghost use Rattle.reg_core.specs.Calendar.{moment_of};
 ghost use Rattle.clap.specs.Words.{all_of, first_of, found_of, rows_of};
-ghost use Rattle.reg_desk_cli.specs.Jobs.{answerer_in, answerer_by, given, value_or_usual, chosen, filter_in, has_own_key, holder_by_options, holder_chosen, holder_in, has_flag, label_given, loopback_in, loopback_named, moment_given, number_in, order_terms_given, prefix_given, way_in};
+ghost use Rattle.reg_desk_cli.specs.Jobs.{answerer_in, answerer_by, given, value_or_default, chosen, filter_in, has_own_key, holder_by_options, holder_chosen, holder_in, has_flag, label_given, loopback_in, loopback_named, moment_given, number_in, order_terms_given, prefix_given, way_in};
 ghost use Rattle.reg_desk_cli.specs.WordValues.{order_terms_of, step_of, step_from, steps_of, within};
 
-use crate::job::{Answerer, KeyHolder, Loopback, OrderTerms, Way};
+use crate::job::{Loopback, OrderTerms, ResponderChoice, ScriptOptions, SignerAddress};
 use crate::word::{Steps, Word};
 use clap::ArgMatches;
 use reg_core::{Label, Moment, read_number};
@@ -35,7 +35,7 @@ fn texts_of<'m, 'a>(matches: &'m ArgMatches<'a>, id: &str) -> Option<&'m [&'a st
 
 /// The number of an option, or the default if the option is not given; `None` if its value is no number.
 pub(crate) fn number_or(matches: &ArgMatches<'_>, id: &str, usual: u64) -> Option<u64>
-    ensures { result ≡ value_or_usual usual id.now (rows_of (found_of matches.now)) }
+    ensures { result ≡ value_or_default usual id.now (rows_of (found_of matches.now)) }
 {
     match text_of(matches, id) {
         Some(text) => read_number(text.as_bytes()),
@@ -149,7 +149,7 @@ pub(crate) fn prefix_option(matches: &ArgMatches<'_>, id: &str) -> Option<Option
 }
 
 /// The signer, if one is given; `None` if only one of its two options is given, or if no algorithm has the name.
-pub(crate) fn key_holder<'a>(matches: &ArgMatches<'a>) -> Option<Option<KeyHolder<'a>>>
+pub(crate) fn key_holder<'a>(matches: &ArgMatches<'a>) -> Option<Option<SignerAddress<'a>>>
     ensures { result ≡ holder_in (rows_of (found_of matches.now)) }
 {
     holder_by(matches, "signer", "algorithm")
@@ -158,7 +158,7 @@ pub(crate) fn key_holder<'a>(matches: &ArgMatches<'a>) -> Option<Option<KeyHolde
 /// The responder to OCSP requests; `None` if an option of a responder is given without the others, if no algorithm has the name, or if
 /// `--embed` is given too.
 #[tactic(auto, unfolding(crate::specs::Jobs::answerer_in))]
-pub(crate) fn answerer<'a>(matches: &ArgMatches<'a>) -> Option<Answerer<'a>>
+pub(crate) fn answerer<'a>(matches: &ArgMatches<'a>) -> Option<ResponderChoice<'a>>
     ensures { result ≡ answerer_in (rows_of (found_of matches.now)) }
 {
     let holder = holder_by(matches, "responder-signer", "responder-algorithm")?;
@@ -168,9 +168,9 @@ pub(crate) fn answerer<'a>(matches: &ArgMatches<'a>) -> Option<Answerer<'a>>
 
 fn answerer_of<'a>(
     responder: Option<Word<'a>>,
-    holder: Option<KeyHolder<'a>>,
+    holder: Option<SignerAddress<'a>>,
     embedded: Option<Word<'a>>,
-) -> Option<Answerer<'a>>
+) -> Option<ResponderChoice<'a>>
     ensures { result ≡ answerer_by responder.entry holder.entry embedded.entry }
 {
     match (responder, holder) {
@@ -178,12 +178,12 @@ fn answerer_of<'a>(
             if embedded.is_some() {
                 return None;
             }
-            Some(Answerer::Delegate {
+            Some(ResponderChoice::Delegate {
                 certificate,
                 holder,
             })
         }
-        (None, None) => Some(Answerer::Issuer {
+        (None, None) => Some(ResponderChoice::Issuer {
             certificate: embedded,
         }),
         (Some(_), None) => None,
@@ -195,13 +195,13 @@ fn holder_by<'a>(
     matches: &ArgMatches<'a>,
     socket: &str,
     algorithm: &str,
-) -> Option<Option<KeyHolder<'a>>>
+) -> Option<Option<SignerAddress<'a>>>
     ensures { result ≡ holder_by_options socket.now algorithm.now (rows_of (found_of matches.now)) }
 {
     match (word_of(matches, socket), text_of(matches, algorithm)) {
         (Some(socket), Some(name)) => {
             let algorithm = Algorithm::read(name)?;
-            Some(Some(KeyHolder { socket, algorithm }))
+            Some(Some(SignerAddress { socket, algorithm }))
         }
         (None, None) => Some(None),
         _ => None,
@@ -209,30 +209,30 @@ fn holder_by<'a>(
 }
 
 /// The signer of CRLs for a job that must choose one: a signer, or `--unsigned`, or neither with a responder; `None` for any other choice.
-pub(crate) fn chosen_holder<'a>(
+pub(crate) fn chosen_signer<'a>(
     matches: &ArgMatches<'a>,
-    answerer: &Answerer<'_>,
-) -> Option<Option<KeyHolder<'a>>>
+    answerer: &ResponderChoice<'_>,
+) -> Option<Option<SignerAddress<'a>>>
     ensures { result ≡ holder_chosen answerer.now (rows_of (found_of matches.now)) }
 {
     let is_unsigned = is_set(matches, "unsigned");
     choose(key_holder(matches)?, is_unsigned, is_delegate(answerer))
 }
 
-fn is_delegate(answerer: &Answerer<'_>) -> bool
+fn is_delegate(answerer: &ResponderChoice<'_>) -> bool
     ensures { result ≡ has_own_key answerer.now }
 {
     match answerer {
-        Answerer::Issuer { .. } => false,
-        Answerer::Delegate { .. } => true,
+        ResponderChoice::Issuer { .. } => false,
+        ResponderChoice::Delegate { .. } => true,
     }
 }
 
 fn choose<'a>(
-    holder: Option<KeyHolder<'a>>,
+    holder: Option<SignerAddress<'a>>,
     is_unsigned: bool,
     is_delegated: bool,
-) -> Option<Option<KeyHolder<'a>>>
+) -> Option<Option<SignerAddress<'a>>>
     ensures { result ≡ chosen holder.entry is_unsigned is_delegated }
 {
     let has_other = holder.is_some() || is_delegated;
@@ -244,10 +244,10 @@ fn choose<'a>(
 }
 
 /// How a script runs.
-pub(crate) fn way_of(matches: &ArgMatches<'_>) -> Way
+pub(crate) fn script_options_of(matches: &ArgMatches<'_>) -> ScriptOptions
     ensures { result ≡ way_in (rows_of (found_of matches.now)) }
 {
-    Way {
+    ScriptOptions {
         is_clocked: is_set(matches, "clock"),
         accepts_clock: is_set(matches, "accept-clock"),
         is_strict: is_set(matches, "strict"),

@@ -3,7 +3,7 @@
 ghost use Rattle.std.specs.Prelude.{◌≡◌, IfErr, IfOk, map};
 ghost use Rattle.clap.specs.Words.{app_of, found_of, rows_of, subcommand_rows_of, kind_of};
 ghost use Rattle.reg_desk_cli.specs.Desk.{desk_app};
-ghost use Rattle.reg_desk_cli.specs.Jobs.{IsNoInvocation, IsInvocationIn, IsInvocationOf, IsUsageOf, PrintsUsage, has_flag_behind, job_found, value_behind};
+ghost use Rattle.reg_desk_cli.specs.Jobs.{IsNoInvocation, IsInvocationIn, IsInvocationOf, IsUsageOf, PrintsUsage, has_flag_after, job_found, value_after};
 
 use crate::commands::read_command;
 use crate::desk::desk;
@@ -69,7 +69,7 @@ fn read_invocation<'a>(
 }
 
 fn is_set_behind(matches: &ArgMatches<'_>, id: &str) -> bool
-    ensures { result ≡ has_flag_behind id.now (subcommand_rows_of matches.now) }
+    ensures { result ≡ has_flag_after id.now (subcommand_rows_of matches.now) }
 {
     match matches.subcommand() {
         Some((_, given)) => is_set(given, id),
@@ -78,7 +78,7 @@ fn is_set_behind(matches: &ArgMatches<'_>, id: &str) -> bool
 }
 
 fn word_behind<'a>(matches: &ArgMatches<'a>, id: &str) -> Option<Word<'a>>
-    ensures { result ≡ value_behind id.now (subcommand_rows_of matches.now) }
+    ensures { result ≡ value_after id.now (subcommand_rows_of matches.now) }
 {
     match matches.subcommand() {
         Some((_, given)) => word_of(given, id),

@@ -9,8 +9,8 @@ ghost use Rattle.sqlite_wal.specs.Files.{image_at};
 ghost use Rattle.reg_desk_files.specs.Reading.{IsFileFault};
 
 use crate::file_fault::{FileFault, with_cause};
-use crate::file_locks::{locked_alone, log_of};
-use reg_core::{Cause, Fault, of_io};
+use crate::file_locks::{lock_exclusively, log_of};
+use reg_core::{Cause, Fault, io_cause_of};
 use sqlite::{Connection, FileFrom, FileStore, Options};
 use sqlite_disk::Start;
 use std::fs;
@@ -27,7 +27,7 @@ const FEWEST_PAGES: usize = 2_000;
 /// The most pages of the page cache: 512 MiB.
 const MOST_PAGES: usize = 131_072;
 
-const OWNER_ALONE: u32 = 0o600;
+const OWNER_ONLY: u32 = 0o600;
 
 /// Opens the file at a path as a database, with its checks for damage, or creates it. `start` has what the file and its log hold. The page cache has
 /// room for twice the pages of the file, so that a look-up in a large register seldom waits for the operating system, and a page that changes
@@ -107,7 +107,7 @@ pub fn claim_file(rt: &HostRuntime, path: &str) -> Result<(), ClaimFault> {
 
 fn create_file(rt: &HostRuntime, path: &str) -> Result<(), ClaimFault> {
     let mut options = OpenOptions::new();
-    options.write(true).create_new(true).mode(OWNER_ALONE);
+    options.write(true).create_new(true).mode(OWNER_ONLY);
     match options.open(rt, path) {
         Ok(_) => Ok(()),
         Err(error) => Err(claim_fault_of(error.kind())),
@@ -120,14 +120,14 @@ fn claim_fault_of(kind: ErrorKind) -> ClaimFault
 {
     match kind {
         ErrorKind::OutOfMemory => ClaimFault::Memory,
-        other => ClaimFault::Taken(of_io(other)),
+        other => ClaimFault::Taken(io_cause_of(other)),
     }
 }
 
 /// Removes a database's file and its log, if no other program has them open: it locks them meanwhile. It writes nothing before, so that a failing
 /// disk does not prevent the removal.
 pub fn remove_file(rt: &HostRuntime, path: &str) {
-    let Some(held) = locked_alone(rt, path) else {
+    let Some(held) = lock_exclusively(rt, path) else {
         return;
     };
     drop(fs::remove_file(rt, path));

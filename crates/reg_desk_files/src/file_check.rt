@@ -19,34 +19,34 @@ const NEW_PAGE: usize = 4096;
 
 /// The content of files.
 #[derive(Clone, Copy, PartialEq, Eq)]
-pub enum Found {
+pub enum FileContent {
     /// No database yet: the file is empty, or has a part of a first page from an interrupted creation. Opening creates a database.
     Nothing,
     /// No database, but something else.
     Other,
     /// The beginning of a database. Opening finds out whether it is one.
-    Begun,
+    ReadyOrUnsigned,
 }
 
 /// What opening would find in files, which are only read. Errors: `Memory`; `Store` if a call failed, or the log is not that of a database.
-pub fn look<D: Disk>(alloc: Global, files: &mut Files<D>) -> Result<Found, FileFault>
+pub fn look<D: Disk>(alloc: Global, files: &mut Files<D>) -> Result<FileContent, FileFault>
     requires log { IsTrue (D.Disk.is_usable files.old.log) }
     requires db { IsTrue (D.Disk.is_usable files.old.db) }
     ensures nothing { TellsOfImage D.Disk files.old files.new result
-        (λ found image. found ≡ Found.Nothing ↔ IsNothing image) }
+        (λ found image. found ≡ FileContent.Nothing ↔ IsNothing image) }
     ensures other { TellsOfImage D.Disk files.old files.new result
-        (λ found image. found ≡ Found.Other → (db : Trees) → ¬ HoldsDatabase image db) }
+        (λ found image. found ≡ FileContent.Other → (db : Trees) → ¬ HoldsDatabase image db) }
     ensures log { OnlyReads D.Disk files.old.log files.new.log }
     ensures db { OnlyReads D.Disk files.old.db files.new.db }
     ensures faults { IfErr result IsFileFault }
 {
     if is_nothing(alloc, files)? {
-        return Ok(Found::Nothing);
+        return Ok(FileContent::Nothing);
     }
     if begins(alloc, files)? {
-        return Ok(Found::Begun);
+        return Ok(FileContent::ReadyOrUnsigned);
     }
-    Ok(Found::Other)
+    Ok(FileContent::Other)
 }
 
 fn is_nothing<D: Disk>(alloc: Global, files: &mut Files<D>) -> Result<bool, Error>

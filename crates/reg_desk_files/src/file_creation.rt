@@ -4,7 +4,7 @@ ghost use Rattle.std.specs.Prelude.{IfErr};
 ghost use Rattle.reg_desk_files.specs.Reading.{IsFileFault};
 
 use crate::file_fault::{FileFault, create_fault_of, with_cause};
-use crate::file_locks::beside;
+use crate::file_locks::with_suffix;
 use crate::page_copy::put_pages;
 use reg_core::{Cause, Fault};
 use sqlite_disk::Disk;
@@ -14,10 +14,10 @@ use std::io::ErrorKind;
 use std::os::unix::fs::OpenOptionsExt;
 use std::{fs, io};
 
-const OWNER_ALONE: u32 = 0o600;
+const OWNER_ONLY: u32 = 0o600;
 
 /// The suffix of a copy's name while it is written.
-const UNDER_WAY: &str = ".part";
+const PARTIAL_SUFFIX: &str = ".part";
 
 /// Writes all pages to a new file at a path that has no file, nor a file that would be taken for its log. The file is written under another
 /// name and synced. Only then it gets its name, in one step that replaces nothing. If that fails, the file is removed.
@@ -29,7 +29,7 @@ pub(crate) fn write_copy<D: Disk>(
     ensures { IfErr result IsFileFault }
 {
     look_all_free(rt, to)?;
-    let part = beside(rt, to, UNDER_WAY)?;
+    let part = with_suffix(rt, to, PARTIAL_SUFFIX)?;
     let mut file = new_file(rt, part.as_str())?;
     match fill_and_name(rt, pager, &mut file, part.as_str(), to) {
         Ok(bytes) => Ok(bytes),
@@ -46,16 +46,16 @@ fn look_all_free(rt: &HostRuntime, to: &str) -> Result<(), FileFault>
     if to.is_empty() {
         return Err(with_cause(Fault::Store, Some(Cause::NoFile)));
     }
-    look_free(rt, to, "")?;
-    look_free(rt, to, "-wal")?;
-    look_free(rt, to, "-journal")
+    check_free(rt, to, "")?;
+    check_free(rt, to, "-wal")?;
+    check_free(rt, to, "-journal")
 }
 
 /// Checks that a path with this suffix has no file and no symbolic link, not even a dangling one.
-fn look_free(rt: &HostRuntime, to: &str, end: &str) -> Result<(), FileFault>
+fn check_free(rt: &HostRuntime, to: &str, end: &str) -> Result<(), FileFault>
     ensures { IfErr result IsFileFault }
 {
-    let path = beside(rt, to, end)?;
+    let path = with_suffix(rt, to, end)?;
     match fs::symlink_metadata(rt, path.as_str()) {
         Ok(_) => Err(with_cause(Fault::Store, Some(Cause::Taken))),
         Err(error) if error.kind() == ErrorKind::NotFound => Ok(()),
@@ -67,7 +67,7 @@ fn new_file(rt: &HostRuntime, path: &str) -> Result<File, FileFault>
     ensures { IfErr result IsFileFault }
 {
     let mut options = OpenOptions::new();
-    options.write(true).create_new(true).mode(OWNER_ALONE);
+    options.write(true).create_new(true).mode(OWNER_ONLY);
     match options.open(rt, path) {
         Ok(file) => Ok(file),
         Err(error) => Err(create_fault_of(error.kind())),

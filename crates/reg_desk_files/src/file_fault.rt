@@ -3,7 +3,7 @@
 ghost use Rattle.std.specs.Prelude.{◌≡◌};
 ghost use Rattle.reg_desk_files.specs.Reading.{IsFileFault};
 
-use reg_core::{Cause, Fault, create_cause_of, of_io};
+use reg_core::{Cause, Fault, create_cause_of, io_cause_of};
 use sqlite::{Error, ErrorCode};
 use sqlite_std_file::OpenError;
 use std::alloc::AllocError;
@@ -69,7 +69,7 @@ impl From<io::Error> for FileFault {
     fn from(error: io::Error) -> FileFault {
         match error.kind() {
             ErrorKind::OutOfMemory => with_cause(Fault::Memory, None),
-            other => with_cause(Fault::Store, of_io(other)),
+            other => with_cause(Fault::Store, io_cause_of(other)),
         }
     }
 }
@@ -109,7 +109,7 @@ fn of_opening(error: &OpenError) -> Option<Cause>
     ensures memory { error.now ≡ OpenError.OutOfMemory → result ≡ None }
 {
     match error {
-        OpenError::Io(error) => of_io(error.kind()),
+        OpenError::Io(error) => io_cause_of(error.kind()),
         OpenError::Busy => Some(Cause::InUse),
         OpenError::OutOfMemory | OpenError::HotJournal => None,
     }

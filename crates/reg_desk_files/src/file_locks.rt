@@ -33,7 +33,7 @@ pub(crate) fn lock(file: &fs::File, kind: RangeLock) -> Result<(), FileFault>
 
 /// Checks that a database's file is locked for writing, as this program locks a file that it has open. If it is not, the file at the path
 /// is no longer the one that this program opened.
-pub(crate) fn look_at_locked(file: &fs::File) -> Result<(), FileFault>
+pub(crate) fn check_locked(file: &fs::File) -> Result<(), FileFault>
     ensures { IfErr result IsFileFault }
 {
     match lock(file, RangeLock::Shared) {
@@ -43,7 +43,7 @@ pub(crate) fn look_at_locked(file: &fs::File) -> Result<(), FileFault>
     }
 }
 
-pub(crate) fn locked_alone(rt: &HostRuntime, path: &str) -> Option<fs::File> {
+pub(crate) fn lock_exclusively(rt: &HostRuntime, path: &str) -> Option<fs::File> {
     let mut options = OpenOptions::new();
     options.read(true).write(true);
     match options.open(rt, path) {
@@ -62,10 +62,10 @@ fn alone(file: fs::File) -> Option<fs::File> {
 pub(crate) fn log_of(rt: &HostRuntime, path: &str) -> Result<String, AllocError>
     ensures { IfOk result (λ log. string_bytes log ≡ path.now ++ codes "-wal") }
 {
-    beside(rt, path, "-wal")
+    with_suffix(rt, path, "-wal")
 }
 
-pub(crate) fn beside(rt: &HostRuntime, path: &str, end: &str) -> Result<String, AllocError>
+pub(crate) fn with_suffix(rt: &HostRuntime, path: &str, end: &str) -> Result<String, AllocError>
     ensures { IfOk result (λ other. string_bytes other ≡ path.now ++ end.now) }
 {
     let mut other = String::new(rt.alloc());

@@ -13,10 +13,12 @@ mod read_only;
 mod source;
 
 pub use file::{ClaimFault, claim_file, open_file, remove_file};
-pub use file_check::{Found, look};
+pub use file_check::{FileContent, look};
 pub use file_fault::FileFault;
 pub use overlay::{Overlay, overlaid};
 pub use page_copy::{copy_closed, copy_open, put_pages, recovered};
 pub use read_file::ReadFile;
-pub use read_only::{Sources, Unread, copy_of, look_at, open_begun, open_sources, read_at};
+pub use read_only::{
+    Sources, UnreadFile, check_database, copy_of, open_begun, open_sources, read_at,
+};
 pub use source::Source;

@@ -12,8 +12,8 @@ ghost use Rattle.reg_desk_files.specs.Reading.{IsFileFault, IsUnread};
 use crate::file_creation::write_copy;
 use crate::file_fault::{FileFault, create_fault_of, damaged, with_cause};
 use crate::overlay::overlaid;
-use crate::read_file::Holder;
-use crate::read_only::{Sources, Unread, is_begun, sources_at};
+use crate::read_file::OpenedBy;
+use crate::read_only::{Sources, UnreadFile, is_begun, sources_at};
 use crate::source::Source;
 use reg_core::Fault;
 use sqlite::Options;
@@ -26,20 +26,20 @@ use std::io::Write;
 /// Copies a database that no program has open to a path that has no file, and returns how many bytes the copy has. The copy, with mode 0600, gets
 /// that name once it is complete and synced. Errors: `Nothing` if there is no database yet; `Memory`; `Store` if the files can't be read, if there
 /// is a file at the other path or beside it, or if the copy can't be written. Then no copy is left.
-pub fn copy_closed(rt: &HostRuntime, path: &str, to: &str) -> Result<u64, Unread>
+pub fn copy_closed(rt: &HostRuntime, path: &str, to: &str) -> Result<u64, UnreadFile>
     ensures { IfErr result IsUnread }
 {
-    copy_locked(rt, path, Holder::Nobody, to)
+    copy_locked(rt, path, OpenedBy::Nobody, to)
 }
 
 /// As [`copy_closed`], for a database that this program has open, between two transactions; `Store` if it does not have it open.
-pub fn copy_open(rt: &HostRuntime, path: &str, to: &str) -> Result<u64, Unread>
+pub fn copy_open(rt: &HostRuntime, path: &str, to: &str) -> Result<u64, UnreadFile>
     ensures { IfErr result IsUnread }
 {
-    copy_locked(rt, path, Holder::Us, to)
+    copy_locked(rt, path, OpenedBy::Us, to)
 }
 
-fn copy_locked(rt: &HostRuntime, path: &str, holder: Holder, to: &str) -> Result<u64, Unread>
+fn copy_locked(rt: &HostRuntime, path: &str, holder: OpenedBy, to: &str) -> Result<u64, UnreadFile>
     ensures { IfErr result IsUnread }
 {
     copy_sources(rt, sources_at(rt, path, holder)?, to)
@@ -49,7 +49,7 @@ fn copy_sources<F: Source + Drop>(
     rt: &HostRuntime,
     sources: Sources<F>,
     to: &str,
-) -> Result<u64, Unread>
+) -> Result<u64, UnreadFile>
     ensures { IfErr result IsUnread }
 {
     let options = Options::new(sources.options.seed);
@@ -62,7 +62,7 @@ fn copy_files<D: Disk + Drop>(
     files: Files<D>,
     options: Options,
     to: &str,
-) -> Result<u64, Unread>
+) -> Result<u64, UnreadFile>
     requires log { IsTrue (D.Disk.is_usable files.log) }
     requires db { IsTrue (D.Disk.is_usable files.db) }
     ensures { IfErr result IsUnread }
@@ -77,7 +77,7 @@ pub fn recovered<D: Disk + Drop>(
     alloc: Global,
     mut files: Files<D>,
     options: Options,
-) -> Result<Pager<D>, Unread>
+) -> Result<Pager<D>, UnreadFile>
     requires log { IsTrue (D.Disk.is_usable files.log) }
     requires db { IsTrue (D.Disk.is_usable files.db) }
     ensures found { IfOk result (λ pager.
@@ -90,7 +90,7 @@ pub fn recovered<D: Disk + Drop>(
     recovered_by(alloc, files, size, options)
 }
 
-fn size_in<D: Disk>(files: &mut Files<D>) -> Result<PageSize, Unread>
+fn size_in<D: Disk>(files: &mut Files<D>) -> Result<PageSize, UnreadFile>
     requires log { IsTrue (D.Disk.is_usable files.old.log) }
     requires db { IsTrue (D.Disk.is_usable files.old.db) }
     ensures log { OnlyReads D.Disk files.old.log files.new.log }
@@ -99,8 +99,8 @@ fn size_in<D: Disk>(files: &mut Files<D>) -> Result<PageSize, Unread>
 {
     match probe_page_size(files) {
         Ok(Some(size)) => Ok(size),
-        Ok(None) => Err(Unread::Fault(damaged())),
-        Err(error) => Err(Unread::Fault(FileFault::from(error))),
+        Ok(None) => Err(UnreadFile::Fault(damaged())),
+        Err(error) => Err(UnreadFile::Fault(FileFault::from(error))),
     }
 }
 
@@ -109,7 +109,7 @@ fn recovered_by<D: Disk + Drop>(
     files: Files<D>,
     size: PageSize,
     options: Options,
-) -> Result<Pager<D>, Unread>
+) -> Result<Pager<D>, UnreadFile>
     requires log { IsTrue (D.Disk.is_usable files.log) }
     requires db { IsTrue (D.Disk.is_usable files.db) }
     ensures found { IfOk result (λ pager.
@@ -118,11 +118,11 @@ fn recovered_by<D: Disk + Drop>(
     ensures faults { IfErr result IsUnread }
 {
     let Ok(mut pager) = Pager::new(alloc, files, size, options) else {
-        return Err(Unread::Fault(with_cause(Fault::Memory, None)));
+        return Err(UnreadFile::Fault(with_cause(Fault::Memory, None)));
     };
     match pager.recover() {
         Ok(()) => Ok(pager),
-        Err(error) => Err(Unread::Fault(FileFault::from(error))),
+        Err(error) => Err(UnreadFile::Fault(FileFault::from(error))),
     }
 }
 

@@ -5,7 +5,7 @@ ghost use Rattle.std.specs.Fs.{asks_append, asks_create, asks_create_new, asks_t
 ghost use Rattle.reg_desk_files.specs.Reading.{IsFileFault};
 
 use crate::file_fault::{FileFault, with_cause};
-use crate::file_locks::{beside, lock, look_at_locked};
+use crate::file_locks::{check_locked, lock, with_suffix};
 use crate::source::Source;
 use os::RangeLock;
 use reg_core::Fault;
@@ -36,7 +36,7 @@ impl Source for ReadFile {
 
 /// Who has the database open whose files are read.
 #[derive(Clone, Copy)]
-pub(crate) enum Holder {
+pub(crate) enum OpenedBy {
     /// No program that writes: the file is locked until it was read.
     Nobody,
     /// This program, which does not write meanwhile.
@@ -55,7 +55,7 @@ pub(crate) struct LockedFiles {
 pub(crate) fn lock_files(
     rt: &HostRuntime,
     path: &str,
-    holder: Holder,
+    holder: OpenedBy,
 ) -> Result<LockedFiles, FileFault>
     ensures { IfErr result IsFileFault }
 {
@@ -64,10 +64,10 @@ pub(crate) fn lock_files(
         return Err(with_cause(Fault::Store, None));
     }
     let real = fs::canonicalize(rt, path)?;
-    let db = open_plain(rt, real.as_str())?;
+    let db = open_regular(rt, real.as_str())?;
     match holder {
-        Holder::Nobody => lock(&db.file, RangeLock::Shared)?,
-        Holder::Us => look_at_locked(&db.file)?,
+        OpenedBy::Nobody => lock(&db.file, RangeLock::Shared)?,
+        OpenedBy::Us => check_locked(&db.file)?,
     }
     let log = log_at(rt, real.as_str())?;
     Ok(LockedFiles { log, db })
@@ -76,12 +76,12 @@ pub(crate) fn lock_files(
 fn log_at(rt: &HostRuntime, path: &str) -> Result<Option<ReadFile>, FileFault>
     ensures { IfErr result IsFileFault }
 {
-    let journal = beside(rt, path, "-journal")?;
+    let journal = with_suffix(rt, path, "-journal")?;
     if has_hot_journal(rt, journal.as_str())? {
         return Err(with_cause(Fault::Store, None));
     }
-    let log = beside(rt, path, "-wal")?;
-    match open_plain(rt, log.as_str()) {
+    let log = with_suffix(rt, path, "-wal")?;
+    match open_regular(rt, log.as_str()) {
         Ok(log) => Ok(Some(log)),
         Err(error) if error.kind() == ErrorKind::NotFound => Ok(None),
         Err(error) => Err(FileFault::from(error)),
@@ -90,7 +90,7 @@ fn log_at(rt: &HostRuntime, path: &str) -> Result<Option<ReadFile>, FileFault>
 
 /// Whether there is a rollback journal at a path that SQLite has to play back: not one that is empty or begins with a zero.
 fn has_hot_journal(rt: &HostRuntime, path: &str) -> io::Result<bool> {
-    match open_plain(rt, path) {
+    match open_regular(rt, path) {
         Ok(journal) => begins_hot(&journal),
         Err(error) if error.kind() == ErrorKind::NotFound => Ok(false),
         Err(error) if error.kind() == ErrorKind::Unsupported => Ok(true),
@@ -108,7 +108,7 @@ fn begins_hot(journal: &ReadFile) -> io::Result<bool> {
 }
 
 /// Opens a regular file read-only. It must have only this name, since another log could be beside a second one, and be no symbolic link.
-fn open_plain(rt: &HostRuntime, path: &str) -> io::Result<ReadFile> {
+fn open_regular(rt: &HostRuntime, path: &str) -> io::Result<ReadFile> {
     // Not opened: a file like a pipe, where opening would wait for a writer.
     if !fs::symlink_metadata(rt, path)?.is_file() {
         return Err(ErrorKind::Unsupported.into());

@@ -10,10 +10,10 @@ ghost use Rattle.reg_desk_files.specs.Overlaid.{image};
 ghost use Rattle.reg_desk_files.specs.Reading.{IsFileFault, IsUnread};
 
 use crate::file::options_for;
-use crate::file_check::{Found, look};
+use crate::file_check::{FileContent, look};
 use crate::file_fault::{FileFault, damaged};
 use crate::overlay::{Overlay, overlaid};
-use crate::read_file::{Holder, LockedFiles, ReadFile, lock_files};
+use crate::read_file::{LockedFiles, OpenedBy, ReadFile, lock_files};
 use crate::source::Source;
 use reg_core::Fault;
 use sqlite::{Connection, FileStore, Options};
@@ -26,20 +26,20 @@ const ROOM: usize = 64;
 
 /// Why files can't be read.
 #[derive(Clone, Copy, PartialEq, Eq)]
-pub enum Unread {
+pub enum UnreadFile {
     /// There is no database yet: opening for writing would create one.
     Nothing,
     /// They can't be opened, because of this fault.
     Fault(FileFault),
 }
 
-impl From<FileFault> for Unread {
-    ghost use Rattle.reg_desk_files.specs.declared.read_only.Unread.TheVariants.{Fault as IsFault};
+impl From<FileFault> for UnreadFile {
+    ghost use Rattle.reg_desk_files.specs.declared.read_only.UnreadFile.TheVariants.{Fault as IsFault};
 
     ghost from_gives = { λ fault why. why ≡ IsFault fault };
 
-    fn from(fault: FileFault) -> Unread {
-        Unread::Fault(fault)
+    fn from(fault: FileFault) -> UnreadFile {
+        UnreadFile::Fault(fault)
     }
 }
 
@@ -61,14 +61,14 @@ pub struct Sources<F: Source> {
 pub fn read_at(rt: &HostRuntime, path: &str) -> Result<Sources<ReadFile>, FileFault>
     ensures { IfErr result IsFileFault }
 {
-    sources_at(rt, path, Holder::Nobody)
+    sources_at(rt, path, OpenedBy::Nobody)
 }
 
 /// As [`read_at`], for files that this program may have open.
 pub(crate) fn sources_at(
     rt: &HostRuntime,
     path: &str,
-    holder: Holder,
+    holder: OpenedBy,
 ) -> Result<Sources<ReadFile>, FileFault>
     ensures { IfErr result IsFileFault }
 {
@@ -89,13 +89,13 @@ pub(crate) fn sources_at(
 
 /// Checks that the files at a path, which are only read, have the beginning of a database. Errors: `Nothing` if there is no database yet; `Memory`;
 /// `Store` if the files can't be opened or hold something else, with the cause.
-pub fn look_at(rt: &HostRuntime, path: &str) -> Result<(), Unread>
+pub fn check_database(rt: &HostRuntime, path: &str) -> Result<(), UnreadFile>
     ensures { IfErr result IsUnread }
 {
     look_into(rt.alloc(), read_at(rt, path)?)
 }
 
-fn look_into<F: Source + Drop>(alloc: Global, sources: Sources<F>) -> Result<(), Unread>
+fn look_into<F: Source + Drop>(alloc: Global, sources: Sources<F>) -> Result<(), UnreadFile>
     ensures { IfErr result IsUnread }
 {
     let mut files = overlaid(alloc, sources.log, sources.db, sources.key);
@@ -107,7 +107,7 @@ fn look_into<F: Source + Drop>(alloc: Global, sources: Sources<F>) -> Result<(),
 pub fn open_sources<F: Source + Drop>(
     alloc: Global,
     sources: Sources<F>,
-) -> Result<Connection<FileStore<Overlay<F>>>, Unread>
+) -> Result<Connection<FileStore<Overlay<F>>>, UnreadFile>
     ensures opened { IfOk result (λ connection. HasCleanDisk (file_state connection) → IsOpened connection) }
     ensures found { IfOk result (λ connection. HasCleanDisk (file_state connection)
         → FindsIn (image sources.log.items (F.Source.bytes sources.db)) (file_state connection)) }
@@ -128,7 +128,7 @@ pub fn open_begun<D: Disk + Drop>(
     alloc: Global,
     mut files: Files<D>,
     options: Options,
-) -> Result<Connection<FileStore<D>>, Unread>
+) -> Result<Connection<FileStore<D>>, UnreadFile>
     requires log { IsTrue (D.Disk.is_usable files.log) }
     requires db { IsTrue (D.Disk.is_usable files.db) }
     ensures opened { IfOk result (λ connection. HasCleanDisk (file_state connection) → IsOpened connection) }
@@ -143,11 +143,11 @@ pub fn open_begun<D: Disk + Drop>(
     is_begun(alloc, &mut files)?;
     match Connection::open_files_with(alloc, files, options, false) {
         Ok(connection) => Ok(connection),
-        Err((error, _)) => Err(Unread::Fault(FileFault::from(error))),
+        Err((error, _)) => Err(UnreadFile::Fault(FileFault::from(error))),
     }
 }
 
-pub(crate) fn is_begun<D: Disk>(alloc: Global, files: &mut Files<D>) -> Result<(), Unread>
+pub(crate) fn is_begun<D: Disk>(alloc: Global, files: &mut Files<D>) -> Result<(), UnreadFile>
     requires log { IsTrue (D.Disk.is_usable files.old.log) }
     requires db { IsTrue (D.Disk.is_usable files.old.db) }
     ensures begun { OnOk result
@@ -157,9 +157,9 @@ pub(crate) fn is_begun<D: Disk>(alloc: Global, files: &mut Files<D>) -> Result<(
     ensures faults { IfErr result IsUnread }
 {
     match look(alloc, files)? {
-        Found::Begun => Ok(()),
-        Found::Nothing => Err(Unread::Nothing),
-        Found::Other => Err(Unread::Fault(damaged())),
+        FileContent::ReadyOrUnsigned => Ok(()),
+        FileContent::Nothing => Err(UnreadFile::Nothing),
+        FileContent::Other => Err(UnreadFile::Fault(damaged())),
     }
 }
 

@@ -16,27 +16,27 @@ use Rattle.reg_http.specs.AnswerEffects.{answer_effects}
 use Rattle.reg_http.specs.declared.answered.Answered.{Answered}
 use Rattle.reg_http.proofs.PublicLaws.{nothing_added}
 use Rattle.reg_ocsp.specs.Drafts.{Drafted}
-use Rattle.reg_io.specs.declared.begun.Begun.{Begun}
-use Rattle.reg_io.specs.declared.begun.Begun.TheVariants.{Ready, Unsigned}
+use Rattle.reg_io.specs.declared.begun.ReadyOrUnsigned.{ReadyOrUnsigned}
+use Rattle.reg_io.specs.declared.begun.ReadyOrUnsigned.TheVariants.{Ready, Unsigned}
 use Rattle.reg_desk_jobs.specs.Admission.{BeginsAdmitted, IsWithin, MeetsLimits, RefusesAtLimit}
 use Rattle.reg_desk_jobs.specs.declared.admission.Admission.{Admission}
 
 module _ {S : Type 0} (is_clean : S → Type 0) (stands : Signatory → S → Records → Type 0) (admission : Admission) (signs : Signs) (now : ℕ) (what : RoutedRequest) where
   -- what the register begins, and what it adds
-  abbrev pub Begins : Begun Answered Drafted → Signatory → Records → Records → Type 0
+  abbrev pub Begins : ReadyOrUnsigned Answered Drafted → Signatory → Records → Records → Type 0
   Begins begun signatory before after =
       BeginsTo (Runs signs signatory) Asks (Replies signs signatory) Crls (Drafts signatory) now before what begun after × AddsARequestAtMost now before after
 
-  abbrev pub Admits : Result (Begun Answered Drafted) Memory → Signatory → Records → Records → Type 0
+  abbrev pub Admits : Result (ReadyOrUnsigned Answered Drafted) Memory → Signatory → Records → Records → Type 0
   Admits result signatory before after = BeginsAdmitted admission signs now signatory before what result after
 
-  begun_within : (begun : Begun Answered Drafted) (signatory : Signatory) (before after : Records) → IsWithin admission before now (requested_serial what)
+  begun_within : (begun : ReadyOrUnsigned Answered Drafted) (signatory : Signatory) (before after : Records) → IsWithin admission before now (requested_serial what)
       → Begins begun signatory before after → Admits (Ok begun) signatory before after
   begun_within (Ready answered) signatory before after within (begins, adds) = (inl (within, begins), adds)
   begun_within (Unsigned draft) signatory before after within (begins, adds) = begins
 
   -- the register is asked after a look at the limits
-  pub admitted : (result : Result (Begun Answered Drafted) Memory) (s m t : S)
+  pub admitted : (result : Result (ReadyOrUnsigned Answered Drafted) Memory) (s m t : S)
       → Looks is_clean stands (λ records. IsWithin admission records now (requested_serial what)) s m
       → IfOk result (λ begun. Leads is_clean stands (Begins begun) m t) → OnErr result (t ≡ m) → Leads is_clean stands (Admits result) s t
   admitted (Ok begun) s m t look begins same =
@@ -59,7 +59,7 @@ module _ {S : Type 0} (is_clean : S → Type 0) (stands : Signatory → S → Re
       (let P : S → Type 0 = λ v. Looks is_clean stands (λ records. IsWithin admission records now (requested_serial what)) s v in subst P (sym same) look)
 
   -- no limit is looked at for any other request
-  pub unlimited : (result : Result (Begun Answered Drafted) Memory) (s t : S) → None ≡ requested_serial what
+  pub unlimited : (result : Result (ReadyOrUnsigned Answered Drafted) Memory) (s t : S) → None ≡ requested_serial what
       → IfOk result (λ begun. Leads is_clean stands (Begins begun) s t) → OnErr result (t ≡ s) → Leads is_clean stands (Admits result) s t
   unlimited result s t none begins same =
       admitted result s s t

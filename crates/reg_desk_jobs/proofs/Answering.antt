@@ -25,8 +25,8 @@ use Rattle.reg_desk_server.specs.Exchange.{Outcome, said, pending, later}
 use Rattle.reg_ocsp.specs.Drafts.{Drafted}
 use Rattle.reg_crl_signer.specs.Forms.{HasForm}
 use Rattle.reg_desk_metrics.specs.declared.tally.Tally.{Tally}
-use Rattle.reg_io.specs.declared.begun.Begun.{Begun}
-use Rattle.reg_io.specs.declared.begun.Begun.TheVariants.{Ready, Unsigned}
+use Rattle.reg_io.specs.declared.begun.ReadyOrUnsigned.{ReadyOrUnsigned}
+use Rattle.reg_io.specs.declared.begun.ReadyOrUnsigned.TheVariants.{Ready, Unsigned}
 use Rattle.reg_desk_jobs.specs.Beginning.{AnswersBegun, BeginsAt, MayLeave, ready_of}
 use Rattle.reg_desk_jobs.specs.Counted.{CountsBegun}
 use Rattle.reg_desk_jobs.specs.Admission.{BeginsAdmitted}
@@ -40,7 +40,7 @@ use Rattle.reg_desk_jobs.proofs.Finishing.{left_exchange}
 
 -- what is begun behind the limits of an open desk is begun there
 pub limited_begins : (admission : Admission) (is_open : Bool) (signs : Signs) (now : ℕ) (signatory : Signatory) (before : Records) (method target body : List ℕ)
-    (begun : Result (Begun Answered Drafted) Memory) (after : Records) → dispatch is_open (route_at (path_of target)) ≡ ToLimits
+    (begun : Result (ReadyOrUnsigned Answered Drafted) Memory) (after : Records) → dispatch is_open (route_at (path_of target)) ≡ ToLimits
     → BeginsAdmitted admission signs now signatory before (asks_for method target body) begun after
     → BeginsAt is_open signs now signatory before method target body begun after
 limited_begins admission is_open signs now signatory before method target body (Ok (Ready answered)) after to (says, adds) =
@@ -54,14 +54,14 @@ module _ {S : Type 0} (is_clean : S → Type 0) (stands : Signatory → S → Re
   -- The signer gave this, and what that is; the bytes that came.
   module _ (signer_answered : List ℕ → List ℕ → Type 0)
       (answer_in_form_signs : (identity : Identity) (message answer : List ℕ) → signer_answered message answer → HasForm identity answer → signs identity message answer)
-      (came : List ℕ) where
+      (line_outcome : List ℕ) where
     -- an exchange, or what is left of one
-    abbrev pub Answer : Begun Exchange UnsignedResponse → Signatory → Records → Records → Type 0
-    Answer begun signatory before after = AnswersBegun signer_answered is_open signs now signatory before came begun after
+    abbrev pub Answer : ReadyOrUnsigned Exchange UnsignedResponse → Signatory → Records → Records → Type 0
+    Answer begun signatory before after = AnswersBegun signer_answered is_open signs now signatory before line_outcome begun after
 
     -- a request that asks something
-    pub asked_answers : (method target body : List ℕ) (route : Route) (begun : Result (Begun Answered Drafted) Memory) (made : Begun Exchange UnsignedResponse)
-        → ∥ HoldsRequest came (asked method target body) ∥₁ → BeginsExchange now route begun made
+    pub asked_answers : (method target body : List ℕ) (route : Route) (begun : Result (ReadyOrUnsigned Answered Drafted) Memory) (made : ReadyOrUnsigned Exchange UnsignedResponse)
+        → ∥ HoldsRequest line_outcome (asked method target body) ∥₁ → BeginsExchange now route begun made
         → Leads is_clean stands (λ signatory before after. BeginsAt is_open signs now signatory before method target body begun after) s t
         → Leads is_clean stands (Answer made) s t
     asked_answers method target body route (Ok (Ready answered)) (Ready exchange) holds tells moved =
@@ -73,7 +73,7 @@ module _ {S : Type 0} (is_clean : S → Type 0) (stands : Signatory → S → Re
         follows is_clean stands _ _
         (λ signatory before after (to, (request, asks_it, drafted)).
         let P : Drafted → Type 0 = λ it. Drafts signatory before now request it after in (
-          (λ text finished. left_exchange signs signer_answered answer_in_form_signs now signatory before after is_open came method target body request text left.draft holds to asks_it
+          (λ text finished. left_exchange signs signer_answered answer_in_form_signs now signatory before after is_open line_outcome method target body request text left.draft holds to asks_it
               (subst P (sym tells.1) drafted) finished),
           nothing_added now before after drafted.1,
         ))
@@ -84,8 +84,8 @@ module _ {S : Type 0} (is_clean : S → Type 0) (stands : Signatory → S → Re
     asked_answers method target body route (Err memory) (Unsigned left) holds tells moved = absurd tells
 
     -- one that is refused before any route
-    pub refused_answers : (status : ℕ) (route : Route) (answered : Result Answered Memory) (made : Begun Exchange UnsignedResponse)
-        → ∥ HoldsRequest came (refused status) ∥₁ → IfOk answered (λ it. answer_effects it ≡ plain (http_refusal status)) → BeginsExchange now route (ready_of answered) made
+    pub refused_answers : (status : ℕ) (route : Route) (answered : Result Answered Memory) (made : ReadyOrUnsigned Exchange UnsignedResponse)
+        → ∥ HoldsRequest line_outcome (refused status) ∥₁ → IfOk answered (λ it. answer_effects it ≡ plain (http_refusal status)) → BeginsExchange now route (ready_of answered) made
         → t ≡ s → Leads is_clean stands (Answer made) s t
     refused_answers status route (Ok answered) (Ready exchange) holds is tells same =
         follows is_clean stands _ _
@@ -98,10 +98,10 @@ module _ {S : Type 0} (is_clean : S → Type 0) (stands : Signatory → S → Re
     refused_answers status route (Err memory) (Unsigned left) holds is tells same = absurd tells
 
     -- what was begun and counted meets what is wanted of its text
-    pub answers_meet : (clock : ℕ → Type 0) (begun : Begun Exchange UnsignedResponse) (outcome : Outcome UnsignedOf) (before_it behind : Tally)
-        → clock now → CountsBegun now came begun outcome before_it behind → Leads is_clean stands (Answer begun) s t
+    pub answers_meet : (clock : ℕ → Type 0) (begun : ReadyOrUnsigned Exchange UnsignedResponse) (outcome : Outcome UnsignedOf) (before_it behind : Tally)
+        → clock now → CountsBegun now line_outcome begun outcome before_it behind → Leads is_clean stands (Answer begun) s t
         → Leads is_clean stands
-        (λ signatory before after. Meets (FinishesUnsigned signer_answered) (λ text. AnswersBy is_open signs clock signatory before came text after) outcome) s t
+        (λ signatory before after. Meets (FinishesUnsigned signer_answered) (λ text. AnswersBy is_open signs clock signatory before line_outcome text after) outcome) s t
     answers_meet clock (Ready exchange) (said text) first last at is moved =
         follows is_clean stands _ _
         (λ signatory before after made. (now, at, record { exchange = exchange; is_exchange = made.0; text_is = is.0; adds = made.1 })) s t moved

@@ -6,7 +6,7 @@ use Rattle.reg_core.specs.Lines.{fault_line}
 use Rattle.reg_core.specs.declared.refusal.Fault.{Fault}
 use Rattle.reg_core_lists.specs.Texts.{object_text, row_text}
 use Rattle.reg_core_lists.specs.declared.rows.Row.{Row}
-use Rattle.reg_core_lists.specs.declared.texts.Form.TheVariants.{Json}
+use Rattle.reg_core_lists.specs.declared.texts.Format.TheVariants.{Json}
 use Rattle.reg_office_api.specs.Leads.{Leads}
 use Rattle.reg_office_api.specs.Signatories.{Signatory}
 use Rattle.reg_office_api.specs.CallSteps.{Signs}
@@ -17,7 +17,7 @@ use Rattle.reg_desk_cli.specs.declared.failure.Failure.TheVariants as failure
 use Rattle.reg_desk_jobs.specs.ControlReplies.{IsOf, IsReplyText, ReportsLineOutcome}
 use Rattle.reg_desk_jobs.specs.Copies.{AnswersCopy, copied_text}
 use Rattle.reg_desk_jobs.specs.Reasons.{kept_reason_text}
-use Rattle.reg_desk_jobs.specs.ControlWords.{LineAt, Saying, AnswersWord, WordAt, commands, copies, helps, said_in}
+use Rattle.reg_desk_jobs.specs.ControlWords.{LineAt, WordMeaning, AnswersWord, WordAt, commands, copies, helps, meaning_in}
 use Rattle.reg_desk_jobs.specs.RowLookUps.{help_text}
 use Rattle.reg_desk_jobs.specs.declared.control_reply.LineOutcome.{LineOutcome}
 use Rattle.reg_desk_jobs.specs.declared.control_reply.LineOutcome.TheVariants.{Done, Failed}
@@ -25,18 +25,18 @@ use Rattle.reg_desk_jobs.specs.declared.control_reply.LineOutcome.TheVariants.{D
 -- ---- replies
 
 -- what is told of a word that came to this
-pub came_told : (bytes : List ℕ) (came : LineOutcome) (text : List ℕ) (told : LineOutcome) → IsOf bytes came text told → ReportsLineOutcome came bytes → ReportsLineOutcome told text
-came_told bytes came text told (inl (is, same)) shown = subst (λ c. ReportsLineOutcome c text) (sym same) (subst (ReportsLineOutcome came) (sym is) shown)
-came_told bytes came text told (inr (none, silent)) shown = subst (λ c. ReportsLineOutcome c text) (sym silent) none
+pub came_told : (bytes : List ℕ) (line_outcome : LineOutcome) (text : List ℕ) (told : LineOutcome) → IsOf bytes line_outcome text told → ReportsLineOutcome line_outcome bytes → ReportsLineOutcome told text
+came_told bytes line_outcome text told (inl (is, same)) shown = subst (λ c. ReportsLineOutcome c text) (sym same) (subst (ReportsLineOutcome line_outcome) (sym is) shown)
+came_told bytes line_outcome text told (inr (none, silent)) shown = subst (λ c. ReportsLineOutcome c text) (sym silent) none
 
 pub fault_came : (why : Fault) (text : List ℕ) (told : LineOutcome) → IsOf (fault_line why ++ 10 ∷ []) (Failed (failure.Fault why)) text told → ReportsLineOutcome told text
 unfolding failure_line
 fault_came why text told is = came_told (fault_line why ++ 10 ∷ []) (Failed (failure.Fault why)) text told is refl
 
 -- the bytes are told, or nothing
-pub said_of : (bytes : List ℕ) (came : LineOutcome) (text : List ℕ) (told : LineOutcome) → IsOf bytes came text told → IsReplyText bytes text
-said_of bytes came text told (inl (is, same)) = inl is
-said_of bytes came text told (inr (none, silent)) = inr none
+pub meaning_in_fields : (bytes : List ℕ) (line_outcome : LineOutcome) (text : List ℕ) (told : LineOutcome) → IsOf bytes line_outcome text told → IsReplyText bytes text
+meaning_in_fields bytes line_outcome text told (inl (is, same)) = inl is
+meaning_in_fields bytes line_outcome text told (inr (none, silent)) = inr none
 
 -- a text that begins with a later letter than b is accepted
 later_accepted : (text : List ℕ) → 98 < get_or text 0 0 → ReportsLineOutcome Done text
@@ -65,7 +65,7 @@ row_accepted row = later_accepted (row_text Json row) (lit< tt)
 
 -- a line that says a word, which is told
 pub told_word : {S : Type 0} (is_clean : S → Type 0) (stands : Signatory → S → Records → Type 0) (accepted : Option ℕ) (signs : Signs) (now : ℕ) (s t : S)
-    (line text : List ℕ) (word : Saying) → said_in line ≡ word
+    (line text : List ℕ) (word : WordMeaning) → meaning_in line ≡ word
     → Leads is_clean stands (λ identity before after. AnswersWord accepted signs now identity before line word text after) s t
     → Leads is_clean stands (λ identity before after. WordAt accepted signs now identity before line text after) s t
 told_word is_clean stands accepted signs now s t line text word is told =
@@ -79,7 +79,7 @@ told_word is_clean stands accepted signs now s t line text word is told =
 
 -- a command line, without its end
 pub entered : {S : Type 0} (is_clean : S → Type 0) (stands : Signatory → S → Records → Type 0) (accepted : Option ℕ) (signs : Signs) (now : ℕ) (s t : S)
-    (line text command : List ℕ) → said_in line ≡ commands → command ≡ line_of line → IsShortCommand line
+    (line text command : List ℕ) → meaning_in line ≡ commands → command ≡ line_of line → IsShortCommand line
     → Leads is_clean stands (λ identity before after. LineAt accepted signs now identity before command text after) s t
     → Leads is_clean stands (λ identity before after. WordAt accepted signs now identity before line text after) s t
 entered is_clean stands accepted signs now s t line text command is same short ran =
@@ -94,7 +94,7 @@ entered is_clean stands accepted signs now s t line text command is same short r
 
 -- a line that asks for a copy
 pub copied : {S : Type 0} (is_clean : S → Type 0) (stands : Signatory → S → Records → Type 0) (accepted : Option ℕ) (signs : Signs) (now : ℕ) (s t : S) (line text : List ℕ)
-    → said_in line ≡ copies → t ≡ s → AnswersCopy (λ bytes. Unit {0}) text
+    → meaning_in line ≡ copies → t ≡ s → AnswersCopy (λ bytes. Unit {0}) text
     → Leads is_clean stands (λ identity before after. WordAt accepted signs now identity before line text after) s t
 copied is_clean stands accepted signs now s t line text is same told =
     told_word is_clean stands accepted signs now s t line text copies is
@@ -108,7 +108,7 @@ copied is_clean stands accepted signs now s t line text is same told =
 
 -- a line that asks for the words
 pub helped : {S : Type 0} (is_clean : S → Type 0) (stands : Signatory → S → Records → Type 0) (accepted : Option ℕ) (signs : Signs) (now : ℕ) (s t : S) (line text : List ℕ)
-    → said_in line ≡ helps → t ≡ s → IsReplyText (help_text ++ 10 ∷ []) text
+    → meaning_in line ≡ helps → t ≡ s → IsReplyText (help_text ++ 10 ∷ []) text
     → Leads is_clean stands (λ identity before after. WordAt accepted signs now identity before line text after) s t
 helped is_clean stands accepted signs now s t line text is same told =
     told_word is_clean stands accepted signs now s t line text helps is

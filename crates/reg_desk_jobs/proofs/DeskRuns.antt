@@ -31,15 +31,15 @@ module _ {S : Type 0} (is_clean : S → Type 0) (stands : Signatory → S → Re
     (signs : Signs) (signer_answered : List ℕ → List ℕ → List ℕ → Type 0) (socket : Option (List ℕ)) (told : ℕ → Type 0) where
   -- what it answers, tells and looks at
   abbrev AnswersOf : S → List ℕ → Outcome Unsigned → S → Type 0
-  AnswersOf s came outcome t = (is_open t ≡ is_open s) × Leads is_clean stands
-      (λ signatory before after. Meets (FinishesUnsigned (AnsweredAtSomePath signer_answered)) (λ text. AnswersBy (is_open s) signs told signatory before came text after) outcome) s t
+  AnswersOf s line_outcome outcome t = (is_open t ≡ is_open s) × Leads is_clean stands
+      (λ signatory before after. Meets (FinishesUnsigned (AnsweredAtSomePath signer_answered)) (λ text. AnswersBy (is_open s) signs told signatory before line_outcome text after) outcome) s t
 
   abbrev TellsOf : S → List ℕ → List ℕ → S → Type 0
-  TellsOf s came text t = IsTrue (is_open s) × IsTrue (is_open t)
-      × Leads is_clean stands (λ signatory before after. Word signs told signatory before came text after) s t
+  TellsOf s line_outcome text t = IsTrue (is_open s) × IsTrue (is_open t)
+      × Leads is_clean stands (λ signatory before after. Word signs told signatory before line_outcome text after) s t
 
   abbrev DefersOf : S → List ℕ → S → Type 0
-  DefersOf s came t = (is_open t ≡ is_open s) × Leads is_clean stands (λ signatory before after. after ≡ before) s t
+  DefersOf s line_outcome t = (is_open t ≡ is_open s) × Leads is_clean stands (λ signatory before after. after ≡ before) s t
 
   -- the same over the records of one that is open, or is not
   abbrev Handled : Bool → Signatory → Records → Input → Outcome Unsigned → Records → Type 0
@@ -50,20 +50,20 @@ module _ {S : Type 0} (is_clean : S → Type 0) (stands : Signatory → S → Re
 
   step_moves : (now_open : Bool) (s : S) (input : Input) (outcome : Outcome Unsigned) (t : S) → is_open s ≡ now_open
       → Handles AnswersOf TellsOf DefersOf s input outcome t → Moves now_open s input outcome t × (is_open t ≡ now_open)
-  step_moves now_open s (request came) outcome t is step =
+  step_moves now_open s (request line_outcome) outcome t is step =
       let P : Bool → Type 0 = λ b. Leads is_clean stands
-      (λ signatory before after. Meets (FinishesUnsigned (AnsweredAtSomePath signer_answered)) (λ text. AnswersBy b signs told signatory before came text after) outcome) s t in (
-        told_moves is_clean stands s t signer_answered socket (λ signatory before after text. AnswersBy now_open signs told signatory before came text after) outcome
+      (λ signatory before after. Meets (FinishesUnsigned (AnsweredAtSomePath signer_answered)) (λ text. AnswersBy b signs told signatory before line_outcome text after) outcome) s t in (
+        told_moves is_clean stands s t signer_answered socket (λ signatory before after text. AnswersBy now_open signs told signatory before line_outcome text after) outcome
             (subst P is step.1),
         step.0 ∙ is,
       )
-  step_moves now_open s (line came) (said text) t is step = (
-    follows is_clean stands (λ signatory before after. Word signs told signatory before came text after)
-        (λ signatory before after. OpenWord now_open signs told signatory before came text after) (λ signatory before after word. (sym is ∙ step.0, word)) s t step.2,
+  step_moves now_open s (line line_outcome) (said text) t is step = (
+    follows is_clean stands (λ signatory before after. Word signs told signatory before line_outcome text after)
+        (λ signatory before after. OpenWord now_open signs told signatory before line_outcome text after) (λ signatory before after word. (sym is ∙ step.0, word)) s t step.2,
     step.1 ∙ sym step.0 ∙ is,
   )
-  step_moves now_open s (line came) (pending ticket) t is step = absurd step
-  step_moves now_open s (line came) later t is step = (step.1, step.0 ∙ is)
+  step_moves now_open s (line line_outcome) (pending ticket) t is step = absurd step
+  step_moves now_open s (line line_outcome) later t is step = (step.1, step.0 ∙ is)
 
   pub desk_moves : (now_open : Bool) (s t : S) (inputs : List Input) (outcomes : List (Outcome Unsigned)) → is_open s ≡ now_open
       → Answered (Handles AnswersOf TellsOf DefersOf) s inputs outcomes t

@@ -99,11 +99,11 @@ module _ (signs : Signs) (signer_answered : List ℕ → List ℕ → Type 0)
     says_left ToMetrics method target body request it to asks_it answers = absurd to
 
     -- the exchange of the register
-    pub left_exchange : (is_open : Bool) (came method target body request text : List ℕ) (draft : Drafted)
-        → ∥ HoldsRequest came (asked method target body) ∥₁ → MayLeave (dispatch is_open (route_at (path_of target)))
+    pub left_exchange : (is_open : Bool) (line_outcome method target body request text : List ℕ) (draft : Drafted)
+        → ∥ HoldsRequest line_outcome (asked method target body) ∥₁ → MayLeave (dispatch is_open (route_at (path_of target)))
         → asks_for method target body ≡ ocsp_of request → Drafts signatory before now request draft after
-        → FinishesAt signer_answered draft now text → AnswersAt is_open signs now signatory before came text after
-    left_exchange is_open came method target body request text draft holds to asks_it drafted it =
+        → FinishesAt signer_answered draft now text → AnswersAt is_open signs now signatory before line_outcome text after
+    left_exchange is_open line_outcome method target body request text draft holds to asks_it drafted it =
         let given = kinded it.signature it.finished.given in
         let replies = replies_of request draft it.signature it.finished.given drafted it.signed it.finished.made in
         let P : RoutedRequest → Type 0 = λ what. Answers (Runs signs signatory) Asks (Replies signs signatory) Crls now before what (ocsp_effects given) after in

@@ -11,7 +11,7 @@ use Rattle.reg_core.specs.declared.rows.CertRow.{CertRow}
 use Rattle.reg_core.specs.declared.rows.OrderRow.{OrderRow}
 use Rattle.reg_core.specs.declared.rows.RequestRow.{RequestRow}
 use Rattle.reg_core.specs.declared.rows.SubscriberRow.{SubscriberRow}
-use Rattle.reg_core_lists.specs.Lists.{certificate_line, certificate_row, history_row, in_order, key_of, page, past, put_in, request_line, rows_from, subscriber_of_order, subscriber_row}
+use Rattle.reg_core_lists.specs.Lists.{certificate_line, certificate_row, history_row, in_order, key_of, page, past, insert_by_key, request_line, rows_from, subscriber_of_order, subscriber_row}
 use Rattle.reg_core_lists.specs.declared.cursor.Cursor.TheVariants as cursor
 use Rattle.reg_core_lists.specs.declared.rows.CertificateLine.{CertificateLine}
 use Rattle.reg_core_lists.specs.declared.rows.RequestHistory.{RequestHistory}
@@ -46,7 +46,7 @@ module _ {A : Type 0} (key : A → ℕ) (k : ℕ) where
       later : k < key x → find has xs ≡ None
       later less = none_above (key x) xs rises.0 (omega arith)
 
-  put_found : (x : A) (xs : List A) → AllByRecursion (λ a. key x ≢ key a) xs → find has (put_in key x xs) ≡ cond (has x) (Some x) (find has xs)
+  put_found : (x : A) (xs : List A) → AllByRecursion (λ a. key x ≢ key a) xs → find has (insert_by_key key x xs) ≡ cond (has x) (Some x) (find has xs)
   put_found x [] apart = refl
   put_found x (y ∷ xs) apart = grind (arith, nat_tests, apart.0, put_found x xs apart.1)
 

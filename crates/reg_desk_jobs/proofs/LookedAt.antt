@@ -9,8 +9,8 @@ use Rattle.reg_office_api.specs.Signatories.{Signatory}
 use Rattle.reg_office_api.specs.CallSteps.{Signs}
 use Rattle.reg_office_api.specs.Responses.{Replies}
 use Rattle.reg_office_api.specs.declared.response.OcspResponse.{OcspResponse}
-use Rattle.reg_io.specs.declared.begun.Begun.{Begun}
-use Rattle.reg_io.specs.declared.begun.Begun.TheVariants.{Ready, Unsigned}
+use Rattle.reg_io.specs.declared.begun.ReadyOrUnsigned.{ReadyOrUnsigned}
+use Rattle.reg_io.specs.declared.begun.ReadyOrUnsigned.TheVariants.{Ready, Unsigned}
 use Rattle.reg_ocsp.specs.Drafts.{Drafted}
 
 module _ {S I R : Type 0} (is_clean : S → Type 0) (stands : I → S → R → Type 0) where
@@ -40,7 +40,7 @@ module _ {S I R : Type 0} (is_clean : S → Type 0) (stands : I → S → R → 
   )
 
 -- what begins an OCSP answer changes no record
-pub begun_still : (signs : Signs) (signatory : Signatory) (before : Records) (now : ℕ) (request : List ℕ) (result : Result (Begun OcspResponse Drafted) NoMemory)
+pub begun_still : (signs : Signs) (signatory : Signatory) (before : Records) (now : ℕ) (request : List ℕ) (result : Result (ReadyOrUnsigned OcspResponse Drafted) NoMemory)
     (after : Records) → Begins (Replies signs signatory) (Drafts signatory) before now request result after → after ≡ before
 begun_still signs signatory before now request (Ok (Ready response)) after begun = begun.1
 begun_still signs signatory before now request (Ok (Unsigned draft)) after begun = begun.1

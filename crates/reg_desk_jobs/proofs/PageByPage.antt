@@ -15,7 +15,7 @@ use Rattle.reg_core_lists.specs.declared.cursor.Cursor.{Cursor}
 use Rattle.reg_core_lists.specs.declared.filter.Filter.{Filter}
 use Rattle.reg_core_lists.specs.declared.rows.Page.{Page}
 use Rattle.reg_core_lists.specs.declared.rows.Row.{Row}
-use Rattle.reg_core_lists.specs.declared.texts.Form.{Form}
+use Rattle.reg_core_lists.specs.declared.texts.Format.{Format}
 use Rattle.reg_core_lists.proofs.PublicLaws.{page_step, rest_of}
 
 -- so much of a list was given: the rows of its pages so far, and where the next one goes on
@@ -24,7 +24,7 @@ IsGoing now from done next identity before after =
     (after ≡ before) × (rows_from before now from ≡ done ++ rest_of before now next) × (next ≡ None → first_of_all (clock_checks now before.last) ≡ None)
 
 -- those of them that are wanted, as a text
-abbrev pub IsText : Form → Filter → Cursor → List Row → List ℕ → Type 0
+abbrev pub IsText : Format → Filter → Cursor → List Row → List ℕ → Type 0
 IsText form wanted from done text = text ≡ opening_text form from ++ flat_map (row_text form) (filter (keeps wanted) done)
 
 flat_append : {A B : Type 0} (f : A → List B) (xs ys : List A) → flat_map f (xs ++ ys) ≡ flat_map f xs ++ flat_map f ys
@@ -32,7 +32,7 @@ flat_append f [] ys = refl
 flat_append f (x ∷ xs) ys = ap (λ l. f x ++ l) (flat_append f xs ys) ∙ sym (append_assoc (f x) (flat_map f xs) (flat_map f ys))
 
 -- the text with the rows of one page more
-pub text_more : (form : Form) (wanted : Filter) (from : Cursor) (done rows : List Row) (text more : List ℕ) → IsText form wanted from done text
+pub text_more : (form : Format) (wanted : Filter) (from : Cursor) (done rows : List Row) (text more : List ℕ) → IsText form wanted from done text
     → more ≡ text ++ flat_map (row_text form) (filter (keeps wanted) rows) → IsText form wanted from (done ++ rows) more
 text_more form wanted from done rows text more is longer =
     let kept = filter (keeps wanted) in
@@ -41,7 +41,7 @@ text_more form wanted from done rows text more is longer =
     ∙ ap (λ l. opening_text form from ++ l) (sym (flat_append (row_text form) (kept done) (kept rows)))
     ∙ ap (λ l. opening_text form from ++ flat_map (row_text form) l) (sym (filter-append (keeps wanted) done rows))
 
-pub text_begun : (form : Form) (wanted : Filter) (from : Cursor) (text : List ℕ) → text ≡ opening_text form from → IsText form wanted from [] text
+pub text_begun : (form : Format) (wanted : Filter) (from : Cursor) (text : List ℕ) → text ≡ opening_text form from → IsText form wanted from [] text
 text_begun form wanted from text is = is ∙ sym (append-nil (opening_text form from))
 
 -- What stands in a register before and after.

@@ -18,8 +18,8 @@ use Rattle.reg_http.specs.AnswerEffects.{AnswerEffects, fault_effects, plain, an
 use Rattle.reg_http.specs.declared.answered.Answered.{Answered}
 use Rattle.reg_desk_metrics.specs.Ahead.{is_ahead}
 use Rattle.reg_ocsp.specs.Drafts.{Drafted}
-use Rattle.reg_io.specs.declared.begun.Begun.{Begun}
-use Rattle.reg_io.specs.declared.begun.Begun.TheVariants.{Ready, Unsigned}
+use Rattle.reg_io.specs.declared.begun.ReadyOrUnsigned.{ReadyOrUnsigned}
+use Rattle.reg_io.specs.declared.begun.ReadyOrUnsigned.TheVariants.{Ready, Unsigned}
 use Rattle.reg_desk_jobs.specs.declared.admission.Admission.{Admission}
 use Rattle.reg_desk_jobs.specs.declared.admission.RecentRequests.{RecentRequests}
 
@@ -103,7 +103,7 @@ AnswersAdmitted admission signs now signatory before what it after =
 
 -- the same when the answer is begun, and may be left to be signed
 abbrev pub BeginsAdmitted
-    : Admission → Signs → ℕ → Signatory → Records → RoutedRequest → Result (Begun Answered Drafted) Memory
+    : Admission → Signs → ℕ → Signatory → Records → RoutedRequest → Result (ReadyOrUnsigned Answered Drafted) Memory
     → Records → Type 0
 BeginsAdmitted admission signs now signatory before what (Ok (Ready answered)) after =
     AnswersAdmitted admission signs now signatory before what (answer_effects answered) after

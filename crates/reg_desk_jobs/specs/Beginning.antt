@@ -14,15 +14,15 @@ use Rattle.reg_http.specs.declared.answered.Answered.{Answered}
 use Rattle.reg_http.specs.declared.exchange.Exchange.{Exchange}
 use Rattle.reg_http.specs.declared.exchange.UnsignedResponse.{UnsignedResponse}
 use Rattle.reg_ocsp.specs.Drafts.{Drafted}
-use Rattle.reg_io.specs.declared.begun.Begun.{Begun}
-use Rattle.reg_io.specs.declared.begun.Begun.TheVariants.{Ready, Unsigned}
+use Rattle.reg_io.specs.declared.begun.ReadyOrUnsigned.{ReadyOrUnsigned}
+use Rattle.reg_io.specs.declared.begun.ReadyOrUnsigned.TheVariants.{Ready, Unsigned}
 use Rattle.reg_desk_jobs.specs.Exchanges.{AnswersAt, IsExchange, IsRouteOf, Says, dispatch}
 use Rattle.reg_desk_jobs.specs.FinishedResponses.{FinishesAt}
 use Rattle.reg_desk_jobs.specs.declared.http_exchanges.Dispatch.{Dispatch}
 use Rattle.reg_desk_jobs.specs.declared.http_exchanges.Dispatch.TheVariants.{ToRegister, ToLimits}
 
 -- an answer that is ready, or out of memory
-abbrev pub ready_of : Result Answered Memory → Result (Begun Answered Drafted) Memory
+abbrev pub ready_of : Result Answered Memory → Result (ReadyOrUnsigned Answered Drafted) Memory
 ready_of (Ok answered) = Ok (Ready answered)
 ready_of (Err memory) = Err memory
 
@@ -35,7 +35,7 @@ MayLeave other = ⊥
 -- the outcome of a request that was read: an answer; or, only by the register, a response to be signed; or out of memory
 abbrev pub BeginsAt
     : Bool → Signs → ℕ → Signatory → Records → List ℕ → List ℕ → List ℕ
-    → Result (Begun Answered Drafted) Memory → Records → Type 0
+    → Result (ReadyOrUnsigned Answered Drafted) Memory → Records → Type 0
 BeginsAt is_open signs now signatory before method target body (Ok (Ready answered)) after =
     Says signs now signatory before (answer_effects answered) after is_open (asked method target body)
     × AddsARequestAtMost now before after
@@ -49,7 +49,7 @@ BeginsAt is_open signs now signatory before method target body (Err memory) afte
 -- exchange. The records gain at most one request for revocation.
 abbrev pub AnswersBegun
     : (List ℕ → List ℕ → Type 0) → Bool → Signs → ℕ → Signatory → Records → List ℕ
-    → Begun Exchange UnsignedResponse → Records → Type 0
+    → ReadyOrUnsigned Exchange UnsignedResponse → Records → Type 0
 AnswersBegun signer_answered is_open signs now signatory before request (Ready exchange) after =
     IsExchange is_open signs now signatory before request exchange after × AddsARequestAtMost now before after
 AnswersBegun signer_answered is_open signs now signatory before request (Unsigned left) after =
@@ -57,6 +57,6 @@ AnswersBegun signer_answered is_open signs now signatory before request (Unsigne
     → AnswersAt is_open signs now signatory before request text after) × AddsARequestAtMost now before after
 
 -- the route under which the exchange is counted
-abbrev pub IsBegunRoute : List ℕ → Begun Exchange UnsignedResponse → Type 0
+abbrev pub IsBegunRoute : List ℕ → ReadyOrUnsigned Exchange UnsignedResponse → Type 0
 IsBegunRoute request (Ready exchange) = IsRouteOf request exchange.route
 IsBegunRoute request (Unsigned left) = IsRouteOf request left.route

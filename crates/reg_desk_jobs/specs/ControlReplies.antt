@@ -4,8 +4,8 @@ use Rattle.hex.specs.Hex.{encode_lower}
 use Rattle.reg_office_api.specs.declared.effects.LineEffects.{LineEffects}
 use Rattle.reg_office_api.specs.declared.effects.LineReply.{LineReply}
 use Rattle.reg_office_api.specs.declared.effects.LineReply.TheVariants as kind
-use Rattle.reg_office_api.specs.declared.effects.SignatureFate.{SignatureFate}
-use Rattle.reg_office_api.specs.declared.effects.SignatureFate.TheVariants as fate
+use Rattle.reg_office_api.specs.declared.effects.SignatureOutcome.{SignatureOutcome}
+use Rattle.reg_office_api.specs.declared.effects.SignatureOutcome.TheVariants as fate
 use Rattle.reg_office_api.specs.declared.effects.StoreEffect.{StoreEffect}
 use Rattle.reg_office_api.specs.declared.effects.StoreEffect.TheVariants as effect
 use Rattle.reg_core.specs.Lines.{fault_line}
@@ -21,7 +21,7 @@ use Rattle.reg_lines.specs.declared.answered.Answered.TheVariants as answered
 use Rattle.reg_lines.specs.declared.answered.LineKind.TheVariants.{Command, Ocsp}
 use Rattle.reg_desk_jobs.specs.declared.control_reply.ControlReply.{ControlReply}
 use Rattle.reg_desk_jobs.specs.declared.control_reply.LineOutcome.{LineOutcome}
-use Rattle.reg_desk_jobs.specs.declared.control_reply.LineOutcome.TheVariants.{CameTo, Response, Done, Failed, Silent, Uncopied}
+use Rattle.reg_desk_jobs.specs.declared.control_reply.LineOutcome.TheVariants.{Completed, Response, Done, Failed, Silent, CopyFault}
 
 -- the reply is these bytes, or empty if there was no memory for them
 abbrev pub IsReplyText : List ℕ → List ℕ → Type 0
@@ -33,27 +33,27 @@ ReportsFault why text = IsReplyText (fault_line why ++ 10 ∷ []) text
 
 -- the result of a command line
 abbrev pub line_outcome_of : Answered → LineOutcome
-line_outcome_of (answered.CameTo what outcome) = CameTo what outcome
+line_outcome_of (answered.Completed what outcome) = Completed what outcome
 line_outcome_of (answered.Response reply) = Response reply.is_refusal
 
 -- the reply shows the result of a line; an OCSP response that has only a status has five bytes (RFC 6960 4.2.1)
 abbrev pub ReportsLineOutcome : LineOutcome → List ℕ → Type 0
-ReportsLineOutcome (CameTo what outcome) text = text ≡ with_lf (outcome_line outcome)
+ReportsLineOutcome (Completed what outcome) text = text ≡ with_lf (outcome_line outcome)
 ReportsLineOutcome (Response refuses) text =
     (response : List ℕ) × (text ≡ with_lf (codes "ocsp " ++ encode_lower response))
     × (refuses ≡ (length response == 5))
 ReportsLineOutcome Done text = IsAccepted text × (0 < length text)
 ReportsLineOutcome (Failed why) text = text ≡ failure_line why ++ 10 ∷ []
-ReportsLineOutcome (Uncopied why) text = text ≡ fault_line why ++ 10 ∷ []
+ReportsLineOutcome (CopyFault why) text = text ≡ fault_line why ++ 10 ∷ []
 ReportsLineOutcome Silent text = text ≡ []
 
--- the reply is these bytes, with the result `came`; or there was no memory for it
+-- the reply is these bytes, with the result `line_outcome`; or there was no memory for it
 abbrev pub IsOf : List ℕ → LineOutcome → List ℕ → LineOutcome → Type 0
-IsOf bytes came text told = ((text ≡ bytes) × (told ≡ came)) ⊎ ((text ≡ []) × (told ≡ Silent))
+IsOf bytes line_outcome text told = ((text ≡ bytes) × (told ≡ line_outcome)) ⊎ ((text ≡ []) × (told ≡ Silent))
 
 -- the same of a reply with this line
 abbrev pub IsLineReply : List ℕ → LineOutcome → ControlReply → Type 0
-IsLineReply line came reply = IsOf (line ++ 10 ∷ []) came reply.text.items reply.came
+IsLineReply line line_outcome reply = IsOf (line ++ 10 ∷ []) line_outcome reply.text.items reply.line_outcome
 
 -- ---- what is counted
 
@@ -64,43 +64,43 @@ kind_of_fault other = kind.Fault
 
 -- the kind of reply to a line
 abbrev pub kind_of : LineOutcome → LineReply
-kind_of (CameTo what (Ok reply)) = kind.Accepted
-kind_of (CameTo what (Err why)) = kind_of_fault why
+kind_of (Completed what (Ok reply)) = kind.Accepted
+kind_of (Completed what (Err why)) = kind_of_fault why
 kind_of (Failed (failure.Fault why)) = kind_of_fault why
 kind_of (Failed other) = kind.Refused
-kind_of (Uncopied why) = kind_of_fault why
+kind_of (CopyFault why) = kind_of_fault why
 kind_of Silent = kind.Fault
 kind_of other = kind.Accepted
 
 -- without a signature, it failed or was not requested
-abbrev pub failed_if : Bool → SignatureFate
-failed_if is_unsigned = cond is_unsigned fate.Failed fate.NotAsked
+abbrev pub failed_if : Bool → SignatureOutcome
+failed_if is_unsigned = cond is_unsigned fate.Failed fate.NotRequested
 
 -- the signature of a CRL, by whether a signature failed during the line
-abbrev pub crl_fate : Bool → LineOutcome → SignatureFate
-crl_fate is_unsigned (CameTo (Command Crl) (Ok reply)) = fate.Made
-crl_fate is_unsigned (CameTo (Command Crl) (Err why)) = failed_if is_unsigned
-crl_fate is_unsigned other = fate.NotAsked
+abbrev pub crl_fate : Bool → LineOutcome → SignatureOutcome
+crl_fate is_unsigned (Completed (Command Crl) (Ok reply)) = fate.Made
+crl_fate is_unsigned (Completed (Command Crl) (Err why)) = failed_if is_unsigned
+crl_fate is_unsigned other = fate.NotRequested
 
 -- the signature of an OCSP response
-abbrev pub ocsp_fate : Bool → LineOutcome → SignatureFate
-ocsp_fate is_unsigned (CameTo Ocsp outcome) = failed_if is_unsigned
+abbrev pub ocsp_fate : Bool → LineOutcome → SignatureOutcome
+ocsp_fate is_unsigned (Completed Ocsp outcome) = failed_if is_unsigned
 ocsp_fate is_unsigned (Response true) = failed_if is_unsigned
 ocsp_fate is_unsigned (Response false) = cond is_unsigned fate.Failed fate.Made
-ocsp_fate is_unsigned other = fate.NotAsked
+ocsp_fate is_unsigned other = fate.NotRequested
 
 -- what the line shows about the store: an accepted command was written
 abbrev pub store_effect : LineOutcome → StoreEffect
-store_effect (CameTo (Command command) (Ok reply)) = effect.Written
-store_effect (CameTo what (Err fault.Store)) = effect.Failed
+store_effect (Completed (Command command) (Ok reply)) = effect.Written
+store_effect (Completed what (Err fault.Store)) = effect.Failed
 store_effect (Failed (failure.Fault fault.Store)) = effect.Failed
 store_effect other = effect.Unwritten
 
 -- what is counted for a line, by whether a signature failed during it
 abbrev pub effects_of : Bool → LineOutcome → LineEffects
-effects_of is_unsigned came = record {
-  reply = kind_of came;
-  crl = crl_fate is_unsigned came;
-  ocsp = ocsp_fate is_unsigned came;
-  store = store_effect came;
+effects_of is_unsigned line_outcome = record {
+  reply = kind_of line_outcome;
+  crl = crl_fate is_unsigned line_outcome;
+  ocsp = ocsp_fate is_unsigned line_outcome;
+  store = store_effect line_outcome;
 }

@@ -24,7 +24,7 @@ use Rattle.reg_desk_metrics.specs.Ahead.{is_ahead}
 use Rattle.reg_desk_jobs.specs.ControlReplies.{IsReplyText, ReportsFault}
 use Rattle.reg_desk_jobs.specs.Copies.{AnswersCopy, is_copy_line}
 use Rattle.reg_desk_jobs.specs.Schedules.{SetAt}
-use Rattle.reg_desk_jobs.specs.SerialDecisions.{SettlesAt}
+use Rattle.reg_desk_jobs.specs.SerialDecisions.{DecidesAt}
 use Rattle.reg_desk_jobs.specs.RowLookUps.{AnswersShown, help_text}
 use Rattle.reg_desk_jobs.specs.declared.control_reply.ControlReply.{ControlReply}
 use Rattle.reg_desk_jobs.specs.declared.words.ControlWord.{ControlWord}
@@ -35,15 +35,15 @@ use Rattle.reg_desk_jobs.specs.declared.words.Shown.TheVariants.{Request, Certif
 
 -- the meanings of a line: list the words; why the last refused line was refused; copy the register; show a row; decide a request given by number
 -- and serial number; accept the clock; set a schedule with steps; else it is a command line
-pub data Saying : Type 0 where
-  helps : Saying
-  why : Saying
-  copies : Saying
-  shows : Shown → Saying
-  settles : SerialDecision → Saying
-  accepts : ℕ → Saying
-  schedules : List (ℕ × ℕ) → Saying
-  commands : Saying
+pub data WordMeaning : Type 0 where
+  helps : WordMeaning
+  why : WordMeaning
+  copies : WordMeaning
+  shows : Shown → WordMeaning
+  settles : SerialDecision → WordMeaning
+  accepts : ℕ → WordMeaning
+  schedules : List (ℕ × ℕ) → WordMeaning
+  commands : WordMeaning
 
 -- the row that fields ask for: `SERIAL`, `request N` or `subscriber NAME`
 abbrev pub shown_by : List (List ℕ) → Option Shown
@@ -93,29 +93,29 @@ steps_set (word ∷ []) = None
 steps_set (word ∷ step ∷ rest) = if bytes_eq word (codes "schedule") then steps_of (step ∷ rest) else None
 
 -- the meaning of the fields of a line
-abbrev pub said_by_fields : List (List ℕ) → Saying
-said_by_fields fields =
+abbrev pub meaning_by_fields : List (List ℕ) → WordMeaning
+meaning_by_fields fields =
     option_map_or shows (shown_in fields) (option_map_or settles (serial_decision_in fields)
     (option_map_or accepts (accepted_in fields) (option_map_or schedules (steps_set fields) commands)))
 
 -- the meaning of a line
-abbrev pub said_in : List ℕ → Saying
-said_in line =
+abbrev pub meaning_in : List ℕ → WordMeaning
+meaning_in line =
     if bytes_eq (line_of line) (codes "help") then helps
     else if bytes_eq (line_of line) (codes "why") then why
     else if is_copy_line line then copies
-    else said_by_fields (fields_of (line_of line))
+    else meaning_by_fields (fields_of (line_of line))
 
 -- a line has this meaning; a command line is given without its line end, and is `None` if it has too many bytes
 abbrev pub IsWord : List ℕ → ControlWord → Type 0
-IsWord line Help = said_in line ≡ helps
-IsWord line Why = said_in line ≡ why
-IsWord line (Copy path) = said_in line ≡ copies
-IsWord line (Show shown) = said_in line ≡ shows shown
-IsWord line (Settle serial_decision) = said_in line ≡ settles serial_decision
-IsWord line (AcceptClock clock) = said_in line ≡ accepts clock.moment
-IsWord line (Schedule steps) = said_in line ≡ schedules steps
-IsWord line (Line command) = (said_in line ≡ commands)
+IsWord line Help = meaning_in line ≡ helps
+IsWord line Why = meaning_in line ≡ why
+IsWord line (Copy path) = meaning_in line ≡ copies
+IsWord line (Show shown) = meaning_in line ≡ shows shown
+IsWord line (Settle serial_decision) = meaning_in line ≡ settles serial_decision
+IsWord line (AcceptClock clock) = meaning_in line ≡ accepts clock.moment
+IsWord line (Schedule steps) = meaning_in line ≡ schedules steps
+IsWord line (Line command) = (meaning_in line ≡ commands)
     × MatchOption command (¬ IsShortCommand line) (λ text. (text.now ≡ line_of line) × IsShortCommand line)
 
 -- a command line at a moment, without its end, and its reply; or there was no memory for that, and nothing ran
@@ -166,7 +166,7 @@ EntryAt accepted signs now identity before line text after =
 -- the reply to each word: for `help`, `why`, `copy`, `show` and `accept-clock`, and no record changes; to a decision; to a schedule
 -- that is set; and to a command line
 abbrev pub AnswersWord
-    : Option ℕ → Signs → ℕ → Signatory → Records → List ℕ → Saying → List ℕ → Records → Type 0
+    : Option ℕ → Signs → ℕ → Signatory → Records → List ℕ → WordMeaning → List ℕ → Records → Type 0
 AnswersWord accepted signs now identity before line helps text after =
     IsReplyText (help_text ++ 10 ∷ []) text × (after ≡ before)
 AnswersWord accepted signs now identity before line why text after = after ≡ before
@@ -175,7 +175,7 @@ AnswersWord accepted signs now identity before line copies text after =
 AnswersWord accepted signs now identity before line (shows shown) text after =
     AnswersShown before now shown text × (after ≡ before)
 AnswersWord accepted signs now identity before line (settles serial_decision) text after =
-    AtClock accepted now before (SettlesAt signs now identity before serial_decision text after) text after
+    AtClock accepted now before (DecidesAt signs now identity before serial_decision text after) text after
 AnswersWord accepted signs now identity before line (accepts moment) text after =
     IsReplyText (codes "clock accepted\n") text × (after ≡ before)
 AnswersWord accepted signs now identity before line (schedules steps) text after =
@@ -184,18 +184,18 @@ AnswersWord accepted signs now identity before line commands text after =
     EntryAt accepted signs now identity before line text after
 
 -- the moment that the operator has accepted after a line; it stays if there was no memory to read the line
-abbrev pub accepted_by : Saying → Option ℕ → Option ℕ
+abbrev pub accepted_by : WordMeaning → Option ℕ → Option ℕ
 accepted_by (accepts moment) accepted = Some moment
 accepted_by other accepted = accepted
 
 abbrev pub IsAcceptedAfter : List ℕ → Option ℕ → Option ℕ → Type 0
 IsAcceptedAfter line accepted accepted' =
-    (accepted' ≡ accepted_by (said_in line) accepted) ⊎ (accepted' ≡ accepted)
+    (accepted' ≡ accepted_by (meaning_in line) accepted) ⊎ (accepted' ≡ accepted)
 
 -- a line of an open register at a moment; or there was no memory to read it: the reply says so, and no record changes
 abbrev pub WordAt : Option ℕ → Signs → ℕ → Signatory → Records → List ℕ → List ℕ → Records → Type 0
 WordAt accepted signs now identity before line text after =
-    AnswersWord accepted signs now identity before line (said_in line) text after
+    AnswersWord accepted signs now identity before line (meaning_in line) text after
     ⊎ (ReportsFault fault.Memory text × (after ≡ before))
 
 -- the same at a moment of the clock, with any accepted moment or none

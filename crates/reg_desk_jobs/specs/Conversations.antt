@@ -28,8 +28,8 @@ abbrev pub IsInput : Option (List ℕ) → List ℕ → Type 0
 IsInput input bytes = IfSome input (λ all. all ≡ bytes)
 
 -- the failures that end a conversation early: a read or a write failed, or out of memory
-abbrev pub IsOfTalk : Failure → Type 0
-IsOfTalk why =
+abbrev pub IsConversationFault : Failure → Type 0
+IsConversationFault why =
     (why ≡ failure.Fault fault.Read)
     ⊎ ((why ≡ failure.Fault fault.Write) ⊎ (why ≡ failure.Fault fault.Memory))
 
@@ -78,7 +78,7 @@ module _ (sent sent' incoming incoming' out out' : Option (List ℕ)) where
       × (out' ≡ out)
   TalksOnce input input' (Ok step.End) =
       IsInput input [] × (sent' ≡ sent) × (incoming' ≡ incoming) × (out' ≡ out)
-  TalksOnce input input' (Err why) = IsOfTalk why
+  TalksOnce input input' (Err why) = IsConversationFault why
 
   -- all lines of an input: each reply was accepted; or one was not, or a last line without its line end was not sent. If the conversation
   -- ended early, nothing is stated about how far it got
@@ -86,7 +86,7 @@ module _ (sent sent' incoming incoming' out out' : Option (List ℕ)) where
   Talks input (Ok done) =
       (lines replies : List (List ℕ)) × Talked sent sent' incoming incoming' out out' lines replies
       × IsInput input (concat lines) × AllByRecursion IsAccepted replies
-  Talks input (Err why) = IsOfTalk why
+  Talks input (Err why) = IsConversationFault why
       ⊎ ((lines replies : List (List ℕ)) × (left : List ℕ)
       × Talked sent sent' incoming incoming' out out' lines replies
       × IsInput input (concat lines ++ left) × IsWhyBy IsAccepted replies left why)
@@ -95,7 +95,7 @@ module _ (sent sent' incoming incoming' out out' : Option (List ℕ)) where
 abbrev pub TalksOver
     : Option (List ℕ) → Option (List ℕ) → Option (List ℕ) → Result (Unit {0}) Failure → Type 0
 TalksOver input out out' result =
-    ((why : Failure) × (result ≡ Err why) × IsOfTalk why × (out' ≡ out))
+    ((why : Failure) × (result ≡ Err why) × IsConversationFault why × (out' ≡ out))
     ⊎ ((sent sent' incoming incoming' : Option (List ℕ))
     × Talks sent sent' incoming incoming' out out' input result)
 

@@ -10,13 +10,13 @@ use Rattle.reg_desk_jobs.specs.FinishedResponses.{FinishesUnsigned}
 use Rattle.reg_desk_jobs.specs.declared.unsigned_responses.Unsigned.{Unsigned}
 use Rattle.reg_desk_metrics.specs.Tallies.{with_exchange, with_line}
 use Rattle.reg_desk_metrics.specs.declared.tally.Tally.{Tally}
-use Rattle.reg_io.specs.declared.begun.Begun.{Begun}
-use Rattle.reg_io.specs.declared.begun.Begun.TheVariants as begun
+use Rattle.reg_io.specs.declared.begun.ReadyOrUnsigned.{ReadyOrUnsigned}
+use Rattle.reg_io.specs.declared.begun.ReadyOrUnsigned.TheVariants as begun
 
 -- The outcome of a request at this moment. An exchange that is ready has its text, and is counted, with any duration. A response
 -- that is to be signed is not counted yet; it keeps the moment and the route under which it will be counted.
 abbrev pub CountsBegun
-    : ℕ → List ℕ → Begun Exchange UnsignedResponse → Outcome Unsigned → Tally → Tally → Type 0
+    : ℕ → List ℕ → ReadyOrUnsigned Exchange UnsignedResponse → Outcome Unsigned → Tally → Tally → Type 0
 CountsBegun now request (begun.Ready exchange) (said text) tally tally' =
     (text ≡ exchange.text.items) × IsRouteOf request exchange.route
     × ((micros : ℕ) × (tally' ≡ with_exchange now exchange micros tally))
@@ -38,6 +38,6 @@ SignatureFailed crls answers before after = (crls before < crls after) ⊎ (answ
 -- a line is counted by its result, which its reply shows
 abbrev pub CountsLine : Type 0 → ℕ → List ℕ → Tally → Tally → Type 0
 CountsLine failed now reply tally tally' =
-    (micros : ℕ) × (came : LineOutcome) × (is_unsigned : Bool) × ReportsLineOutcome came reply
+    (micros : ℕ) × (line_outcome : LineOutcome) × (is_unsigned : Bool) × ReportsLineOutcome line_outcome reply
     × (IsTrue is_unsigned ↔ failed)
-    × (tally' ≡ with_line now (effects_of is_unsigned came) micros tally)
+    × (tally' ≡ with_line now (effects_of is_unsigned line_outcome) micros tally)

@@ -1,27 +1,27 @@
 -- The signature that a line at the control socket needs.
 use Rattle.std.specs.Prelude.{ℕ, List, Option, IfSome}
-use Rattle.reg_desk_cli.specs.declared.job.Answerer.{Answerer}
-use Rattle.reg_desk_cli.specs.declared.job.KeyHolder.{KeyHolder}
+use Rattle.reg_desk_cli.specs.declared.job.ResponderChoice.{ResponderChoice}
+use Rattle.reg_desk_cli.specs.declared.job.SignerAddress.{SignerAddress}
 use Rattle.reg_desk_jobs.specs.SignerAnswers.{AnsweredAtPath}
 use Rattle.reg_desk_jobs.specs.Signers.{answer_socket, crl_socket}
 use Rattle.reg_desk_jobs.specs.declared.deferred_commands.Known.{Known}
-use Rattle.reg_desk_jobs.specs.declared.deferred_commands.Wanted.{Wanted}
-use Rattle.reg_desk_jobs.specs.declared.deferred_commands.Wanted.TheVariants.{Crl, Answer}
+use Rattle.reg_desk_jobs.specs.declared.deferred_commands.SignatureKind.{SignatureKind}
+use Rattle.reg_desk_jobs.specs.declared.deferred_commands.SignatureKind.TheVariants.{Crl, Answer}
 
 -- the path of the signer's socket, if there is a signer
-abbrev pub socket_for : Option KeyHolder → Answerer → Wanted → Option (List ℕ)
+abbrev pub socket_for : Option SignerAddress → ResponderChoice → SignatureKind → Option (List ℕ)
 socket_for signer answerer Crl = crl_socket signer
 socket_for signer answerer Answer = answer_socket signer answerer
 
 -- the signer of the CRL or the OCSP response gave this answer for this message
 abbrev pub AnsweredBySigner
-    : (List ℕ → List ℕ → List ℕ → Type 0) → Option KeyHolder → Answerer → Wanted → List ℕ → List ℕ → Type 0
+    : (List ℕ → List ℕ → List ℕ → Type 0) → Option SignerAddress → ResponderChoice → SignatureKind → List ℕ → List ℕ → Type 0
 AnsweredBySigner signer_answered signer answerer wanted =
     AnsweredAtPath signer_answered (socket_for signer answerer wanted)
 
 -- the line is answered at a moment of the clock, with a signature of the message that the signer gave, or with none
 pub record IsKnown (signer_answered : List ℕ → List ℕ → Type 0) (clock_reached : ℕ → Type 0)
     (known : Known) : Type 0 where
-  pub told_at : clock_reached known.moment
-  pub came : IfSome known.preset_signature.answer (λ answer.
+  pub line_added : clock_reached known.moment
+  pub line_outcome : IfSome known.preset_signature.answer (λ answer.
       signer_answered known.preset_signature.message.items answer.items)

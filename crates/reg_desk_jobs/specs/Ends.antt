@@ -28,16 +28,16 @@ use Rattle.reg_audit_rows.specs.declared.audit_result.AuditResult.TheVariants as
 use Rattle.reg_io.specs.Put.{AppendsPrefix}
 use Rattle.reg_desk_cli.specs.declared.job.Job.{Job}
 use Rattle.reg_desk_cli.specs.declared.job.Job.TheVariants as job
-use Rattle.reg_desk_cli.specs.declared.job.Answerer.{Answerer}
+use Rattle.reg_desk_cli.specs.declared.job.ResponderChoice.{ResponderChoice}
 use Rattle.reg_desk_cli.specs.declared.job.Endpoint.{Endpoint}
-use Rattle.reg_desk_cli.specs.declared.job.KeptOpen.{KeptOpen}
-use Rattle.reg_desk_cli.specs.declared.job.KeyHolder.{KeyHolder}
+use Rattle.reg_desk_cli.specs.declared.job.OpenJob.{OpenJob}
+use Rattle.reg_desk_cli.specs.declared.job.SignerAddress.{SignerAddress}
 use Rattle.reg_desk_cli.specs.declared.job.LinedScript.{LinedScript}
-use Rattle.reg_desk_cli.specs.declared.job.ListToWrite.{ListToWrite}
+use Rattle.reg_desk_cli.specs.declared.job.ListJob.{ListJob}
 use Rattle.reg_desk_cli.specs.declared.job.NewRegister.{NewRegister}
-use Rattle.reg_desk_cli.specs.declared.job.RowsToImport.{RowsToImport}
-use Rattle.reg_desk_cli.specs.declared.job.Serving.{Serving}
-use Rattle.reg_desk_cli.specs.declared.job.Way.{Way}
+use Rattle.reg_desk_cli.specs.declared.job.ImportJob.{ImportJob}
+use Rattle.reg_desk_cli.specs.declared.job.ServeJob.{ServeJob}
+use Rattle.reg_desk_cli.specs.declared.job.ScriptOptions.{ScriptOptions}
 use Rattle.reg_lines.specs.declared.answered.Ended.{Ended}
 use Rattle.reg_desk_metrics.specs.Ahead.{is_ahead}
 use Rattle.reg_desk_jobs.specs.Conversations.{AtControlSocket, RowsAtControlSocket}
@@ -143,7 +143,7 @@ module _ {M O D S R W : Type 0} (machines : Machine M O D S R) (offices : Office
 
   -- a list of the register at a path, at a moment: all rows that are wanted are written, each once and in order, or none; no record changes. If the
   -- clock can't be read, the job ends before it opens the path
-  abbrev pub ListAt : ListToWrite → Result (Unit {0}) Failure → Type 0
+  abbrev pub ListAt : ListJob → Result (Unit {0}) Failure → Type 0
   ListAt it result =
       ((result ≡ Err (failure.Fault fault.Read)) × (writer' ≡ writer) × (machine' ≡ machine))
       ⊎ ((now : ℕ) × IsMomentOf machines.clock_reached it.moment now
@@ -228,7 +228,7 @@ ScriptInMemory remaining contents reader reader' writer writer' result =
     reader reader' writer writer' ran))
 
 -- lines run at the machine's clock, which is too far ahead, and the operator does not accept that
-abbrev pub IsClockRefused : Way → (ℕ → Type 0) → Records → Type 0
+abbrev pub IsClockRefused : ScriptOptions → (ℕ → Type 0) → Records → Type 0
 IsClockRefused way clock_reached records =
     IsTrue way.is_clocked × IsFalse way.accepts_clock
     × ((now : ℕ) × clock_reached now × IsTrue (is_ahead now records.last None))
@@ -248,7 +248,7 @@ module _ {M O D S R E W : Type 0} (machines : Machine M O D S R) (offices : Offi
       × UsesRegister machines offices machine machine' path signing (Ran ran))
 
   -- a script over the register at a path
-  abbrev pub ScriptAt : List ℕ → Option KeyHolder → Result (Unit {0}) Failure → Type 0
+  abbrev pub ScriptAt : List ℕ → Option SignerAddress → Result (Unit {0}) Failure → Type 0
   ScriptAt path signer = RunsAt exit_of path (signing_with signer by_itself) (λ ran identity before after.
       ScriptEnds (Lines offices.signs identity) remaining contents before after
       reader reader' writer writer' ran)
@@ -308,7 +308,7 @@ module _ {M O D S R E W : Type 0} (machines : Machine M O D S R) (offices : Offi
       × (writer' ≡ writer))
       ⊎ ((now : ℕ) × machines.clock_reached now × ImportChecked (not accepts) is_strict path now result)
 
-  abbrev pub ImportByClock : RowsToImport → Result (Unit {0}) Failure → Type 0
+  abbrev pub ImportByClock : ImportJob → Result (Unit {0}) Failure → Type 0
   ImportByClock it = ImportAtMoment it.moment it.accepts_clock it.is_strict it.file
 
   -- HTTP requests over the register at a path (RFC 9112), which is opened before the port is bound, and lines if there is a control socket. If a
@@ -316,7 +316,7 @@ module _ {M O D S R E W : Type 0} (machines : Machine M O D S R) (offices : Offi
   -- and their outcomes are in this order. A signature that was awaited came from the signer at the responder's path. Without a published CRL, no
   -- input is read.
   abbrev pub AtPort
-      : List ℕ → Option KeyHolder → Answerer → Option (List ℕ) → Endpoint → Option (List ℕ) → ℕ
+      : List ℕ → Option SignerAddress → ResponderChoice → Option (List ℕ) → Endpoint → Option (List ℕ) → ℕ
       → Result (Unit {0}) Failure → Type 0
   AtPort path signer answerer published endpoint control requests result =
       let Uses = UsesRegister machines offices machine machine' path (signing_with signer answerer) in
@@ -333,11 +333,11 @@ module _ {M O D S R E W : Type 0} (machines : Machine M O D S R) (offices : Offi
       endpoint.port requests inputs result))
 
   -- that many requests
-  abbrev pub ServeAt : Serving → Result (Unit {0}) Failure → Type 0
+  abbrev pub ServeAt : ServeJob → Result (Unit {0}) Failure → Type 0
   ServeAt it = AtPort it.file it.signer it.answerer it.published it.endpoint None it.requests
 
   -- requests and lines, up to the greatest count: the program ends before
-  abbrev pub OpenAt : KeptOpen → Result (Unit {0}) Failure → Type 0
+  abbrev pub OpenAt : OpenJob → Result (Unit {0}) Failure → Type 0
   OpenAt it =
       AtPort it.file it.signer it.answerer it.published it.endpoint (Some it.control) 18446744073709551615
 

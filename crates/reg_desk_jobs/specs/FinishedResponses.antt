@@ -1,7 +1,7 @@
 -- An OCSP response that is to be signed, and the text that finishes it.
 use Rattle.std.specs.Prelude.{◌≡◌, ℕ, List, Option, Some, None, Result, IfOk}
-use Rattle.reg_office_api.specs.declared.effects.SignatureFate.{SignatureFate}
-use Rattle.reg_office_api.specs.declared.effects.SignatureFate.TheVariants.{Made, Failed}
+use Rattle.reg_office_api.specs.declared.effects.SignatureOutcome.{SignatureOutcome}
+use Rattle.reg_office_api.specs.declared.effects.SignatureOutcome.TheVariants.{Made, Failed}
 use Rattle.reg_office_api.specs.declared.effects.StoreEffect.TheVariants.{Unwritten}
 use Rattle.reg_core.specs.declared.memory.Memory.{Memory}
 use Rattle.reg_http.specs.Bodies.{ocsp_reply}
@@ -20,7 +20,7 @@ IsSignatureOf signer_answered draft (Some signature) =
 IsSignatureOf signer_answered draft None = Unit {0}
 
 -- whether a signature was made
-abbrev pub fate_of : Option (List ℕ) → SignatureFate
+abbrev pub fate_of : Option (List ℕ) → SignatureOutcome
 fate_of (Some signature) = Made
 fate_of None = Failed
 

@@ -23,7 +23,7 @@ pub mod Replays
 pub mod RowTasks
 pub mod Sample
 pub mod Schedules
-pub mod Sealing
+pub mod PlaceholderWarning
 pub mod Serving
 pub mod SerialDecisions
 pub mod RowLookUps

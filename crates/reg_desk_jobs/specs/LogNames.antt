@@ -12,7 +12,7 @@ use Rattle.reg_lines.specs.Script.{line_of}
 use Rattle.reg_lines.specs.declared.answered.LineKind.TheVariants as asked
 use Rattle.reg_desk_jobs.specs.ControlWords.{serial_decision_in}
 use Rattle.reg_desk_jobs.specs.declared.control_reply.LineOutcome.{LineOutcome}
-use Rattle.reg_desk_jobs.specs.declared.control_reply.LineOutcome.TheVariants.{CameTo}
+use Rattle.reg_desk_jobs.specs.declared.control_reply.LineOutcome.TheVariants.{Completed}
 
 -- a line decides the request with a number: by number and serial number, or by number alone
 abbrev pub Decides : List ℕ → ℕ → Type 0
@@ -40,6 +40,6 @@ NamesAccepted other reply before named = named ≡ None
 
 -- what is named by the result of a line
 abbrev pub NamesRequest : LineOutcome → Option NamedRequest → Option NamedRequest → Type 0
-NamesRequest (CameTo (asked.Command command) (Ok reply)) before named =
+NamesRequest (Completed (asked.Command command) (Ok reply)) before named =
     NamesAccepted command reply before named
 NamesRequest other before named = named ≡ None

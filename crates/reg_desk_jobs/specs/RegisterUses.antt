@@ -10,7 +10,7 @@ use Rattle.reg_desk_cli.specs.declared.failure.Failure.TheVariants as failure
 use Rattle.reg_lines.specs.declared.answered.Ended.{Ended}
 use Rattle.reg_lines.specs.declared.answered.Ended.TheVariants as ended
 use Rattle.reg_desk_jobs.specs.RegisterFailures.{IsMaking, IsOpening}
-use Rattle.reg_desk_jobs.specs.Registers.{Made, Opened, Unmade, Unopened}
+use Rattle.reg_desk_jobs.specs.Registers.{Made, Opened, NotCreated, Unopened}
 use Rattle.reg_desk_jobs.specs.Signers.{Signing}
 use Rattle.reg_desk_jobs.specs.declared.machine.Machine.{Ghosts as Machine}
 
@@ -58,4 +58,4 @@ module _ {M O D S R : Type 0} (machines : Machine M O D S R) (machine machine' :
   -- no register could be created at a path, and that is how the job ends
   abbrev pub NotMade : List ℕ → Result (Unit {0}) Failure → Type 0
   NotMade path result =
-      (why : Failure) × (result ≡ Err why) × Unmade machines machine path why machine' × IsMaking why
+      (why : Failure) × (result ≡ Err why) × NotCreated machines machine path why machine' × IsMaking why

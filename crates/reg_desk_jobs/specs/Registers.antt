@@ -35,8 +35,8 @@ module _ {M O D S R : Type 0} (machines : Machine M O D S R) (machine : M) (path
 
   -- None was created, for this reason: there is no file at the path, the file could not be opened as a database, or no register could be
   -- created in it.
-  abbrev pub Unmade : Failure → M → Type 0
-  Unmade why machine' =
+  abbrev pub NotCreated : Failure → M → Type 0
+  NotCreated why machine' =
       (machines.absent machine path × (machine' ≡ machine))
       ⊎ (machines.unconnected machine path why machine' ⊎ ((database : D) × Connects database machine'))
 

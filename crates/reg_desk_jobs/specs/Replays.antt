@@ -9,7 +9,7 @@ use Rattle.reg_core.specs.declared.refusal.Fault.TheVariants as fault
 use Rattle.reg_desk_cli.specs.declared.failure.Failure.{Failure}
 use Rattle.reg_desk_cli.specs.declared.failure.Failure.TheVariants as failure
 use Rattle.reg_lines.specs.Script.{IsWholeLine, line_of}
-use Rattle.reg_desk_jobs.specs.Conversations.{AreWhole, IsCutOff, IsInput, IsOfTalk, TalksLine}
+use Rattle.reg_desk_jobs.specs.Conversations.{AreWhole, IsCutOff, IsInput, IsConversationFault, TalksLine}
 use Rattle.reg_desk_jobs.specs.LogEntries.{LoggedExchange, LogsEntry, LogsNothing, LogsPart, first_word, second_word}
 use Rattle.reg_desk_jobs.specs.declared.log_entries.Entry.{Entry}
 use Rattle.reg_desk_jobs.specs.declared.log_entries.Entry.TheVariants.{Line, Request, Decision}
@@ -56,7 +56,7 @@ renumbered (Decision id serial) reply = []
 -- the line of the log at which a replay stops is written
 abbrev pub StopsWith : Option (List ℕ) → List ℕ → Option (List ℕ) → Result (Unit {0}) Failure → Type 0
 StopsWith out line out' (Ok done) = ⊥
-StopsWith out line out' (Err why) = IsOfTalk why ⊎ ((why ≡ failure.Refused) × Appends out out' line)
+StopsWith out line out' (Err why) = IsConversationFault why ⊎ ((why ≡ failure.Refused) × Appends out out' line)
 
 -- the state of a replay: what was sent, the replies that are left, what was written, and the numbers that requests were given
 pub record ReplayState : Type 0 where
@@ -88,7 +88,7 @@ abbrev pub EntryEnds
     : ReplayState → LoggedExchange → Entry → List ℕ → ReplayState → Result (Unit {0}) Failure → Type 0
 EntryEnds s logged_exchange entry line t (Ok done) = ReplyAgrees s logged_exchange entry t
 EntryEnds s logged_exchange entry line t (Err why) =
-    IsOfTalk why ⊎ ((why ≡ failure.Refused) × ReplyDiffers s logged_exchange entry line t)
+    IsConversationFault why ⊎ ((why ≡ failure.Refused) × ReplyDiffers s logged_exchange entry line t)
 
 -- a line of the log is replayed: it has no accepted command, or one whose reply agrees
 abbrev pub LineReplayed : ReplayState → List ℕ → ReplayState → Type 0
@@ -107,7 +107,7 @@ LineStops s line t =
 -- how the replay of a line of the log ends
 abbrev pub LineEnds : ReplayState → List ℕ → ReplayState → Result (Unit {0}) Failure → Type 0
 LineEnds s line t (Ok done) = LineReplayed s line t
-LineEnds s line t (Err why) = IsOfTalk why ⊎ ((why ≡ failure.Refused) × LineStops s line t)
+LineEnds s line t (Err why) = IsConversationFault why ⊎ ((why ≡ failure.Refused) × LineStops s line t)
 
 -- lines of a log are replayed, one after the other
 abbrev pub Replayed : ReplayState → List (List ℕ) → ReplayState → Type 0
@@ -125,7 +125,7 @@ Stops s left t why =
 abbrev pub ReplaysLog : Option (List ℕ) → ReplayState → ReplayState → Result (Unit {0}) Failure → Type 0
 ReplaysLog input s t (Ok done) =
     (log : List (List ℕ)) × AreWhole log × IsInput input (concat log) × Replayed s log t
-ReplaysLog input s t (Err why) = IsOfTalk why
+ReplaysLog input s t (Err why) = IsConversationFault why
     ⊎ ((log : List (List ℕ)) × (m : ReplayState) × (left : List ℕ) × AreWhole log × Replayed s log m
     × IsInput input (concat log ++ left) × Stops m left t why)
 
@@ -142,7 +142,7 @@ Replays input sent sent' incoming incoming' out out' result =
 abbrev pub ReplaysOver
     : Option (List ℕ) → Option (List ℕ) → Option (List ℕ) → Result (Unit {0}) Failure → Type 0
 ReplaysOver input out out' result =
-    ((why : Failure) × (result ≡ Err why) × IsOfTalk why × (out' ≡ out))
+    ((why : Failure) × (result ≡ Err why) × IsConversationFault why × (out' ≡ out))
     ⊎ ((sent sent' incoming incoming' : Option (List ℕ))
     × Replays input sent sent' incoming incoming' out out' result)
 

@@ -12,7 +12,7 @@ use Rattle.reg_core_lists.specs.Lists.{certificate_row, history_row}
 use Rattle.reg_core_lists.specs.Texts.{row_text}
 use Rattle.reg_core_lists.specs.declared.rows.Row.{Row}
 use Rattle.reg_core_lists.specs.declared.rows.Row.TheVariants as kind
-use Rattle.reg_core_lists.specs.declared.texts.Form.TheVariants.{Json}
+use Rattle.reg_core_lists.specs.declared.texts.Format.TheVariants.{Json}
 use Rattle.reg_desk_jobs.specs.ControlReplies.{IsReplyText}
 use Rattle.reg_desk_jobs.specs.declared.words.Shown.{Shown}
 use Rattle.reg_desk_jobs.specs.declared.words.Shown.TheVariants.{Request, Certificate, Subscriber}

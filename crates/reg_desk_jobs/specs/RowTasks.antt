@@ -14,7 +14,7 @@ use Rattle.reg_desk_cli.specs.declared.job.RowTask.{RowTask}
 use Rattle.reg_desk_cli.specs.declared.job.RowTask.TheVariants.{Register, Revoke}
 use Rattle.reg_lines.specs.Accepted.{IsAccepted}
 use Rattle.reg_lines.specs.Script.{line_of}
-use Rattle.reg_desk_jobs.specs.Conversations.{AreWhole, IsInput, IsOfTalk, IsWhyBy}
+use Rattle.reg_desk_jobs.specs.Conversations.{AreWhole, IsInput, IsConversationFault, IsWhyBy}
 use Rattle.reg_desk_jobs.specs.LogEntries.{first_word, second_word}
 use Rattle.reg_desk_jobs.specs.declared.row_job.RegistrationRow.{RegistrationRow}
 use Rattle.reg_desk_jobs.specs.declared.row_job.RevocationRow.{RevocationRow}
@@ -164,7 +164,7 @@ module _ (task : RowTask) where
   SendsRows input s t out out' (Ok done) =
       (lines replies : List (List ℕ)) × RepliesWritten s t out out' lines replies
       × IsInput input (concat lines) × AllByRecursion IsRowDone replies
-  SendsRows input s t out out' (Err why) = IsOfTalk why
+  SendsRows input s t out out' (Err why) = IsConversationFault why
       ⊎ ((lines replies : List (List ℕ)) × (left : List ℕ) × RepliesWritten s t out out' lines replies
       × IsInput input (concat lines ++ left) × IsWhyBy IsRowDone replies left why)
 
@@ -172,7 +172,7 @@ module _ (task : RowTask) where
   abbrev pub SendsRowsOver
       : Option (List ℕ) → Option (List ℕ) → Option (List ℕ) → Result (Unit {0}) Failure → Type 0
   SendsRowsOver input out out' result =
-      ((why : Failure) × (result ≡ Err why) × IsOfTalk why × (out' ≡ out))
+      ((why : Failure) × (result ≡ Err why) × IsConversationFault why × (out' ≡ out))
       ⊎ ((s t : Link) × SendsRows input s t out out' result)
 
   -- at the control socket at a path: no program listened there, or the rows were sent to the one that did

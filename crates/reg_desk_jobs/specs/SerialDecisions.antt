@@ -38,8 +38,8 @@ RunsAt signs now identity before command text after =
     ⊎ (ReportsFault Memory text × (after ≡ before))
 
 -- a decision and its reply: that there is no such request, if it is for another serial number; else that of the command; or why the look-up failed
-abbrev pub SettlesAt : Signs → ℕ → Signatory → Records → SerialDecision → List ℕ → Records → Type 0
-SettlesAt signs now identity before serial_decision text after =
+abbrev pub DecidesAt : Signs → ℕ → Signatory → Records → SerialDecision → List ℕ → Records → Type 0
+DecidesAt signs now identity before serial_decision text after =
     (IsForOther before serial_decision × ReportsFault (Refused NoRequest) text × (after ≡ before))
     ⊎ (((¬ IsForOther before serial_decision)
     × RunsAt signs now identity before serial_decision.command text after)

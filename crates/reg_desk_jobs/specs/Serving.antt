@@ -7,9 +7,9 @@ use Rattle.reg_office_api.specs.Signatories.{Signatory}
 use Rattle.reg_office_api.specs.CallSteps.{Signs}
 use Rattle.reg_desk_server.specs.Exchange.{Input, Outcome, Handles, requests_in}
 use Rattle.reg_office_api.specs.declared.office.Office.{Ghosts as Office}
-use Rattle.reg_desk_cli.specs.declared.job.Answerer.{Answerer}
+use Rattle.reg_desk_cli.specs.declared.job.ResponderChoice.{ResponderChoice}
 use Rattle.reg_desk_cli.specs.declared.job.Endpoint.{Endpoint}
-use Rattle.reg_desk_cli.specs.declared.job.KeyHolder.{KeyHolder}
+use Rattle.reg_desk_cli.specs.declared.job.SignerAddress.{SignerAddress}
 use Rattle.reg_desk_cli.specs.declared.job.Loopback.{Loopback}
 use Rattle.reg_desk_cli.specs.declared.job.Loopback.TheVariants.{V4, V6}
 use Rattle.reg_desk_cli.specs.declared.failure.Failure.{Failure}
@@ -49,7 +49,7 @@ Serves is_open signs signer_answered clock_reached inputs outcomes identity befo
 
 -- the same at a desk with the options' signers, over the offices of a machine
 abbrev pub ServesOn
-    : {M O D S R : Type 0} → Machine M O D S R → Office O → Option KeyHolder → Answerer → Bool → List Input
+    : {M O D S R : Type 0} → Machine M O D S R → Office O → Option SignerAddress → ResponderChoice → Bool → List Input
     → List (Outcome Unsigned) → Signatory → Records → Records → Type 0
 ServesOn machines offices signer answerer is_open =
     Serves is_open offices.signs (AnsweredByOcspSigner machines.signer_answered signer answerer)

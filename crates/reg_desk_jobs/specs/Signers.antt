@@ -11,27 +11,27 @@ use Rattle.reg_crl_signer.specs.Forms.{identity_of}
 use Rattle.reg_crl_signer.specs.Signed.{IsCrlUnder}
 use Rattle.reg_desk_jobs.specs.SignerAnswers.{AnsweredAtPath}
 use Rattle.reg_desk_jobs.specs.declared.crl_signer.CrlSigner.{CrlSigner}
-use Rattle.reg_desk_jobs.specs.declared.crl_signer.CrlSigner.TheVariants.{Nobody, Digest, Holder}
-use Rattle.reg_desk_cli.specs.declared.job.Answerer.{Answerer}
-use Rattle.reg_desk_cli.specs.declared.job.Answerer.TheVariants.{Issuer, Delegate}
-use Rattle.reg_desk_cli.specs.declared.job.KeyHolder.{KeyHolder}
+use Rattle.reg_desk_jobs.specs.declared.crl_signer.CrlSigner.TheVariants.{Nobody, Digest, OpenedBy}
+use Rattle.reg_desk_cli.specs.declared.job.ResponderChoice.{ResponderChoice}
+use Rattle.reg_desk_cli.specs.declared.job.ResponderChoice.TheVariants.{Issuer, Delegate}
+use Rattle.reg_desk_cli.specs.declared.job.SignerAddress.{SignerAddress}
 
 -- the signer of CRLs that the command line names. Without one, a placeholder digest; but no signer if the OCSP responder has a key of its own
-abbrev pub signs_crls : Option KeyHolder → Answerer → CrlSigner
-signs_crls (Some holder) answerer = Holder holder
+abbrev pub signs_crls : Option SignerAddress → ResponderChoice → CrlSigner
+signs_crls (Some holder) answerer = OpenedBy holder
 signs_crls None (Issuer certificate) = Digest
 signs_crls None (Delegate certificate holder) = Nobody
 
 -- the signers with which a register is opened: that of its CRLs, and that of OCSP responses
 abbrev pub Signing : Type 0
-Signing = CrlSigner × Answerer
+Signing = CrlSigner × ResponderChoice
 
 -- the same, from the options
-abbrev pub signing_with : Option KeyHolder → Answerer → Signing
+abbrev pub signing_with : Option SignerAddress → ResponderChoice → Signing
 signing_with signer answerer = (signs_crls signer answerer, answerer)
 
 -- the signer of CRLs signs OCSP responses too, without a certificate in them
-abbrev pub by_itself : Answerer
+abbrev pub by_itself : ResponderChoice
 by_itself = Issuer None
 
 -- the signers for a job that signs nothing
@@ -39,40 +39,40 @@ abbrev pub unsigned : Signing
 unsigned = (Nobody, by_itself)
 
 -- a certificate for OCSP responses is given
-abbrev pub HasCertificate : Answerer → Type 0
+abbrev pub HasCertificate : ResponderChoice → Type 0
 HasCertificate (Issuer None) = ⊥
 HasCertificate (Issuer (Some path)) = Unit {0}
 HasCertificate (Delegate path holder) = Unit {0}
 
 -- the path of the signer of CRLs, if there is one
-abbrev pub crl_socket : Option KeyHolder → Option (List ℕ)
+abbrev pub crl_socket : Option SignerAddress → Option (List ℕ)
 crl_socket signer = option_map (λ holder. holder.socket) signer
 
 -- the path of the signer of OCSP responses, if there is one: the responder's, or that of the signer of CRLs
-abbrev pub answer_socket : Option KeyHolder → Answerer → Option (List ℕ)
+abbrev pub answer_socket : Option SignerAddress → ResponderChoice → Option (List ℕ)
 answer_socket signer (Issuer certificate) = crl_socket signer
 answer_socket signer (Delegate certificate holder) = Some holder.socket
 
 -- the signer of OCSP responses gave this answer for this message
 abbrev pub AnsweredByOcspSigner
-    : (List ℕ → List ℕ → List ℕ → Type 0) → Option KeyHolder → Answerer → List ℕ → List ℕ → Type 0
+    : (List ℕ → List ℕ → List ℕ → Type 0) → Option SignerAddress → ResponderChoice → List ℕ → List ℕ → Type 0
 AnsweredByOcspSigner signer_answered signer answerer =
     AnsweredAtPath signer_answered (answer_socket signer answerer)
 
 -- the signer of an issuer's key (RFC 5280 4.1.2.7): with its algorithm, or the placeholder digest
-abbrev pub identity_of_holder : Option KeyHolder → List ℕ → Identity
+abbrev pub identity_of_holder : Option SignerAddress → List ℕ → Identity
 identity_of_holder None key = digest
 identity_of_holder (Some holder) key = identity_of holder.algorithm key
 
 -- the signer of CRLs of an open register: the given one; if nothing is to be signed, any that could be given
 abbrev pub IsSigning : CrlSigner → List ℕ → Identity → Type 0
-IsSigning Nobody key identity = (signer : Option KeyHolder) × (identity ≡ identity_of_holder signer key)
+IsSigning Nobody key identity = (signer : Option SignerAddress) × (identity ≡ identity_of_holder signer key)
 IsSigning Digest key identity = identity ≡ identity_of_holder None key
-IsSigning (Holder holder) key identity = identity ≡ identity_of_holder (Some holder) key
+IsSigning (OpenedBy holder) key identity = identity ≡ identity_of_holder (Some holder) key
 
 -- a responder with a certificate of its own (RFC 6960 4.2.2.2): it signs with the key of that certificate, which fits the algorithm, and is
 -- identified by that key; the certificate is in each response
-pub record IsDelegate (holder : KeyHolder) (responder : Responder) : Type 0 where
+pub record IsDelegate (holder : SignerAddress) (responder : Responder) : Type 0 where
   pub certificate : List ℕ
   pub key : List ℕ
   pub certified : IsCertificateOf certificate (key_identifier_of holder.algorithm) key
@@ -83,7 +83,7 @@ pub record IsDelegate (holder : KeyHolder) (responder : Responder) : Type 0 wher
   }
 
 -- the given responder, besides the signer of CRLs: it is that signer, perhaps with a certificate; or a delegated responder
-abbrev pub IsAnswering : Answerer → Signatory → Type 0
+abbrev pub IsAnswering : ResponderChoice → Signatory → Type 0
 IsAnswering (Issuer None) signatory = signatory ≡ signs_both signatory.crls
 IsAnswering (Issuer (Some path)) signatory =
     (certificate : List ℕ)

@@ -27,7 +27,7 @@ use Rattle.reg_desk_metrics.specs.declared.numbers.CrlSigning.{CrlSigning}
 use Rattle.reg_desk_metrics.specs.declared.numbers.CrlSigning.TheVariants as signing
 use Rattle.reg_desk_metrics.specs.declared.numbers.ReadCrl.{ReadCrl}
 use Rattle.reg_desk_metrics.specs.declared.numbers.Requests.{Requests}
-use Rattle.reg_office_api.specs.LookUps.{HasOpen, IsStanding}
+use Rattle.reg_office_api.specs.LookUps.{HasOpen, IsRegisterSummary}
 use Rattle.reg_desk_jobs.specs.declared.crl_signer.CrlSigner.{CrlSigner}
 use Rattle.reg_desk_jobs.specs.declared.crl_signer.CrlSigner.TheVariants as signer
 use Rattle.reg_desk_jobs.specs.declared.reasons.Reason.{Reason}
@@ -55,7 +55,7 @@ HasOverdue records now (Err fault) = Unit {0}
 
 -- how CRLs are signed, as the tally has it
 abbrev pub signing_by : CrlSigner → CrlSigning
-signing_by (signer.Holder holder) = signing.Key
+signing_by (signer.OpenedBy holder) = signing.Key
 signing_by signer.Digest = signing.Digest
 signing_by signer.Nobody = signing.Nobody
 
@@ -116,7 +116,7 @@ IsDueUnsigned tally records None =
 abbrev pub HasFound : Tally → Records → ℕ → Result Numbers Fault → Type 0
 HasFound tally records now (Ok numbers) =
     Has AskCounts CountsAre records now (Ok numbers.counts) × HasDue tally records now (Ok numbers.due)
-    × IsStanding records numbers.standing
+    × IsRegisterSummary records numbers.standing
 HasFound tally records now (Err (Refused refusal)) =
     (answer records now AskCounts ≡ Err refusal) ⊎ (answer records now AskNextCrl ≡ Err refusal)
 HasFound tally records now (Err other) = Unit {0}

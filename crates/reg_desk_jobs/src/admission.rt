@@ -12,7 +12,7 @@ use reg_core::{Memory, Moment, Serial};
 use reg_desk_metrics::is_ahead;
 use reg_http::{Answered, begin, refuse, report_fault, serial_of};
 use reg_http_head::status;
-use reg_io::Begun;
+use reg_io::ReadyOrUnsigned;
 use reg_ocsp::Draft;
 use reg_office_api::{Intake, Office};
 use std::alloc::Global;
@@ -82,7 +82,7 @@ pub(crate) fn begin_admitted<M: Machine>(
     method: &Method,
     target: &str,
     body: &[u8],
-) -> Result<Begun<Answered, Draft>, Memory>
+) -> Result<ReadyOrUnsigned<Answered, Draft>, Memory>
     ensures moves { LeadsIn M.Office.Office
         (λ signatory before after.
         BeginsAdmitted admission.old M.Office.signs now signatory before
@@ -96,7 +96,7 @@ pub(crate) fn begin_admitted<M: Machine>(
         return begin(alloc, method, target, body, now, office);
     };
     match refusal_of::<M>(alloc, office, admission, now, serial)? {
-        Some(refused) => Ok(Begun::Ready(refused)),
+        Some(refused) => Ok(ReadyOrUnsigned::Ready(refused)),
         None => begin(alloc, method, target, body, now, office),
     }
 }

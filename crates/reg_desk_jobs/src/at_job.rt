@@ -4,7 +4,7 @@ ghost use Rattle.std.specs.Prelude.{◌≡◌, ◌⊎◌, ◌↔◌, IsFalse, Is
 ghost use Rattle.std.specs.Io.{StopsAt};
 ghost use Rattle.std.specs.Io.BufRead.{ends_with_byte};
 ghost use Rattle.std.specs.Io.KnownBytes.{Appends, Consumes};
-ghost use Rattle.reg_desk_jobs.specs.Conversations.{AtControlSocket, IsOfTalk, IsReadAs, NextIs, RowsAtControlSocket, Talks, TalksLine, TalksOnce, TalksOver};
+ghost use Rattle.reg_desk_jobs.specs.Conversations.{AtControlSocket, IsConversationFault, IsReadAs, NextIs, RowsAtControlSocket, Talks, TalksLine, TalksOnce, TalksOver};
 
 use crate::machine::Machine;
 use crate::output_lines::print_text;
@@ -85,7 +85,7 @@ fn talk_over<R: Read, W: Write>(
     };
     let mut sent = link;
     match BufReader::new(alloc, reader) {
-        Ok(mut input) => talk(alloc, &mut input, writer, &mut incoming, &mut sent),
+        Ok(mut input) => exchange_lines(alloc, &mut input, writer, &mut incoming, &mut sent),
         Err(_) => Err(Failure::Fault(Fault::Memory)),
     }
 }
@@ -94,7 +94,7 @@ fn talk_over<R: Read, W: Write>(
 /// its line end is not sent. Errors: after all lines were sent, `Refused` if a reply was a refusal or a fault, `NoLineEnd` if a last line
 /// without its line end is left, and `RefusedNoLineEnd` for both. `Read` if the input fails, or the connection fails or ends within a
 /// reply; `Write` if a line can't be sent, or a reply can't be written; `Memory`.
-pub fn talk<R: BufRead, W: Write, C: BufRead, S: Write>(
+pub fn exchange_lines<R: BufRead, W: Write, C: BufRead, S: Write>(
     alloc: Global,
     input: &mut R,
     writer: &mut W,
@@ -182,7 +182,7 @@ pub(crate) fn exchange<W: Write, C: BufRead, S: Write>(
         TalksLine (S.contents sent.old) (S.contents sent.new)
         (C.remaining incoming.old) (C.remaining incoming.new)
         (W.contents writer.old) (W.contents writer.new) line.now reply.items) }
-    ensures err { IfErr result IsOfTalk }
+    ensures err { IfErr result IsConversationFault }
 {
     let reply = request_reply(alloc, line, incoming, sent)?;
     print_text(writer, &reply)?;
@@ -199,7 +199,7 @@ pub(crate) fn request_reply<C: BufRead, S: Write>(
     ensures sent { IfOk result (λ reply. Appends (S.contents sent.old) (S.contents sent.new) line.now) }
     ensures incoming { IfOk result (λ reply.
         Consumes (C.remaining incoming.old) (C.remaining incoming.new) reply.items) }
-    ensures err { IfErr result IsOfTalk }
+    ensures err { IfErr result IsConversationFault }
 {
     print_text(sent, line)?;
     next_reply(alloc, incoming)
@@ -207,7 +207,7 @@ pub(crate) fn request_reply<C: BufRead, S: Write>(
 
 pub(crate) fn next_line<R: BufRead>(alloc: Global, input: &mut R) -> Result<Next, Failure>
     ensures ok { IfOk result (NextIs (R.remaining input.old) (R.remaining input.new)) }
-    ensures err { IfErr result IsOfTalk }
+    ensures err { IfErr result IsConversationFault }
 {
     let mut line = Vec::new(alloc);
     match input.read_until(b'\n', &mut line) {
@@ -239,7 +239,7 @@ fn has_end(line: &[u8]) -> bool
 fn next_reply<C: BufRead>(alloc: Global, incoming: &mut C) -> Result<Vec<u8>, Failure>
     ensures ok { IfOk result (λ reply.
         Consumes (C.remaining incoming.old) (C.remaining incoming.new) reply.items) }
-    ensures err { IfErr result IsOfTalk }
+    ensures err { IfErr result IsConversationFault }
 {
     let mut reply = Vec::new(alloc);
     match incoming.read_until(b'\n', &mut reply) {

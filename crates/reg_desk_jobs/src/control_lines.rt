@@ -7,7 +7,7 @@ ghost use Rattle.reg_desk_jobs.specs.ControlReplies.{IsReplyText, ReportsLineOut
 ghost use Rattle.reg_desk_jobs.specs.Counted.{CountsLine, SignatureFailed};
 ghost use Rattle.reg_desk_jobs.specs.ControlWords.{AtClock, CommandAt, HasCommand, IsAcceptedAfter, LineAt, MeetsClock, WordAt};
 ghost use Rattle.reg_desk_jobs.specs.Schedules.{SetAt, SetsSteps, RepliesSetting};
-ghost use Rattle.reg_desk_jobs.specs.SerialDecisions.{SettlesAt};
+ghost use Rattle.reg_desk_jobs.specs.SerialDecisions.{DecidesAt};
 
 use crate::control_reply::{ControlReply, LineOutcome};
 use crate::copy_job::answer_copy;
@@ -20,7 +20,7 @@ use crate::reasons::{
     Reason, keep_reason_text, keep_refusal_reason, keep_reply_reason, keep_syntax_reason,
     reason_line, reason_reply,
 };
-use crate::show::{answer_help, answer_shown};
+use crate::show::{answer_help, answer_show};
 use crate::words::{AcceptedClock, ControlWord, SerialDecision, read_word};
 use reg_core::{Fault, Moment};
 use reg_desk_cli::{Failure, Steps, schedule_of};
@@ -64,11 +64,11 @@ pub(crate) fn answer_counted<M: Machine>(
         line,
         last_reason,
     );
-    keep_due_reason::<M>(alloc, office, tally, &reply.came, last_reason);
+    keep_due_reason::<M>(alloc, office, tally, &reply.line_outcome, last_reason);
     let is_unsigned = has_failed::<M>(office, failures);
     let micros = machine.micros().saturating_sub(began);
-    tally.count_line(now, reply.came.effects(is_unsigned), micros);
-    let named = named_by(&reply.came, named);
+    tally.count_line(now, reply.line_outcome.effects(is_unsigned), micros);
+    let named = named_by(&reply.line_outcome, named);
     log_line(
         alloc,
         machine,
@@ -97,13 +97,13 @@ fn answer_word<M: Machine>(
         WordAt accepted.old M.Office.signs now identity before line.now result.text.items after)
         office.old office.new }
     ensures accepted { IsAcceptedAfter line.now accepted.old accepted.new }
-    ensures came { ReportsLineOutcome result.came result.text.items }
+    ensures line_outcome { ReportsLineOutcome result.line_outcome result.text.items }
 {
     match read_word(alloc, line) {
         Ok(ControlWord::Help) => answer_help(alloc),
         Ok(ControlWord::Why) => reason_reply(alloc, last_reason),
         Ok(ControlWord::Copy(path)) => answer_copy(alloc, machine, file, path, last_reason),
-        Ok(ControlWord::Show(shown)) => answer_shown::<M>(alloc, office, now, shown, last_reason),
+        Ok(ControlWord::Show(shown)) => answer_show::<M>(alloc, office, now, shown, last_reason),
         Ok(ControlWord::Settle(serial_decision)) => {
             settle_by_clock::<M>(alloc, office, *accepted, now, serial_decision, last_reason)
         }
@@ -125,7 +125,7 @@ fn answer_word<M: Machine>(
 fn accept_clock(alloc: Global, clock: AcceptedClock, accepted: &mut Option<Moment>) -> ControlReply
     ensures accepted { accepted.new ≡ Some clock.moment }
     ensures said { IsReplyText (codes "clock accepted\n") result.text.items }
-    ensures came { ReportsLineOutcome result.came result.text.items }
+    ensures line_outcome { ReportsLineOutcome result.line_outcome result.text.items }
 {
     *accepted = Some(clock.moment);
     ControlReply::line(alloc, b"clock accepted", LineOutcome::Done)
@@ -141,7 +141,7 @@ fn refusal_by_clock<M: Machine>(
 ) -> Option<ControlReply>
     ensures looks { LooksIn M.Office.Office (λ records. MeetsClock accepted now records result)
         office.old office.new }
-    ensures came { IfSome result (λ reply. ReportsLineOutcome reply.came reply.text.items) }
+    ensures line_outcome { IfSome result (λ reply. ReportsLineOutcome reply.line_outcome reply.text.items) }
 {
     match office.standing() {
         Ok(standing) if is_ahead(now, standing.last, accepted) => {
@@ -157,7 +157,7 @@ fn refusal_by_clock<M: Machine>(
 
 fn clock_refused(alloc: Global) -> ControlReply
     ensures said { IsReplyText (codes "bad-clock\n") result.text.items }
-    ensures came { ReportsLineOutcome result.came result.text.items }
+    ensures line_outcome { ReportsLineOutcome result.line_outcome result.text.items }
 {
     ControlReply::line(alloc, b"bad-clock", LineOutcome::Failed(Failure::BadClock))
 }
@@ -171,10 +171,10 @@ fn settle_by_clock<M: Machine>(
     last_reason: &mut Vec<u8>,
 ) -> ControlReply
     ensures moves { LeadsIn M.Office.Office (λ identity before after. AtClock accepted now before
-        (SettlesAt M.Office.signs now identity before serial_decision result.text.items after)
+        (DecidesAt M.Office.signs now identity before serial_decision result.text.items after)
         result.text.items after)
         office.old office.new }
-    ensures came { ReportsLineOutcome result.came result.text.items }
+    ensures line_outcome { ReportsLineOutcome result.line_outcome result.text.items }
 {
     match refusal_by_clock::<M>(alloc, office, accepted, now, last_reason) {
         Some(refused) => refused,
@@ -194,7 +194,7 @@ fn answer_by_clock<M: Machine>(
         (λ identity before after.
         LineAt accepted M.Office.signs now identity before line.now result.text.items after)
         office.old office.new }
-    ensures came { ReportsLineOutcome result.came result.text.items }
+    ensures line_outcome { ReportsLineOutcome result.line_outcome result.text.items }
 {
     if !has_command(line) {
         return answer_command_line::<M>(alloc, office, now, line, last_reason);
@@ -228,7 +228,7 @@ fn answer_command_line<M: Machine>(
         (λ identity before after.
         CommandAt M.Office.signs now identity before line.now result.text.items after)
         office.old office.new }
-    ensures came { ReportsLineOutcome result.came result.text.items }
+    ensures line_outcome { ReportsLineOutcome result.line_outcome result.text.items }
 {
     let Ok(room) = Vec::with_capacity(alloc, LONGEST_REPLY) else {
         return ControlReply::fault(alloc, Fault::Memory);
@@ -251,11 +251,11 @@ pub(crate) fn answer_command<M: Machine>(
     requires room { 84 ≤ vec_capacity room }
     ensures stays { KeepsIn M.Office.Office office.old office.new }
     ensures text { result.text.items ≡ reply_of answered }
-    ensures came { result.came ≡ line_outcome_of answered }
+    ensures line_outcome { result.line_outcome ≡ line_outcome_of answered }
 {
     let refused = answered.refused();
     let reply = ControlReply::of(answered, room);
-    if reply.came.kind() == LineReply::Refused {
+    if reply.line_outcome.kind() == LineReply::Refused {
         keep_refusal_reason::<M>(alloc, office, refused, &reply.text, last_reason);
     }
     reply
@@ -269,11 +269,11 @@ fn answer_schedule<M: Machine>(
 ) -> ControlReply
     ensures moves { LeadsIn M.Office.Office
         (λ identity before after. SetAt steps.now before result.text.items after) office.old office.new }
-    ensures came { ReportsLineOutcome result.came result.text.items }
+    ensures line_outcome { ReportsLineOutcome result.line_outcome result.text.items }
 {
     let set = set_steps::<M>(alloc, office, steps);
     let reply = set_reply(alloc, set);
-    if reply.came.kind() == LineReply::Refused {
+    if reply.line_outcome.kind() == LineReply::Refused {
         keep_reply_reason(&reply.text, last_reason);
     }
     reply
@@ -296,7 +296,7 @@ fn set_steps<M: Machine>(
 
 fn set_reply(alloc: Global, set: Result<(), Failure>) -> ControlReply
     ensures text { RepliesSetting set result.text.items }
-    ensures came { ReportsLineOutcome result.came result.text.items }
+    ensures line_outcome { ReportsLineOutcome result.line_outcome result.text.items }
 {
     match set {
         Ok(()) => ControlReply::line(alloc, b"schedule set", LineOutcome::Done),

@@ -8,14 +8,14 @@ ghost use Rattle.reg_desk_jobs.specs.ControlReplies.{IsLineReply, IsOf, line_out
 use reg_core::{Command, Fault, Outcome};
 use reg_desk_cli::Failure;
 use reg_lines::{Answered, LineKind};
-use reg_office_api::{LineEffects, LineReply, SignatureFate, StoreEffect};
+use reg_office_api::{LineEffects, LineReply, SignatureOutcome, StoreEffect};
 use std::alloc::{AllocError, Global};
 
 /// The result of a line at the control socket.
 #[derive(Clone, Copy)]
 pub(crate) enum LineOutcome {
     /// A command line: its kind, and its outcome.
-    CameTo(LineKind, Outcome),
+    Completed(LineKind, Outcome),
     /// An OCSP request that got a response. Has whether that has only a status (RFC 6960 4.2.1).
     Response(bool),
     /// Another word, which succeeded.
@@ -23,7 +23,7 @@ pub(crate) enum LineOutcome {
     /// Another word, which failed.
     Failed(Failure),
     /// No copy was created, because of this fault. The fault tells nothing about the register's own file.
-    Uncopied(Fault),
+    CopyFault(Fault),
     /// There was no memory for the reply.
     Silent,
 }
@@ -33,7 +33,7 @@ impl LineOutcome {
         ensures { result ≡ line_outcome_of answered.now }
     {
         match answered {
-            Answered::CameTo(asked, outcome) => LineOutcome::CameTo(*asked, *outcome),
+            Answered::Completed(asked, outcome) => LineOutcome::Completed(*asked, *outcome),
             Answered::Response(reply) => LineOutcome::Response(reply.is_refusal),
         }
     }
@@ -54,36 +54,39 @@ impl LineOutcome {
         ensures { result ≡ kind_of self.now }
     {
         match self {
-            LineOutcome::CameTo(_, Ok(_)) => LineReply::Accepted,
-            LineOutcome::CameTo(_, Err(fault)) => kind_of_fault(fault),
+            LineOutcome::Completed(_, Ok(_)) => LineReply::Accepted,
+            LineOutcome::Completed(_, Err(fault)) => kind_of_fault(fault),
             LineOutcome::Response(_) => LineReply::Accepted,
             LineOutcome::Done => LineReply::Accepted,
             LineOutcome::Failed(Failure::Fault(fault)) => kind_of_fault(fault),
             LineOutcome::Failed(_) => LineReply::Refused,
-            LineOutcome::Uncopied(fault) => kind_of_fault(fault),
+            LineOutcome::CopyFault(fault) => kind_of_fault(fault),
             LineOutcome::Silent => LineReply::Fault,
         }
     }
 
-    fn crl(&self, is_unsigned: bool) -> SignatureFate
+    fn crl(&self, is_unsigned: bool) -> SignatureOutcome
         ensures { result ≡ crl_fate is_unsigned self.now }
     {
         match self {
-            LineOutcome::CameTo(LineKind::Command(Command::Crl), Ok(_)) => SignatureFate::Made,
-            LineOutcome::CameTo(LineKind::Command(Command::Crl), Err(_)) => failed_if(is_unsigned),
-            _ => SignatureFate::NotAsked,
+            LineOutcome::Completed(LineKind::Command(Command::Crl), Ok(_)) =>
+                SignatureOutcome::Made,
+            LineOutcome::Completed(LineKind::Command(Command::Crl), Err(_)) => failed_if(
+                is_unsigned,
+            ),
+            _ => SignatureOutcome::NotRequested,
         }
     }
 
-    fn ocsp(&self, is_unsigned: bool) -> SignatureFate
+    fn ocsp(&self, is_unsigned: bool) -> SignatureOutcome
         ensures { result ≡ ocsp_fate is_unsigned self.now }
     {
         match self {
-            LineOutcome::CameTo(LineKind::Ocsp, _) => failed_if(is_unsigned),
+            LineOutcome::Completed(LineKind::Ocsp, _) => failed_if(is_unsigned),
             LineOutcome::Response(true) => failed_if(is_unsigned),
-            LineOutcome::Response(false) if !is_unsigned => SignatureFate::Made,
-            LineOutcome::Response(false) => SignatureFate::Failed,
-            _ => SignatureFate::NotAsked,
+            LineOutcome::Response(false) if !is_unsigned => SignatureOutcome::Made,
+            LineOutcome::Response(false) => SignatureOutcome::Failed,
+            _ => SignatureOutcome::NotRequested,
         }
     }
 
@@ -91,8 +94,8 @@ impl LineOutcome {
         ensures { result ≡ store_effect self.now }
     {
         match self {
-            LineOutcome::CameTo(LineKind::Command(_), Ok(_)) => StoreEffect::Written,
-            LineOutcome::CameTo(_, Err(Fault::Store)) => StoreEffect::Failed,
+            LineOutcome::Completed(LineKind::Command(_), Ok(_)) => StoreEffect::Written,
+            LineOutcome::Completed(_, Err(Fault::Store)) => StoreEffect::Failed,
             LineOutcome::Failed(Failure::Fault(Fault::Store)) => StoreEffect::Failed,
             _ => StoreEffect::Unwritten,
         }
@@ -108,13 +111,13 @@ fn kind_of_fault(fault: &Fault) -> LineReply
     }
 }
 
-fn failed_if(is_unsigned: bool) -> SignatureFate
+fn failed_if(is_unsigned: bool) -> SignatureOutcome
     ensures { result ≡ failed_where is_unsigned }
 {
     if is_unsigned {
-        SignatureFate::Failed
+        SignatureOutcome::Failed
     } else {
-        SignatureFate::NotAsked
+        SignatureOutcome::NotRequested
     }
 }
 
@@ -123,7 +126,7 @@ fn failed_if(is_unsigned: bool) -> SignatureFate
 pub(crate) struct ControlReply {
     /// The reply with its LF; empty if there was no memory for it.
     pub(crate) text: Vec<u8>,
-    pub(crate) came: LineOutcome,
+    pub(crate) line_outcome: LineOutcome,
 }
 
 impl ControlReply {
@@ -132,20 +135,20 @@ impl ControlReply {
         requires empty { room.items ≡ [] }
         requires room { 84 ≤ vec_capacity room }
         ensures text { result.text.items ≡ reply_of answered }
-        ensures came { result.came ≡ line_outcome_of answered }
+        ensures line_outcome { result.line_outcome ≡ line_outcome_of answered }
     {
-        let came = LineOutcome::of(&answered);
+        let line_outcome = LineOutcome::of(&answered);
         ControlReply {
             text: answered.into_reply(room),
-            came,
+            line_outcome,
         }
     }
 
-    /// A reply of one line, with the result `came`; empty if there is no memory for it.
-    pub(crate) fn line(alloc: Global, line: &[u8], came: LineOutcome) -> ControlReply
-        ensures { IsLineReply line.now came result }
+    /// A reply of one line, with the result `line_outcome`; empty if there is no memory for it.
+    pub(crate) fn line(alloc: Global, line: &[u8], line_outcome: LineOutcome) -> ControlReply
+        ensures { IsLineReply line.now line_outcome result }
     {
-        ControlReply::made(alloc, with_lf(alloc, line), came)
+        ControlReply::made(alloc, with_lf(alloc, line), line_outcome)
     }
 
     pub(crate) fn fault(alloc: Global, fault: Fault) -> ControlReply
@@ -161,26 +164,26 @@ impl ControlReply {
 
     /// The reply for a fault because of which no copy was created.
     pub(crate) fn uncopied(alloc: Global, fault: Fault) -> ControlReply
-        ensures { IsLineReply (fault_line fault) (LineOutcome.Uncopied fault) result }
+        ensures { IsLineReply (fault_line fault) (LineOutcome.CopyFault fault) result }
     {
         let line = fault.line();
-        ControlReply::line(alloc, line.as_bytes(), LineOutcome::Uncopied(fault))
+        ControlReply::line(alloc, line.as_bytes(), LineOutcome::CopyFault(fault))
     }
 
-    /// The reply with this text and the result `came`; empty if there was no memory for the text.
+    /// The reply with this text and the result `line_outcome`; empty if there was no memory for the text.
     pub(crate) fn made(
         alloc: Global,
         text: Result<Vec<u8>, AllocError>,
-        came: LineOutcome,
+        line_outcome: LineOutcome,
     ) -> ControlReply
         ensures { (bytes : List ℕ) → IfOk text (λ made. made.items ≡ bytes)
-            → IsOf bytes came result.text.items result.came }
+            → IsOf bytes line_outcome result.text.items result.line_outcome }
     {
         match text {
-            Ok(text) => ControlReply { text, came },
+            Ok(text) => ControlReply { text, line_outcome },
             Err(_) => ControlReply {
                 text: Vec::new(alloc),
-                came: LineOutcome::Silent,
+                line_outcome: LineOutcome::Silent,
             },
         }
     }

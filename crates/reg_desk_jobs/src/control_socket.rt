@@ -5,12 +5,12 @@ ghost use Rattle.reg_desk_jobs.specs.Serving.{IsControlSocket};
 
 use crate::machine::Machine;
 use mio::net::UnixListener;
-use reg_core::of_io;
+use reg_core::io_cause_of;
 use std::fs::File;
 use std::io;
 use std::io::ErrorKind;
 
-const OWNER_ALONE: u32 = 0o600;
+const OWNER_ONLY: u32 = 0o600;
 
 /// The most connections that can be waiting when the mode is set.
 const MOST_WAITING: usize = 4_096;
@@ -24,7 +24,7 @@ pub(crate) fn create_control_socket<M: Machine>(machine: &M, path: &str) -> io::
     match create_for_owner(machine, path) {
         Ok(listener) => Ok(listener),
         Err(error) => {
-            machine.keep_cause(of_io(error.kind()));
+            machine.keep_cause(io_cause_of(error.kind()));
             Err(error)
         }
     }
@@ -35,7 +35,7 @@ fn create_for_owner<M: Machine>(machine: &M, path: &str) -> io::Result<UnixListe
 {
     let lock = machine.lock_folder(path)?;
     let listener = replace_stale_socket(machine, &lock, path)?;
-    machine.set_mode(path, OWNER_ALONE)?;
+    machine.set_mode(path, OWNER_ONLY)?;
     drop_waiting(&listener);
     Ok(listener)
 }

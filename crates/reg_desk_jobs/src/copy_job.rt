@@ -18,7 +18,7 @@ use std::io::Write;
 
 /// Why no copy was created: the fault, and its cause if it is known.
 #[derive(Clone, Copy, PartialEq, Eq)]
-pub struct Uncopied {
+pub struct CopyFault {
     /// The fault.
     pub fault: Fault,
     /// The cause of the call that failed.
@@ -42,7 +42,7 @@ pub(crate) fn answer_copy<M: Machine>(
 ) -> ControlReply
     ensures copied { AnswersCopy (M.copied_open file.now) result.text.items }
     ensures told { AnswersCopy (λ bytes. Unit {0}) result.text.items }
-    ensures came { ReportsLineOutcome result.came result.text.items }
+    ensures line_outcome { ReportsLineOutcome result.line_outcome result.text.items }
 {
     let began = machine.micros();
     match copy_to(machine, file, path) {
@@ -51,13 +51,13 @@ pub(crate) fn answer_copy<M: Machine>(
     }
 }
 
-fn copy_to<M: Machine>(machine: &M, file: &str, path: Option<&str>) -> Result<u64, Uncopied>
+fn copy_to<M: Machine>(machine: &M, file: &str, path: Option<&str>) -> Result<u64, CopyFault>
     ensures ok { IfOk result (M.copied_open file.now) }
     ensures err { IfErr result (λ why. IsOfStore why.fault) }
 {
     match path {
         Some(path) => machine.copy_open(file, path),
-        None => Err(Uncopied {
+        None => Err(CopyFault {
             fault: Fault::Store,
             cause: None,
         }),
@@ -77,7 +77,7 @@ fn millis_since<M: Machine>(machine: &M, began: u64) -> u64 {
 }
 
 fn copied_reply(alloc: Global, bytes: u64, millis: u64) -> ControlReply
-    ensures { IsOf (copied_text bytes millis) LineOutcome.Done result.text.items result.came }
+    ensures { IsOf (copied_text bytes millis) LineOutcome.Done result.text.items result.line_outcome }
 {
     ControlReply::made(alloc, copied_line(alloc, bytes, millis), LineOutcome::Done)
 }
@@ -94,8 +94,8 @@ fn copied_line(alloc: Global, bytes: u64, millis: u64) -> Result<Vec<u8>, AllocE
     Ok(text)
 }
 
-fn uncopied_reply(alloc: Global, why: Uncopied, last_reason: &mut Vec<u8>) -> ControlReply
-    ensures { IsLineReply (fault_line why.fault) (LineOutcome.Uncopied why.fault) result }
+fn uncopied_reply(alloc: Global, why: CopyFault, last_reason: &mut Vec<u8>) -> ControlReply
+    ensures { IsLineReply (fault_line why.fault) (LineOutcome.CopyFault why.fault) result }
 {
     let reply = ControlReply::uncopied(alloc, why.fault);
     keep_reason_text(cause_text(alloc, why.cause), &reply.text, last_reason);

@@ -3,7 +3,7 @@
 ghost use Rattle.std.specs.Prelude.{◌≡◌};
 ghost use Rattle.reg_desk_jobs.specs.Signers.{signs_crls};
 
-use reg_desk_cli::{Answerer, KeyHolder, Word};
+use reg_desk_cli::{ResponderChoice, SignerAddress, Word};
 
 /// The signer of CRLs with which a register is opened.
 #[derive(Drop)]
@@ -13,21 +13,24 @@ pub enum CrlSigner<'a> {
     /// CRLs get a placeholder digest instead of a signature.
     Digest,
     /// The signer with the issuer's key.
-    Holder(KeyHolder<'a>),
+    OpenedBy(SignerAddress<'a>),
 }
 
 impl<'a> CrlSigner<'a> {
     /// The given signer. Without one, a placeholder digest; but no signer if the OCSP responder has a key of its own.
-    pub(crate) fn of(signer: &Option<KeyHolder<'a>>, answerer: &Answerer<'_>) -> CrlSigner<'a>
+    pub(crate) fn of(
+        signer: &Option<SignerAddress<'a>>,
+        answerer: &ResponderChoice<'_>,
+    ) -> CrlSigner<'a>
         ensures { result ≡ signs_crls signer.now answerer.now }
     {
         match (signer, answerer) {
-            (Some(holder), _) => CrlSigner::Holder(KeyHolder {
+            (Some(holder), _) => CrlSigner::OpenedBy(SignerAddress {
                 socket: Word::of(holder.socket.as_str()),
                 algorithm: holder.algorithm,
             }),
-            (None, Answerer::Issuer { .. }) => CrlSigner::Digest,
-            (None, Answerer::Delegate { .. }) => CrlSigner::Nobody,
+            (None, ResponderChoice::Issuer { .. }) => CrlSigner::Digest,
+            (None, ResponderChoice::Delegate { .. }) => CrlSigner::Nobody,
         }
     }
 }

@@ -5,7 +5,7 @@ ghost use Rattle.reg_core.specs.Records.{request_in};
 ghost use Rattle.reg_office_api.specs.Calls.{LeadsIn, LooksIn};
 ghost use Rattle.reg_desk_jobs.specs.ControlReplies.{ReportsLineOutcome, ReportsFault};
 ghost use Rattle.reg_desk_jobs.specs.LogNames.{Decides, NamesRequest, NamesAccepted, NamesDecided};
-ghost use Rattle.reg_desk_jobs.specs.SerialDecisions.{RunsAt, SettlesAt, request_of_row};
+ghost use Rattle.reg_desk_jobs.specs.SerialDecisions.{RunsAt, DecidesAt, request_of_row};
 ghost use Rattle.reg_desk_jobs.specs.RowLookUps.{IsLookedUp};
 
 use crate::control_lines::answer_command;
@@ -33,9 +33,9 @@ pub(crate) fn answer_serial_decision<M: Machine>(
 ) -> ControlReply
     ensures moves { LeadsIn M.Office.Office
         (λ identity before after.
-        SettlesAt M.Office.signs now identity before serial_decision result.text.items after)
+        DecidesAt M.Office.signs now identity before serial_decision result.text.items after)
         office.old office.new }
-    ensures came { ReportsLineOutcome result.came result.text.items }
+    ensures line_outcome { ReportsLineOutcome result.line_outcome result.text.items }
 {
     match find_request(alloc, office, now, serial_decision.request) {
         Ok(Some(request)) if request.serial != serial_decision.serial => answer_other(
@@ -58,20 +58,20 @@ fn answer_run<M: Machine>(
     ensures moves { LeadsIn M.Office.Office
         (λ identity before after. RunsAt M.Office.signs now identity before command result.text.items after)
         office.old office.new }
-    ensures came { ReportsLineOutcome result.came result.text.items }
+    ensures line_outcome { ReportsLineOutcome result.line_outcome result.text.items }
 {
     let Ok(room) = Vec::with_capacity(alloc, LONGEST_REPLY) else {
         return ControlReply::fault(alloc, Fault::Memory);
     };
     let outcome = office.run_one(alloc, now, &command);
-    let answered = Answered::CameTo(LineKind::Command(command), outcome);
+    let answered = Answered::Completed(LineKind::Command(command), outcome);
     answer_command::<M>(alloc, office, answered, room, last_reason)
 }
 
 /// Refuses a request for another serial number, and keeps that serial number for `why`.
 fn answer_other(alloc: Global, request: RequestRow, last_reason: &mut Vec<u8>) -> ControlReply
     ensures told { ReportsFault (Fault.Refused Refusal.NoRequest) result.text.items }
-    ensures came { ReportsLineOutcome result.came result.text.items }
+    ensures line_outcome { ReportsLineOutcome result.line_outcome result.text.items }
 {
     let reply = ControlReply::fault(alloc, Fault::Refused(Refusal::NoRequest));
     let reason = Reason::OtherSerial(request.id, request.serial);
@@ -148,11 +148,14 @@ fn decided_by(line: &[u8]) -> Option<u64>
 }
 
 /// What the log names of the request that a line entered or decided. `before` is what was looked up before a decision.
-pub(crate) fn named_by(came: &LineOutcome, before: Option<NamedRequest>) -> Option<NamedRequest>
-    ensures { NamesRequest came.now before result }
+pub(crate) fn named_by(
+    line_outcome: &LineOutcome,
+    before: Option<NamedRequest>,
+) -> Option<NamedRequest>
+    ensures { NamesRequest line_outcome.now before result }
 {
-    match came {
-        LineOutcome::CameTo(LineKind::Command(command), Ok(reply)) => named_of(
+    match line_outcome {
+        LineOutcome::Completed(LineKind::Command(command), Ok(reply)) => named_of(
             command, reply, before,
         ),
         _ => None,

@@ -12,10 +12,10 @@ use crate::machine::Machine;
 use crate::unsigned_responses::received_answer;
 use reg_core::{Command, Memory, Moment};
 use reg_crl_signer::{Backoff, PresetSignature, SignatureRequest};
-use reg_desk_cli::{Answerer, KeyHolder};
+use reg_desk_cli::{ResponderChoice, SignerAddress};
 use reg_desk_metrics::is_ahead;
 use reg_desk_server::{Deferred, EventLoopFault};
-use reg_io::Begun;
+use reg_io::ReadyOrUnsigned;
 use reg_lines::CommandLine;
 use reg_ocsp::Draft;
 use reg_office_api::{OcspResponse, Office};
@@ -24,15 +24,15 @@ use std::time::Duration;
 
 /// What is to be signed for a line: a CRL, or an OCSP response.
 #[derive(Clone, Copy, PartialEq, Eq)]
-pub enum Wanted {
+pub enum SignatureKind {
     Crl,
     Answer,
 }
 
 /// What the desk keeps of a line while its signature is made.
 #[derive(Clone, Copy)]
-pub struct Looked {
-    pub(crate) wanted: Wanted,
+pub struct LineTicket {
+    pub(crate) wanted: SignatureKind,
     /// The moment for which the message was made.
     pub(crate) moment: Moment,
     /// The microseconds of the clock at which the desk began.
@@ -51,10 +51,10 @@ pub(crate) struct Known {
 /// After how many milliseconds since the desk began the signer counts as timed out. Its own timeout of ten seconds begins a little later.
 const TIMEOUT: u64 = 9_500;
 
-fn wanted_by(said: &CommandLine<'_>) -> Option<Wanted> {
+fn signature_kind_by(said: &CommandLine<'_>) -> Option<SignatureKind> {
     match *said {
-        CommandLine::Command(Command::Crl) => Some(Wanted::Crl),
-        CommandLine::Ocsp(_) => Some(Wanted::Answer),
+        CommandLine::Command(Command::Crl) => Some(SignatureKind::Crl),
+        CommandLine::Ocsp(_) => Some(SignatureKind::Answer),
         _ => None,
     }
 }
@@ -62,9 +62,9 @@ fn wanted_by(said: &CommandLine<'_>) -> Option<Wanted> {
 fn look_at<M: Machine>(
     alloc: Global,
     office: &mut M::Office,
-    looked: Looked,
+    looked: LineTicket,
     said: &CommandLine<'_>,
-) -> Option<Deferred<Looked>>
+) -> Option<Deferred<LineTicket>>
     ensures { KeepsIn M.Office.Office office.old office.new }
 {
     match *said {
@@ -79,9 +79,9 @@ fn look_at<M: Machine>(
 fn look_at_request<O: Office>(
     alloc: Global,
     office: &mut O,
-    looked: Looked,
+    looked: LineTicket,
     digits: &[u8],
-) -> Option<Deferred<Looked>>
+) -> Option<Deferred<LineTicket>>
     ensures { KeepsIn O.Office office.old office.new }
 {
     let Ok(request) = hex::decode(alloc, digits) else {
@@ -94,10 +94,10 @@ fn look_at_request<O: Office>(
 /// The message of a response that was begun; `None` if nothing is to be signed, or if there is no memory.
 fn deferred_for(
     alloc: Global,
-    begun: Result<Begun<OcspResponse, Draft>, Memory>,
-    ticket: Looked,
-) -> Option<Deferred<Looked>> {
-    let Ok(Begun::Unsigned(draft)) = begun else {
+    begun: Result<ReadyOrUnsigned<OcspResponse, Draft>, Memory>,
+    ticket: LineTicket,
+) -> Option<Deferred<LineTicket>> {
+    let Ok(ReadyOrUnsigned::Unsigned(draft)) = begun else {
         return None;
     };
     let message = Vec::from_slice(alloc, draft.message()).ok()?;
@@ -106,22 +106,22 @@ fn deferred_for(
 
 /// The path of the signer's socket, if there is a signer: for OCSP responses the responder's, or else that of the signer of CRLs.
 pub(crate) fn socket_of<'w>(
-    signer: &Option<KeyHolder<'w>>,
-    answerer: &Answerer<'w>,
-    wanted: Wanted,
+    signer: &Option<SignerAddress<'w>>,
+    answerer: &ResponderChoice<'w>,
+    wanted: SignatureKind,
 ) -> Option<&'w str>
     ensures { socket_for signer.now answerer.now wanted ≡ option_copied result }
 {
     match wanted {
-        Wanted::Crl => crls_at(signer),
-        Wanted::Answer => match answerer {
-            Answerer::Delegate { holder, .. } => Some(holder.socket.as_str()),
-            Answerer::Issuer { .. } => crls_at(signer),
+        SignatureKind::Crl => crls_at(signer),
+        SignatureKind::Answer => match answerer {
+            ResponderChoice::Delegate { holder, .. } => Some(holder.socket.as_str()),
+            ResponderChoice::Issuer { .. } => crls_at(signer),
         },
     }
 }
 
-fn crls_at<'w>(signer: &Option<KeyHolder<'w>>) -> Option<&'w str>
+fn crls_at<'w>(signer: &Option<SignerAddress<'w>>) -> Option<&'w str>
     ensures { crl_socket signer.now ≡ option_copied result }
 {
     Some(signer.as_ref()?.socket.as_str())
@@ -134,9 +134,9 @@ pub(crate) fn known_of<M: Machine>(
     alloc: Global,
     office: &mut M::Office,
     machine: &M,
-    signer: &Option<KeyHolder<'_>>,
-    answerer: &Answerer<'_>,
-    looked: Looked,
+    signer: &Option<SignerAddress<'_>>,
+    answerer: &ResponderChoice<'_>,
+    looked: LineTicket,
     message: Vec<u8>,
     link: Option<SignatureRequest>,
 ) -> Result<Option<Known>, EventLoopFault>
@@ -169,9 +169,9 @@ fn recalled<M: Machine>(
     alloc: Global,
     office: &mut M::Office,
     machine: &M,
-    signer: &Option<KeyHolder<'_>>,
-    answerer: &Answerer<'_>,
-    looked: Looked,
+    signer: &Option<SignerAddress<'_>>,
+    answerer: &ResponderChoice<'_>,
+    looked: LineTicket,
     message: Vec<u8>,
     link: SignatureRequest,
 ) -> Option<Known>
@@ -203,17 +203,17 @@ fn is_past<O: Office>(office: &mut O, moment: Moment) -> bool
 
 impl<'a, 'w, M: Machine> Desk<'a, 'w, M> {
     /// What is to be signed before a line can be answered; `None` if nothing is, or if there is no signer for it.
-    pub(crate) fn look_for(&mut self, said: &CommandLine<'_>) -> Option<Deferred<Looked>>
+    pub(crate) fn look_for(&mut self, said: &CommandLine<'_>) -> Option<Deferred<LineTicket>>
         ensures open { self.new.is_open ≡ self.old.is_open }
         ensures moves { KeepsIn M.Office.Office
             self.old.office self.new.office }
     {
-        let wanted = wanted_by(said)?;
+        let wanted = signature_kind_by(said)?;
         socket_of(self.signer, self.answerer, wanted)?;
         let began = self.machine.micros();
-        if wanted == Wanted::Answer && self.backoff.is_active(Duration::from_micros(began)) {
+        if wanted == SignatureKind::Answer && self.backoff.is_active(Duration::from_micros(began)) {
             // The response stays unsigned, because its signer is backed off.
-            let ticket = Looked {
+            let ticket = LineTicket {
                 wanted,
                 moment: Moment::EPOCH,
                 began,
@@ -225,11 +225,11 @@ impl<'a, 'w, M: Machine> Desk<'a, 'w, M> {
             });
         }
         let moment = self.machine.moment().ok()?;
-        if wanted == Wanted::Crl && self.is_ahead(moment) {
+        if wanted == SignatureKind::Crl && self.is_ahead(moment) {
             // The command will be refused, so nothing is signed for it.
             return None;
         }
-        let looked = Looked {
+        let looked = LineTicket {
             wanted,
             moment,
             began,
@@ -251,8 +251,8 @@ impl<'a, 'w, M: Machine> Desk<'a, 'w, M> {
     }
 
     /// The back-off of the OCSP signer after this line: cleared if it answered or failed at once, set if it timed out, unchanged if it was not asked.
-    pub(crate) fn backoff_after(&self, looked: Looked, has_come: bool) -> Backoff {
-        let answers = socket_of(self.signer, self.answerer, Wanted::Answer);
+    pub(crate) fn backoff_after(&self, looked: LineTicket, has_come: bool) -> Backoff {
+        let answers = socket_of(self.signer, self.answerer, SignatureKind::Answer);
         let asked = socket_of(self.signer, self.answerer, looked.wanted);
         if looked.is_backed_off || !is_same(asked, answers) {
             return self.backoff;
@@ -272,7 +272,7 @@ impl<'a, 'w, M: Machine> Desk<'a, 'w, M> {
         &mut self,
         line: &[u8],
         last_reason: &mut Vec<u8>,
-        looked: Looked,
+        looked: LineTicket,
         known: Known,
     ) -> Vec<u8>
         requires { IsKnown (AnsweredBySigner M.signer_answered self.old.signer.now self.old.answerer.now

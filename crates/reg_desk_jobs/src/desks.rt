@@ -4,17 +4,17 @@ ghost use Rattle.std.specs.Prelude.{◌≡◌, IfOk, MatchOption, OnErr};
 
 use crate::admission::Admission;
 use crate::control_lines::answer_counted;
-use crate::deferred_commands::{Looked, Wanted, known_of, socket_of};
+use crate::deferred_commands::{LineTicket, SignatureKind, known_of, socket_of};
 use crate::exchange_log::log_lost;
 use crate::http_exchanges::answer_http;
 use crate::machine::Machine;
 use crate::unsigned_responses::{Unsigned, finish_http};
 use reg_crl_signer::{Backoff, SignatureRequest};
-use reg_desk_cli::{Answerer, KeyHolder};
+use reg_desk_cli::{ResponderChoice, SignerAddress};
 use reg_desk_metrics::{ConnectionTotals, Tally};
 use reg_desk_server::{ConnectionCounts, ConnectionFault, Deferred, EventLoopFault, Handler};
 use reg_http_head::Collected;
-use reg_io::Begun;
+use reg_io::ReadyOrUnsigned;
 use reg_lines::{command_in, read_line};
 use std::alloc::Global;
 use std::cell::Cell;
@@ -32,8 +32,8 @@ pub(crate) struct Desk<'a, 'w, M: Machine> {
     pub(crate) is_open: bool,
     pub(crate) file: &'a str,
     /// The signers of CRLs and of OCSP responses, as the command line names them.
-    pub(crate) signer: &'a Option<KeyHolder<'w>>,
-    pub(crate) answerer: &'a Answerer<'w>,
+    pub(crate) signer: &'a Option<SignerAddress<'w>>,
+    pub(crate) answerer: &'a ResponderChoice<'w>,
     /// The back-off of the OCSP signer, for `ocsp` lines at the control socket.
     pub(crate) backoff: Backoff,
     /// What was counted since the register was opened. No contract of the desk mentions it. It is a `Cell`, because `finish` takes `&self` and counts
@@ -56,7 +56,7 @@ impl<'a, 'w, M: Machine> Handler for Desk<'a, 'w, M> {
 
     type Ticket = Unsigned;
 
-    type Line = Looked;
+    type Line = LineTicket;
 
     ghost answers = { λ s request outcome t. (t.is_open ≡ s.is_open) × LeadsIn M.Office.Office
         (λ identity before after. Meets (FinishesUnsigned (AnsweredAtSomePath M.signer_answered))
@@ -76,7 +76,7 @@ impl<'a, 'w, M: Machine> Handler for Desk<'a, 'w, M> {
         &mut self,
         client: SocketAddr,
         request: &Collected,
-    ) -> Result<Begun<Vec<u8>, Unsigned>, EventLoopFault> {
+    ) -> Result<ReadyOrUnsigned<Vec<u8>, Unsigned>, EventLoopFault> {
         let Ok(now) = self.machine.moment() else {
             return Err(EventLoopFault);
         };
@@ -103,7 +103,7 @@ impl<'a, 'w, M: Machine> Handler for Desk<'a, 'w, M> {
             (λ path. M.signature_requested path ticket.now.draft.message
             × IsSignatureRequest path ticket.now.draft.message sent_request)) }
     {
-        match socket_of(self.signer, self.answerer, Wanted::Answer) {
+        match socket_of(self.signer, self.answerer, SignatureKind::Answer) {
             Some(socket) => self
                 .machine
                 .request_signature(socket, ticket.draft.message()),
@@ -155,20 +155,20 @@ impl<'a, 'w, M: Machine> Handler for Desk<'a, 'w, M> {
         Ok(text)
     }
 
-    fn defer(&mut self, line: &[u8]) -> Option<Deferred<Looked>> {
+    fn defer(&mut self, line: &[u8]) -> Option<Deferred<LineTicket>> {
         match read_line(command_in(line)?) {
             Some(said) => self.look_for(&said),
             None => None,
         }
     }
 
-    fn reach(&self, ticket: &Looked) -> io::Result<SignatureRequest>
+    fn connect_to_signer(&self, ticket: &LineTicket) -> io::Result<SignatureRequest>
         ensures { IfOk result (λ sent_request.
             AtGivenPath (socket_for self.now.signer.now self.now.answerer.now ticket.now.wanted)
             (λ path. M.reached path × IsSignatureRequest path [] sent_request)) }
     {
         match socket_of(self.signer, self.answerer, ticket.wanted) {
-            Some(socket) if !ticket.is_backed_off => self.machine.reach(socket),
+            Some(socket) if !ticket.is_backed_off => self.machine.connect_to_signer(socket),
             _ => Err(io::Error::from(ErrorKind::NotFound)),
         }
     }
@@ -177,7 +177,7 @@ impl<'a, 'w, M: Machine> Handler for Desk<'a, 'w, M> {
         &mut self,
         line: &[u8],
         last_reason: &mut Vec<u8>,
-        deferred: Deferred<Looked>,
+        deferred: Deferred<LineTicket>,
         link: Option<SignatureRequest>,
     ) -> Result<Option<Vec<u8>>, EventLoopFault>
         ensures ok { IfOk result (λ answered. MatchOption answered

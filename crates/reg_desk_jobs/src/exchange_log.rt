@@ -5,7 +5,7 @@ use crate::machine::Machine;
 use reg_core::Moment;
 use reg_desk_server::ConnectionFault;
 use reg_http::{Exchange, NamedRequest};
-use reg_office_api::SignatureFate;
+use reg_office_api::SignatureOutcome;
 use std::alloc::{AllocError, Global};
 use std::net::SocketAddr;
 
@@ -28,7 +28,7 @@ pub(crate) fn log_exchange<M: Machine>(
     let Ok(client_text) = name_of(alloc, Some(client)) else {
         return;
     };
-    let is_unsigned = exchange.signature == SignatureFate::Failed;
+    let is_unsigned = exchange.signature == SignatureOutcome::Failed;
     put(
         machine,
         exchange_line(

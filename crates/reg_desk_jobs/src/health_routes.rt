@@ -25,7 +25,7 @@ use http::Method;
 use reg_core::{Counts, CrlRow, Fault, Memory, Moment, Outcome, Overdue, Query, Reply};
 use reg_crl::{DigestSeal, Signer};
 use reg_crl_signer::crl_algorithm;
-use reg_desk_cli::{Answerer, VERSION};
+use reg_desk_cli::{ResponderChoice, VERSION};
 use reg_desk_metrics::{
     ConnectionTotals, CrlSigning, Found, Health, Numbers, ReadCrl, Requests, Tally, metrics,
 };
@@ -242,13 +242,13 @@ pub(crate) fn keep_due_reason<M: Machine>(
     alloc: Global,
     office: &mut M::Office,
     tally: &Tally,
-    came: &LineOutcome,
+    line_outcome: &LineOutcome,
     last_reason: &mut Vec<u8>,
 )
     ensures { KeepsIn M.Office.Office office.old office.new }
 {
-    match came {
-        LineOutcome::CameTo(LineKind::Query(Query::NextCrl), Ok(_)) => {
+    match line_outcome {
+        LineOutcome::Completed(LineKind::Query(Query::NextCrl), Ok(_)) => {
             let why = why_at_once::<M>(alloc, office, tally);
             if let Some(text) = reason_line(alloc, b"", why.unwrap_or(None)) {
                 *last_reason = text;
@@ -279,7 +279,7 @@ pub(crate) fn signing_of(crls: &CrlSigner<'_>) -> CrlSigning
     ensures { result ≡ signing_by crls.now }
 {
     match crls {
-        CrlSigner::Holder(_) => CrlSigning::Key,
+        CrlSigner::OpenedBy(_) => CrlSigning::Key,
         CrlSigner::Digest => CrlSigning::Digest,
         CrlSigner::Nobody => CrlSigning::Nobody,
     }
@@ -401,9 +401,14 @@ fn metrics_answer(
 }
 
 /// notAfter of the responder's certificate; `None` if the responder has none of its own, or if it can't be read.
-pub(crate) fn responder_end<M: Machine>(machine: &M, answerer: &Answerer<'_>) -> Option<Moment> {
+pub(crate) fn responder_end<M: Machine>(
+    machine: &M,
+    answerer: &ResponderChoice<'_>,
+) -> Option<Moment> {
     match answerer {
-        Answerer::Delegate { certificate, .. } => not_after(&machine.file(certificate.as_str())?),
-        Answerer::Issuer { .. } => None,
+        ResponderChoice::Delegate { certificate, .. } => not_after(&machine.file(
+            certificate.as_str(),
+        )?),
+        ResponderChoice::Issuer { .. } => None,
     }
 }

@@ -15,7 +15,7 @@ ghost use Rattle.reg_desk_jobs.specs.Exchanges.{dispatch};
 ghost use Rattle.reg_desk_jobs.specs.SignerAnswers.{AnsweredAtSomePath};
 ghost use Rattle.reg_desk_jobs.specs.Watched.{IsRecounted};
 ghost use Rattle.reg_desk_metrics.specs.declared.tally.Tally.{Tally as Tallies};
-ghost use Rattle.reg_io.specs.declared.begun.Begun.{Begun as BegunOf};
+ghost use Rattle.reg_io.specs.declared.begun.ReadyOrUnsigned.{ReadyOrUnsigned as BegunOf};
 
 use crate::admission::{Admission, begin_admitted};
 use crate::exchange_log::log_exchange;
@@ -27,12 +27,12 @@ use reg_core::{Fault, Memory, Moment};
 use reg_desk_metrics::{ConnectionTotals, Tally};
 use reg_http::{
     Answered, Exchange, Route, UnsignedResponse, answer_list, begin, begun_exchange, refuse,
-    text_room,
+    text_buffer,
 };
 use reg_http_head::{Collected, RequestRef};
-use reg_io::Begun;
+use reg_io::ReadyOrUnsigned;
 use reg_ocsp::Draft;
-use reg_office_api::{Office, SignatureFate};
+use reg_office_api::{Office, SignatureOutcome};
 use std::alloc::Global;
 use std::net::SocketAddr;
 
@@ -80,7 +80,7 @@ pub(crate) fn answer_http<M: Machine>(
     now: Moment,
     client: SocketAddr,
     request: &Collected,
-) -> Begun<Vec<u8>, Unsigned>
+) -> ReadyOrUnsigned<Vec<u8>, Unsigned>
     ensures { (begun : BegunOf HttpExchange UnsignedResponses) × (asked : Tallies)
         × IsRecounted tally.old asked
         × LeadsIn M.Office.Office
@@ -101,7 +101,7 @@ pub(crate) fn answer_http<M: Machine>(
         now,
         request,
     ) {
-        Begun::Ready(exchange) => {
+        ReadyOrUnsigned::Ready(exchange) => {
             let micros = machine.micros().saturating_sub(began);
             tally.count_exchange(now, &exchange, micros);
             log_exchange(
@@ -113,10 +113,12 @@ pub(crate) fn answer_http<M: Machine>(
                 request.as_slice(),
                 &exchange,
             );
-            Begun::Ready(exchange.text)
+            ReadyOrUnsigned::Ready(exchange.text)
         }
-        Begun::Unsigned(left) => {
-            Begun::Unsigned(unsigned_of(alloc, machine, left, now, began, client, request))
+        ReadyOrUnsigned::Unsigned(left) => {
+            ReadyOrUnsigned::Unsigned(unsigned_of(
+                alloc, machine, left, now, began, client, request,
+            ))
         }
     }
 }
@@ -131,7 +133,7 @@ fn exchange_at<M: Machine>(
     connection_totals: ConnectionTotals,
     now: Moment,
     request: &Collected,
-) -> Begun<Exchange, UnsignedResponse>
+) -> ReadyOrUnsigned<Exchange, UnsignedResponse>
     ensures moves { LeadsIn M.Office.Office
         (λ signatory before after.
         AnswersBegun (AnsweredAtSomePath M.signer_answered) is_open M.Office.signs now signatory before
@@ -140,8 +142,8 @@ fn exchange_at<M: Machine>(
     ensures route { IsBegunRoute (collected_bytes request.now) result }
     ensures recounted { IsRecounted tally.old tally.new }
 {
-    let Ok(room) = text_room(alloc) else {
-        return Begun::Ready(empty(alloc, request));
+    let Ok(room) = text_buffer(alloc) else {
+        return ReadyOrUnsigned::Ready(empty(alloc, request));
     };
     match request.request(alloc) {
         Ok(
@@ -171,10 +173,10 @@ fn exchange_at<M: Machine>(
             let route = Route::named_in(request.as_slice());
             begun_exchange(route, room, ready(refuse(alloc, status)), now)
         }
-        Err(Fault::Read) => Begun::Ready(empty(alloc, request)),
+        Err(Fault::Read) => ReadyOrUnsigned::Ready(empty(alloc, request)),
         Err(_) => {
             let route = Route::named_in(request.as_slice());
-            Begun::Ready(Exchange::out_of_memory(route, room))
+            ReadyOrUnsigned::Ready(Exchange::out_of_memory(route, room))
         }
     }
 }
@@ -185,14 +187,14 @@ fn empty(alloc: Global, request: &Collected) -> Exchange
     ensures route { result.route ≡ named_route (collected_bytes request.now) }
 {
     let route = Route::named_in(request.as_slice());
-    Exchange::empty(alloc, route, SignatureFate::NotAsked)
+    Exchange::empty(alloc, route, SignatureOutcome::NotRequested)
 }
 
-fn ready(answered: Result<Answered, Memory>) -> Result<Begun<Answered, Draft>, Memory>
+fn ready(answered: Result<Answered, Memory>) -> Result<ReadyOrUnsigned<Answered, Draft>, Memory>
     ensures { result ≡ ready_of answered }
 {
     match answered {
-        Ok(answered) => Ok(Begun::Ready(answered)),
+        Ok(answered) => Ok(ReadyOrUnsigned::Ready(answered)),
         Err(memory) => Err(memory),
     }
 }
@@ -210,7 +212,7 @@ fn begin_at<M: Machine>(
     method: &Method,
     target: &str,
     body: &[u8],
-) -> Result<Begun<Answered, Draft>, Memory>
+) -> Result<ReadyOrUnsigned<Answered, Draft>, Memory>
     requires { route ≡ route_at (path_of target.now) }
     ensures moves { LeadsIn M.Office.Office
         (λ signatory before after.

@@ -21,8 +21,8 @@ use reg_audit_rows::{AuditResult, Audited, BrokenRow, OTHER_SCHEMA, broken_line,
 use reg_core::{Fault, Moment, Policy};
 use reg_der::Issuer;
 use reg_desk_cli::{
-    Answerer, Failure, KeyHolder, NewRegister, RowsToImport, Steps, Word, key_identifier_of,
-    office_of, schedule_of,
+    Failure, ImportJob, NewRegister, ResponderChoice, SignerAddress, Steps, Word,
+    key_identifier_of, office_of, schedule_of,
 };
 use reg_lines::{Ended, import, import_strictly};
 use reg_office_api::Office;
@@ -100,14 +100,14 @@ pub fn script<M: Machine, R: Read, W: Write>(
     alloc: Global,
     machine: &mut M,
     path: &str,
-    signer: &Option<KeyHolder<'_>>,
+    signer: &Option<SignerAddress<'_>>,
     reader: &mut R,
     writer: &mut W,
 ) -> Result<(), Failure>
     ensures { ScriptAt M.Machine M.Office.Office R.remaining W.contents machine.old machine.new
         reader.old reader.new writer.old writer.new path.now signer.now result }
 {
-    let answerer = Answerer::Issuer { certificate: None };
+    let answerer = ResponderChoice::Issuer { certificate: None };
     let mut office = open_signed(machine, path, signer, &answerer)?;
     let is_unsigned = signer.is_none();
     let ran = run_script_over::<M, R, W>(alloc, machine, &mut office, is_unsigned, reader, writer);
@@ -121,7 +121,7 @@ pub fn script<M: Machine, R: Read, W: Write>(
 pub fn import_rows<M: Machine, R: Read, W: Write>(
     alloc: Global,
     machine: &mut M,
-    rows: &RowsToImport<'_>,
+    rows: &ImportJob<'_>,
     reason: &Cell<Option<Reason>>,
     reader: &mut R,
     writer: &mut W,
@@ -146,7 +146,7 @@ pub fn import_rows<M: Machine, R: Read, W: Write>(
 fn import_at<M: Machine, R: Read, W: Write>(
     alloc: Global,
     machine: &mut M,
-    rows: &RowsToImport<'_>,
+    rows: &ImportJob<'_>,
     now: Moment,
     is_checked: bool,
     reason: &Cell<Option<Reason>>,

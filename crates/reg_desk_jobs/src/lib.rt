@@ -35,10 +35,10 @@ mod unsigned_responses;
 mod validity;
 mod words;
 
-pub use at_job::{at, at_rows, talk};
-pub use copy_job::{Uncopied, copy};
+pub use at_job::{at, at_rows, exchange_lines};
+pub use copy_job::{CopyFault, copy};
 pub use crl_signer::CrlSigner;
-pub use deferred_commands::{Looked, Wanted};
+pub use deferred_commands::{LineTicket, SignatureKind};
 pub use jobs::{audit, crl, ended, import_rows, init, key_identifier, schedule, script};
 pub use lines_job::script_by_lines;
 pub use list_job::list;

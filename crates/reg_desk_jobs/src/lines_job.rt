@@ -6,14 +6,14 @@ ghost use Rattle.reg_lines.specs.ByCalls.{Lines};
 ghost use Rattle.reg_lines.specs.Script.{LinesEnd, ScriptEnds};
 ghost use Rattle.reg_desk_jobs.specs.Ends.{IsClockRefused, LinesAt};
 ghost use Rattle.reg_desk_metrics.specs.Ahead.{is_ahead as ahead};
-ghost use Rattle.reg_desk_jobs.specs.Sealing.{IsFirstCrl, sealed_line};
+ghost use Rattle.reg_desk_jobs.specs.PlaceholderWarning.{IsFirstCrl, placeholder_warning};
 
 use crate::jobs::run_ended;
 use crate::machine::Machine;
 use crate::reasons::{Reason, keep_reason};
 use crate::registers::open_signed;
 use reg_core::{Fault, Moment, Reply};
-use reg_desk_cli::{Answerer, Failure, LinedScript, Way};
+use reg_desk_cli::{Failure, LinedScript, ResponderChoice, ScriptOptions};
 use reg_desk_metrics::is_ahead;
 use reg_lines::{Answered, Ended, Host, run_lines, run_script_for};
 use reg_office_api::Office;
@@ -66,7 +66,7 @@ pub fn script_by_lines<M: Machine, R: Read, W: Write>(
         reader.old reader.new writer.old writer.new script.now result }
 {
     let path = script.file.as_str();
-    let answerer = Answerer::Issuer { certificate: None };
+    let answerer = ResponderChoice::Issuer { certificate: None };
     let mut office = open_signed(machine, path, &script.signer, &answerer)?;
     if refuses_clock::<M>(machine, &mut office, script.way) {
         machine.close(path, office);
@@ -88,7 +88,7 @@ pub fn script_by_lines<M: Machine, R: Read, W: Write>(
 }
 
 /// Whether the lines run at the machine's clock, this is too far ahead, and the operator does not accept that.
-fn refuses_clock<M: Machine>(machine: &M, office: &mut M::Office, way: Way) -> bool
+fn refuses_clock<M: Machine>(machine: &M, office: &mut M::Office, way: ScriptOptions) -> bool
     ensures { LooksIn M.Office.Office (λ records. IsTrue result → IsClockRefused way M.clock_reached records)
         office.old office.new }
 {
@@ -139,7 +139,7 @@ fn run_over<M: Machine, R: Read, W: Write>(
     machine: &M,
     office: &mut M::Office,
     is_unsigned: bool,
-    way: Way,
+    way: ScriptOptions,
     reader: &mut R,
     writer: &mut W,
 ) -> Result<Ended, Fault>
@@ -160,14 +160,14 @@ fn is_first_crl(answered: &Answered) -> bool
     ensures { IsTrue result ↔ IsFirstCrl answered.now }
 {
     match answered {
-        Answered::CameTo(_, Ok(Reply::Crl { number, .. })) => *number == 1,
+        Answered::Completed(_, Ok(Reply::Crl { number, .. })) => *number == 1,
         _ => false,
     }
 }
 
-#[tactic(auto, unfolding(crate::specs::Sealing::sealed_line))]
+#[tactic(auto, unfolding(crate::specs::PlaceholderWarning::placeholder_warning))]
 fn warn<M: Machine>(machine: &M)
-    ensures { M.warned sealed_line }
+    ensures { M.warned placeholder_warning }
 {
     machine.warn(
         b"warning: CRL 1 has a placeholder digest instead of a signature; to sign: --signer SOCKET --algorithm NAME\n",

@@ -1,7 +1,7 @@
 //! The job `list`: writes a whole list of a register.
 
 ghost use Rattle.std.specs.Prelude.{◌≡◌, ◌++◌, IfErr, IfOk, OnOk, flat_map};
-ghost use Rattle.reg_core_lists.specs.Filters.{wanted_rows};
+ghost use Rattle.reg_core_lists.specs.Filters.{filtered_rows};
 ghost use Rattle.reg_office_api.specs.Items.{items_of};
 ghost use Rattle.reg_office_api.specs.Calls.{LeadsIn};
 ghost use Rattle.reg_core_lists.specs.Pages.{GivesWholeList};
@@ -12,8 +12,8 @@ use crate::jobs::print_result;
 use crate::machine::Machine;
 use crate::registers::open_unsigned;
 use reg_core::{Fault, Moment};
-use reg_core_lists::{Cursor, Filter, Form, Row, header, put_rows};
-use reg_desk_cli::{Failure, ListToWrite};
+use reg_core_lists::{Cursor, Filter, Format, Row, header, put_rows};
+use reg_desk_cli::{Failure, ListJob};
 use reg_office_api::Office;
 use std::alloc::Global;
 use std::io::Write;
@@ -25,7 +25,7 @@ const MOST_ROWS: u64 = 1_000;
 pub fn list<M: Machine, W: Write>(
     alloc: Global,
     machine: &mut M,
-    wanted: &ListToWrite<'_>,
+    wanted: &ListJob<'_>,
     writer: &mut W,
 ) -> Result<(), Failure>
     ensures { ListAt M.Machine M.Office.Office W.contents machine.old machine.new writer.old writer.new
@@ -56,7 +56,7 @@ fn list_text<M: Machine>(
     alloc: Global,
     register: &mut M::Office,
     now: Moment,
-    wanted: &ListToWrite<'_>,
+    wanted: &ListJob<'_>,
 ) -> Result<Vec<u8>, Fault>
     ensures { LeadsIn M.Office.Office
         (λ identity before after.
@@ -78,13 +78,13 @@ fn list_text<M: Machine>(
     Err(Fault::Store)
 }
 
-fn opening(alloc: Global, form: Form, from: Cursor) -> Result<Vec<u8>, Fault>
+fn opening(alloc: Global, form: Format, from: Cursor) -> Result<Vec<u8>, Fault>
     ensures ok { IfOk result (λ text. text.items ≡ opening_text form from) }
     ensures err { IfErr result (λ fault. fault ≡ Fault.Memory) }
 {
     let start = match form {
-        Form::Csv => header(from),
-        Form::Json => "",
+        Format::Csv => header(from),
+        Format::Json => "",
     };
     Vec::from_slice(alloc, start.as_bytes()).map_err(|_| Fault::Memory)
 }
@@ -92,12 +92,12 @@ fn opening(alloc: Global, form: Form, from: Cursor) -> Result<Vec<u8>, Fault>
 fn put(
     alloc: Global,
     text: &mut Vec<u8>,
-    form: Form,
+    form: Format,
     wanted: &Filter,
     rows: &[Row],
 ) -> Result<(), Fault>
     ensures ok { OnOk result
-        (text.new.items ≡ text.old.items ++ flat_map (row_text form) (wanted_rows wanted.now rows.now)) }
+        (text.new.items ≡ text.old.items ++ flat_map (row_text form) (filtered_rows wanted.now rows.now)) }
     ensures err { IfErr result (λ fault. fault ≡ Fault.Memory) }
 {
     let kept = wanted.kept(alloc, rows).map_err(|_| Fault::Memory)?;

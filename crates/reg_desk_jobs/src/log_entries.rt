@@ -70,11 +70,11 @@ pub(crate) fn exchange_in(line: &[u8]) -> Option<ExchangeText<'_>>
 fn parted(text: &[u8]) -> Option<(&[u8], &[u8])>
     ensures { option_map (λ p. (p.0.now, p.1.now)) result ≡ parted text.now }
 {
-    let mark = first_mark(text)?;
+    let mark = first_delimiter(text)?;
     Some((&text[..mark], &text[mark + 1..]))
 }
 
-fn first_mark(text: &[u8]) -> Option<usize>
+fn first_delimiter(text: &[u8]) -> Option<usize>
     ensures place { result ≡ position is_mark text.now }
     ensures within { IfSome result (λ mark. mark < length text.now) }
 {

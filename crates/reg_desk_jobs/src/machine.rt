@@ -1,15 +1,15 @@
 //! The machine that a job runs on: its files, clock, ports, sockets and standard error.
 
 use crate::clock::moment_at;
-use crate::copy_job::Uncopied;
+use crate::copy_job::CopyFault;
 use crate::crl_signer::CrlSigner;
-use crate::deferred_commands::Wanted;
+use crate::deferred_commands::SignatureKind;
 use mio::net::{TcpListener, UnixListener};
 use reg_audit_rows::AuditResult;
 use reg_core::{Cause, Fault, Memory, Moment, Policy};
 use reg_crl_signer::{PresetSignature, SignatureRequest};
 use reg_der::Issuer;
-use reg_desk_cli::{Answerer, Failure};
+use reg_desk_cli::{Failure, ResponderChoice};
 use reg_office_api::Office;
 use std::alloc::Global;
 use std::fs::File;
@@ -37,7 +37,7 @@ pub trait Machine {
     ghost use Rattle.reg_desk_jobs.specs.declared.crl_signer.CrlSigner.{CrlSigner as SignsCrls};
     ghost use Rattle.reg_crl_signer.specs.SignatureRequest.{IsSignatureRequest};
     ghost use Rattle.reg_crl_signer.specs.Forms.{HasForm};
-    ghost use Rattle.reg_desk_cli.specs.declared.job.Answerer.{Answerer as Answering};
+    ghost use Rattle.reg_desk_cli.specs.declared.job.ResponderChoice.{ResponderChoice as Answering};
     ghost use Rattle.std.specs.declared.fs.File.{File as OpenFile};
 
     /// What is opened: an office that keeps the records of a register.
@@ -136,7 +136,7 @@ pub trait Machine {
 
     /// Looks, for reading alone, whether a database was begun in the files at a path; `NotARegister` where none was, `Store` where there is no
     /// file.
-    fn look_at(&self, path: &str) -> Result<(), Failure>
+    fn check_database(&self, path: &str) -> Result<(), Failure>
         ensures begun { OnOk result (begun self.now path.now) }
         ensures unread { IfErr result (unread self.now path.now) }
         ensures faults { IfErr result IsFileFailure };
@@ -153,7 +153,7 @@ pub trait Machine {
     fn file(&self, path: &str) -> Option<Vec<u8>>;
 
     /// Reads the certificates of the responder to OCSP requests; `BadResponder` where one can't be read, is not a certificate, or has a key of another algorithm.
-    fn certify(&self, answerer: &Answerer<'_>) -> Result<Self::Responder, Failure>
+    fn certify(&self, answerer: &ResponderChoice<'_>) -> Result<Self::Responder, Failure>
         ensures certified { IfOk result (certified answerer.now) }
         ensures told { OnErr result (HasCertificate answerer.now) }
         ensures faults { IfErr result IsOpening };
@@ -172,7 +172,7 @@ pub trait Machine {
         ensures faults { IfErr result IsOpening };
 
     /// Makes a register with no records in a database, which is closed where that fails: `NotEmpty` where there are tables already.
-    fn make_in(
+    fn create_in(
         &self,
         database: Self::Database,
         issuer: Issuer,
@@ -210,7 +210,7 @@ pub trait Machine {
 
     /// Copies the register that this program has open in the same way, as it is between two calls of it; a fault of the store also where the file
     /// at the path is not the one that is open.
-    fn copy_open(&self, path: &str, to: &str) -> Result<u64, Uncopied>
+    fn copy_open(&self, path: &str, to: &str) -> Result<u64, CopyFault>
         ensures ok { IfOk result (copied_open path.now) }
         ensures err { IfErr result (λ why. IsOfStore why.fault) };
 
@@ -267,7 +267,7 @@ pub trait Machine {
         ensures kept { IfOk result (IsSignatureRequest path.now message.now) };
 
     /// Connects to a signer in the same way, with no message on the connection yet.
-    fn reach(&self, path: &str) -> io::Result<SignatureRequest>
+    fn connect_to_signer(&self, path: &str) -> io::Result<SignatureRequest>
         ensures reached { OnOk result (reached path.now) }
         ensures kept { IfOk result (IsSignatureRequest path.now []) };
 
@@ -282,7 +282,7 @@ pub trait Machine {
     /// `None` removes the preset.
     fn set_preset(
         office: &mut Self::Office,
-        wanted: Wanted,
+        wanted: SignatureKind,
         preset_signature: Option<PresetSignature>,
     )
         requires { IfSome preset_signature (λ known.

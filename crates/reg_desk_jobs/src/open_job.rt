@@ -5,7 +5,7 @@ ghost use Rattle.reg_desk_jobs.specs.Ends.{OpenAt};
 use crate::machine::Machine;
 use crate::registers::open_signed;
 use crate::serve_job::serve_checked;
-use reg_desk_cli::{Failure, KeptOpen};
+use reg_desk_cli::{Failure, OpenJob};
 use std::io::{Read, Write};
 
 /// Keeps the register at a path open until the program ends. The register is opened first, then the port is bound, then the control
@@ -13,7 +13,7 @@ use std::io::{Read, Write};
 pub fn serve_open<M: Machine, R: Read, W: Write>(
     rt: &HostRuntime,
     machine: &mut M,
-    kept: &KeptOpen<'_>,
+    kept: &OpenJob<'_>,
     reader: &mut R,
     writer: &mut W,
 ) -> Result<(), Failure>

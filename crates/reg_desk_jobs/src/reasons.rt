@@ -36,7 +36,7 @@ pub enum Reason {
 }
 
 pub(crate) fn reason_reply(alloc: Global, last_reason: &[u8]) -> ControlReply
-    ensures { ReportsLineOutcome result.came result.text.items }
+    ensures { ReportsLineOutcome result.line_outcome result.text.items }
 {
     ControlReply::made(alloc, why_reply(alloc, last_reason), LineOutcome::Done)
 }
@@ -89,7 +89,7 @@ pub(crate) fn keep_syntax_reason(
     reply: &ControlReply,
     last_reason: &mut Vec<u8>,
 ) {
-    if reply.came.kind() == LineReply::Refused && read_line(line).is_none() {
+    if reply.line_outcome.kind() == LineReply::Refused && read_line(line).is_none() {
         keep_reason_text(
             reason_line(alloc, b"", syntax_of(line)),
             &reply.text,

@@ -4,7 +4,7 @@ ghost use Rattle.std.specs.Prelude.{IfErr, IfOk};
 ghost use Rattle.reg_office_api.specs.Signatories.{Signatory};
 ghost use Rattle.reg_core.specs.Records.{no_records};
 ghost use Rattle.reg_desk_jobs.specs.RegisterFailures.{IsMaking, IsOpening};
-ghost use Rattle.reg_desk_jobs.specs.Registers.{Audits, Made, Opened, Unaudited, Unmade, Unopened};
+ghost use Rattle.reg_desk_jobs.specs.Registers.{Audits, Made, Opened, Unaudited, NotCreated, Unopened};
 ghost use Rattle.reg_desk_jobs.specs.Signers.{signing_with, unsigned};
 
 use crate::crl_signer::CrlSigner;
@@ -12,7 +12,7 @@ use crate::machine::Machine;
 use reg_audit_rows::AuditResult;
 use reg_core::{Fault, Policy};
 use reg_der::Issuer;
-use reg_desk_cli::{Answerer, Failure, KeyHolder};
+use reg_desk_cli::{Failure, ResponderChoice, SignerAddress};
 
 /// Opens the register at a path for a job that signs nothing.
 pub(crate) fn open_unsigned<M: Machine>(machine: &mut M, path: &str) -> Result<M::Office, Failure>
@@ -20,7 +20,7 @@ pub(crate) fn open_unsigned<M: Machine>(machine: &mut M, path: &str) -> Result<M
     ensures err { IfErr result (λ why. Unopened M.Machine machine.old path.now unsigned why machine.new) }
     ensures faults { IfErr result IsOpening }
 {
-    let itself = Answerer::Issuer { certificate: None };
+    let itself = ResponderChoice::Issuer { certificate: None };
     open_by(machine, path, &CrlSigner::Nobody, &itself)
 }
 
@@ -29,8 +29,8 @@ pub(crate) fn open_unsigned<M: Machine>(machine: &mut M, path: &str) -> Result<M
 pub(crate) fn open_signed<M: Machine>(
     machine: &mut M,
     path: &str,
-    signer: &Option<KeyHolder<'_>>,
-    answerer: &Answerer<'_>,
+    signer: &Option<SignerAddress<'_>>,
+    answerer: &ResponderChoice<'_>,
 ) -> Result<M::Office, Failure>
     ensures ok { IfOk result (λ office.
         Opened M.Machine machine.old path.now (signing_with signer.now answerer.now) office machine.new) }
@@ -46,7 +46,7 @@ fn open_by<M: Machine>(
     machine: &mut M,
     path: &str,
     crls: &CrlSigner<'_>,
-    answerer: &Answerer<'_>,
+    answerer: &ResponderChoice<'_>,
 ) -> Result<M::Office, Failure>
     ensures ok { IfOk result (λ office.
         Opened M.Machine machine.old path.now (crls.now, answerer.now) office machine.new) }
@@ -55,7 +55,7 @@ fn open_by<M: Machine>(
     ensures faults { IfErr result IsOpening }
 {
     let responder = machine.certify(answerer)?;
-    machine.look_at(path)?;
+    machine.check_database(path)?;
     let database = machine.connect(path)?;
     machine.open_in(database, crls, responder)
 }
@@ -70,7 +70,7 @@ pub(crate) fn make<M: Machine>(
     ensures ok { IfOk result (λ office. Made M.Machine machine.old path.now office machine.new) }
     ensures stands { IfOk result (λ office.
         (signatory : Signatory) × M.Office.stands signatory office (no_records issuer policy)) }
-    ensures err { IfErr result (λ why. Unmade M.Machine machine.old path.now why machine.new) }
+    ensures err { IfErr result (λ why. NotCreated M.Machine machine.old path.now why machine.new) }
     ensures faults { IfErr result IsMaking }
 {
     // A path that was not claimed and has no file can't become a register: a dangling symbolic link, or a log without its register. `claim` kept
@@ -79,7 +79,7 @@ pub(crate) fn make<M: Machine>(
         return Err(Failure::Fault(Fault::Store));
     }
     let database = machine.connect(path)?;
-    machine.make_in(database, issuer, policy)
+    machine.create_in(database, issuer, policy)
 }
 
 /// Audits the register at a path. It only reads: no file changes, none is created, and a register of an older version is not

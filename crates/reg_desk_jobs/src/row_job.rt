@@ -2,7 +2,7 @@
 //! it, at the control socket of an open desk.
 
 ghost use Rattle.std.specs.Prelude.{◌≡◌, ◌<◌, ◌==◌, ◌↔◌, IfErr, IfOk, IfSome, IsTrue, length, option_map, position};
-ghost use Rattle.reg_desk_jobs.specs.Conversations.{IsOfTalk};
+ghost use Rattle.reg_desk_jobs.specs.Conversations.{IsConversationFault};
 ghost use Rattle.reg_desk_jobs.specs.RowTasks.{AnswersRow, IsRowDone, LineReplied, OrdersRow, RegistersRow, RevokesRow, SendsRows, SendsRowsAt, SendsRowsOver, has_first_word, header_of, is_passed_over, link_of, parted_by_comma, registration_row_in, revocation_row_in, row_order, row_registration, row_request, row_revocation, row_status};
 
 use crate::at_job::{Next, both, cut_off, ended, next_line, request_reply};
@@ -111,7 +111,7 @@ fn send_line<W: Write, C: BufRead, S: Write>(
     ensures ok { IfOk result (LineReplied task (link_of (S.contents sent.old) (C.remaining incoming.old))
         (link_of (S.contents sent.new) (C.remaining incoming.new))
         (W.contents writer.old) (W.contents writer.new) line.now) }
-    ensures err { IfErr result IsOfTalk }
+    ensures err { IfErr result IsConversationFault }
 {
     let text = without_end(line);
     if is_passed_over(task, text) {
@@ -132,7 +132,7 @@ fn answer_row<C: BufRead, S: Write>(
     ensures ok { IfOk result (λ reply.
         AnswersRow task text.now (link_of (S.contents sent.old) (C.remaining incoming.old))
         (link_of (S.contents sent.new) (C.remaining incoming.new)) reply.items) }
-    ensures err { IfErr result IsOfTalk }
+    ensures err { IfErr result IsConversationFault }
 {
     match task {
         RowTask::Register(terms) => register_row(
@@ -157,7 +157,7 @@ fn register_row<C: BufRead, S: Write>(
     ensures ok { IfOk result (λ reply.
         RegistersRow terms row (link_of (S.contents sent.old) (C.remaining incoming.old))
         (link_of (S.contents sent.new) (C.remaining incoming.new)) reply.items) }
-    ensures err { IfErr result IsOfTalk }
+    ensures err { IfErr result IsConversationFault }
 {
     let Some(row) = row else {
         return request_reply(alloc, b"register\n", incoming, sent);
@@ -183,7 +183,7 @@ fn order_row<C: BufRead, S: Write>(
     ensures ok { IfOk result (λ reply.
         OrdersRow terms row.now (link_of (S.contents sent.old) (C.remaining incoming.old))
         (link_of (S.contents sent.new) (C.remaining incoming.new)) reply.items) }
-    ensures err { IfErr result IsOfTalk }
+    ensures err { IfErr result IsConversationFault }
 {
     let Ok(order) = order_line(alloc, terms) else {
         return Err(Failure::Fault(Fault::Memory));
@@ -208,7 +208,7 @@ fn revoke_row<C: BufRead, S: Write>(
     ensures ok { IfOk result (λ reply.
         RevokesRow row (link_of (S.contents sent.old) (C.remaining incoming.old))
         (link_of (S.contents sent.new) (C.remaining incoming.new)) reply.items) }
-    ensures err { IfErr result IsOfTalk }
+    ensures err { IfErr result IsConversationFault }
 {
     let Some(row) = row else {
         return request_reply(alloc, b"request\n", incoming, sent);

@@ -22,7 +22,7 @@ use crate::registers::open_signed;
 use mio::net::{TcpListener, UnixListener};
 use reg_core::{Decimal, Fault};
 use reg_crl_signer::Backoff;
-use reg_desk_cli::{Answerer, Endpoint, Failure, KeyHolder, Loopback, Serving};
+use reg_desk_cli::{Endpoint, Failure, Loopback, ResponderChoice, ServeJob, SignerAddress};
 use reg_desk_metrics::{ConnectionTotals, Tally};
 use reg_desk_server::{EventLoop, Handler, MOST_HTTP_CONNECTIONS};
 use std::cell::Cell;
@@ -38,7 +38,7 @@ const LOOPBACK_V6: [u8; 16] = [0, 0, 0, 0, 0, 0, 0, 0, 0, 0, 0, 0, 0, 0, 0, 1];
 pub fn serve<M: Machine, R: Read, W: Write>(
     rt: &HostRuntime,
     machine: &mut M,
-    serving: &Serving<'_>,
+    serving: &ServeJob<'_>,
     reader: &mut R,
     writer: &mut W,
 ) -> Result<(), Failure>
@@ -72,8 +72,8 @@ pub(crate) fn serve_checked<'a, 'w, M: Machine, R: Read, W: Write>(
     machine: &'a M,
     mut office: M::Office,
     file: &'a str,
-    signer: &'a Option<KeyHolder<'w>>,
-    answerer: &'a Answerer<'w>,
+    signer: &'a Option<SignerAddress<'w>>,
+    answerer: &'a ResponderChoice<'w>,
     endpoint: Endpoint,
     control_path: Option<&str>,
     requests: u64,
@@ -121,8 +121,8 @@ fn serve_desk<'a, 'w, M: Machine, W: Write>(
     machine: &'a M,
     office: M::Office,
     file: &'a str,
-    signer: &'a Option<KeyHolder<'w>>,
-    answerer: &'a Answerer<'w>,
+    signer: &'a Option<SignerAddress<'w>>,
+    answerer: &'a ResponderChoice<'w>,
     endpoint: Endpoint,
     control_path: Option<&str>,
     requests: u64,

@@ -3,7 +3,7 @@
 ghost use Rattle.std.specs.Prelude.{◌≡◌, ◌++◌, ◌∷◌, ◌-◌, ◌≤◌, [], IfOk, find as first_passing};
 ghost use Rattle.reg_core_lists.specs.Lists.{key_of, page};
 ghost use Rattle.reg_core_lists.specs.Texts.{row_text};
-ghost use Rattle.reg_core_lists.specs.declared.texts.Form.TheVariants.{Json};
+ghost use Rattle.reg_core_lists.specs.declared.texts.Format.TheVariants.{Json};
 ghost use Rattle.reg_office_api.specs.Calls.{LooksIn};
 ghost use Rattle.reg_desk_jobs.specs.ControlReplies.{IsReplyText, ReportsLineOutcome, ReportsFault};
 ghost use Rattle.reg_desk_jobs.specs.RowLookUps.{IsSeen, AnswersShown, found_text, help_text, is_shown, refusal_of, row_shown};
@@ -13,7 +13,7 @@ use crate::machine::Machine;
 use crate::reasons::keep_reply_reason;
 use crate::words::Shown;
 use reg_core::{Fault, Label, Moment, Refusal, Serial};
-use reg_core_lists::{Cursor, Form, Row, put_rows};
+use reg_core_lists::{Cursor, Format, Row, put_rows};
 use reg_office_api::Office;
 use std::alloc::{AllocError, Global};
 
@@ -27,13 +27,13 @@ const WORDS: &[u8] =
 
 pub(crate) fn answer_help(alloc: Global) -> ControlReply
     ensures told { IsReplyText (help_text ++ 10 ∷ []) result.text.items }
-    ensures came { ReportsLineOutcome result.came result.text.items }
+    ensures line_outcome { ReportsLineOutcome result.line_outcome result.text.items }
 {
     ControlReply::line(alloc, WORDS, LineOutcome::Done)
 }
 
 /// Shows a row at a moment, in the form of `list --json`. No record changes.
-pub(crate) fn answer_shown<M: Machine>(
+pub(crate) fn answer_show<M: Machine>(
     alloc: Global,
     office: &mut M::Office,
     now: Moment,
@@ -43,7 +43,7 @@ pub(crate) fn answer_shown<M: Machine>(
     ensures moves { LooksIn M.Office.Office
         (λ records. AnswersShown records now shown result.text.items)
         office.old office.new }
-    ensures came { ReportsLineOutcome result.came result.text.items }
+    ensures line_outcome { ReportsLineOutcome result.line_outcome result.text.items }
 {
     let found = find(alloc, office, now, &shown);
     answer_found(alloc, &shown, found, last_reason)
@@ -56,7 +56,7 @@ fn answer_found(
     last_reason: &mut Vec<u8>,
 ) -> ControlReply
     ensures told { IsReplyText (found_text shown.now found) result.text.items }
-    ensures came { ReportsLineOutcome result.came result.text.items }
+    ensures line_outcome { ReportsLineOutcome result.line_outcome result.text.items }
 {
     match found {
         Ok(Some(row)) => ControlReply::made(alloc, row_line(alloc, row), LineOutcome::Done),
@@ -68,7 +68,7 @@ fn answer_found(
 /// Replies with a fault, and keeps it for `why`.
 pub(crate) fn report_fault(alloc: Global, fault: Fault, last_reason: &mut Vec<u8>) -> ControlReply
     ensures told { ReportsFault fault result.text.items }
-    ensures came { ReportsLineOutcome result.came result.text.items }
+    ensures line_outcome { ReportsLineOutcome result.line_outcome result.text.items }
 {
     let reply = ControlReply::fault(alloc, fault);
     keep_reply_reason(&reply.text, last_reason);
@@ -89,7 +89,7 @@ fn row_line(alloc: Global, row: Row) -> Result<Vec<u8>, AllocError>
     ensures { IfOk result (λ text. text.items ≡ row_text Json row) }
 {
     let mut text = Vec::new(alloc);
-    put_rows(alloc, &mut text, Form::Json, &[row])?;
+    put_rows(alloc, &mut text, Format::Json, &[row])?;
     Ok(text)
 }
 

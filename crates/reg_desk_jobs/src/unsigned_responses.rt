@@ -6,17 +6,17 @@ ghost use Rattle.reg_desk_jobs.specs.Deferring.{AnsweredBySigner};
 ghost use Rattle.reg_desk_jobs.specs.FinishedResponses.{IsFinished, IsSignatureOf, fate_of};
 ghost use Rattle.reg_desk_jobs.specs.Signers.{AnsweredByOcspSigner};
 
-use crate::deferred_commands::{Wanted, socket_of};
+use crate::deferred_commands::{SignatureKind, socket_of};
 use crate::exchange_log::log_exchange;
 use crate::machine::Machine;
 use reg_core::Moment;
 use reg_crl_signer::{SignatureRequest, has_form};
-use reg_desk_cli::{Answerer, KeyHolder};
+use reg_desk_cli::{ResponderChoice, SignerAddress};
 use reg_desk_metrics::Tally;
 use reg_http::{Exchange, Route, UnsignedResponse};
 use reg_http_head::Collected;
 use reg_ocsp::{Draft, slice_of};
-use reg_office_api::SignatureFate;
+use reg_office_api::SignatureOutcome;
 use std::alloc::Global;
 use std::net::SocketAddr;
 
@@ -83,8 +83,8 @@ pub(crate) fn finish_http<M: Machine>(
     alloc: Global,
     machine: &M,
     tally: &mut Tally,
-    signer: &Option<KeyHolder<'_>>,
-    answerer: &Answerer<'_>,
+    signer: &Option<SignerAddress<'_>>,
+    answerer: &ResponderChoice<'_>,
     unsigned: Unsigned,
     link: Option<SignatureRequest>,
 ) -> Vec<u8>
@@ -109,8 +109,8 @@ pub(crate) fn finish_http<M: Machine>(
 
 fn signature_of<M: Machine>(
     alloc: Global,
-    signer: &Option<KeyHolder<'_>>,
-    answerer: &Answerer<'_>,
+    signer: &Option<SignerAddress<'_>>,
+    answerer: &ResponderChoice<'_>,
     draft: &Draft,
     link: Option<SignatureRequest>,
 ) -> Option<Vec<u8>>
@@ -122,7 +122,7 @@ fn signature_of<M: Machine>(
         alloc,
         signer,
         answerer,
-        Wanted::Answer,
+        SignatureKind::Answer,
         draft.message(),
         link,
     )?;
@@ -136,9 +136,9 @@ fn signature_of<M: Machine>(
 /// The signer's answer on the connection on which it was asked to sign this message.
 pub(crate) fn received_answer<M: Machine>(
     alloc: Global,
-    signer: &Option<KeyHolder<'_>>,
-    answerer: &Answerer<'_>,
-    wanted: Wanted,
+    signer: &Option<SignerAddress<'_>>,
+    answerer: &ResponderChoice<'_>,
+    wanted: SignatureKind,
     message: &[u8],
     link: Option<SignatureRequest>,
 ) -> Option<Vec<u8>>
@@ -168,11 +168,11 @@ fn finish(alloc: Global, unsigned: &Unsigned, signature: &Option<Vec<u8>>) -> Ex
     Exchange::finished(alloc, unsigned.route, unsigned.moment, response, fate)
 }
 
-fn fate_by(signature: &Option<Vec<u8>>) -> SignatureFate
+fn fate_by(signature: &Option<Vec<u8>>) -> SignatureOutcome
     ensures { result ≡ fate_of (option_map (λ signature. signature.items) signature.now) }
 {
     match signature {
-        Some(_) => SignatureFate::Made,
-        None => SignatureFate::Failed,
+        Some(_) => SignatureOutcome::Made,
+        None => SignatureOutcome::Failed,
     }
 }

@@ -7,7 +7,7 @@ use Rattle.reg_core.specs.declared.refusal.Fault.{Fault}
 use Rattle.reg_core.specs.declared.refusal.Fault.TheVariants.{Refused}
 use Rattle.reg_core.specs.declared.refusal.Refusal.TheVariants.{ClockBack}
 use Rattle.reg_office_api.specs.declared.register_summary.Rows.{Rows}
-use Rattle.reg_office_api.specs.declared.register_summary.Standing.{Standing}
+use Rattle.reg_office_api.specs.declared.register_summary.RegisterSummary.{RegisterSummary}
 use Rattle.reg_desk_metrics.specs.Ahead.{is_ahead}
 use Rattle.reg_desk_metrics.specs.declared.health.Health.{Health}
 use Rattle.reg_desk_metrics.specs.declared.numbers.Numbers.{Numbers}
@@ -45,7 +45,7 @@ abbrev pub most_rows : Rows → ℕ
 most_rows rows = max (max (max (max rows.subscribers rows.orders) rows.certificates) rows.requests) rows.crls
 
 -- whether less than a fifth of the cap is left in a table
-abbrev pub is_filling : Standing → Bool
+abbrev pub is_filling : RegisterSummary → Bool
 is_filling standing = nat_lt (standing.cap - most_rows standing.rows) (standing.cap / 5)
 
 -- now, if less than a fifth of the cap is left in a table

@@ -5,8 +5,8 @@ use Rattle.std.specs.declared.option.Option.{Option}
 use Rattle.reg_office_api.specs.declared.effects.LineEffects.{LineEffects}
 use Rattle.reg_office_api.specs.declared.effects.LineReply.{LineReply}
 use Rattle.reg_office_api.specs.declared.effects.LineReply.TheVariants.{Accepted, Refused, Fault}
-use Rattle.reg_office_api.specs.declared.effects.SignatureFate.{SignatureFate}
-use Rattle.reg_office_api.specs.declared.effects.SignatureFate.TheVariants as signature
+use Rattle.reg_office_api.specs.declared.effects.SignatureOutcome.{SignatureOutcome}
+use Rattle.reg_office_api.specs.declared.effects.SignatureOutcome.TheVariants as signature
 use Rattle.reg_office_api.specs.declared.effects.StoreEffect.{StoreEffect}
 use Rattle.reg_office_api.specs.declared.effects.StoreEffect.TheVariants as store
 use Rattle.reg_http.specs.declared.exchange.Exchange.{Exchange}
@@ -88,8 +88,8 @@ nothing_signed = record { received = 0; failed = 0; last = None; last_failed = N
 
 -- signatures of one kind after an exchange at a moment: one was received, and they no longer fail; or one failed, and they fail since then, or since
 -- the first failure after the last one that was received
-abbrev pub signing_after : SignatureFate → ℕ → Signing → Signing
-signing_after signature.NotAsked now before = before
+abbrev pub signing_after : SignatureOutcome → ℕ → Signing → Signing
+signing_after signature.NotRequested now before = before
 signing_after signature.Made now before =
     record before { received = one_more before.received; last = Some now; failing_since = None }
 signing_after signature.Failed now before = record before {
@@ -150,7 +150,7 @@ abbrev pub has_response : Exchange → Bool
 has_response exchange = response_by exchange.route exchange.status
 
 -- an OCSP response that was internalError (RFC 6960 2.3), because the signer failed, or because the store failed
-abbrev pub with_cause : SignatureFate → StoreEffect → Tally → Tally
+abbrev pub with_cause : SignatureOutcome → StoreEffect → Tally → Tally
 with_cause signature.Failed effect tally = record tally { ocsp_unsigned = one_more tally.ocsp_unsigned }
 with_cause other store.Failed tally = record tally { ocsp_unread = one_more tally.ocsp_unread }
 with_cause other effect tally = tally
@@ -160,12 +160,12 @@ with_failure exchange tally =
     cond (has_response exchange) (with_cause exchange.signature exchange.store tally) tally
 
 -- what became of the signature of a CRL: it was not requested if the desk has no signer for CRLs
-abbrev pub fate_by : CrlSigning → SignatureFate → SignatureFate
-fate_by Nobody fate = signature.NotAsked
+abbrev pub fate_by : CrlSigning → SignatureOutcome → SignatureOutcome
+fate_by Nobody fate = signature.NotRequested
 fate_by other fate = fate
 
 -- the effects of an exchange on the signatures of CRLs and of OCSP responses, and on the store
-abbrev pub outcomes_counted : ℕ → SignatureFate → SignatureFate → StoreEffect → Tally → Tally
+abbrev pub outcomes_counted : ℕ → SignatureOutcome → SignatureOutcome → StoreEffect → Tally → Tally
 outcomes_counted now crl ocsp effect tally = record tally {
   crls = signing_after (fate_by tally.crl_signing crl) now tally.crls;
   ocsp = signing_after ocsp now tally.ocsp;
@@ -182,7 +182,7 @@ with_answer route status micros tally =
 -- an exchange at a moment is counted: its route and status, its time, and its effects on the signature and the store
 abbrev pub with_exchange : ℕ → Exchange → ℕ → Tally → Tally
 with_exchange now exchange micros tally =
-    outcomes_counted now signature.NotAsked exchange.signature exchange.store
+    outcomes_counted now signature.NotRequested exchange.signature exchange.store
     (with_failure exchange (with_answer exchange.route exchange.status micros tally))
 
 -- a line is counted: the kind of its reply, its time, and its effects on the signatures and the store

@@ -7,7 +7,7 @@ use crate::ahead::is_ahead;
 use crate::numbers::Found;
 use crate::tally::Tally;
 use reg_core::{Fault, Moment, Refusal};
-use reg_office_api::{Rows, Standing};
+use reg_office_api::{RegisterSummary, Rows};
 use std::alloc::{AllocError, Global};
 
 /// What is not well with an open register. All is well if each is `None`, and `has_no_crl` is false.
@@ -136,7 +136,7 @@ fn rows_of(now: Moment, found: &Found) -> Option<Moment>
     }
 }
 
-fn is_filling(standing: &Standing) -> bool
+fn is_filling(standing: &RegisterSummary) -> bool
     ensures { result ≡ fills standing.now }
 {
     let Rows {

@@ -1,7 +1,7 @@
 //! Numbers for `/health` and `/metrics` that the tally does not count.
 
 use reg_core::{Counts, Fault, Moment};
-use reg_office_api::Standing;
+use reg_office_api::RegisterSummary;
 
 /// What a register has at a moment.
 #[derive(Clone, Copy, PartialEq, Eq)]
@@ -9,7 +9,7 @@ pub struct Numbers {
     pub counts: Counts,
     /// When the next CRL is due; `None`: at once.
     pub due: Option<Moment>,
-    pub standing: Standing,
+    pub standing: RegisterSummary,
 }
 
 /// The register's numbers, or why they can't be read.

@@ -4,7 +4,7 @@ ghost use Rattle.std.specs.Prelude.{◌≡◌};
 ghost use Rattle.reg_desk_metrics.specs.Tallies.{nothing_signed, signing_after, store_after as kept_after};
 
 use reg_core::Moment;
-use reg_office_api::{SignatureFate, StoreEffect};
+use reg_office_api::{SignatureOutcome, StoreEffect};
 
 /// What became of the signatures of one kind.
 #[derive(Clone, Copy, PartialEq, Eq)]
@@ -30,18 +30,18 @@ impl Signing {
         }
     }
 
-    pub(crate) fn after(self, fate: SignatureFate, now: Moment) -> Signing
+    pub(crate) fn after(self, fate: SignatureOutcome, now: Moment) -> Signing
         ensures { result ≡ signing_after fate now self }
     {
         match fate {
-            SignatureFate::NotAsked => self,
-            SignatureFate::Made => Signing {
+            SignatureOutcome::NotRequested => self,
+            SignatureOutcome::Made => Signing {
                 received: self.received.saturating_add(1),
                 last: Some(now),
                 failing_since: None,
                 ..self
             },
-            SignatureFate::Failed => Signing {
+            SignatureOutcome::Failed => Signing {
                 failed: self.failed.saturating_add(1),
                 last_failed: Some(now),
                 failing_since: self.failing_since.or(Some(now)),

@@ -7,7 +7,7 @@ use crate::numbers::{CrlSigning, ReadCrl, Requests};
 use crate::signature_outcomes::{Signing, store_after};
 use reg_core::Moment;
 use reg_http::{Exchange, Route};
-use reg_office_api::{LineEffects, LineReply, SignatureFate, StoreEffect};
+use reg_office_api::{LineEffects, LineReply, SignatureOutcome, StoreEffect};
 
 /// The numbers of HTTP statuses, of pairs of a route and a status, of buckets of the histogram, and of routes.
 pub(crate) const CODES: usize = 12;
@@ -149,11 +149,11 @@ fn bucket_of(micros: u64) -> usize
 }
 
 /// What became of the signature of a CRL: it was not requested if the desk has no signer for CRLs.
-fn fate_at(signing: CrlSigning, fate: SignatureFate) -> SignatureFate
+fn fate_at(signing: CrlSigning, fate: SignatureOutcome) -> SignatureOutcome
     ensures { result ≡ fate_by signing fate }
 {
     match signing {
-        CrlSigning::Nobody => SignatureFate::NotAsked,
+        CrlSigning::Nobody => SignatureOutcome::NotRequested,
         _ => fate,
     }
 }
@@ -198,7 +198,7 @@ impl Tally {
         self.add_failure(exchange);
         self.count_outcomes(
             now,
-            SignatureFate::NotAsked,
+            SignatureOutcome::NotRequested,
             exchange.signature,
             exchange.store,
         );
@@ -290,7 +290,7 @@ impl Tally {
             return;
         }
         match (exchange.signature, exchange.store) {
-            (SignatureFate::Failed, _) => {
+            (SignatureOutcome::Failed, _) => {
                 self.ocsp_unsigned = self.ocsp_unsigned.saturating_add(1);
             }
             (_, StoreEffect::Failed) => self.ocsp_unread = self.ocsp_unread.saturating_add(1),
@@ -301,8 +301,8 @@ impl Tally {
     fn count_outcomes(
         &mut self,
         now: Moment,
-        crl: SignatureFate,
-        ocsp: SignatureFate,
+        crl: SignatureOutcome,
+        ocsp: SignatureOutcome,
         store: StoreEffect,
     )
         ensures { self.new ≡ outcomes_counted now crl ocsp store self.old }

@@ -19,12 +19,12 @@ use Rattle.reg_crl_signer.specs.declared.algorithm.Algorithm.TheVariants.{EcdsaS
 use Rattle.reg_store_tables.proofs.PublicLaws.{looked_shows, was_clean}
 use Rattle.reg_store_tables.specs.Shows.{Shows}
 use Rattle.reg_store_tables.specs.Stays.{Looked}
-use Rattle.reg_desk_cli.specs.declared.job.KeyHolder.{KeyHolder}
+use Rattle.reg_desk_cli.specs.declared.job.SignerAddress.{SignerAddress}
 
 -- A store before it was looked for its latest CRL, after that, and after its issuer was looked for.
 module _ {C : Type 0} (g : Ghosts C) (old between new : Held C) (answers : Identity → Responder) (identity : Identity) where
   -- who signs behind that CRL signs for what the register is opened for
-  pub signs_for : (crls : CrlSigner) (told : Option KeyHolder) (last : Option (List ℕ))
+  pub signs_for : (crls : CrlSigner) (told : Option SignerAddress) (last : Option (List ℕ))
       → ((key : List ℕ) (signatory : Identity) → signatory ≡ identity_of_holder told key → IsSigning crls key signatory)
       → Looked g old between → Looked g between new
       → ((records : Records) → Shows g old records → SoundRows records → HasCleanDisk (state g between)

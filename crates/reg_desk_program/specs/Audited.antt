@@ -10,10 +10,10 @@ use Rattle.reg_core.specs.Crls.{next_number}
 use Rattle.reg_core.specs.Records.{Records}
 use Rattle.reg_core.specs.Sound.{CrlsSigned}
 use Rattle.reg_office_api.specs.Signatories.{Signatory}
-use Rattle.reg_crl.specs.Signing.{Identity, sealed_until}
+use Rattle.reg_crl.specs.Signing.{Identity, signed_since}
 use Rattle.reg_office.specs.Stands.{Stands}
-use Rattle.reg_store_tables.specs.Columns.{Columns}
-use Rattle.reg_store_tables.specs.Shows.{AreBoth}
+use Rattle.reg_store_tables.specs.DerivedRows.{DerivedRows}
+use Rattle.reg_store_tables.specs.Shows.{AreRecordsAndDerived}
 use Rattle.reg_audit.specs.Complete.{ShowsSound}
 use Rattle.reg_audit.specs.Presumed.{IsPresumed}
 use Rattle.reg_audit.specs.AuditResults.{CountedBy, IsSound}
@@ -48,8 +48,8 @@ pub record StandsOnceAudited {A D : Type 0} {a : disk.Ghosts A} (g : disk.Ghosts
     (signs : Identity → List ℕ → List ℕ → Type 0) (found : FoundSound a) : Type 0 where
   pub shown : ShowsSound (tables_of found)
   pub counted : CountedBy found.audit_result shown.records
-  pub stand : (records : Records) (columns : Columns) → AreBoth (tables_of found) records columns
+  pub stand : (records : Records) (columns : DerivedRows) → AreRecordsAndDerived (tables_of found) records columns
       → (register : Held (FileStore D g)) (signatory : Signatory) → OpensSame found register signatory
       → (since : ℕ) → since ≤ next_number records.crls
-      → CrlsSigned (sealed_until since signs signatory.crls) records
+      → CrlsSigned (signed_since since signs signatory.crls) records
       → Stands over_files signs register signatory.crls records

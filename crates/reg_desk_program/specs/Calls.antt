@@ -5,8 +5,8 @@ use Rattle.reg_desk_files.specs.declared.file.ClaimFault.{ClaimFault}
 use Rattle.reg_desk_files.specs.declared.file.ClaimFault.TheVariants as claim
 
 -- a call was made with these arguments: true of any, since no clause can state what the call did outside the program
-abbrev pub Unsaid : {A : Type 0} → A → Type 0
-Unsaid arguments = arguments ≡ arguments
+abbrev pub Unspecified : {A : Type 0} → A → Type 0
+Unspecified arguments = arguments ≡ arguments
 
 -- whether a path was claimed
 abbrev pub is_claimed : Result (Unit {0}) ClaimFault → Result Bool Memory

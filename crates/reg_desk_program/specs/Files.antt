@@ -13,7 +13,7 @@ use Rattle.reg_core.specs.Records.{Records}
 use Rattle.reg_core.specs.Sound.{Sound, SoundRows}
 use Rattle.reg_store_migration.specs.Older.{ShowsOlder}
 use Rattle.reg_store_migration.specs.declared.version.OlderVersion.{OlderVersion}
-use Rattle.reg_store_tables.specs.Columns.{Columns}
+use Rattle.reg_store_tables.specs.DerivedRows.{DerivedRows}
 use Rattle.reg_store_tables.specs.Kept.{Kept, ShowsKept}
 use Rattle.reg_store_tables.specs.Schema.{no_schema}
 use Rattle.reg_store_tables.specs.Shows.{ShowsBoth}
@@ -30,8 +30,8 @@ use Rattle.reg_crl.specs.Signing.{Identity}
 use Rattle.reg_crl.specs.declared.signer.Signer.{Ghosts as Signer}
 use Rattle.reg_desk_cli.specs.declared.failure.Failure.{Failure}
 use Rattle.reg_desk_cli.specs.declared.failure.Failure.TheVariants as failure
-use Rattle.reg_desk_files.specs.declared.read_only.Unread.{Unread}
-use Rattle.reg_desk_files.specs.declared.read_only.Unread.TheVariants as unread
+use Rattle.reg_desk_files.specs.declared.read_only.UnreadFile.{UnreadFile}
+use Rattle.reg_desk_files.specs.declared.read_only.UnreadFile.TheVariants as unread
 use Rattle.reg_office.specs.AfterStoppedCommand.{LeavesThese, LeavesReported}
 use Rattle.reg_office.specs.Calls.{seen}
 use Rattle.reg_office.specs.Stands.{Stands}
@@ -112,15 +112,15 @@ module _ {D : Type 0} {g : disk.Ghosts D} where
 -- CRL, this is true whatever the bytes of CRLs are. An older version and other tables are reported only if the tables have them.
 pub record Says {D : Type 0} {g : disk.Ghosts D} (connection after : Held (FileStore D g))
     (audit_result : AuditResult) : Type 0 where
-  pub sound : (records : Records) (columns : Columns) → ShowsBoth over_files connection records columns
+  pub sound : (records : Records) (columns : DerivedRows) → ShowsBoth over_files connection records columns
       → HasCleanDisk (file_state after)
       → IsSound audit_result → Sound IsSomeCrl records × Kept columns records × HasAllowedDays columns
   pub shown : IsPresumed over_files connection → HasCleanDisk (file_state after) → IsSound audit_result
       → ShowsSound (file_state connection).now
-  pub counted : (records : Records) (columns : Columns) → ShowsBoth over_files connection records columns
+  pub counted : (records : Records) (columns : DerivedRows) → ShowsBoth over_files connection records columns
       → HasCleanDisk (file_state after)
       → CountedBy audit_result records
-  pub broken : (records : Records) (columns : Columns) → ShowsBoth over_files connection records columns
+  pub broken : (records : Records) (columns : DerivedRows) → ShowsBoth over_files connection records columns
       → HasCleanDisk (file_state after)
       → DeniedBy audit_result records columns
   pub tells : HasCleanDisk (file_state after) → ReportsTables audit_result (file_state connection).now
@@ -141,6 +141,6 @@ pub record IsAuditOf {D : Type 0} (g : disk.Ghosts D) (image : Image)
   pub found : HasCleanDisk (file_state audited.connection) → FindsIn image (file_state audited.connection)
 
 -- the failures for files that can't be opened
-abbrev pub failure_of : Unread → Failure
+abbrev pub failure_of : UnreadFile → Failure
 failure_of unread.Nothing = failure.NotARegister
 failure_of (unread.Fault why) = failure.Fault why.fault

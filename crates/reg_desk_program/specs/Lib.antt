@@ -1,6 +1,6 @@
 pub mod Audited
 pub mod Calls
 pub mod Files
-pub mod Misfits
+pub mod Mismatches
 pub mod StoreSigners
 pub mod Stops

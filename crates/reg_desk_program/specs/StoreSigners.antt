@@ -9,23 +9,23 @@ use Rattle.reg_core.specs.Sound.{SoundRows}
 use Rattle.reg_crl.specs.Signing.{Identity}
 use Rattle.reg_desk_jobs.specs.Signers.{EmbedsOwn, Follows, IsSigning, MayFollow, identity_of_holder}
 use Rattle.reg_desk_jobs.specs.declared.crl_signer.CrlSigner.{CrlSigner}
-use Rattle.reg_desk_jobs.specs.declared.crl_signer.CrlSigner.TheVariants.{Nobody, Digest, Holder}
+use Rattle.reg_desk_jobs.specs.declared.crl_signer.CrlSigner.TheVariants.{Nobody, Digest, OpenedBy}
 use Rattle.reg_crl_signer.specs.Signed.{IsCrlUnder}
 use Rattle.reg_store_tables.specs.Shows.{Shows}
-use Rattle.reg_desk_cli.specs.declared.job.KeyHolder.{KeyHolder}
+use Rattle.reg_desk_cli.specs.declared.job.SignerAddress.{SignerAddress}
 
 -- the path of the socket of the signer of CRLs: `None` for the digest, and any for `Nobody`
 abbrev pub SignerAtPath : CrlSigner → Option (List ℕ) → Type 0
 SignerAtPath Nobody path = Unit {0}
 SignerAtPath Digest path = path ≡ None
-SignerAtPath (Holder holder) path = path ≡ Some holder.socket
+SignerAtPath (OpenedBy holder) path = path ≡ Some holder.socket
 
 -- A store before and after the records were read; and the responder to OCSP requests, which may be the signer of CRLs.
 module _ {C : Type 0} (g : Ghosts C) (old new : Held C) (answers : Identity → Responder)
     (identity : Identity) where
   -- The signer is the holder with the issuer's key, or the digest; a CRL with its algorithm may follow the latest CRL; and the responder's
   -- certificate, if the issuer's key signs its responses, has that key.
-  pub record SignsAfter (holder : Option KeyHolder) (latest : Option (List ℕ)) : Type 0 where
+  pub record SignsAfter (holder : Option SignerAddress) (latest : Option (List ℕ)) : Type 0 where
     pub told : (records : Records) → Shows g old records → HasCleanDisk (state g new)
         → identity ≡ identity_of_holder holder records.issuer.key
     pub follows : (crl : List ℕ) → latest ≡ Some crl → (other : List ℕ) → IsCrlUnder crl other

@@ -12,10 +12,10 @@ ghost use Rattle.reg_office.specs.Answering.{answers_by};
 ghost use Rattle.reg_crl_signer.specs.Forms.{identity_of};
 ghost use Rattle.reg_crl_signer.specs.KeysOrDigests.{either_path};
 ghost use Rattle.reg_crl_signer.specs.Signed.{IsCrlUnder};
-ghost use Rattle.reg_desk_program.specs.Misfits.{Differs, IsKnownAlgorithm, IsMisfit, IsMisfitAfter};
+ghost use Rattle.reg_desk_program.specs.Mismatches.{Differs, IsKnownAlgorithm, IsMismatch, IsMisfitAfter};
 ghost use Rattle.reg_desk_program.specs.StoreSigners.{SignerAtPath, SignsAfter, SignsFor};
 ghost use Rattle.reg_store_tables.specs.Shows.{Shows};
-ghost use Rattle.reg_desk_cli.specs.declared.job.KeyHolder.{KeyHolder};
+ghost use Rattle.reg_desk_cli.specs.declared.job.SignerAddress.{SignerAddress};
 ghost use Rattle.reg_store_tables.specs.Stays.{Looked};
 
 use crate::file_office::{FileDevice, FileSigner};
@@ -27,7 +27,7 @@ use reg_crl_signer::{
     Algorithm, BackoffDevice, Device, DeviceSigner, KeyFault, KeyOrDigest, SocketDevice,
     crl_algorithm,
 };
-use reg_desk_cli::{Failure, KeyHolder, Word};
+use reg_desk_cli::{Failure, SignerAddress, Word};
 use reg_desk_jobs::{CrlSigner, Machine};
 use reg_office::Responder;
 use reg_store::{DatabaseFault, Tables};
@@ -57,7 +57,7 @@ pub(crate) fn signer_for<C: Alter>(
 {
     let latest = latest_crl(tables)?;
     match crls {
-        CrlSigner::Holder(holder) => signer_after(host, tables, &latest, Some(holder), responder),
+        CrlSigner::OpenedBy(holder) => signer_after(host, tables, &latest, Some(holder), responder),
         CrlSigner::Digest => signer_after(host, tables, &latest, None, responder),
         CrlSigner::Nobody => silent_after(host, tables, &latest, responder),
     }
@@ -71,7 +71,7 @@ fn silent_after<C: Alter>(
     responder: &Responder<FileSigner>,
 ) -> Result<FileSigner, Failure>
     ensures signs { IfOk result (λ signer.
-        (told : Option KeyHolder) × SignsAfter C.Store tables.old tables.new
+        (told : Option SignerAddress) × SignsAfter C.Store tables.old tables.new
         (λ signatory. answers_by ⟦<FileSigner as Signer>⟧.identity signatory responder.now)
         (⟦<FileSigner as Signer>⟧.identity signer)
         told (option_map (λ bytes. bytes.items) latest.now)) }
@@ -80,17 +80,17 @@ fn silent_after<C: Alter>(
 {
     let told = holder_of(latest);
     match signer_after(host, tables, latest, told.as_ref(), responder) {
-        Ok(signer) => Ok(signer.silent()),
+        Ok(signer) => Ok(signer.without_digest()),
         Err(why) => Err(why),
     }
 }
 
 /// A holder with the algorithm of the latest CRL and an empty path, at which no socket can be. `None` if there is no CRL, if the latest one has a
 /// placeholder digest, or if its algorithm is unknown here.
-fn holder_of(latest: &Option<Vec<u8>>) -> Option<KeyHolder<'static>> {
+fn holder_of(latest: &Option<Vec<u8>>) -> Option<SignerAddress<'static>> {
     let identifier = crl_algorithm(latest.as_ref()?)?;
-    let algorithm = Algorithm::identified(identifier)?;
-    Some(KeyHolder {
+    let algorithm = Algorithm::from_identifier(identifier)?;
+    Some(SignerAddress {
         socket: Word::of(""),
         algorithm,
     })
@@ -101,7 +101,7 @@ fn signer_after<C: Alter>(
     host: &Host<'_>,
     tables: &mut Tables<C>,
     latest: &Option<Vec<u8>>,
-    told: Option<&KeyHolder<'_>>,
+    told: Option<&SignerAddress<'_>>,
     responder: &Responder<FileSigner>,
 ) -> Result<FileSigner, Failure>
     ensures signs { IfOk result (λ signer. SignsAfter C.Store tables.old tables.new
@@ -119,7 +119,7 @@ fn signer_after<C: Alter>(
         return Err(Failure::BadResponder);
     }
     let signer = open_signer(host, told, issuer.key())?;
-    match misfit(latest, signer.algorithm()) {
+    match mismatch(latest, signer.algorithm()) {
         None => Ok(signer),
         Some(why) => {
             host.keep_cause(Some(why));
@@ -131,7 +131,7 @@ fn signer_after<C: Alter>(
 /// The signer of a holder of the issuer's key, or the placeholder digest for `None`. If the key does not fit the algorithm, keeps that cause.
 fn open_signer(
     host: &Host<'_>,
-    told: Option<&KeyHolder<'_>>,
+    told: Option<&SignerAddress<'_>>,
     key: &[u8],
 ) -> Result<FileSigner, Failure>
     ensures ok { IfOk result (λ signer.
@@ -192,21 +192,21 @@ fn latest_crl<C: Alter>(tables: &mut Tables<C>) -> Result<Option<Vec<u8>>, Datab
 }
 
 /// Why no CRL with this algorithm may follow the latest one. `None` if it may, or if there is no CRL.
-fn misfit(latest: &Option<Vec<u8>>, algorithm: &[u8]) -> Option<Cause>
+fn mismatch(latest: &Option<Vec<u8>>, algorithm: &[u8]) -> Option<Cause>
     ensures { MatchOption result
         ((crl : List ℕ) → option_map (λ bytes. bytes.items) latest.now ≡ Some crl
         → (other : List ℕ) → IsCrlUnder crl other → MayFollow algorithm.now other)
         (IsMisfitAfter (option_map (λ bytes. bytes.items) latest.now) algorithm.now) }
 {
     match latest {
-        Some(crl) => misfit_of(crl, algorithm),
+        Some(crl) => mismatch_of(crl, algorithm),
         None => None,
     }
 }
 
-fn misfit_of(crl: &[u8], algorithm: &[u8]) -> Option<Cause>
+fn mismatch_of(crl: &[u8], algorithm: &[u8]) -> Option<Cause>
     ensures { MatchOption result ((other : List ℕ) → IsCrlUnder crl.now other → MayFollow algorithm.now other)
-        (IsMisfit crl.now algorithm.now) }
+        (IsMismatch crl.now algorithm.now) }
 {
     match crl_algorithm(crl) {
         Some(found) => difference(found, algorithm),
@@ -241,7 +241,7 @@ fn may_follow(algorithm: &[u8], earlier: &[u8]) -> bool
 fn is_known(algorithm: &[u8]) -> bool
     ensures { IsTrue result ↔ IsKnownAlgorithm algorithm.now }
 {
-    match Algorithm::identified(algorithm) {
+    match Algorithm::from_identifier(algorithm) {
         Some(_) => true,
         None => false,
     }

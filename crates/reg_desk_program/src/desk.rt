@@ -4,7 +4,7 @@ use crate::dispatch::perform_unreported;
 use crate::host::{Host, open_log};
 use crate::input::Input;
 use crate::progress::{CountedOutput, report_opening};
-use reg_core::{Fault, of_io};
+use reg_core::{Fault, io_cause_of};
 use reg_desk_cli::{Failure, Invocation, status_of};
 use reg_desk_jobs::report_exit;
 use std::cell::Cell;
@@ -75,7 +75,7 @@ fn report_fault(
         &mut rt.stderr(),
         &ending,
         invocation.is_explained,
-        of_io(error.kind()),
+        io_cause_of(error.kind()),
         None,
     );
     status_of(&ending)

@@ -3,7 +3,7 @@
 ghost use Rattle.reg_desk_jobs.specs.Ends.{Ends, Performs};
 
 use crate::memory::script_in_memory;
-use reg_core::{Cause, of_terms};
+use reg_core::{Cause, policy_cause_of};
 use reg_desk_cli::{Failure, Job, status_of};
 use reg_desk_jobs::{
     Machine, Reason, at, at_rows, audit, copy, crl, each_row, import_rows, init, key_identifier,
@@ -143,7 +143,7 @@ fn keep_terms_cause<M: Machine>(machine: &M, job: &Job<'_>, ending: &Result<(), 
 /// Which of the job's terms make no policy.
 fn wrong_terms(job: &Job<'_>) -> Option<Cause> {
     match job {
-        Job::Init(new) => of_terms(new.days, new.crl_life, new.ocsp_life, new.cap),
+        Job::Init(new) => policy_cause_of(new.days, new.crl_life, new.ocsp_life, new.cap),
         Job::Schedule { .. } => Some(Cause::Steps),
         _ => None,
     }

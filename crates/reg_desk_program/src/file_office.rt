@@ -3,10 +3,10 @@
 use reg_core::{Command, Fault, Label, Memory, Moment, Outcome, Query, Schedule, Serial};
 use reg_core_lists::{Cursor, Page};
 use reg_crl_signer::{BackoffDevice, KeyOrDigest, SocketDevice, UnixConnection};
-use reg_io::Begun;
+use reg_io::ReadyOrUnsigned;
 use reg_ocsp::Draft;
 use reg_office::Office;
-use reg_office_api::{Intake, OcspResponse, Standing};
+use reg_office_api::{Intake, OcspResponse, RegisterSummary};
 use sqlite::{FileFrom, FileStore};
 use sqlite_disk::Unknown;
 use std::alloc::Global;
@@ -55,7 +55,7 @@ impl reg_office_api::Office for FileOffice {
         alloc: Global,
         now: Moment,
         request: &[u8],
-    ) -> Result<Begun<OcspResponse, Draft>, Memory> {
+    ) -> Result<ReadyOrUnsigned<OcspResponse, Draft>, Memory> {
         self.office.begin_ocsp(alloc, now, request)
     }
 
@@ -71,7 +71,7 @@ impl reg_office_api::Office for FileOffice {
         self.office.page(alloc, now, from, most)
     }
 
-    fn standing(&mut self) -> Result<Standing, Fault> {
+    fn standing(&mut self) -> Result<RegisterSummary, Fault> {
         self.office.standing()
     }
 

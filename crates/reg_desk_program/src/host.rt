@@ -6,28 +6,30 @@ ghost use Rattle.reg_office_api.specs.LookUps.{IsOfStore};
 ghost use Rattle.reg_office_api.specs.Calls.{KeepsIn};
 ghost use Rattle.reg_desk_files.specs.Reading.{IsUnread};
 ghost use Rattle.reg_desk_jobs.specs.RegisterFailures.{IsOpening, IsFileFailure};
-ghost use Rattle.reg_desk_program.specs.Calls.{Unsaid, is_claimed};
+ghost use Rattle.reg_desk_program.specs.Calls.{Unspecified, is_claimed};
 ghost use Rattle.reg_desk_program.specs.Files.{failure_of};
 ghost use Rattle.reg_crl_signer.specs.SignatureRequest.{IsSignatureRequest};
 
 use crate::file_audit::audit_over;
 use crate::file_office::{FileOffice, FileSigner};
 use crate::ocsp_answerer::{delegate_answerer, issuer_answerer};
-use crate::offices::{FileConnection, close, connection_of, made_over, office_over, preset_wanted};
+use crate::offices::{
+    FileConnection, close, connection_of, create_over, office_over, preset_wanted,
+};
 use mio::net::{TcpListener, UnixListener, UnixStream as UnwaitingStream};
 use reg_audit_rows::AuditResult;
-use reg_core::{Cause, Fault, Memory, Policy, of_io, of_port};
+use reg_core::{Cause, Fault, Memory, Policy, io_cause_of, port_cause_of};
 use reg_crl::{DigestSeal, Signer};
 use reg_crl_signer::{
     DeviceConnection, KeyOrDigest, PresetSignature, SignatureRequest, read_answer,
 };
 use reg_der::Issuer;
-use reg_desk_cli::{Answerer, Failure};
+use reg_desk_cli::{Failure, ResponderChoice};
 use reg_desk_files::{
-    ClaimFault, FileFault, Overlay, ReadFile, Source, Sources, Unread, claim_file, copy_closed,
-    copy_open, look_at, open_file, open_sources, read_at, remove_file,
+    ClaimFault, FileFault, Overlay, ReadFile, Source, Sources, UnreadFile, check_database,
+    claim_file, copy_closed, copy_open, open_file, open_sources, read_at, remove_file,
 };
-use reg_desk_jobs::{CrlSigner, Machine, Uncopied, Wanted};
+use reg_desk_jobs::{CopyFault, CrlSigner, Machine, SignatureKind};
 use reg_io::write_whole;
 use reg_office::Responder;
 use sqlite_disk::{Disk, Unknown};
@@ -42,7 +44,7 @@ use std::path::Path;
 use std::time::{Clock, Duration};
 use std::{fs, io, thread};
 
-const OWNER_ALONE: u32 = 0o600;
+const OWNER_ONLY: u32 = 0o600;
 
 /// The error numbers for too many open files, in this process (EMFILE) and in the system (ENFILE).
 const TOO_MANY_HERE: i32 = 24;
@@ -69,15 +71,15 @@ pub struct Host<'a> {
 }
 
 impl<'a> Host<'a> {
-    pub(crate) fn unread(&self, why: Unread) -> Failure
+    pub(crate) fn unread(&self, why: UnreadFile) -> Failure
         requires { IsUnread why }
         ensures told { result ≡ failure_of why }
         ensures opening { IsOpening result }
         ensures reading { IsFileFailure result }
     {
         match why {
-            Unread::Nothing => Failure::NotARegister,
-            Unread::Fault(why) => Failure::Fault(self.fault_of(why)),
+            UnreadFile::Nothing => Failure::NotARegister,
+            UnreadFile::Fault(why) => Failure::Fault(self.fault_of(why)),
         }
     }
 
@@ -92,7 +94,7 @@ impl<'a> Host<'a> {
         match TcpListener::bind(&self.rt, address) {
             Ok(listener) => Ok(listener),
             Err(error) => {
-                self.keep_cause(of_port(error.kind()));
+                self.keep_cause(port_cause_of(error.kind()));
                 Err(error)
             }
         }
@@ -113,7 +115,7 @@ impl<'a> Host<'a> {
 }
 
 /// Most methods are one call of reg_desk_files or std with the arguments that they were given. No clause can state what that call did outside the
-/// program, so those relations of [`Machine`] state nothing here (`Unsaid`).
+/// program, so those relations of [`Machine`] state nothing here (`Unspecified`).
 impl<'a> Machine for Host<'a> {
     ghost use Rattle.std.specs.Prelude.{false};
     ghost use Rattle.std.proofs.Common.{inr};
@@ -132,21 +134,21 @@ impl<'a> Machine for Host<'a> {
 
     type Responder = Responder<FileSigner>;
 
-    ghost lies = { λ host path. Unsaid path };
+    ghost lies = { λ host path. Unspecified path };
 
-    ghost absent = { λ host path. Unsaid path };
+    ghost absent = { λ host path. Unspecified path };
 
-    ghost claimed = { λ host path after. Unsaid path };
+    ghost claimed = { λ host path after. Unspecified path };
 
-    ghost removed = { λ host path after. Unsaid path };
+    ghost removed = { λ host path after. Unspecified path };
 
-    ghost begun = { λ host path. Unsaid path };
+    ghost begun = { λ host path. Unspecified path };
 
-    ghost unread = { λ host path why. Unsaid path };
+    ghost unread = { λ host path why. Unspecified path };
 
-    ghost connected = { λ host path database after. Unsaid path };
+    ghost connected = { λ host path database after. Unspecified path };
 
-    ghost unconnected = { λ host path why after. Unsaid path };
+    ghost unconnected = { λ host path why after. Unspecified path };
 
     ghost fresh = { λ database. (database.in_transaction ≡ false) × IsConnection database };
 
@@ -156,41 +158,41 @@ impl<'a> Machine for Host<'a> {
 
     ghost made = { λ database office. IsMadeFrom database office.office.store };
 
-    ghost closed = { λ host path office after. Unsaid path };
+    ghost closed = { λ host path office after. Unspecified path };
 
-    ghost read = { λ host path sources. Unsaid path };
+    ghost read = { λ host path sources. Unspecified path };
 
     ghost audited = { λ sources. IsAuditOf ⟦<Overlay<ReadFile> as Disk>⟧ (image sources.log.items (⟦<ReadFile as Source>⟧.bytes sources.db)) };
 
-    ghost copied = { λ host path to bytes after. Unsaid path };
+    ghost copied = { λ host path to bytes after. Unspecified path };
 
-    ghost uncopied = { λ host path to why after. Unsaid path };
+    ghost uncopied = { λ host path to why after. Unspecified path };
 
-    ghost copied_open = { λ path bytes. Unsaid path };
+    ghost copied_open = { λ path bytes. Unspecified path };
 
-    ghost clock_read = { λ seconds. Unsaid seconds };
+    ghost clock_read = { λ seconds. Unspecified seconds };
 
-    ghost clock_reached = { λ now. Unsaid now };
+    ghost clock_reached = { λ now. Unspecified now };
 
-    ghost bound = { λ address port. Unsaid address };
+    ghost bound = { λ address port. Unspecified address };
 
-    ghost socket_created = { λ path. Unsaid path };
+    ghost socket_created = { λ path. Unspecified path };
 
-    ghost has_mode = { λ path mode. Unsaid path };
+    ghost has_mode = { λ path mode. Unspecified path };
 
-    ghost locked = { λ lock path. Unsaid path };
+    ghost locked = { λ lock path. Unspecified path };
 
-    ghost stale = { λ lock path. Unsaid path };
+    ghost stale = { λ lock path. Unspecified path };
 
-    ghost socket_connected = { λ path. Unsaid path };
+    ghost socket_connected = { λ path. Unspecified path };
 
-    ghost signature_requested = { λ path message. Unsaid path };
+    ghost signature_requested = { λ path message. Unspecified path };
 
-    ghost reached = { λ path. Unsaid path };
+    ghost reached = { λ path. Unspecified path };
 
-    ghost signer_answered = { λ path message answer. Unsaid path };
+    ghost signer_answered = { λ path message answer. Unspecified path };
 
-    ghost warned = { λ line. Unsaid line };
+    ghost warned = { λ line. Unspecified line };
 
     ghost answer_in_form_signs = { λ identity path message answer given form. inr (inr (path, ∣ tt ∣₁), form) };
 
@@ -206,8 +208,8 @@ impl<'a> Machine for Host<'a> {
         remove_file(&self.rt, path);
     }
 
-    fn look_at(&self, path: &str) -> Result<(), Failure> {
-        match look_at(&self.rt, path) {
+    fn check_database(&self, path: &str) -> Result<(), Failure> {
+        match check_database(&self.rt, path) {
             Ok(()) => Ok(()),
             Err(why) => Err(self.unread(why)),
         }
@@ -224,10 +226,10 @@ impl<'a> Machine for Host<'a> {
         fs::read(&self.rt, path).ok()
     }
 
-    fn certify(&self, answerer: &Answerer<'_>) -> Result<Responder<FileSigner>, Failure> {
+    fn certify(&self, answerer: &ResponderChoice<'_>) -> Result<Responder<FileSigner>, Failure> {
         match answerer {
-            Answerer::Issuer { certificate } => issuer_answerer(self, certificate),
-            Answerer::Delegate {
+            ResponderChoice::Issuer { certificate } => issuer_answerer(self, certificate),
+            ResponderChoice::Delegate {
                 certificate,
                 holder,
             } => delegate_answerer(self, certificate, holder),
@@ -249,14 +251,14 @@ impl<'a> Machine for Host<'a> {
         }
     }
 
-    fn make_in(
+    fn create_in(
         &self,
         database: FileConnection,
         issuer: Issuer,
         policy: Policy,
     ) -> Result<FileOffice, Failure> {
         let signer: FileSigner = KeyOrDigest::Digest(DigestSeal);
-        match made_over(database, issuer, policy, signer) {
+        match create_over(database, issuer, policy, signer) {
             Ok(office) => Ok(FileOffice { office }),
             Err((why, connection)) => {
                 close(connection);
@@ -290,7 +292,7 @@ impl<'a> Machine for Host<'a> {
         }
     }
 
-    fn copy_open(&self, path: &str, to: &str) -> Result<u64, Uncopied> {
+    fn copy_open(&self, path: &str, to: &str) -> Result<u64, CopyFault> {
         match copy_open(&self.rt, path, to) {
             Ok(bytes) => Ok(bytes),
             Err(why) => Err(uncopied_by(why)),
@@ -350,7 +352,7 @@ impl<'a> Machine for Host<'a> {
         match UnixStream::connect(&self.rt, path) {
             Ok(stream) => Ok(stream),
             Err(error) => {
-                self.keep_cause(of_io(error.kind()));
+                self.keep_cause(io_cause_of(error.kind()));
                 Err(error)
             }
         }
@@ -363,7 +365,7 @@ impl<'a> Machine for Host<'a> {
         }
     }
 
-    fn reach(&self, path: &str) -> io::Result<SignatureRequest> {
+    fn connect_to_signer(&self, path: &str) -> io::Result<SignatureRequest> {
         match SignatureRequest::connect(&self.rt, path) {
             Ok(link) => Ok(link),
             Err(error) => Err(for_room(error)),
@@ -372,7 +374,7 @@ impl<'a> Machine for Host<'a> {
 
     fn receive_answer(alloc: Global, link: &mut SignatureRequest) -> Option<Vec<u8>>
         ensures given { IfSome result (λ answer.
-            (path message : List ℕ) → IsSignatureRequest path message link.old → Unsaid path) }
+            (path message : List ℕ) → IsSignatureRequest path message link.old → Unspecified path) }
         ensures short { IfSome result (λ answer. length answer.items ≤ 4096) }
     {
         read_answer(alloc, link)
@@ -380,7 +382,7 @@ impl<'a> Machine for Host<'a> {
 
     fn set_preset(
         office: &mut FileOffice,
-        wanted: Wanted,
+        wanted: SignatureKind,
         preset_signature: Option<PresetSignature>,
     )
         ensures { KeepsIn ⟦<FileOffice as reg_office_api::Office>⟧ office.old office.new }
@@ -421,16 +423,16 @@ impl<'a> Machine for Host<'a> {
 }
 
 /// Why an open register's files were not copied. Such files hold a database; if they don't, they are damaged.
-fn uncopied_by(why: Unread) -> Uncopied
+fn uncopied_by(why: UnreadFile) -> CopyFault
     requires { IsUnread why }
     ensures { IsOfStore result.fault }
 {
     match why {
-        Unread::Nothing => Uncopied {
+        UnreadFile::Nothing => CopyFault {
             fault: Fault::Store,
             cause: Some(Cause::Damaged),
         },
-        Unread::Fault(why) => Uncopied {
+        UnreadFile::Fault(why) => CopyFault {
             fault: why.fault,
             cause: why.cause,
         },
@@ -495,6 +497,6 @@ fn append(rt: &HostRuntime, path: &str, line: &[u8]) {
 /// Opens a log file for appending, or creates it so that only its owner may read and write it.
 pub(crate) fn open_log(rt: &HostRuntime, path: &str) -> io::Result<File> {
     let mut options = OpenOptions::new();
-    options.append(true).create(true).mode(OWNER_ALONE);
+    options.append(true).create(true).mode(OWNER_ONLY);
     options.open(rt, path)
 }

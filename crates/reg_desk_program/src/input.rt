@@ -1,6 +1,6 @@
 //! Standard input, or the file that a job reads.
 
-use reg_desk_cli::{Job, KeptOpen, Serving};
+use reg_desk_cli::{Job, OpenJob, ServeJob};
 use std::fs::File;
 use std::io;
 use std::io::{Read, Stdin};
@@ -21,13 +21,13 @@ impl Input {
             | Job::EachRow { rows: path, .. }
             | Job::Replay { log: path, .. }
             | Job::Serve(
-                Serving {
+                ServeJob {
                     published: Some(path),
                     ..
                 },
             )
             | Job::Open(
-                KeptOpen {
+                OpenJob {
                     published: Some(path),
                     ..
                 },

@@ -1,6 +1,6 @@
 //! Each function here does nothing when it runs: its contract is a law, and the check proves it.
 
-ghost use Rattle.reg_office.specs.Following.{IsSeal};
+ghost use Rattle.reg_office.specs.Following.{IsDigestSigner};
 ghost use Rattle.reg_desk_program.specs.Audited.{FoundSound, StandsOnceAudited};
 ghost use Rattle.reg_desk_program.specs.Stops.{LeavesWhatWasReported};
 ghost use Rattle.reg_crl_signer.specs.Both.{SignsBoth, digest};
@@ -23,7 +23,7 @@ pub fn a_register_that_was_found_sound_stands<A: Disk, D: Disk, S: Signer>()
 /// If no signer has the key of a register in a file, the only signer is the placeholder digest. So a key may follow it, by
 /// [`reg_office::laws::a_key_follows_the_digest`].
 pub fn the_digest_is_a_seal<D: Device>()
-    ensures { IsSeal (SignsBoth D.answers) digest }
+    ensures { IsDigestSigner (SignsBoth D.answers) digest }
 {}
 
 /// A stop at any moment of a job leaves the records that its replies reported, or these after one more change.

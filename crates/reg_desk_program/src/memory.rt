@@ -11,7 +11,7 @@ ghost use Rattle.reg_desk_jobs.specs.RegisterFailures.{IsMaking};
 ghost use Rattle.reg_desk_jobs.specs.Sample.{sample_records};
 ghost use Rattle.reg_crl_signer.specs.Both.{digest};
 
-use crate::offices::made_over;
+use crate::offices::create_over;
 use reg_core::{Fault, Policy};
 use reg_crl::DigestSeal;
 use reg_der::Issuer;
@@ -56,7 +56,7 @@ fn office_in_memory(alloc: Global) -> Result<MemoryOffice, Failure>
     let Ok(connection) = Connection::open_in_memory(alloc) else {
         return Err(Failure::Fault(Fault::Memory));
     };
-    match made_over(connection, issuer, Policy::usual(), DigestSeal) {
+    match create_over(connection, issuer, Policy::usual(), DigestSeal) {
         Ok(office) => Ok(office),
         Err((why, _connection)) => Err(why),
     }

@@ -5,15 +5,15 @@ ghost use Rattle.reg_crl.specs.Signing.{Identity};
 ghost use Rattle.reg_desk_jobs.specs.RegisterFailures.{IsOpening};
 ghost use Rattle.reg_desk_jobs.specs.Signers.{EmbedsOwn, HasCertificate, IsAnswering, IsDelegate};
 ghost use Rattle.reg_office.specs.Answering.{answers_by, signatory_of};
-ghost use Rattle.reg_desk_cli.specs.declared.job.Answerer.TheVariants.{Issuer};
+ghost use Rattle.reg_desk_cli.specs.declared.job.ResponderChoice.TheVariants.{Issuer};
 
 use crate::crl_signer::key_signer;
 use crate::file_office::FileSigner;
 use crate::host::Host;
-use reg_core::{Fault, of_io};
+use reg_core::{Fault, io_cause_of};
 use reg_crl::Signer;
 use reg_crl_signer::is_key_identifier;
-use reg_desk_cli::{Failure, KeyHolder, Word};
+use reg_desk_cli::{Failure, SignerAddress, Word};
 use reg_desk_jobs::Machine;
 use reg_ocsp::{Certificate, CertificateFault};
 use reg_office::Responder;
@@ -44,7 +44,7 @@ pub(crate) fn issuer_answerer(
 pub(crate) fn delegate_answerer(
     host: &Host<'_>,
     path: &Word<'_>,
-    holder: &KeyHolder<'_>,
+    holder: &SignerAddress<'_>,
 ) -> Result<Responder<FileSigner>, Failure>
     ensures ok { IfOk result (λ responder.
         (crls : Identity) → IsDelegate holder.now
@@ -77,7 +77,7 @@ fn certificate_at(host: &Host<'_>, path: &str) -> Result<Certificate, Failure>
             return Err(Failure::Fault(Fault::Memory));
         }
         Err(error) => {
-            host.keep_cause(of_io(error.kind()));
+            host.keep_cause(io_cause_of(error.kind()));
             return Err(Failure::BadResponder);
         }
     };

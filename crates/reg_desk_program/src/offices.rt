@@ -16,7 +16,7 @@ use reg_crl::Signer;
 use reg_crl_signer::PresetSignature;
 use reg_der::Issuer;
 use reg_desk_cli::Failure;
-use reg_desk_jobs::{CrlSigner, Wanted};
+use reg_desk_jobs::{CrlSigner, SignatureKind};
 use reg_office::{Office, Responder};
 use reg_store::Store;
 use sqlite::{Alter, Connection, FileFrom, FileStore};
@@ -26,7 +26,7 @@ use sqlite_disk::{Disk, Unknown};
 pub type FileConnection = Connection<FileStore<FileFrom<Unknown>>>;
 
 /// Creates a register in a database, and returns its office; if that fails, the failure and the connection.
-pub(crate) fn made_over<C: Alter, S: Signer + Drop>(
+pub(crate) fn create_over<C: Alter, S: Signer + Drop>(
     connection: Connection<C>,
     issuer: Issuer,
     policy: Policy,
@@ -87,7 +87,7 @@ pub(crate) fn close<D: Disk + Drop>(connection: Connection<FileStore<D>>) {
 pub(crate) fn preset_wanted(
     signer: &mut FileSigner,
     responder: &mut Responder<FileSigner>,
-    wanted: Wanted,
+    wanted: SignatureKind,
     preset_signature: Option<PresetSignature>,
 )
     ensures { signatory_of ⟦<FileSigner as Signer>⟧.identity (⟦<FileSigner as Signer>⟧.identity signer.new)
@@ -96,7 +96,7 @@ pub(crate) fn preset_wanted(
         responder.old }
 {
     match (wanted, responder) {
-        (Wanted::Answer, Responder::Delegate(own, _)) => own.set_preset(preset_signature),
+        (SignatureKind::Answer, Responder::Delegate(own, _)) => own.set_preset(preset_signature),
         _ => signer.set_preset(preset_signature),
     }
 }

@@ -1,6 +1,6 @@
 //! Shows the progress of a long job on standard error, if that is a terminal.
 
-use reg_core::{Cause, of_io};
+use reg_core::{Cause, io_cause_of};
 use reg_desk_cli::Job;
 use std::cell::Cell;
 use std::io::{IsTerminal, Stdout, Write};
@@ -66,7 +66,7 @@ impl<'a> Write for CountedOutput<'a> {
         let count = match self.output.write(buf) {
             Ok(count) => count,
             Err(error) => {
-                self.last_cause.set(of_io(error.kind()));
+                self.last_cause.set(io_cause_of(error.kind()));
                 return Err(error);
             }
         };

@@ -6,7 +6,7 @@ use Rattle.std.specs.List.{concat}
 use Rattle.std.proofs.lemmas.List.{append-nil, append_assoc}
 use Rattle.std.proofs.lemmas.List.Elements.{AllZip-push}
 use Rattle.std.proofs.lemmas.List.Folds.{concat-append}
-use Rattle.reg_io.specs.Mark.{FirstMark}
+use Rattle.reg_io.specs.Mark.{FirstDelimiter}
 use Rattle.reg_io.proofs.PublicLaws.{byte_first}
 use Rattle.reg_http_head.specs.Bytes.{collected_bytes}
 use Rattle.reg_http_head.specs.declared.collected.Collected.{Collected}
@@ -84,7 +84,7 @@ module _ {S H : Type 0} (contents remaining : S → Option (List ℕ)) (answers_
 
   -- its first line was answered
   told_more : (first : S) (s t : H) (old new : ControlConnection S) (lines replies : List (List ℕ)) (end : ℕ)
-      → HasAnsweredLines contents remaining answers_line first old lines replies → SameLinkAndEnd old new → FirstMark (10 ∷ []) old.arrived.items end
+      → HasAnsweredLines contents remaining answers_line first old lines replies → SameLinkAndEnd old new → FirstDelimiter (10 ∷ []) old.arrived.items end
       → unsent_of old.unsent ≡ [] → answers_line s (take end old.arrived.items) (unsent_of new.unsent) t → new.arrived.items ≡ drop end old.arrived.items
       → HasAnsweredLines contents remaining answers_line first new (lines ++ take end old.arrived.items ∷ []) (replies ++ unsent_of new.unsent ∷ [])
   told_more first s t old new lines replies end was same mark none step rest =

@@ -1,7 +1,7 @@
 -- One control connection: the handler's reply to a line, the bytes that are left after it, and how received bytes are kept until then.
 use Rattle.std.specs.Prelude.{◌≡◌, ℕ, Bool, true, false, List, [], ◌∷◌, ◌++◌, ◌⊎◌, Option, take, drop}
 use Rattle.std.specs.Io.KnownBytes.{Appends, Consumes}
-use Rattle.reg_io.specs.Mark.{FirstMark, HasNoMark}
+use Rattle.reg_io.specs.Mark.{FirstDelimiter, HasNoMark}
 use Rattle.reg_desk_server.specs.Buffers.{unsent_of}
 use Rattle.reg_desk_server.specs.declared.control_connection.ControlConnection.{ControlConnection}
 use Rattle.reg_desk_server.specs.declared.request_bytes.Received.{Received}
@@ -13,7 +13,7 @@ HasNoLine bytes = HasNoMark (10 ∷ []) bytes
 
 -- the first line of these bytes ends here, with its LF
 abbrev pub FirstLineEnds : List ℕ → ℕ → Type 0
-FirstLineEnds bytes end = FirstMark (10 ∷ []) bytes end
+FirstLineEnds bytes end = FirstDelimiter (10 ∷ []) bytes end
 
 module _ {S : Type 0} where
   -- it was just accepted: nothing came, and nothing is to be sent

@@ -1,9 +1,9 @@
 -- What a handler returns, as the outcome of a request.
 use Rattle.std.specs.Prelude.{ℕ, Vec}
 use Rattle.reg_desk_server.specs.Exchange.{Outcome, said, pending}
-use Rattle.reg_io.specs.declared.begun.Begun.{Begun}
-use Rattle.reg_io.specs.declared.begun.Begun.TheVariants.{Ready, Unsigned}
+use Rattle.reg_io.specs.declared.begun.ReadyOrUnsigned.{ReadyOrUnsigned}
+use Rattle.reg_io.specs.declared.begun.ReadyOrUnsigned.TheVariants.{Ready, Unsigned}
 
-abbrev pub outcome_of : {T Z : Type 0} → Begun (Vec ℕ Z) T → Outcome T
+abbrev pub outcome_of : {T Z : Type 0} → ReadyOrUnsigned (Vec ℕ Z) T → Outcome T
 outcome_of (Ready text) = said text.items
 outcome_of (Unsigned ticket) = pending ticket

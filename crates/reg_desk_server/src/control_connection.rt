@@ -11,7 +11,7 @@ use crate::request_bytes::Received;
 use crate::unsent::{Sent, Unsent};
 use mio::Interest;
 use reg_crl_signer::SignatureRequest;
-use reg_io::first_mark;
+use reg_io::first_delimiter;
 use std::alloc::Global;
 use std::io::{ErrorKind, Read};
 
@@ -30,7 +30,7 @@ pub struct ControlConnection<S: Link> {
     pub(crate) has_ended: bool,
     pub(crate) is_registered: bool,
     /// How often the first line was passed to `Handler::defer` since the last reply.
-    pub(crate) looks: u32,
+    pub(crate) polls: u32,
     pub(crate) last_reason: Vec<u8>,
 }
 
@@ -38,7 +38,7 @@ pub struct ControlConnection<S: Link> {
 fn line_end(bytes: &[u8]) -> Option<usize>
     ensures { MatchOption result (HasNoLine bytes.now) (λ end. FirstLineEnds bytes.now end) }
 {
-    first_mark(bytes, bytes.len(), b"\n", 0)
+    first_delimiter(bytes, bytes.len(), b"\n", 0)
 }
 
 impl<S: Link> ControlConnection<S> {
@@ -52,7 +52,7 @@ impl<S: Link> ControlConnection<S> {
             unsent: Unsent::new(Vec::new(alloc)),
             has_ended: false,
             is_registered: false,
-            looks: 0,
+            polls: 0,
             last_reason: Vec::new(alloc),
         }
     }
@@ -154,7 +154,7 @@ impl<S: Link> ControlConnection<S> {
     {
         self.unsent = Unsent::new(text);
         drop_prefix(&mut self.arrived, end);
-        self.looks = 0;
+        self.polls = 0;
     }
 
     /// Gives what must be signed before the first line is answered, once the previous reply is sent. `None` if no line is whole, if the handler
@@ -165,13 +165,13 @@ impl<S: Link> ControlConnection<S> {
         ensures unsent { self.new.unsent ≡ self.old.unsent }
         ensures kept { SameLinkAndEnd self.old self.new }
     {
-        if self.looks >= MOST_LOOKS {
+        if self.polls >= MOST_LOOKS {
             return None;
         }
         match self.due_line() {
             None => None,
             Some(end) => {
-                self.looks += 1;
+                self.polls += 1;
                 handler.defer(&self.arrived[..end])
             }
         }

@@ -13,7 +13,7 @@ use crate::poller::{
     MOST_SIGNATURES,
 };
 use crate::shared::{LostConnection, Shared};
-use crate::signature_requests::{PATIENCE, Pending, Requester, SignatureRequests};
+use crate::signature_requests::{Pending, Requester, SignatureRequests, TIMEOUT_MILLIS};
 use mio::net::{TcpListener, TcpStream, UnixListener};
 use std::alloc::AllocGlobal;
 use std::io;
@@ -299,8 +299,8 @@ impl<H: Handler> EventLoop<H> {
     /// Requests a queued signature at a free index, unless its client disconnected while it was queued.
     fn request(&mut self, pending: Pending, index: usize, handler: &H, now: u64) {
         let requester = pending.requester;
-        let has_waited = pending.until < now.saturating_add(PATIENCE);
-        if has_waited && self.http.has_gone(requester, &mut self.shared, now) {
+        let has_waited = pending.deadline < now.saturating_add(TIMEOUT_MILLIS);
+        if has_waited && self.http.close_if_ended(requester, &mut self.shared, now) {
             return;
         }
         let token = index.saturating_add(FIRST_SIGNATURE);
@@ -314,7 +314,7 @@ impl<H: Handler> EventLoop<H> {
                 }
             }
             Err(error) if error.kind() == ErrorKind::WouldBlock => {
-                self.signatures.put_off(pending, now);
+                self.signatures.requeue(pending, now);
             }
             Err(_) => self.complete(requester, false, handler, now),
         }
@@ -326,7 +326,7 @@ impl<H: Handler> EventLoop<H> {
             self.finish_at(index, handler, now);
         }
         for _ in 0..MOST_HTTP_CONNECTIONS {
-            match self.signatures.take_late(now) {
+            match self.signatures.take_expired(now) {
                 Some(late) => self.complete(late.requester, false, handler, now),
                 None => return,
             }
@@ -337,8 +337,11 @@ impl<H: Handler> EventLoop<H> {
         let Some(requested) = self.signatures.at(index) else {
             return;
         };
-        let Pending { requester, until } = requested.pending;
-        if requested.has_come || until <= now || !self.http.is_waiting(requester) {
+        let Pending {
+            requester,
+            deadline,
+        } = requested.pending;
+        if requested.has_come || deadline <= now || !self.http.is_waiting(requester) {
             self.signatures.drop_at(index);
             self.complete(requester, requested.has_come, handler, now);
         }

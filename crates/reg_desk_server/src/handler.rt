@@ -2,7 +2,7 @@
 
 use reg_crl_signer::SignatureRequest;
 use reg_http_head::Collected;
-use reg_io::Begun;
+use reg_io::ReadyOrUnsigned;
 use std::io;
 use std::net::SocketAddr;
 
@@ -69,7 +69,7 @@ pub trait Handler {
         &mut self,
         client: SocketAddr,
         request: &Collected,
-    ) -> Result<Begun<Vec<u8>, Self::Ticket>, EventLoopFault>
+    ) -> Result<ReadyOrUnsigned<Vec<u8>, Self::Ticket>, EventLoopFault>
         ensures ok { IfOk result (λ begun.
             answers self.old (collected_bytes request.now) (outcome_of begun) self.new) }
         ensures err { OnErr result (self.new ≡ self.old) };
@@ -97,7 +97,7 @@ pub trait Handler {
         ensures { defers self.old line.now self.new };
 
     /// Connects to the signer for a line, without blocking. The error is `WouldBlock` if the signer has no room for one more connection.
-    fn reach(&self, ticket: &Self::Line) -> io::Result<SignatureRequest>;
+    fn connect_to_signer(&self, ticket: &Self::Line) -> io::Result<SignatureRequest>;
 
     /// Answers a line whose message was made: with what came on the connection on which that was sent, which is at its end; or without a
     /// signature. `None` if another message is to be signed by now: then `defer` is to be called again.

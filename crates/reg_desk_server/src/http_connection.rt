@@ -12,14 +12,14 @@ use crate::unsent::{Sent, Unsent};
 use mio::Interest;
 use reg_crl_signer::SignatureRequest;
 use reg_http_head::Collected;
-use reg_io::Begun;
+use reg_io::ReadyOrUnsigned;
 use std::alloc::Global;
 use std::io::{ErrorKind, Read};
 use std::net::SocketAddr;
 use std::{io, mem};
 
 /// How many milliseconds a client has to send its request, and then again to receive its answer.
-const PATIENCE: u64 = 30_000;
+const TIMEOUT_MILLIS: u64 = 30_000;
 
 /// For how many milliseconds after its answer the bytes that a client still sends are dropped.
 const LINGER: u64 = 1_000;
@@ -81,7 +81,7 @@ pub struct HttpConnection<S: Link, H: Handler> {
     pub(crate) fault: Option<ConnectionFault>,
     /// Whether the client closed its sending side while it waits for its answer.
     pub(crate) has_ended: bool,
-    pub(crate) until: u64,
+    pub(crate) deadline: u64,
     pub(crate) number: u64,
     pub(crate) is_registered: bool,
 }
@@ -105,7 +105,7 @@ impl<S: Link, H: Handler> HttpConnection<S, H> {
             stage: Stage::Receiving(Collected::new(alloc)),
             fault: None,
             has_ended: false,
-            until: now.saturating_add(PATIENCE),
+            deadline: now.saturating_add(TIMEOUT_MILLIS),
             number,
             is_registered: false,
         }
@@ -123,8 +123,8 @@ impl<S: Link, H: Handler> HttpConnection<S, H> {
         !self.is_receiving() && !self.is_signing()
     }
 
-    pub fn is_late(&self, now: u64) -> bool {
-        self.until <= now
+    pub fn is_expired(&self, now: u64) -> bool {
+        self.deadline <= now
     }
 
     /// Keeps and returns the fault because of which the connection is to be answered before its request is whole, if there is one at this moment.
@@ -136,7 +136,7 @@ impl<S: Link, H: Handler> HttpConnection<S, H> {
         if !self.is_receiving() {
             return None;
         }
-        if self.fault.is_none() && self.is_late(now) {
+        if self.fault.is_none() && self.is_expired(now) {
             self.fault = Some(ConnectionFault::Late);
         }
         self.fault
@@ -237,7 +237,7 @@ impl<S: Link, H: Handler> HttpConnection<S, H> {
         ensures drains { self.new.stage ≡ Stage.Draining }
     {
         self.stage = Stage::Draining;
-        self.until = now.saturating_add(LINGER);
+        self.deadline = now.saturating_add(LINGER);
         match self.link.finish() {
             Ok(()) => Next::Poll(Interest::READABLE),
             Err(_) => Next::Close,
@@ -283,12 +283,12 @@ impl<S: Link, H: Handler> HttpConnection<S, H> {
             Stage::Draining => return Ok(false),
         };
         match begun {
-            Begun::Ready(text) => {
+            ReadyOrUnsigned::Ready(text) => {
                 self.start_sending(text, is_exact, now);
                 Ok(false)
             }
-            Begun::Unsigned(ticket) => {
-                self.until = now.saturating_add(PATIENCE);
+            ReadyOrUnsigned::Unsigned(ticket) => {
+                self.deadline = now.saturating_add(TIMEOUT_MILLIS);
                 self.stage = Stage::Signing(ticket, None, is_exact);
                 Ok(true)
             }
@@ -303,7 +303,7 @@ impl<S: Link, H: Handler> HttpConnection<S, H> {
         // Without an answer, unread bytes can't cost the client one.
         let is_last = is_exact || text.is_empty();
         self.stage = Stage::Sending(Unsent::new(text), is_last);
-        self.until = now.saturating_add(PATIENCE);
+        self.deadline = now.saturating_add(TIMEOUT_MILLIS);
     }
 
     /// Requests the signature of the answer, without blocking. The connection on which it will come is polled under a token. The errors are

@@ -27,7 +27,7 @@ pub(crate) const SWEEP: u64 = 250;
 enum Selection {
     Unanswered,
     Answered,
-    UnsentBut(usize),
+    UnsentExcept(usize),
 }
 
 impl Selection {
@@ -35,7 +35,7 @@ impl Selection {
         match self {
             Selection::Unanswered => !connection.has_answer(),
             Selection::Answered => connection.has_answer(),
-            Selection::UnsentBut(newest) => connection.unsent() > 0 && slot != newest,
+            Selection::UnsentExcept(newest) => connection.unsent() > 0 && slot != newest,
         }
     }
 }
@@ -183,7 +183,7 @@ impl<H: Handler> HttpConnections<H> {
         self.swept = now;
         for slot in 0..self.slots.entries.len() {
             match self.slots.take(slot) {
-                Some(connection) if connection.is_late(now) => {
+                Some(connection) if connection.is_expired(now) => {
                     self.expire(slot, connection, shared, ConnectionFault::Late);
                 }
                 Some(connection) => self.slots.put(slot, connection),
@@ -213,7 +213,7 @@ impl<H: Handler> HttpConnections<H> {
             if self.unsent <= MOST_UNSENT {
                 return;
             }
-            let Some(slot) = self.oldest(Selection::UnsentBut(newest)) else {
+            let Some(slot) = self.oldest(Selection::UnsentExcept(newest)) else {
                 return;
             };
             if let Some(connection) = self.slots.take(slot) {
@@ -286,7 +286,12 @@ impl<H: Handler> HttpConnections<H> {
     }
 
     /// Advances the connection of a requester, and closes it if the client closed its side. Returns whether the requester no longer waits.
-    pub(crate) fn has_gone(&mut self, requester: Requester, shared: &mut Shared, now: u64) -> bool {
+    pub(crate) fn close_if_ended(
+        &mut self,
+        requester: Requester,
+        shared: &mut Shared,
+        now: u64,
+    ) -> bool {
         self.advance(requester.slot, shared, now);
         match self.take_waiting(requester) {
             Some(connection) if connection.has_ended => {

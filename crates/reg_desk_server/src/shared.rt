@@ -9,7 +9,7 @@ use std::alloc::{AllocError, AllocGlobal, Global};
 use std::io;
 use std::net::{Net, SocketAddr};
 
-const ROOM: usize = 65_536;
+const BUFFER_SIZE: usize = 65_536;
 
 /// The poller, the lost connections, and the buffer for one read.
 #[derive(Drop)]
@@ -23,7 +23,7 @@ pub(crate) struct Shared {
 impl Shared {
     pub(crate) fn new(rt: &(impl Net + AllocGlobal), connections: usize) -> io::Result<Shared> {
         let alloc = rt.alloc();
-        let room = vec![in alloc; 0u8; ROOM]?;
+        let room = vec![in alloc; 0u8; BUFFER_SIZE]?;
         let lost = LostConnections::new(alloc, connections)?;
         let poller = Poller::new(rt)?;
         Ok(Shared {

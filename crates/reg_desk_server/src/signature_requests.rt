@@ -6,14 +6,14 @@ use std::collections::VecDeque;
 use std::time::Duration;
 
 /// How many milliseconds a signature may take, from when its answer was begun.
-pub(crate) const PATIENCE: u64 = 10_000;
+pub(crate) const TIMEOUT_MILLIS: u64 = 10_000;
 
 /// How many milliseconds pass before a signer without room for one more connection is asked again.
 pub(crate) const PAUSE: u64 = 10;
 
 /// How often the loop polls for a signature without blocking, for one or two hundred microseconds, before it blocks. Most signatures arrive by then,
 /// and to be woken takes as long as to sign.
-const LOOKS: u32 = 100;
+const POLLS: u32 = 100;
 
 /// An HTTP connection that waits for a signature: its slot, and its number, which no other connection has.
 #[derive(Clone, Copy)]
@@ -26,7 +26,7 @@ pub(crate) struct Requester {
 #[derive(Clone, Copy)]
 pub(crate) struct Pending {
     pub(crate) requester: Requester,
-    pub(crate) until: u64,
+    pub(crate) deadline: u64,
 }
 
 /// A signature that was requested on a connection, which is kept with the requester.
@@ -45,7 +45,7 @@ pub(crate) struct SignatureRequests {
     /// Until when the signer is not asked, because it had no room for one more connection.
     paused: Option<u64>,
     /// How often the loop still polls for a signature before it blocks.
-    looks: u32,
+    polls: u32,
 }
 
 impl SignatureRequests {
@@ -54,20 +54,25 @@ impl SignatureRequests {
             queue: VecDeque::new(alloc),
             requested: Vec::new(alloc),
             paused: None,
-            looks: 0,
+            polls: 0,
         }
     }
 
     /// Queues a requester. Returns whether there was memory for it.
     pub(crate) fn add(&mut self, requester: Requester, now: u64) -> bool {
-        let until = now.saturating_add(PATIENCE);
-        self.queue.push_back(Pending { requester, until }).is_ok()
+        let deadline = now.saturating_add(TIMEOUT_MILLIS);
+        self.queue
+            .push_back(Pending {
+                requester,
+                deadline,
+            })
+            .is_ok()
     }
 
     /// The longest time that the loop may block, with a signature to poll for, or a signer to be asked again.
     pub(crate) fn longest_wait(&mut self) -> Duration {
-        if self.looks > 0 {
-            self.looks = self.looks.saturating_sub(1);
+        if self.polls > 0 {
+            self.polls = self.polls.saturating_sub(1);
             return Duration::ZERO;
         }
         match self.paused {
@@ -89,15 +94,15 @@ impl SignatureRequests {
     }
 
     /// Puts one back to the front of the queue, because the signer had no room for one more connection at this moment.
-    pub(crate) fn put_off(&mut self, pending: Pending, now: u64) {
+    pub(crate) fn requeue(&mut self, pending: Pending, now: u64) {
         self.paused = Some(now.saturating_add(PAUSE));
         // There is capacity for it: it was taken from there.
         let _ = self.queue.push_front(pending);
     }
 
-    pub(crate) fn take_late(&mut self, now: u64) -> Option<Pending> {
+    pub(crate) fn take_expired(&mut self, now: u64) -> Option<Pending> {
         match self.queue.front() {
-            Some(first) if first.until <= now => self.queue.pop_front(),
+            Some(first) if first.deadline <= now => self.queue.pop_front(),
             _ => None,
         }
     }
@@ -117,7 +122,7 @@ impl SignatureRequests {
 
     /// Keeps a requested signature at a free index. Returns whether there was memory for it.
     pub(crate) fn put(&mut self, index: usize, pending: Pending) -> bool {
-        self.looks = LOOKS;
+        self.polls = POLLS;
         let requested = Requested {
             pending,
             has_come: false,

@@ -10,7 +10,7 @@ use reg_crl_signer::{DeviceConnection, SignatureRequest};
 use std::io::ErrorKind;
 
 /// How many milliseconds a signature may take, from when its message was made.
-const PATIENCE: u64 = 10_000;
+const TIMEOUT_MILLIS: u64 = 10_000;
 
 /// The progress of a signature: its message is being sent; the signer's answer is awaited; it has arrived; or none will come.
 #[derive(Clone, Copy)]
@@ -34,7 +34,7 @@ pub(crate) struct WaitingLine<H: Handler> {
     pub(crate) link: Option<SignatureRequest>,
     is_registered: bool,
     progress: Progress,
-    until: u64,
+    deadline: u64,
 }
 
 impl<H: Handler> WaitingLine<H> {
@@ -52,7 +52,7 @@ impl<H: Handler> WaitingLine<H> {
             link: None,
             is_registered: false,
             progress: Progress::Sending,
-            until: now.saturating_add(PATIENCE),
+            deadline: now.saturating_add(TIMEOUT_MILLIS),
         }
     }
 
@@ -61,7 +61,7 @@ impl<H: Handler> WaitingLine<H> {
     }
 
     pub(crate) fn is_due(&self, now: u64) -> bool {
-        self.has_ended() || self.until <= now
+        self.has_ended() || self.deadline <= now
     }
 
     /// The connection to the signer is at its end: the answer has arrived, unless the message was not wholly sent.
@@ -77,7 +77,7 @@ impl<H: Handler> WaitingLine<H> {
         if self.link.is_some() {
             return;
         }
-        match handler.reach(&self.ticket) {
+        match handler.connect_to_signer(&self.ticket) {
             Ok(link) => {
                 self.link = Some(link);
                 self.send_on(poller);

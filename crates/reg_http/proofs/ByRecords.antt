@@ -22,8 +22,8 @@ use Rattle.reg_http.specs.declared.answered.Answered.{Answered}
 use Rattle.reg_crl.specs.Signing.{signed_by}
 use Rattle.reg_http.proofs.Added.{nothing_added, ocsps_stay, replies_stay, request_adds}
 use Rattle.reg_ocsp.specs.Drafts.{Drafted}
-use Rattle.reg_io.specs.declared.begun.Begun.{Begun}
-use Rattle.reg_io.specs.declared.begun.Begun.TheVariants.{Ready, Unsigned}
+use Rattle.reg_io.specs.declared.begun.ReadyOrUnsigned.{ReadyOrUnsigned}
+use Rattle.reg_io.specs.declared.begun.ReadyOrUnsigned.TheVariants.{Ready, Unsigned}
 
 module _ {O : Type 0} (office : Office O) (now : ℕ) (s t : O) where
   -- What OCSP responses are, over the records, and that they change nothing.
@@ -81,10 +81,10 @@ module _ {O : Type 0} (office : Office O) (now : ℕ) (s t : O) where
       (answer_leads (λ signatory. of_any_kind (Ocsps office.signs signatory)) (ocsps_stay office.signs) asks it answered)
 
   -- the answer, or what is left to be signed for it
-  pub begins_to : (what asks : RoutedRequest) (begun : Begun Answered Drafted) → what ≡ asks → BeginsIn office now s what begun t → BeginsIn office now s asks begun t
+  pub begins_to : (what asks : RoutedRequest) (begun : ReadyOrUnsigned Answered Drafted) → what ≡ asks → BeginsIn office now s what begun t → BeginsIn office now s asks begun t
   begins_to what asks begun is = subst (λ a. BeginsIn office now s a begun t) is
 
-  pub begin_leads : (asks : RoutedRequest) (begun : Begun Answered Drafted) → BeginsIn office now s asks begun t
+  pub begin_leads : (asks : RoutedRequest) (begun : ReadyOrUnsigned Answered Drafted) → BeginsIn office now s asks begun t
       → Leads office.is_clean office.stands
       (λ signatory before after. BeginsTo (Runs office.signs signatory) Asks (Replies office.signs signatory) Crls (Drafts signatory) now before asks begun after
       × AddsARequestAtMost now before after)
@@ -94,7 +94,7 @@ module _ {O : Type 0} (office : Office O) (now : ℕ) (s t : O) where
       follows office.is_clean office.stands _ _ (λ signatory before after made. ((request, is, made), nothing_added now before after made.1)) s t drafted
 
   -- an OCSP request, as the office begins its response
-  pub begins_ocsp : (request : List ℕ) (given : Result (Begun OcspResponse Drafted) Memory) (begun : Begun Answered Drafted)
+  pub begins_ocsp : (request : List ℕ) (given : Result (ReadyOrUnsigned OcspResponse Drafted) Memory) (begun : ReadyOrUnsigned Answered Drafted)
       → Leads office.is_clean office.stands (λ signatory before after. Begins (Replies office.signs signatory) (Drafts signatory) before now request given after) s t
       → BeginsOcsp given begun → BeginsIn office now s (ocsp_of request) begun t
   begins_ocsp request (Ok (Ready response)) (Ready answered) came it = (Ok (response.kind, response.bytes.items), came, it)

@@ -2,8 +2,8 @@
 -- entered.
 use Rattle.std.specs.Prelude.{ℕ, List, codes, Option, Some, Some as ground, None, Result, Ok, Err}
 use Rattle.reg_office_api.specs.Responses.{signature_of, store_of, store_of_fault}
-use Rattle.reg_office_api.specs.declared.effects.SignatureFate.{SignatureFate}
-use Rattle.reg_office_api.specs.declared.effects.SignatureFate.TheVariants.{NotAsked}
+use Rattle.reg_office_api.specs.declared.effects.SignatureOutcome.{SignatureOutcome}
+use Rattle.reg_office_api.specs.declared.effects.SignatureOutcome.TheVariants.{NotRequested}
 use Rattle.reg_office_api.specs.declared.effects.StoreEffect.{StoreEffect}
 use Rattle.reg_office_api.specs.declared.effects.StoreEffect.TheVariants.{Unwritten, Written}
 use Rattle.reg_office_api.specs.declared.response.ResponseKind.{ResponseKind}
@@ -19,7 +19,7 @@ use Rattle.reg_http.specs.declared.answered.NamedRequest.{NamedRequest}
 
 pub record AnswerEffects : Type 0 where
   pub response : Response
-  pub signature : SignatureFate
+  pub signature : SignatureOutcome
   pub store : StoreEffect
   pub named : Option NamedRequest
 
@@ -35,7 +35,7 @@ answer_effects answered = record {
 -- a response without a signature, which shows this about the store and entered no request
 abbrev pub unsigned_answer : Response → StoreEffect → AnswerEffects
 unsigned_answer response effect =
-    record { response = response; signature = NotAsked; store = effect; named = None }
+    record { response = response; signature = NotRequested; store = effect; named = None }
 
 -- a response that shows nothing about the store either
 abbrev pub plain : Response → AnswerEffects

@@ -20,8 +20,8 @@ use Rattle.reg_http.specs.Bodies.{only as only_response}
 use Rattle.reg_http.specs.AnswerEffects.{AnswerEffects, plain, outcome_effects, request_effects, crl_effects, ocsp_effects, answer_effects}
 use Rattle.reg_http.specs.declared.answered.Answered.{Answered}
 use Rattle.reg_ocsp.specs.Drafts.{Drafted}
-use Rattle.reg_io.specs.declared.begun.Begun.{Begun}
-use Rattle.reg_io.specs.declared.begun.Begun.TheVariants.{Ready, Unsigned}
+use Rattle.reg_io.specs.declared.begun.ReadyOrUnsigned.{ReadyOrUnsigned}
+use Rattle.reg_io.specs.declared.begun.ReadyOrUnsigned.TheVariants.{Ready, Unsigned}
 
 -- The office's relations: a command, a query, an OCSP request and a CRL; `s` is the office before, `t` after.
 module _ {S : Type 0} (runs : S → ℕ → Command → Result Reply Fault → S → Type 0)
@@ -50,13 +50,13 @@ module _ {S : Type 0} (runs : S → ℕ → Command → Result Reply Fault → S
 
   -- the answer to a request; or the draft of a response to be signed, if it is an OCSP request
   abbrev pub BeginsTo
-      : (S → ℕ → List ℕ → Drafted → S → Type 0) → ℕ → S → RoutedRequest → Begun Answered Drafted → S → Type 0
+      : (S → ℕ → List ℕ → Drafted → S → Type 0) → ℕ → S → RoutedRequest → ReadyOrUnsigned Answered Drafted → S → Type 0
   BeginsTo drafts now s what (Ready answered) t = Answers now s what (answer_effects answered) t
   BeginsTo drafts now s what (Unsigned draft) t =
       (request : List ℕ) × (what ≡ ocsp_of request) × drafts s now request draft t
 
 -- an OCSP response is the answer, or is to be signed, as the office begins it
-abbrev pub BeginsOcsp : Result (Begun OcspResponse Drafted) Memory → Begun Answered Drafted → Type 0
+abbrev pub BeginsOcsp : Result (ReadyOrUnsigned OcspResponse Drafted) Memory → ReadyOrUnsigned Answered Drafted → Type 0
 BeginsOcsp (Ok (Ready response)) (Ready answered) =
     answer_effects answered ≡ ocsp_effects (Ok (response.kind, response.bytes.items))
 BeginsOcsp (Ok (Ready response)) (Unsigned draft) = ⊥
@@ -91,7 +91,7 @@ abbrev pub AnswersIn : {O : Type 0} → Office O → ℕ → O → RoutedRequest
 AnswersIn office = Answers (RunsIn office) (AsksIn office) (RepliesIn office) (CrlsIn office)
 
 -- the same with what is left to be signed
-abbrev pub BeginsIn : {O : Type 0} → Office O → ℕ → O → RoutedRequest → Begun Answered Drafted → O → Type 0
+abbrev pub BeginsIn : {O : Type 0} → Office O → ℕ → O → RoutedRequest → ReadyOrUnsigned Answered Drafted → O → Type 0
 BeginsIn office =
     BeginsTo (RunsIn office) (AsksIn office) (RepliesIn office) (CrlsIn office) (DraftsIn office)
 

@@ -1,7 +1,7 @@
 -- One exchange whose text is made.
 use Rattle.std.specs.Prelude.{◌≡◌, ◌⊎◌, ℕ, List, [], Some, None, Result, Ok, Err}
-use Rattle.reg_office_api.specs.declared.effects.SignatureFate.{SignatureFate}
-use Rattle.reg_office_api.specs.declared.effects.SignatureFate.TheVariants.{NotAsked}
+use Rattle.reg_office_api.specs.declared.effects.SignatureOutcome.{SignatureOutcome}
+use Rattle.reg_office_api.specs.declared.effects.SignatureOutcome.TheVariants.{NotRequested}
 use Rattle.reg_office_api.specs.declared.effects.StoreEffect.TheVariants.{Unwritten}
 use Rattle.reg_core.specs.declared.memory.Memory.{Memory as NoMemory}
 use Rattle.reg_http_head.specs.Response.{IsText, Response, memory_text}
@@ -9,8 +9,8 @@ use Rattle.reg_http.specs.AnswerEffects.{AnswerEffects, answer_effects}
 use Rattle.reg_http.specs.declared.answered.Answered.{Answered}
 use Rattle.reg_http.specs.declared.route.Route.{Route}
 use Rattle.reg_ocsp.specs.Drafts.{Drafted}
-use Rattle.reg_io.specs.declared.begun.Begun.{Begun}
-use Rattle.reg_io.specs.declared.begun.Begun.TheVariants.{Ready, Unsigned}
+use Rattle.reg_io.specs.declared.begun.ReadyOrUnsigned.{ReadyOrUnsigned}
+use Rattle.reg_io.specs.declared.begun.ReadyOrUnsigned.TheVariants.{Ready, Unsigned}
 use Rattle.reg_http.specs.declared.exchange.Exchange.{Exchange}
 use Rattle.reg_http.specs.declared.exchange.UnsignedResponse.{UnsignedResponse}
 
@@ -41,17 +41,17 @@ HasEffects now it exchange =
     × AnswersText now it.response exchange
 
 -- this became of the signature; nothing is shown about the store, and no request was entered
-abbrev pub HasOnlySignature : SignatureFate → Exchange → Type 0
+abbrev pub HasOnlySignature : SignatureOutcome → Exchange → Type 0
 HasOnlySignature signature exchange =
     (exchange.signature ≡ signature) × (exchange.store ≡ Unwritten) × (exchange.named ≡ None)
 
 -- no signature was requested either
 abbrev pub HasNoEffects : Exchange → Type 0
-HasNoEffects exchange = HasOnlySignature NotAsked exchange
+HasNoEffects exchange = HasOnlySignature NotRequested exchange
 
 -- the outcome of a request, as an exchange at this route: the answer; or the response that is to be signed; or there was no memory
 abbrev pub BeginsExchange
-    : ℕ → Route → Result (Begun Answered Drafted) NoMemory → Begun Exchange UnsignedResponse → Type 0
+    : ℕ → Route → Result (ReadyOrUnsigned Answered Drafted) NoMemory → ReadyOrUnsigned Exchange UnsignedResponse → Type 0
 BeginsExchange now route (Ok (Ready answered)) (Ready exchange) =
     (exchange.route ≡ route) × HasEffects now (answer_effects answered) exchange
 BeginsExchange now route (Ok (Ready answered)) (Unsigned left) = ⊥

@@ -7,7 +7,7 @@ use Rattle.reg_core.specs.declared.refusal.Fault.{Fault}
 use Rattle.reg_core.specs.declared.refusal.Fault.TheVariants as fault
 use Rattle.reg_core.specs.declared.refusal.Refusal.TheVariants.{Syntax}
 use Rattle.reg_core_lists.specs.ListParameters.{page_query}
-use Rattle.reg_core_lists.specs.Filters.{wanted_rows}
+use Rattle.reg_core_lists.specs.Filters.{filtered_rows}
 use Rattle.reg_core_lists.specs.Pages.{IsPaged}
 use Rattle.reg_core_lists.specs.Texts.{page_body}
 use Rattle.reg_core_lists.specs.declared.list_parameters.PageQuery.{PageQuery}
@@ -15,18 +15,18 @@ use Rattle.reg_core_lists.specs.declared.rows.Page.{Page as PageOf}
 use Rattle.reg_http.specs.Bodies.{json, only}
 use Rattle.reg_http.specs.AnswerEffects.{AnswerEffects, plain, fault_effects}
 use Rattle.reg_http.specs.declared.lists.ListRequest.{ListRequest}
-use Rattle.reg_http.specs.declared.lists.ListRequest.TheVariants.{OnlyGet, Unread, Page}
+use Rattle.reg_http.specs.declared.lists.ListRequest.TheVariants.{OnlyGet, UnreadFile, Page}
 
 -- the page that is wanted, or that it can't be read
 abbrev pub or_unread : Option PageQuery → ListRequest
 or_unread (Some wanted) = Page wanted
-or_unread None = Unread
+or_unread None = UnreadFile
 
 -- the page that is wanted by a path `/list/WORD` and its query
 abbrev pub page_of_path : List ℕ → List ℕ → ListRequest
 page_of_path path answer_effects =
     if starts_with (λ a b. a == b) path (codes "/list/")
-    then or_unread (page_query (drop 6 path) answer_effects) else Unread
+    then or_unread (page_query (drop 6 path) answer_effects) else UnreadFile
 
 -- the same for a target (RFC 3986 3.3, 3.4): a path, and after `?` the query, percent-decoded
 unfoldable pub page_in : List ℕ → ListRequest
@@ -39,7 +39,7 @@ list_request method target = if bytes_eq method (codes "GET") then page_in targe
 
 -- the body with the wanted rows of a page
 abbrev pub wanted_body : PageQuery → PageOf → List ℕ
-wanted_body wanted given = page_body wanted.from given.next (wanted_rows wanted.filter given.rows.items)
+wanted_body wanted given = page_body wanted.from given.next (filtered_rows wanted.filter given.rows.items)
 
 -- the answer with them, or with the fault because of which there are none
 abbrev pub given_page : PageQuery → Result PageOf Fault → AnswerEffects
@@ -52,4 +52,4 @@ RespondsList records now (Page wanted) it =
     (given : Result PageOf Fault) × IsPaged records now wanted.most wanted.from given
     × (it ≡ given_page wanted given)
 RespondsList records now OnlyGet it = it ≡ plain (only (codes "GET"))
-RespondsList records now Unread it = it ≡ fault_effects (fault.Refused Syntax)
+RespondsList records now UnreadFile it = it ≡ fault_effects (fault.Refused Syntax)

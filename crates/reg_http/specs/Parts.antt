@@ -2,16 +2,16 @@
 use Rattle.std.specs.Prelude.{ℕ, List, codes}
 use Rattle.reg_http.specs.RoutedRequests.{RoutedRequest, refused, only, unread, malformed, ocsp_of, crl_of, status_of, counts_of, request_of}
 use Rattle.reg_http.specs.declared.parts.Call.{Call}
-use Rattle.reg_http.specs.declared.parts.Call.TheVariants.{Refused, OnlyGet, OnlyPost, Unread, Malformed, Crl, Status, Counts, Request}
-use Rattle.reg_http.specs.declared.parts.Part.{Part}
-use Rattle.reg_http.specs.declared.parts.Part.TheVariants.{Posted, Decoded, Other}
+use Rattle.reg_http.specs.declared.parts.Call.TheVariants.{Refused, OnlyGet, OnlyPost, UnreadFile, Malformed, Crl, Status, Counts, Request}
+use Rattle.reg_http.specs.declared.parts.Meaning.{Meaning}
+use Rattle.reg_http.specs.declared.parts.Meaning.TheVariants.{Posted, Decoded, Other}
 
 -- of any request but OCSP
 abbrev pub request_of_call : Call → RoutedRequest
 request_of_call (Refused status) = refused status
 request_of_call OnlyGet = only (codes "GET")
 request_of_call OnlyPost = only (codes "POST")
-request_of_call Unread = unread
+request_of_call UnreadFile = unread
 request_of_call Malformed = malformed
 request_of_call (Crl number) = crl_of number
 request_of_call (Status serial) = status_of serial
@@ -19,7 +19,7 @@ request_of_call Counts = counts_of
 request_of_call (Request serial word) = request_of serial word
 
 -- the same, with the body of a POST
-abbrev pub request_of_part : List ℕ → Part → RoutedRequest
+abbrev pub request_of_part : List ℕ → Meaning → RoutedRequest
 request_of_part body Posted = ocsp_of body
 request_of_part body (Decoded request) = ocsp_of request.items
 request_of_part body (Other call) = request_of_call call

@@ -12,9 +12,9 @@ use crate::bodies::{
 };
 use reg_core::{Fault, Label, Memory, Outcome, Reply, Serial};
 use reg_http_head::{Answer, status};
-use reg_io::Begun;
+use reg_io::ReadyOrUnsigned;
 use reg_ocsp::Draft;
-use reg_office_api::{OcspResponse, SignatureFate, StoreEffect};
+use reg_office_api::{OcspResponse, SignatureOutcome, StoreEffect};
 
 /// What the log names of a request for revocation that was entered or decided.
 #[derive(Clone, Copy)]
@@ -29,7 +29,7 @@ pub struct NamedRequest {
 #[derive(Drop)]
 pub struct Answered {
     pub answer: Answer,
-    pub signature: SignatureFate,
+    pub signature: SignatureOutcome,
     pub store: StoreEffect,
     /// The request for revocation that was entered, for the log.
     pub named: Option<NamedRequest>,
@@ -48,7 +48,7 @@ impl Answered {
     {
         Answered {
             answer,
-            signature: SignatureFate::NotAsked,
+            signature: SignatureOutcome::NotRequested,
             store,
             named: None,
         }
@@ -56,63 +56,63 @@ impl Answered {
 }
 
 /// The answer whose body is the line of a refusal or a fault.
-pub(crate) fn answer_of_fault(room: Vec<u8>, fault: Fault) -> Answered
-    requires empty { room.items ≡ [] }
-    requires room { 256 ≤ vec_capacity room }
+pub(crate) fn answer_of_fault(buffer: Vec<u8>, fault: Fault) -> Answered
+    requires empty { buffer.items ≡ [] }
+    requires buffer { 256 ≤ vec_capacity buffer }
     ensures { answer_effects result ≡ fault_effects fault }
 {
     let store = StoreEffect::of_fault(&fault);
-    Answered::unsigned(fault_answer(room, fault), store)
+    Answered::unsigned(fault_answer(buffer, fault), store)
 }
 
 /// The answer whose body is the reply to a query or to a request for revocation. Any other reply, which no office gives, is answered as a fault of
 /// the store.
-fn reply_answer(mut room: Vec<u8>, reply: Reply) -> Answered
-    requires empty { room.items ≡ [] }
-    requires room { 256 ≤ vec_capacity room }
+fn reply_answer(mut buffer: Vec<u8>, reply: Reply) -> Answered
+    requires empty { buffer.items ≡ [] }
+    requires buffer { 256 ≤ vec_capacity buffer }
     ensures { answer_effects result ≡ reply_effects reply }
 {
     match reply {
         Reply::Status(status) => {
-            put_status(&mut room, status);
-            Answered::plain(json(status::OK, room))
+            put_status(&mut buffer, status);
+            Answered::plain(json(status::OK, buffer))
         }
         Reply::Counts(counts) => {
-            put_counts(&mut room, counts);
-            Answered::plain(json(status::OK, room))
+            put_counts(&mut buffer, counts);
+            Answered::plain(json(status::OK, buffer))
         }
         Reply::Request { id, due } => {
-            put_due(&mut room, id, due);
-            Answered::unsigned(json(status::OK, room), StoreEffect::Written)
+            put_due(&mut buffer, id, due);
+            Answered::unsigned(json(status::OK, buffer), StoreEffect::Written)
         }
-        _ => answer_of_fault(room, Fault::Store),
+        _ => answer_of_fault(buffer, Fault::Store),
     }
 }
 
-pub(crate) fn outcome_answer(room: Vec<u8>, outcome: Outcome) -> Answered
-    requires empty { room.items ≡ [] }
-    requires room { 256 ≤ vec_capacity room }
+pub(crate) fn outcome_answer(buffer: Vec<u8>, outcome: Outcome) -> Answered
+    requires empty { buffer.items ≡ [] }
+    requires buffer { 256 ≤ vec_capacity buffer }
     ensures { answer_effects result ≡ outcome_effects outcome }
 {
     match outcome {
-        Ok(reply) => reply_answer(room, reply),
-        Err(fault) => answer_of_fault(room, fault),
+        Ok(reply) => reply_answer(buffer, reply),
+        Err(fault) => answer_of_fault(buffer, fault),
     }
 }
 
 /// The answer to a request for revocation, with what the log names of it if it was entered.
 pub(crate) fn request_answer(
-    room: Vec<u8>,
+    buffer: Vec<u8>,
     serial: Serial,
     word: Label,
     outcome: Outcome,
 ) -> Answered
-    requires empty { room.items ≡ [] }
-    requires room { 256 ≤ vec_capacity room }
+    requires empty { buffer.items ≡ [] }
+    requires buffer { 256 ≤ vec_capacity buffer }
     ensures { answer_effects result ≡ request_effects serial word outcome }
 {
     let named = entered_request(serial, word, &outcome);
-    let mut answered = outcome_answer(room, outcome);
+    let mut answered = outcome_answer(buffer, outcome);
     answered.named = named;
     answered
 }
@@ -130,14 +130,14 @@ fn entered_request(serial: Serial, word: Label, outcome: &Outcome) -> Option<Nam
     }
 }
 
-pub(crate) fn crl_answer(room: Vec<u8>, given: Result<Vec<u8>, Fault>) -> Answered
-    requires empty { room.items ≡ [] }
-    requires room { 256 ≤ vec_capacity room }
+pub(crate) fn crl_answer(buffer: Vec<u8>, given: Result<Vec<u8>, Fault>) -> Answered
+    requires empty { buffer.items ≡ [] }
+    requires buffer { 256 ≤ vec_capacity buffer }
     ensures { answer_effects result ≡ crl_effects (items_of given) }
 {
     match given {
         Ok(bytes) => Answered::plain(der(PKIX_CRL, bytes)),
-        Err(fault) => answer_of_fault(room, fault),
+        Err(fault) => answer_of_fault(buffer, fault),
     }
 }
 
@@ -155,27 +155,27 @@ fn ocsp_answer_of(response: OcspResponse) -> Answered
 
 /// The answer with an OCSP response, or the draft of one that is to be signed.
 pub(crate) fn begun_answer(
-    room: Vec<u8>,
-    given: Result<Begun<OcspResponse, Draft>, Memory>,
-) -> Begun<Answered, Draft>
-    requires empty { room.items ≡ [] }
-    requires room { 256 ≤ vec_capacity room }
+    buffer: Vec<u8>,
+    given: Result<ReadyOrUnsigned<OcspResponse, Draft>, Memory>,
+) -> ReadyOrUnsigned<Answered, Draft>
+    requires empty { buffer.items ≡ [] }
+    requires buffer { 256 ≤ vec_capacity buffer }
     ensures { BeginsOcsp given result }
 {
     match given {
-        Ok(Begun::Ready(response)) => Begun::Ready(ocsp_answer_of(response)),
-        Ok(Begun::Unsigned(draft)) => Begun::Unsigned(draft),
-        Err(_) => Begun::Ready(answer_of_fault(room, Fault::Memory)),
+        Ok(ReadyOrUnsigned::Ready(response)) => ReadyOrUnsigned::Ready(ocsp_answer_of(response)),
+        Ok(ReadyOrUnsigned::Unsigned(draft)) => ReadyOrUnsigned::Unsigned(draft),
+        Err(_) => ReadyOrUnsigned::Ready(answer_of_fault(buffer, Fault::Memory)),
     }
 }
 
-pub(crate) fn ocsp_answer(room: Vec<u8>, given: Result<Vec<u8>, Memory>) -> Answer
-    requires empty { room.items ≡ [] }
-    requires room { 256 ≤ vec_capacity room }
+pub(crate) fn ocsp_answer(buffer: Vec<u8>, given: Result<Vec<u8>, Memory>) -> Answer
+    requires empty { buffer.items ≡ [] }
+    requires buffer { 256 ≤ vec_capacity buffer }
     ensures { shown result ≡ ocsp_reply (items_of given) }
 {
     match given {
         Ok(bytes) => der(OCSP_RESPONSE, bytes),
-        Err(_) => fault_answer(room, Fault::Memory),
+        Err(_) => fault_answer(buffer, Fault::Memory),
     }
 }

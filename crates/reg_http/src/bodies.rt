@@ -16,72 +16,72 @@ pub(crate) const OCSP_RESPONSE: &str = "application/ocsp-response";
 pub(crate) const PKIX_CRL: &str = "application/pkix-crl";
 
 /// Reserves memory for the longest JSON body.
-pub(crate) fn json_room(alloc: Global) -> Result<Vec<u8>, Memory>
-    ensures empty { IfOk result (λ room. room.items ≡ []) }
-    ensures room { IfOk result (λ room. 256 ≤ vec_capacity room) }
+pub(crate) fn json_buffer(alloc: Global) -> Result<Vec<u8>, Memory>
+    ensures empty { IfOk result (λ buffer. buffer.items ≡ []) }
+    ensures buffer { IfOk result (λ buffer. 256 ≤ vec_capacity buffer) }
 {
     Vec::with_capacity(alloc, 256).map_err(|_| Memory)
 }
 
 /// `{"error":"LINE"}`
 #[tactic(auto, unfolding(crate::specs::Bodies::error_text))]
-fn put_error(room: &mut Vec<u8>, line: &[u8])
-    requires empty { room.old.items ≡ [] }
-    requires room { 256 ≤ vec_capacity room.old }
+fn put_error(buffer: &mut Vec<u8>, line: &[u8])
+    requires empty { buffer.old.items ≡ [] }
+    requires buffer { 256 ≤ vec_capacity buffer.old }
     requires short { length line.now ≤ 64 }
-    ensures { room.new.items ≡ error_text line.now }
+    ensures { buffer.new.items ≡ error_text line.now }
 {
-    put(room, b"{\"error\":\"");
-    put(room, line);
-    put(room, b"\"}");
+    put(buffer, b"{\"error\":\"");
+    put(buffer, line);
+    put(buffer, b"\"}");
 }
 
 #[tactic(auto, unfolding(crate::specs::Bodies::status_text))]
-pub(crate) fn put_status(room: &mut Vec<u8>, status: Status)
-    requires empty { room.old.items ≡ [] }
-    requires room { 256 ≤ vec_capacity room.old }
-    ensures { room.new.items ≡ status_text status }
+pub(crate) fn put_status(buffer: &mut Vec<u8>, status: Status)
+    requires empty { buffer.old.items ≡ [] }
+    requires buffer { 256 ≤ vec_capacity buffer.old }
+    ensures { buffer.new.items ≡ status_text status }
 {
     match status {
-        Status::Unknown => put(room, b"{\"status\":\"unknown\"}"),
-        Status::Good => put(room, b"{\"status\":\"good\"}"),
-        Status::Expired => put(room, b"{\"status\":\"expired\"}"),
+        Status::Unknown => put(buffer, b"{\"status\":\"unknown\"}"),
+        Status::Good => put(buffer, b"{\"status\":\"good\"}"),
+        Status::Expired => put(buffer, b"{\"status\":\"expired\"}"),
         Status::Revoked { at, reason } => {
-            put(room, b"{\"at\":\"");
-            put(room, &at.text());
-            put(room, b"\",\"reason\":");
-            put(room, Decimal::of(u64::from(reason)).as_bytes());
-            put(room, b",\"status\":\"revoked\"}");
+            put(buffer, b"{\"at\":\"");
+            put(buffer, &at.text());
+            put(buffer, b"\",\"reason\":");
+            put(buffer, Decimal::of(u64::from(reason)).as_bytes());
+            put(buffer, b",\"status\":\"revoked\"}");
         }
     }
 }
 
 #[tactic(auto, unfolding(crate::specs::Bodies::counts_text))]
-pub(crate) fn put_counts(room: &mut Vec<u8>, counts: Counts)
-    requires empty { room.old.items ≡ [] }
-    requires room { 256 ≤ vec_capacity room.old }
-    ensures { room.new.items ≡ counts_text counts }
+pub(crate) fn put_counts(buffer: &mut Vec<u8>, counts: Counts)
+    requires empty { buffer.old.items ≡ [] }
+    requires buffer { 256 ≤ vec_capacity buffer.old }
+    ensures { buffer.new.items ≡ counts_text counts }
 {
-    put(room, b"{\"expired\":");
-    put(room, Decimal::of(counts.expired).as_bytes());
-    put(room, b",\"good\":");
-    put(room, Decimal::of(counts.good).as_bytes());
-    put(room, b",\"revoked\":");
-    put(room, Decimal::of(counts.revoked).as_bytes());
-    put(room, b"}");
+    put(buffer, b"{\"expired\":");
+    put(buffer, Decimal::of(counts.expired).as_bytes());
+    put(buffer, b",\"good\":");
+    put(buffer, Decimal::of(counts.good).as_bytes());
+    put(buffer, b",\"revoked\":");
+    put(buffer, Decimal::of(counts.revoked).as_bytes());
+    put(buffer, b"}");
 }
 
 #[tactic(auto, unfolding(crate::specs::Bodies::due_text))]
-pub(crate) fn put_due(room: &mut Vec<u8>, id: u64, due: Moment)
-    requires empty { room.old.items ≡ [] }
-    requires room { 256 ≤ vec_capacity room.old }
-    ensures { room.new.items ≡ due_text id due }
+pub(crate) fn put_due(buffer: &mut Vec<u8>, id: u64, due: Moment)
+    requires empty { buffer.old.items ≡ [] }
+    requires buffer { 256 ≤ vec_capacity buffer.old }
+    ensures { buffer.new.items ≡ due_text id due }
 {
-    put(room, b"{\"due\":\"");
-    put(room, &due.text());
-    put(room, b"\",\"request\":");
-    put(room, Decimal::of(id).as_bytes());
-    put(room, b"}");
+    put(buffer, b"{\"due\":\"");
+    put(buffer, &due.text());
+    put(buffer, b"\",\"request\":");
+    put(buffer, Decimal::of(id).as_bytes());
+    put(buffer, b"}");
 }
 
 /// An answer with a JSON body.
@@ -112,32 +112,32 @@ pub(crate) fn der(kind: &'static str, body: Vec<u8>) -> Answer
 }
 
 #[tactic(auto, unfolding(crate::specs::Bodies::http_refusal))]
-pub(crate) fn refusal(mut room: Vec<u8>, code: u16) -> Answer
-    requires empty { room.items ≡ [] }
-    requires room { 256 ≤ vec_capacity room }
+pub(crate) fn refusal(mut buffer: Vec<u8>, code: u16) -> Answer
+    requires empty { buffer.items ≡ [] }
+    requires buffer { 256 ≤ vec_capacity buffer }
     ensures { shown result ≡ refusal_of code }
 {
-    put_error(&mut room, Decimal::of(u64::from(code)).as_bytes());
-    json(code, room)
+    put_error(&mut buffer, Decimal::of(u64::from(code)).as_bytes());
+    json(code, buffer)
 }
 
 /// The answer to a method that the route does not have, with the one that it has (RFC 9110 15.5.6).
 #[tactic(auto, unfolding(crate::specs::Bodies::only))]
-pub(crate) fn only(mut room: Vec<u8>, method: &'static str) -> Answer
-    requires empty { room.items ≡ [] }
-    requires room { 256 ≤ vec_capacity room }
+pub(crate) fn only(mut buffer: Vec<u8>, method: &'static str) -> Answer
+    requires empty { buffer.items ≡ [] }
+    requires buffer { 256 ≤ vec_capacity buffer }
     requires short { length method.now ≤ 64 }
     ensures { shown result ≡ only method.now }
 {
     put_error(
-        &mut room,
+        &mut buffer,
         Decimal::of(u64::from(status::METHOD_NOT_ALLOWED)).as_bytes(),
     );
     Answer {
         status: status::METHOD_NOT_ALLOWED,
         kind: JSON,
         allow: Some(method),
-        body: room,
+        body: buffer,
     }
 }
 
@@ -154,11 +154,11 @@ fn status_of(fault: Fault) -> u16
 }
 
 #[tactic(auto, unfolding(crate::specs::Bodies::fault_response))]
-pub(crate) fn fault_answer(mut room: Vec<u8>, fault: Fault) -> Answer
-    requires empty { room.items ≡ [] }
-    requires room { 256 ≤ vec_capacity room }
+pub(crate) fn fault_answer(mut buffer: Vec<u8>, fault: Fault) -> Answer
+    requires empty { buffer.items ≡ [] }
+    requires buffer { 256 ≤ vec_capacity buffer }
     ensures { shown result ≡ fault_response fault }
 {
-    put_error(&mut room, fault.line().as_bytes());
-    json(status_of(fault), room)
+    put_error(&mut buffer, fault.line().as_bytes());
+    json(status_of(fault), buffer)
 }

@@ -8,13 +8,13 @@ ghost use Rattle.reg_http.specs.Exchanges.{IsEmpty, IsMemoryAnswer, PutsText, Ha
 ghost use Rattle.reg_http.specs.AnswerEffects.{answer_effects};
 
 use crate::answered::{Answered, NamedRequest, ocsp_answer};
-use crate::bodies::json_room;
+use crate::bodies::json_buffer;
 use crate::route::Route;
 use reg_core::{Memory, Moment};
 use reg_http_head::{Answer, memory_fault, put, put_answer, status};
-use reg_io::Begun;
+use reg_io::ReadyOrUnsigned;
 use reg_ocsp::Draft;
-use reg_office_api::{SignatureFate, StoreEffect};
+use reg_office_api::{SignatureOutcome, StoreEffect};
 use std::alloc::Global;
 
 /// The bytes that are reserved for the text of a response before the office is called. The response to each request for revocation fits, and
@@ -23,9 +23,9 @@ const TEXT_ROOM: usize = 4_096;
 
 /// Reserves memory for the text of a response.
 /// [`Memory`] if out of memory.
-pub fn text_room(alloc: Global) -> Result<Vec<u8>, Memory>
-    ensures empty { IfOk result (λ room. room.items ≡ []) }
-    ensures room { IfOk result (λ room. 512 ≤ vec_capacity room) }
+pub fn text_buffer(alloc: Global) -> Result<Vec<u8>, Memory>
+    ensures empty { IfOk result (λ buffer. buffer.items ≡ []) }
+    ensures buffer { IfOk result (λ buffer. 512 ≤ vec_capacity buffer) }
 {
     Vec::with_capacity(alloc, TEXT_ROOM).map_err(|_| Memory)
 }
@@ -36,7 +36,7 @@ pub struct Exchange {
     pub route: Route,
     /// The status code of the text; `None` if the text is empty.
     pub status: Option<u16>,
-    pub signature: SignatureFate,
+    pub signature: SignatureOutcome,
     pub store: StoreEffect,
     /// The request for revocation that was entered, for the log.
     pub named: Option<NamedRequest>,
@@ -45,7 +45,7 @@ pub struct Exchange {
 
 impl Exchange {
     /// An exchange with an empty text, and this fate of its signature.
-    pub fn empty(alloc: Global, route: Route, signature: SignatureFate) -> Exchange
+    pub fn empty(alloc: Global, route: Route, signature: SignatureOutcome) -> Exchange
         ensures empty { IsEmpty result }
         ensures effects { HasOnlySignature signature result }
         ensures route { result.route ≡ route }
@@ -60,29 +60,29 @@ impl Exchange {
         }
     }
 
-    /// An exchange whose answer lacked memory: the constant text of status 500, written into `room`.
-    pub fn out_of_memory(route: Route, mut room: Vec<u8>) -> Exchange
-        requires empty { room.items ≡ [] }
-        requires room { 512 ≤ vec_capacity room }
+    /// An exchange whose answer lacked memory: the constant text of status 500, written into `buffer`.
+    pub fn out_of_memory(route: Route, mut buffer: Vec<u8>) -> Exchange
+        requires empty { buffer.items ≡ [] }
+        requires buffer { 512 ≤ vec_capacity buffer }
         ensures memory_answer { IsMemoryAnswer result }
         ensures effects { HasNoEffects result }
         ensures route { result.route ≡ route }
     {
-        put(&mut room, memory_fault());
+        put(&mut buffer, memory_fault());
         Exchange {
             route,
             status: Some(status::INTERNAL_SERVER_ERROR),
-            signature: SignatureFate::NotAsked,
+            signature: SignatureOutcome::NotRequested,
             store: StoreEffect::Unwritten,
             named: None,
-            text: room,
+            text: buffer,
         }
     }
 
-    /// An exchange with this answer, written into `room`.
-    pub fn of(route: Route, mut room: Vec<u8>, answered: Answered, now: Moment) -> Exchange
-        requires empty { room.items ≡ [] }
-        requires room { 512 ≤ vec_capacity room }
+    /// An exchange with this answer, written into `buffer`.
+    pub fn of(route: Route, mut buffer: Vec<u8>, answered: Answered, now: Moment) -> Exchange
+        requires empty { buffer.items ≡ [] }
+        requires buffer { 512 ≤ vec_capacity buffer }
         ensures tells { HasEffects now (answer_effects answered) result }
         ensures route { result.route ≡ route }
     {
@@ -92,14 +92,14 @@ impl Exchange {
             store,
             named,
         } = answered;
-        let status = put_text(&mut room, &answer, now);
+        let status = put_text(&mut buffer, &answer, now);
         Exchange {
             route,
             status: Some(status),
             signature,
             store,
             named,
-            text: room,
+            text: buffer,
         }
     }
 
@@ -109,13 +109,13 @@ impl Exchange {
         route: Route,
         now: Moment,
         response: Result<Vec<u8>, Memory>,
-        signature: SignatureFate,
+        signature: SignatureOutcome,
     ) -> Exchange
         ensures tells { AnswersText now (ocsp_reply (items_of response)) result }
         ensures effects { HasOnlySignature signature result }
         ensures route { result.route ≡ route }
     {
-        let (Ok(text), Ok(body)) = (text_room(alloc), json_room(alloc)) else {
+        let (Ok(text), Ok(body)) = (text_buffer(alloc), json_buffer(alloc)) else {
             return Exchange::empty(alloc, route, signature);
         };
         let answered = Answered {
@@ -135,28 +135,33 @@ pub struct UnsignedResponse {
     pub draft: Draft,
 }
 
-/// The exchange with the answer to a request at a route, written into `room`; or the response that is to be signed.
+/// The exchange with the answer to a request at a route, written into `buffer`; or the response that is to be signed.
 pub fn begun_exchange(
     route: Route,
-    room: Vec<u8>,
-    begun: Result<Begun<Answered, Draft>, Memory>,
+    buffer: Vec<u8>,
+    begun: Result<ReadyOrUnsigned<Answered, Draft>, Memory>,
     now: Moment,
-) -> Begun<Exchange, UnsignedResponse>
-    requires empty { room.items ≡ [] }
-    requires room { 512 ≤ vec_capacity room }
+) -> ReadyOrUnsigned<Exchange, UnsignedResponse>
+    requires empty { buffer.items ≡ [] }
+    requires buffer { 512 ≤ vec_capacity buffer }
     ensures { BeginsExchange now route begun result }
 {
     match begun {
-        Ok(Begun::Ready(answered)) => Begun::Ready(Exchange::of(route, room, answered, now)),
-        Ok(Begun::Unsigned(draft)) => Begun::Unsigned(UnsignedResponse { route, draft }),
-        Err(_) => Begun::Ready(Exchange::out_of_memory(route, room)),
+        Ok(ReadyOrUnsigned::Ready(answered)) => ReadyOrUnsigned::Ready(Exchange::of(
+            route, buffer, answered, now,
+        )),
+        Ok(ReadyOrUnsigned::Unsigned(draft)) => ReadyOrUnsigned::Unsigned(UnsignedResponse {
+            route,
+            draft,
+        }),
+        Err(_) => ReadyOrUnsigned::Ready(Exchange::out_of_memory(route, buffer)),
     }
 }
 
 /// Writes the text of an answer into an empty `text`, or the constant text if there is no memory for its body. Returns the status.
 fn put_text(text: &mut Vec<u8>, answer: &Answer, now: Moment) -> u16
     requires empty { text.old.items ≡ [] }
-    requires room { 512 ≤ vec_capacity text.old }
+    requires buffer { 512 ≤ vec_capacity text.old }
     ensures { PutsText now (shown answer.now) result text.new.items }
 {
     match put_answer(text, answer, now) {

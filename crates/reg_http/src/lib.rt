@@ -14,7 +14,7 @@ mod serve;
 
 pub use answered::{Answered, NamedRequest};
 pub use bodies::json;
-pub use exchange::{Exchange, UnsignedResponse, begun_exchange, text_room};
+pub use exchange::{Exchange, UnsignedResponse, begun_exchange, text_buffer};
 pub use lists::answer_list;
 pub use reg_http_head::Answer;
 pub use route::Route;

@@ -7,7 +7,7 @@ ghost use Rattle.reg_http.specs.Lists.{RespondsList, given_page, list_request, p
 ghost use Rattle.reg_http.specs.AnswerEffects.{fault_effects, answer_effects};
 
 use crate::answered::{Answered, answer_of_fault};
-use crate::bodies::{json, json_room};
+use crate::bodies::{json, json_buffer};
 use crate::routes::only_get;
 use http::Method;
 use percent_encoding::percent_decode;
@@ -23,7 +23,7 @@ pub(crate) enum ListRequest {
     /// Another method than GET, the only one of the route.
     OnlyGet,
     /// The word of the list, or its query, can't be read.
-    Unread,
+    UnreadFile,
     Page(PageQuery),
 }
 
@@ -47,7 +47,7 @@ pub fn answer_list<O: Office>(
             answer_page(alloc, &wanted, &given)
         }
         Ok(ListRequest::OnlyGet) => only_get(alloc),
-        Ok(ListRequest::Unread) => report_fault(alloc, Fault::Refused(Refusal::Syntax)),
+        Ok(ListRequest::UnreadFile) => report_fault(alloc, Fault::Refused(Refusal::Syntax)),
         Err(memory) => Err(memory),
     }
 }
@@ -83,11 +83,11 @@ fn page_behind(path: &[u8], plain_query: &[u8]) -> ListRequest
     ensures { result ≡ page_of_path path.now plain_query.now }
 {
     if !path.starts_with(b"/list/") {
-        return ListRequest::Unread;
+        return ListRequest::UnreadFile;
     }
     match read_page(&path[b"/list/".len()..], plain_query) {
         Some(wanted) => ListRequest::Page(wanted),
-        None => ListRequest::Unread,
+        None => ListRequest::UnreadFile,
     }
 }
 
@@ -118,5 +118,5 @@ fn wanted_text(alloc: Global, wanted: &PageQuery, page: &Page) -> Result<Vec<u8>
 fn report_fault(alloc: Global, fault: Fault) -> Result<Answered, Memory>
     ensures { IfOk result (λ answered. answer_effects answered ≡ fault_effects fault) }
 {
-    Ok(answer_of_fault(json_room(alloc)?, fault))
+    Ok(answer_of_fault(json_buffer(alloc)?, fault))
 }

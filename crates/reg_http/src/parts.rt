@@ -6,7 +6,7 @@ ghost use Rattle.reg_core.specs.Serial.{serial_of};
 ghost use Rattle.reg_core_lists.specs.ListParameters.{label_of as label_in};
 ghost use Rattle.serde_json.specs.Errors.{IsMemory};
 ghost use Rattle.serde_json.specs.View.{view};
-ghost use Rattle.reg_http.specs.RoutedRequests.{crl_of, status_of, asked as asked_by, asked_at, revocation_request, decoded as decoded_in, is_rooted as is_rooted_text, json_of, or_malformed, or_unread, string_at as text_at, wanted as wanted_by, wanted_in as wanted_of};
+ghost use Rattle.reg_http.specs.RoutedRequests.{crl_of, status_of, asked as query_by, asked_at, revocation_request, decoded as decoded_in, is_rooted as is_rooted_text, json_of, or_malformed, or_unread, string_at as text_at, wanted as wanted_by, wanted_in as wanted_of};
 ghost use Rattle.reg_http.specs.Parts.{request_of_call, request_of_part};
 
 use crate::paths::{Found, find_route};
@@ -24,7 +24,7 @@ use std::str;
 
 /// The meaning of a request.
 #[derive(Drop)]
-pub(crate) enum Part {
+pub(crate) enum Meaning {
     /// An OCSP request in the body.
     Posted,
     /// An OCSP request that was decoded from the path.
@@ -40,7 +40,7 @@ pub(crate) enum Call {
     OnlyGet,
     OnlyPost,
     /// A number, a serial number or a body can't be read.
-    Unread,
+    UnreadFile,
     /// The text of an OCSP request in the path can't be decoded.
     Malformed,
     /// The CRL with this number, or the latest one.
@@ -59,7 +59,7 @@ fn is_rooted(target: &str) -> bool
 
 /// Decodes the OCSP request in a path: percent-decoded, then base64 (RFC 6960 A.1).
 #[tactic(auto, unfolding(crate::specs::RoutedRequests::decoded))]
-fn decoded(alloc: Global, text: &[u8]) -> Result<Part, Memory>
+fn decoded(alloc: Global, text: &[u8]) -> Result<Meaning, Memory>
     ensures { IfOk result (λ part.
         (body : List ℕ) → request_of_part body part ≡ or_malformed (decoded_in text.now)) }
 {
@@ -68,8 +68,8 @@ fn decoded(alloc: Global, text: &[u8]) -> Result<Part, Memory>
         return Err(Memory);
     }
     match STANDARD.decode(alloc, plain.as_slice()) {
-        Ok(request) => Ok(Part::Decoded(request)),
-        Err(DecodeAllocError::DecodeError(_)) => Ok(Part::Other(Call::Malformed)),
+        Ok(request) => Ok(Meaning::Decoded(request)),
+        Err(DecodeAllocError::DecodeError(_)) => Ok(Meaning::Other(Call::Malformed)),
         Err(DecodeAllocError::OutOfMemory) => Err(Memory),
     }
 }
@@ -79,7 +79,7 @@ fn crl_call(text: &[u8]) -> Call
 {
     match read_number(text) {
         Some(number) => Call::Crl(Some(number)),
-        None => Call::Unread,
+        None => Call::UnreadFile,
     }
 }
 
@@ -88,7 +88,7 @@ fn status_call(text: &[u8]) -> Call
 {
     match Serial::read(text) {
         Some(serial) => Call::Status(serial),
-        None => Call::Unread,
+        None => Call::UnreadFile,
     }
 }
 
@@ -117,37 +117,37 @@ fn request_in(value: &Value) -> Call
     match serial_in(value) {
         Some(serial) => match word_in(value) {
             Some(word) => Call::Request { serial, word },
-            None => Call::Unread,
+            None => Call::UnreadFile,
         },
-        None => Call::Unread,
+        None => Call::UnreadFile,
     }
 }
 
 /// Text that is not JSON can't be read; a lack of memory is [`Memory`].
-fn unread(error: &Error) -> Result<Part, Memory>
-    ensures { IfOk result (λ part. ¬ (IsMemory error.now) × (part ≡ Part.Other Call.Unread)) }
+fn unread(error: &Error) -> Result<Meaning, Memory>
+    ensures { IfOk result (λ part. ¬ (IsMemory error.now) × (part ≡ Meaning.Other Call.UnreadFile)) }
 {
     match error.classify() {
         Category::Memory => Err(Memory),
-        _ => Ok(Part::Other(Call::Unread)),
+        _ => Ok(Meaning::Other(Call::UnreadFile)),
     }
 }
 
 #[tactic(auto, unfolding(crate::specs::RoutedRequests::json_of))]
-fn request_part(alloc: Global, body: &[u8]) -> Result<Part, Memory>
+fn request_part(alloc: Global, body: &[u8]) -> Result<Meaning, Memory>
     ensures { IfOk result (λ part.
         (posted : List ℕ) → request_of_part posted part ≡ revocation_request (wanted_by body.now)) }
 {
     let Ok(text) = str::from_utf8(body) else {
-        return Ok(Part::Other(Call::Unread));
+        return Ok(Meaning::Other(Call::UnreadFile));
     };
     match Value::from_str(alloc, text) {
-        Ok(value) => Ok(Part::Other(request_in(&value))),
+        Ok(value) => Ok(Meaning::Other(request_in(&value))),
         Err(error) => unread(&error),
     }
 }
 
-fn part_at(alloc: Global, method: &Method, found: Found<'_>, body: &[u8]) -> Result<Part, Memory>
+fn part_at(alloc: Global, method: &Method, found: Found<'_>, body: &[u8]) -> Result<Meaning, Memory>
     ensures { IfOk result (λ part.
         request_of_part body.now part ≡ asked_at method.now found.entry.route found.entry.rest.now body.now) }
 {
@@ -155,32 +155,32 @@ fn part_at(alloc: Global, method: &Method, found: Found<'_>, body: &[u8]) -> Res
     let is_post = method.as_str() == "POST";
     match found.route {
         Route::List | Route::Health | Route::Metrics | Route::Other => {
-            Ok(Part::Other(Call::Refused(status::NOT_FOUND)))
+            Ok(Meaning::Other(Call::Refused(status::NOT_FOUND)))
         }
-        Route::Ocsp if is_post => Ok(Part::Posted),
+        Route::Ocsp if is_post => Ok(Meaning::Posted),
         Route::Requests if is_post => request_part(alloc, body),
-        Route::Ocsp | Route::Requests => Ok(Part::Other(Call::OnlyPost)),
-        _ if !is_get => Ok(Part::Other(Call::OnlyGet)),
+        Route::Ocsp | Route::Requests => Ok(Meaning::Other(Call::OnlyPost)),
+        _ if !is_get => Ok(Meaning::Other(Call::OnlyGet)),
         Route::OcspRest => decoded(alloc, found.rest),
-        Route::Crl => Ok(Part::Other(Call::Crl(None))),
-        Route::CrlNumber => Ok(Part::Other(crl_call(found.rest))),
-        Route::Status => Ok(Part::Other(status_call(found.rest))),
-        Route::Counts => Ok(Part::Other(Call::Counts)),
+        Route::Crl => Ok(Meaning::Other(Call::Crl(None))),
+        Route::CrlNumber => Ok(Meaning::Other(crl_call(found.rest))),
+        Route::Status => Ok(Meaning::Other(status_call(found.rest))),
+        Route::Counts => Ok(Meaning::Other(Call::Counts)),
     }
 }
 
 /// Reads a request.
 /// [`Memory`] if out of memory.
-pub(crate) fn read_part(
+pub(crate) fn meaning_of(
     alloc: Global,
     method: &Method,
     target: &str,
     body: &[u8],
-) -> Result<Part, Memory>
-    ensures { IfOk result (λ part. request_of_part body.now part ≡ asked_by method.now target.now body.now) }
+) -> Result<Meaning, Memory>
+    ensures { IfOk result (λ part. request_of_part body.now part ≡ query_by method.now target.now body.now) }
 {
     if !is_rooted(target) {
-        return Ok(Part::Other(Call::Refused(status::BAD_REQUEST)));
+        return Ok(Meaning::Other(Call::Refused(status::BAD_REQUEST)));
     }
     let found = find_route(alloc, path_of(target))?;
     part_at(alloc, method, found, body)

@@ -18,45 +18,45 @@ use std::alloc::Global;
 /// The OCSPResponse of status malformedRequest (RFC 6960 4.2.1).
 const MALFORMED: &[u8] = b"\x30\x03\x0A\x01\x01";
 
-fn malformed(mut room: Vec<u8>) -> Answer
-    requires empty { room.items ≡ [] }
-    requires room { 256 ≤ vec_capacity room }
+fn malformed(mut buffer: Vec<u8>) -> Answer
+    requires empty { buffer.items ≡ [] }
+    requires buffer { 256 ≤ vec_capacity buffer }
     ensures { shown result ≡ der (codes "application/ocsp-response") malformed_text }
 {
-    put(&mut room, MALFORMED);
-    der(OCSP_RESPONSE, room)
+    put(&mut buffer, MALFORMED);
+    der(OCSP_RESPONSE, buffer)
 }
 
 /// Calls the office, and answers in memory that was reserved before, so that none is needed after the call.
 pub(crate) fn respond<O: Office>(
     alloc: Global,
-    room: Vec<u8>,
+    buffer: Vec<u8>,
     call: Call,
     now: Moment,
     office: &mut O,
 ) -> Answered
-    requires empty { room.items ≡ [] }
-    requires room { 256 ≤ vec_capacity room }
+    requires empty { buffer.items ≡ [] }
+    requires buffer { 256 ≤ vec_capacity buffer }
     ensures { AnswersIn O.Office now office.old (request_of_call call) (answer_effects result) office.new }
 {
     match call {
-        Call::Refused(status) => Answered::plain(refusal(room, status)),
-        Call::OnlyGet => Answered::plain(only(room, "GET")),
-        Call::OnlyPost => Answered::plain(only(room, "POST")),
-        Call::Unread => answer_of_fault(room, Fault::Refused(Refusal::Syntax)),
-        Call::Malformed => Answered::plain(malformed(room)),
-        Call::Crl(number) => crl_answer(room, office.crl_bytes(alloc, number)),
+        Call::Refused(status) => Answered::plain(refusal(buffer, status)),
+        Call::OnlyGet => Answered::plain(only(buffer, "GET")),
+        Call::OnlyPost => Answered::plain(only(buffer, "POST")),
+        Call::UnreadFile => answer_of_fault(buffer, Fault::Refused(Refusal::Syntax)),
+        Call::Malformed => Answered::plain(malformed(buffer)),
+        Call::Crl(number) => crl_answer(buffer, office.crl_bytes(alloc, number)),
         Call::Status(serial) => {
             let query = Query::Status(serial);
-            outcome_answer(room, office.ask(alloc, now, &query))
+            outcome_answer(buffer, office.ask(alloc, now, &query))
         }
-        Call::Counts => outcome_answer(room, office.ask(alloc, now, &Query::Counts)),
+        Call::Counts => outcome_answer(buffer, office.ask(alloc, now, &Query::Counts)),
         Call::Request { serial, word } => {
             let command = Command::Request {
                 serial,
                 ground: word,
             };
-            request_answer(room, serial, word, office.run_one(alloc, now, &command))
+            request_answer(buffer, serial, word, office.run_one(alloc, now, &command))
         }
     }
 }

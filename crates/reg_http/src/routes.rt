@@ -14,13 +14,13 @@ ghost use Rattle.reg_http.specs.Parts.{request_of_call};
 ghost use Rattle.reg_http.specs.AnswerEffects.{fault_effects, plain, answer_effects};
 
 use crate::answered::{Answered, answer_of_fault, begun_answer, ocsp_answer};
-use crate::bodies::{json_room, only, refusal};
-use crate::parts::{Call, Part, read_part};
+use crate::bodies::{json_buffer, only, refusal};
+use crate::parts::{Call, Meaning, meaning_of};
 use crate::respond::respond;
 use http::Method;
 use reg_core::{Fault, Ground, Memory, Moment, Serial};
 use reg_http_head::Answer;
-use reg_io::Begun;
+use reg_io::ReadyOrUnsigned;
 use reg_ocsp::Draft;
 use reg_office_api::Office;
 use std::alloc::Global;
@@ -50,11 +50,11 @@ pub fn answer<O: Office>(
     ensures calls { IfOk result (λ answer. RespondsIn O.Office now office.old
         (asked method.now target.now body.now) (shown answer) office.new) }
 {
-    let room = json_room(alloc)?;
-    match read_part(alloc, method, target, body)? {
-        Part::Posted => Ok(ocsp_answer(room, office.ocsp(alloc, now, body))),
-        Part::Decoded(request) => Ok(ocsp_answer(room, office.ocsp(alloc, now, &request))),
-        Part::Other(call) => Ok(respond(alloc, room, call, now, office).answer),
+    let buffer = json_buffer(alloc)?;
+    match meaning_of(alloc, method, target, body)? {
+        Meaning::Posted => Ok(ocsp_answer(buffer, office.ocsp(alloc, now, body))),
+        Meaning::Decoded(request) => Ok(ocsp_answer(buffer, office.ocsp(alloc, now, &request))),
+        Meaning::Other(call) => Ok(respond(alloc, buffer, call, now, office).answer),
     }
 }
 
@@ -67,7 +67,7 @@ pub fn begin<O: Office>(
     body: &[u8],
     now: Moment,
     office: &mut O,
-) -> Result<Begun<Answered, Draft>, Memory>
+) -> Result<ReadyOrUnsigned<Answered, Draft>, Memory>
     ensures ok { IfOk result (λ begun. LeadsIn O.Office
         (λ signatory before after.
         BeginsTo (Runs O.signs signatory) Asks (Replies O.signs signatory) Crls (Drafts signatory) now before
@@ -78,11 +78,16 @@ pub fn begin<O: Office>(
     ensures calls { IfOk result (λ begun. BeginsIn O.Office now office.old
         (asked method.now target.now body.now) begun office.new) }
 {
-    let room = json_room(alloc)?;
-    match read_part(alloc, method, target, body)? {
-        Part::Posted => Ok(begun_answer(room, office.begin_ocsp(alloc, now, body))),
-        Part::Decoded(request) => Ok(begun_answer(room, office.begin_ocsp(alloc, now, &request))),
-        Part::Other(call) => Ok(Begun::Ready(respond(alloc, room, call, now, office))),
+    let buffer = json_buffer(alloc)?;
+    match meaning_of(alloc, method, target, body)? {
+        Meaning::Posted => Ok(begun_answer(buffer, office.begin_ocsp(alloc, now, body))),
+        Meaning::Decoded(request) => Ok(begun_answer(
+            buffer,
+            office.begin_ocsp(alloc, now, &request),
+        )),
+        Meaning::Other(call) => Ok(ReadyOrUnsigned::Ready(respond(
+            alloc, buffer, call, now, office,
+        ))),
     }
 }
 
@@ -96,9 +101,9 @@ pub fn serial_of(
 ) -> Result<Option<Serial>, Memory>
     ensures { IfOk result (λ serial. serial ≡ requested_serial (asked method.now target.now body.now)) }
 {
-    let part = read_part(alloc, method, target, body)?;
+    let part = meaning_of(alloc, method, target, body)?;
     match &part {
-        Part::Other(call) => Ok(serial_in(*call)),
+        Meaning::Other(call) => Ok(serial_in(*call)),
         _ => Ok(None),
     }
 }
@@ -120,7 +125,7 @@ fn serial_in(call: Call) -> Option<Serial>
 pub fn report_fault(alloc: Global, fault: Fault) -> Result<Answered, Memory>
     ensures { IfOk result (λ answered. answer_effects answered ≡ fault_effects fault) }
 {
-    Ok(answer_of_fault(json_room(alloc)?, fault))
+    Ok(answer_of_fault(json_buffer(alloc)?, fault))
 }
 
 /// The answer to a request that is refused with this status before the office is called.
@@ -128,7 +133,7 @@ pub fn report_fault(alloc: Global, fault: Fault) -> Result<Answered, Memory>
 pub fn refuse(alloc: Global, status: u16) -> Result<Answered, Memory>
     ensures { IfOk result (λ answered. answer_effects answered ≡ plain (http_refusal status)) }
 {
-    Ok(Answered::plain(refusal(json_room(alloc)?, status)))
+    Ok(Answered::plain(refusal(json_buffer(alloc)?, status)))
 }
 
 /// The answer to another method than GET at a route that has only GET (RFC 9110 15.5.6).
@@ -136,5 +141,5 @@ pub fn refuse(alloc: Global, status: u16) -> Result<Answered, Memory>
 pub fn only_get(alloc: Global) -> Result<Answered, Memory>
     ensures { IfOk result (λ answered. answer_effects answered ≡ plain (only_response (codes "GET"))) }
 {
-    Ok(Answered::plain(only(json_room(alloc)?, "GET")))
+    Ok(Answered::plain(only(json_buffer(alloc)?, "GET")))
 }

@@ -11,7 +11,7 @@ ghost use Rattle.reg_http.specs.Added.{AddsARequestAtMost};
 ghost use Rattle.reg_http.specs.Bodies.{http_refusal as refusal_of};
 ghost use Rattle.reg_http.specs.Served.{ReplyEnds, ReplyEndsIn, ServingEnds, ServingEndsIn};
 
-use crate::bodies::{json_room, refusal};
+use crate::bodies::{json_buffer, refusal};
 use crate::routes::answer;
 use reg_core::{Fault, Moment};
 use reg_http_head::{Answer, HEAD_ROOM, Request, memory_fault, read_request, write_answer};
@@ -20,16 +20,21 @@ use reg_office_api::Office;
 use std::alloc::Global;
 use std::io::{Read, Write};
 
-fn send<W: Write>(writer: &mut W, room: Vec<u8>, answer: &Answer, now: Moment) -> Result<(), Fault>
-    requires empty { room.items ≡ [] }
-    requires room { 512 ≤ vec_capacity room }
+fn send<W: Write>(
+    writer: &mut W,
+    buffer: Vec<u8>,
+    answer: &Answer,
+    now: Moment,
+) -> Result<(), Fault>
+    requires empty { buffer.items ≡ [] }
+    requires buffer { 512 ≤ vec_capacity buffer }
     ensures ok { OnOk result ((text : List ℕ) × IsText (shown answer.now) now text
         × Appends (W.contents writer.old) (W.contents writer.new) text) }
     ensures err { IfErr result (λ fault.
         (fault ≡ Fault.Write) × ((text : List ℕ) × IsText (shown answer.now) now text
         × AppendsPrefix (W.contents writer.old) (W.contents writer.new) text)) }
 {
-    write_answer(writer, room, answer, now).map_err(|_| Fault::Write)
+    write_answer(writer, buffer, answer, now).map_err(|_| Fault::Write)
 }
 
 /// Writes the constant text for a lack of memory.
@@ -47,12 +52,12 @@ fn send_memory_fault<W: Write>(writer: &mut W) -> Result<(), Fault>
 fn refuse<W: Write>(
     alloc: Global,
     writer: &mut W,
-    room: Vec<u8>,
+    buffer: Vec<u8>,
     status: u16,
     now: Moment,
 ) -> Result<(), Fault>
-    requires empty { room.items ≡ [] }
-    requires room { 512 ≤ vec_capacity room }
+    requires empty { buffer.items ≡ [] }
+    requires buffer { 512 ≤ vec_capacity buffer }
     ensures ok { OnOk result ((text : List ℕ) × IsText (refusal_of status) now text
         × Appends (W.contents writer.old) (W.contents writer.new) text) }
     ensures err { IfErr result (λ fault.
@@ -60,8 +65,8 @@ fn refuse<W: Write>(
         × AppendsPrefix (W.contents writer.old) (W.contents writer.new) text))
         ⊎ ((fault ≡ Fault.Memory) × (writer.new ≡ writer.old))) }
 {
-    match json_room(alloc) {
-        Ok(body) => send(writer, room, &refusal(body, status), now),
+    match json_buffer(alloc) {
+        Ok(body) => send(writer, buffer, &refusal(body, status), now),
         Err(_) => Err(Fault::Memory),
     }
 }
@@ -69,13 +74,13 @@ fn refuse<W: Write>(
 fn reply<W: Write, O: Office>(
     alloc: Global,
     writer: &mut W,
-    room: Vec<u8>,
+    buffer: Vec<u8>,
     request: Request,
     now: Moment,
     office: &mut O,
 ) -> Result<(), Fault>
-    requires empty { room.items ≡ [] }
-    requires room { 512 ≤ vec_capacity room }
+    requires empty { buffer.items ≡ [] }
+    requires buffer { 512 ≤ vec_capacity buffer }
     ensures ends { LeadsIn O.Office
         (λ signatory before after.
         ReplyEnds (Runs O.signs signatory) Asks (Ocsps O.signs signatory) Crls now before after
@@ -88,7 +93,7 @@ fn reply<W: Write, O: Office>(
         (W.contents writer.old) (W.contents writer.new) result }
 {
     match request {
-        Request::Refused(status) => refuse(alloc, writer, room, status, now),
+        Request::Refused(status) => refuse(alloc, writer, buffer, status, now),
         Request::Asked {
             method,
             target,
@@ -101,7 +106,7 @@ fn reply<W: Write, O: Office>(
             now,
             office,
         ) {
-            Ok(answer) => send(writer, room, &answer, now),
+            Ok(answer) => send(writer, buffer, &answer, now),
             Err(_) => send_memory_fault(writer),
         },
     }
@@ -135,11 +140,11 @@ pub fn serve_one<R: Read, W: Write, O: Office>(
         (R.remaining reader.old) (R.remaining reader.new)
         (W.contents writer.old) (W.contents writer.new) result }
 {
-    let Ok(room) = Vec::with_capacity(alloc, HEAD_ROOM) else {
+    let Ok(buffer) = Vec::with_capacity(alloc, HEAD_ROOM) else {
         return Err(Fault::Memory);
     };
     match read_request(alloc, reader) {
-        Ok(request) => reply(alloc, writer, room, request, now, office),
+        Ok(request) => reply(alloc, writer, buffer, request, now, office),
         Err(fault) => Err(fault),
     }
 }

@@ -11,8 +11,8 @@ use Rattle.reg_http_head.specs.Frame.{Part, refused, asked, AsksFor, Framed, Has
 use Rattle.reg_http_head.specs.Bytes.{IsExact}
 use Rattle.reg_http_head.specs.Collected.{HoldsRequest, IsWholeRequest, IsUnmarked, IsRefusedRequest, NeedsBytes, Knows, IsAllKnown}
 use Rattle.reg_http_head.specs.declared.known.HeadIn.{HeadIn}
-use Rattle.reg_http_head.specs.declared.known.Known.{Known}
-use Rattle.reg_http_head.specs.declared.known.Known.TheVariants.{Unmarked, Refused, Asked}
+use Rattle.reg_http_head.specs.declared.known.ScanState.{ScanState}
+use Rattle.reg_http_head.specs.declared.known.ScanState.TheVariants.{Unmarked, Refused, Asked}
 use Rattle.reg_http_head.proofs.FrameLemmas.{head_of_more, take_of_more}
 
 -- a head that is refused is refused by its own bytes
@@ -29,13 +29,13 @@ refused_long bytes long none =
     (long, inl (refl, (length-take-le longest_head bytes long, no_mark_in_front blank_line bytes longest_head none)))
 
 -- what is told is known
-pub known_of_told : (bytes : List ℕ) (known : Known) → IsAllKnown bytes known → Knows bytes known
+pub known_of_told : (bytes : List ℕ) (known : ScanState) → IsAllKnown bytes known → Knows bytes known
 known_of_told bytes (Unmarked count) told = (omega (arith, told.0), told.2)
 known_of_told bytes (Refused count status) told = told
 known_of_told bytes (Asked head) told = told
 
 -- what is known stays so, however the bytes go on
-pub known_of_more : (bytes more : List ℕ) (known : Known) → Knows bytes known → Knows (bytes ++ more) known
+pub known_of_more : (bytes more : List ℕ) (known : ScanState) → Knows bytes known → Knows (bytes ++ more) known
 known_of_more bytes more (Unmarked count) known = (
   omega (arith, known.0, length-append bytes more),
   λ n below ends. known.1 n below (ends.0, sym (take-append-le n bytes more (omega (arith, known.0))) ∙ ends.1),
@@ -135,7 +135,7 @@ unfinished_of_needs bytes it needs short =
     inr (it.end, needs.head, it.spans.size, needs.has_head, needs.stands.reads, needs.stands.size_is, omega (arith, short, needs.needed_is))
 
 -- what is known stays so where more bytes were taken, or none
-pub known_of_added : (bytes more after : List ℕ) (known : Known) (taken : Bool) → after ≡ (if taken then bytes ++ more else bytes)
+pub known_of_added : (bytes more after : List ℕ) (known : ScanState) (taken : Bool) → after ≡ (if taken then bytes ++ more else bytes)
     → Knows bytes known → Knows after known
 known_of_added bytes more after known true is knows =
     let P : List ℕ → Type 0 = λ b. Knows b known in subst P (sym is) (known_of_more bytes more known knows)

@@ -5,8 +5,8 @@ use Rattle.reg_io.specs.Mark.{EndsWith}
 use Rattle.reg_http_head.specs.Head.{blank_line, longest_head, IsHeadAt}
 use Rattle.reg_http_head.specs.Frame.{Part, refused, Framed, HasHead}
 use Rattle.reg_http_head.specs.declared.known.HeadIn.{HeadIn}
-use Rattle.reg_http_head.specs.declared.known.Known.{Known}
-use Rattle.reg_http_head.specs.declared.known.Known.TheVariants.{Unmarked, Refused, Asked}
+use Rattle.reg_http_head.specs.declared.known.ScanState.{ScanState}
+use Rattle.reg_http_head.specs.declared.known.ScanState.TheVariants.{Unmarked, Refused, Asked}
 
 -- the bytes begin with a whole request, which has this meaning
 pub record HoldsRequest (bytes : List ℕ) (part : Part) : Type 0 where
@@ -36,13 +36,13 @@ pub record NeedsBytes (bytes : List ℕ) (it : HeadIn) : Type 0 where
   pub needed_is : it.needed ≡ it.end + it.spans.size
 
 -- what is known about the bytes, whatever comes after them
-abbrev pub Knows : List ℕ → Known → Type 0
+abbrev pub Knows : List ℕ → ScanState → Type 0
 Knows bytes (Unmarked count) = (count ≤ length bytes) × IsUnmarked bytes count
 Knows bytes (Refused count status) = (count ≤ length bytes) × IsRefusedRequest bytes count status
 Knows bytes (Asked head) = NeedsBytes bytes head
 
 -- what is known after all of the bytes were searched: if no head ends in them, they are fewer than the most bytes of a head
-abbrev pub IsAllKnown : List ℕ → Known → Type 0
+abbrev pub IsAllKnown : List ℕ → ScanState → Type 0
 IsAllKnown bytes (Unmarked count) = (count ≡ length bytes) × (count < longest_head) × IsUnmarked bytes count
 IsAllKnown bytes (Refused count status) = (count ≤ length bytes) × IsRefusedRequest bytes count status
 IsAllKnown bytes (Asked head) = NeedsBytes bytes head

@@ -4,7 +4,7 @@ use Rattle.std.specs.Io.KnownBytes.{Consumes}
 use Rattle.httparse.specs.Grammar.{RequestHead}
 use Rattle.reg_core.specs.declared.refusal.Fault.{Fault}
 use Rattle.reg_core.specs.declared.refusal.Fault.TheVariants as fault
-use Rattle.reg_io.specs.Mark.{FirstMark, HasNoMark}
+use Rattle.reg_io.specs.Mark.{FirstDelimiter, HasNoMark}
 use Rattle.reg_http_head.specs.Head.{blank_line, longest_head, IsHead, RefusesHead, body_size}
 use Rattle.reg_http_head.specs.declared.request.Request.{Request}
 use Rattle.reg_http_head.specs.declared.request.Request.TheVariants.{Refused, Asked}
@@ -21,7 +21,7 @@ pub record AsksFor (took method target body : List ℕ) : Type 0 where
   pub end : ℕ
   pub head : RequestHead
   pub within : end ≤ longest_head
-  pub ends : FirstMark blank_line took end
+  pub ends : FirstDelimiter blank_line took end
   pub reads : IsHead (take end took) head
   pub method_is : method ≡ head.method
   pub target_is : target ≡ head.target
@@ -35,7 +35,7 @@ IsTooLong took = (length took ≡ longest_head) × HasNoMark blank_line took
 -- the head ends at this index, within the first 8,192 bytes
 pub record HasHead (took : List ℕ) (end : ℕ) : Type 0 where
   pub within : end ≤ longest_head
-  pub ends : FirstMark blank_line took end
+  pub ends : FirstDelimiter blank_line took end
 
 -- the meaning of the bytes that were taken
 abbrev pub Framed : List ℕ → Part → Type 0

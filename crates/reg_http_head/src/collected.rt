@@ -4,7 +4,7 @@ ghost use Rattle.std.specs.Prelude.{◌≡◌, ◌≤◌, length, IfErr, IfOk};
 ghost use Rattle.reg_http_head.specs.Collected.{HoldsRequest, Knows, NeedsBytes};
 ghost use Rattle.reg_http_head.specs.Frame.{part_of_ref};
 
-use crate::known::{HeadIn, Known, told};
+use crate::known::{HeadIn, ScanState, told};
 use crate::request::RequestRef;
 use reg_core::Fault;
 use std::alloc::{AllocError, Global};
@@ -14,7 +14,7 @@ use std::alloc::{AllocError, Global};
 #[derive(Drop)]
 pub struct Collected {
     bytes: Vec<u8>,
-    known: Known,
+    known: ScanState,
     ghost is_known: { ∥ Knows bytes.items known ∥₁ },
 }
 
@@ -29,7 +29,7 @@ impl Collected {
     {
         Collected {
             bytes: Vec::new(alloc),
-            known: Known::Unmarked(0),
+            known: ScanState::Unmarked(0),
         }
     }
 
@@ -58,9 +58,9 @@ impl Collected {
     {
         self.known = told(self.bytes.as_slice(), self.known);
         match self.known {
-            Known::Unmarked(_) => false,
-            Known::Refused(..) => true,
-            Known::Asked(head) => head.needed <= self.bytes.len(),
+            ScanState::Unmarked(_) => false,
+            ScanState::Refused(..) => true,
+            ScanState::Asked(head) => head.needed <= self.bytes.len(),
         }
     }
 
@@ -69,7 +69,7 @@ impl Collected {
         ensures { result ≡ true → ∥ IsExact (collected_bytes self.now) ∥₁ }
     {
         match self.known {
-            Known::Asked(head) => head.needed == self.bytes.len(),
+            ScanState::Asked(head) => head.needed == self.bytes.len(),
             _ => false,
         }
     }
@@ -84,10 +84,10 @@ impl Collected {
     {
         let bytes = self.bytes.as_slice();
         match told(bytes, self.known) {
-            Known::Unmarked(_) => Err(Fault::Read),
-            Known::Refused(_, status) => Ok(RequestRef::Refused(status)),
-            Known::Asked(head) if head.needed <= bytes.len() => asked_at(alloc, bytes, head),
-            Known::Asked(_) => Err(Fault::Read),
+            ScanState::Unmarked(_) => Err(Fault::Read),
+            ScanState::Refused(_, status) => Ok(RequestRef::Refused(status)),
+            ScanState::Asked(head) if head.needed <= bytes.len() => asked_at(alloc, bytes, head),
+            ScanState::Asked(_) => Err(Fault::Read),
         }
     }
 }

@@ -6,11 +6,11 @@ ghost use Rattle.reg_http_head.specs.Collected.{IsUnmarked, Knows, IsAllKnown};
 use crate::head::{HeadSpans, read_head};
 use crate::request::{BLANK_LINE, LONGEST_HEAD};
 use crate::status;
-use reg_io::first_mark;
+use reg_io::first_delimiter;
 
 /// What is known about the first bytes.
 #[derive(Clone, Copy)]
-pub(crate) enum Known {
+pub(crate) enum ScanState {
     /// No head ends in the first bytes, up to this count.
     Unmarked(usize),
     /// The first bytes, up to this count, are refused with this status.
@@ -27,40 +27,43 @@ pub(crate) struct HeadIn {
 }
 
 /// What is known about the bytes after all of them were searched.
-pub(crate) fn told(bytes: &[u8], known: Known) -> Known
+pub(crate) fn told(bytes: &[u8], known: ScanState) -> ScanState
     requires { ∥ Knows bytes.now known ∥₁ }
     ensures { ∥ IsAllKnown bytes.now result ∥₁ }
 {
     match known {
-        Known::Unmarked(searched) => searched_on(bytes, searched),
-        Known::Refused(count, status) => Known::Refused(count, status),
-        Known::Asked(head) => Known::Asked(head),
+        ScanState::Unmarked(searched) => searched_on(bytes, searched),
+        ScanState::Refused(count, status) => ScanState::Refused(count, status),
+        ScanState::Asked(head) => ScanState::Asked(head),
     }
 }
 
 /// What is known about the bytes after they were searched for the end of a head, of which there is none in the first `searched`.
-fn searched_on(bytes: &[u8], searched: usize) -> Known
+fn searched_on(bytes: &[u8], searched: usize) -> ScanState
     requires { IsUnmarked bytes.now searched }
     ensures { IsAllKnown bytes.now result }
 {
     let within = bytes.len().min(LONGEST_HEAD);
-    match first_mark(bytes, within, BLANK_LINE, searched) {
+    match first_delimiter(bytes, within, BLANK_LINE, searched) {
         Some(end) => read_to(bytes, end),
-        None if within == LONGEST_HEAD => Known::Refused(LONGEST_HEAD, status::HEADERS_TOO_LARGE),
-        None => Known::Unmarked(within),
+        None if within == LONGEST_HEAD => ScanState::Refused(
+            LONGEST_HEAD,
+            status::HEADERS_TOO_LARGE,
+        ),
+        None => ScanState::Unmarked(within),
     }
 }
 
-fn read_to(bytes: &[u8], end: usize) -> Known
+fn read_to(bytes: &[u8], end: usize) -> ScanState
     requires { HasHead bytes.now end }
     ensures { IsAllKnown bytes.now result }
 {
     match read_head(&bytes[..end]) {
-        Ok(spans) => Known::Asked(HeadIn {
+        Ok(spans) => ScanState::Asked(HeadIn {
             spans,
             end,
             needed: end + spans.size as usize,
         }),
-        Err(refused) => Known::Refused(end, refused),
+        Err(refused) => ScanState::Refused(end, refused),
     }
 }

@@ -10,7 +10,7 @@ use crate::head::{HeadSpans, read_head};
 use crate::status;
 use http::Method;
 use reg_core::Fault;
-use reg_io::{Reached, ReadFault, fill_to_mark, fill_whole};
+use reg_io::{Reached, ReadFault, fill_exact, fill_to_delimiter};
 use std::alloc::Global;
 use std::io::Read;
 
@@ -64,7 +64,7 @@ fn read_within<R: Read>(alloc: Global, reader: &mut R, room: &mut [u8]) -> Resul
     ensures err { IfErr result (λ fault. TakesAtMost (R.remaining reader.old) (R.remaining reader.new)
         (longest_head + longest_body) (IsCutBy fault)) }
 {
-    match fill_to_mark(reader, room, 0, BLANK_LINE) {
+    match fill_to_delimiter(reader, room, 0, BLANK_LINE) {
         Ok(Reached::Mark { end, buffered }) => read_rest(alloc, reader, &room[..buffered], end),
         Ok(Reached::Full) => Ok(Request::Refused(status::HEADERS_TOO_LARGE)),
         Ok(Reached::End { .. }) => Err(Fault::Read),
@@ -125,7 +125,7 @@ fn fill_body<R: Read>(reader: &mut R, body: &mut [u8], buffered: &[u8]) -> Resul
 {
     let kept = buffered.len().min(body.len());
     body[..kept].copy_from_slice(&buffered[..kept]);
-    fill_whole(reader, body, kept)
+    fill_exact(reader, body, kept)
 }
 
 fn owned(alloc: Global, head: &[u8], spans: HeadSpans, body: Vec<u8>) -> Result<Request, Fault>

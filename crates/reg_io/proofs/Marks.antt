@@ -5,30 +5,30 @@ use Rattle.std.proofs.lemmas.Bool.{cases_lt, cases_order}
 use Rattle.std.proofs.lemmas.Bool.Decides.{Decides-eqb}
 use Rattle.std.proofs.lemmas.List.{take-take, take_all, take_at, take_more, take-append-le, length-take, length-take-le}
 use Rattle.std.proofs.lemmas.Slice.Eq.{ends_is}
-use Rattle.reg_io.specs.Mark.{EndsWith, FirstMark, HasNoMark}
+use Rattle.reg_io.specs.Mark.{EndsWith, FirstDelimiter, HasNoMark}
 
--- what `bytes.ends_with(mark)` says where it answers yes, and where it answers no
-pub ends_found : (bytes mark : List ℕ) (r : Bool) → r ≡ ends_with nat_eq bytes mark → r ≡ true → EndsWith bytes mark
-ends_found bytes mark r is found = (take (length bytes - length mark) bytes, (ends_is Decides-eqb bytes mark r is).0 found)
+-- what `bytes.ends_with(delimiter)` says where it answers yes, and where it answers no
+pub ends_found : (bytes delimiter : List ℕ) (r : Bool) → r ≡ ends_with nat_eq bytes delimiter → r ≡ true → EndsWith bytes delimiter
+ends_found bytes delimiter r is found = (take (length bytes - length delimiter) bytes, (ends_is Decides-eqb bytes delimiter r is).0 found)
 
-pub ends_missed : (bytes mark : List ℕ) (r : Bool) → r ≡ ends_with nat_eq bytes mark → r ≡ false → ¬ EndsWith bytes mark
-ends_missed bytes mark r is missed ends = let found = (ends_is Decides-eqb bytes mark r is).1 ends.0 ends.1 in cc
+pub ends_missed : (bytes delimiter : List ℕ) (r : Bool) → r ≡ ends_with nat_eq bytes delimiter → r ≡ false → ¬ EndsWith bytes delimiter
+ends_missed bytes delimiter r is missed ends = let found = (ends_is Decides-eqb bytes delimiter r is).1 ends.0 ends.1 in cc
 
 -- a mark of some bytes ends no empty list
-pub nothing_ends : (mark : List ℕ) → 0 < length mark → ¬ EndsWith [] mark
-nothing_ends mark some ends = let e = ap length ends.1 ∙ length-append ends.0 mark in absurd (omega arith)
+pub nothing_ends : (delimiter : List ℕ) → 0 < length delimiter → ¬ EndsWith [] delimiter
+nothing_ends delimiter some ends = let e = ap length ends.1 ∙ length-append ends.0 delimiter in absurd (omega arith)
 
 -- where none of the fronts up to a count ends with the mark, it is not in the first bytes up to there
-pub no_mark_of_fronts : (mark bytes : List ℕ) (count : ℕ) → ((n : ℕ) → n ≤ count → ¬ EndsWith (take n bytes) mark) → HasNoMark mark (take count bytes)
-no_mark_of_fronts mark bytes count none n ends =
+pub no_mark_of_fronts : (delimiter bytes : List ℕ) (count : ℕ) → ((n : ℕ) → n ≤ count → ¬ EndsWith (take n bytes) delimiter) → HasNoMark delimiter (take count bytes)
+no_mark_of_fronts delimiter bytes count none n ends =
     elim (cases_lt count n) [
       | inl above ↦ none count (omega arith) (ends.0, sym (take_all n (take count bytes) (omega (arith, length-take count bytes))) ∙ ends.1)
       | inr below ↦ none n below (ends.0, sym (take-take n count bytes below) ∙ ends.1)
     ]
 
 -- the first mark stays the first, however the bytes go on
-pub FirstMark-append : (mark bytes more : List ℕ) (end : ℕ) → FirstMark mark bytes end → FirstMark mark (bytes ++ more) end
-FirstMark-append mark bytes more end is =
+pub FirstDelimiter-append : (delimiter bytes more : List ℕ) (end : ℕ) → FirstDelimiter delimiter bytes end → FirstDelimiter delimiter (bytes ++ more) end
+FirstDelimiter-append delimiter bytes more end is =
     let same = λ (n : ℕ) (h : n ≤ end). take-append-le n bytes more (omega (arith, is.within)) in
     record {
       within = omega (arith, is.within, length-append bytes more);
@@ -37,8 +37,8 @@ FirstMark-append mark bytes more end is =
     }
 
 -- and in any front that it is in
-pub FirstMark-take : (mark bytes : List ℕ) (end count : ℕ) → FirstMark mark bytes end → end ≤ count → FirstMark mark (take count bytes) end
-FirstMark-take mark bytes end count is below =
+pub FirstDelimiter-take : (delimiter bytes : List ℕ) (end count : ℕ) → FirstDelimiter delimiter bytes end → end ≤ count → FirstDelimiter delimiter (take count bytes) end
+FirstDelimiter-take delimiter bytes end count is below =
     let same = λ (n : ℕ) (h : n ≤ end). take-take n count bytes (omega arith) in
     record {
       within = omega (arith, is.within, length-take count bytes);
@@ -47,8 +47,8 @@ FirstMark-take mark bytes end count is below =
     }
 
 -- there is one first mark
-pub FirstMark-unique : (mark bytes : List ℕ) (m n : ℕ) → FirstMark mark bytes m → FirstMark mark bytes n → m ≡ n
-FirstMark-unique mark bytes m n is also =
+pub FirstDelimiter-unique : (delimiter bytes : List ℕ) (m n : ℕ) → FirstDelimiter delimiter bytes m → FirstDelimiter delimiter bytes n → m ≡ n
+FirstDelimiter-unique delimiter bytes m n is also =
     elim (cases_order m n) [
       | inl same ↦ same
       | inr (inl less) ↦ absurd (also.first m less is.here)
@@ -61,7 +61,7 @@ no_byte byte bytes none k d within is =
     none (k + 1) (take k bytes, take_more bytes k d within ∙ ap (λ b. take k bytes ++ b ∷ []) is)
 
 -- up to the first mark of one byte stand other bytes, and then that byte
-pub byte_first : (byte : ℕ) (bytes : List ℕ) (end : ℕ) → FirstMark (byte ∷ []) bytes end
+pub byte_first : (byte : ℕ) (bytes : List ℕ) (end : ℕ) → FirstDelimiter (byte ∷ []) bytes end
     → (front : List ℕ) × (take end bytes ≡ front ++ byte ∷ []) × All (λ b. b ≢ byte) front
 byte_first byte bytes end is =
     let front = is.here.0 in

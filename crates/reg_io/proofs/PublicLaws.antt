@@ -9,13 +9,13 @@ use Rattle.reg_io.proofs.Runs as runs
 use Rattle.reg_io.proofs.Searches as searches
 
 pub one_first_mark : OneFirstMark
-one_first_mark = marks.FirstMark-unique
+one_first_mark = marks.FirstDelimiter-unique
 
 pub first_mark_goes_on : FirstMarkGoesOn
-first_mark_goes_on = marks.FirstMark-append
+first_mark_goes_on = marks.FirstDelimiter-append
 
 pub first_mark_in_front : FirstMarkInPrefix
-first_mark_in_front = marks.FirstMark-take
+first_mark_in_front = marks.FirstDelimiter-take
 
 pub no_mark_in_front : NoMarkInPrefix
 no_mark_in_front = marks.no_mark_of_fronts

@@ -14,77 +14,77 @@ use Rattle.reg_io.proofs.Marks.{no_mark_of_fronts, nothing_ends}
 
 -- no mark ends in the first `count` bytes
 abbrev pub Unmarked : List ℕ → List ℕ → ℕ → Type 0
-Unmarked mark bytes count = (n : ℕ) → n ≤ count → ¬ EndsWith (take n bytes) mark
+Unmarked delimiter bytes count = (n : ℕ) → n ≤ count → ¬ EndsWith (take n bytes) delimiter
 
 -- nothing was searched yet
-pub unmarked_start : (mark bytes : List ℕ) → 0 < length mark → Unmarked mark bytes 0
-unmarked_start mark bytes some n none ends =
+pub unmarked_start : (delimiter bytes : List ℕ) → 0 < length delimiter → Unmarked delimiter bytes 0
+unmarked_start delimiter bytes some n none ends =
     let zero_is : n ≡ 0 = omega arith in
-    nothing_ends mark some (subst (λ m. EndsWith (take m bytes) mark) zero_is ends)
+    nothing_ends delimiter some (subst (λ m. EndsWith (take m bytes) delimiter) zero_is ends)
 
 -- a read behind the first bytes leaves those as they were
-pub unmarked_read : (mark between ys : List ℕ) (now k : ℕ) → now ≤ length between → Unmarked mark between now → Unmarked mark (put_mid now k between ys) now
-unmarked_read mark between ys now k fits none n below ends =
+pub unmarked_read : (delimiter between ys : List ℕ) (now k : ℕ) → now ≤ length between → Unmarked delimiter between now → Unmarked delimiter (put_mid now k between ys) now
+unmarked_read delimiter between ys now k fits none n below ends =
     none n below (ends.0, sym (take-put_mid_below now k between ys n below fits) ∙ ends.1)
 
 -- what was held at the start had no mark either
-pub unmarked_before : (mark : List ℕ) (input left : Option (List ℕ)) (before after : List ℕ) (buffered filled : ℕ)
-    → SoFar input left before after buffered filled → buffered ≤ length before → Unmarked mark after filled → Unmarked mark before buffered
-unmarked_before mark input left before after buffered filled so_far fits none n below ends =
+pub unmarked_before : (delimiter : List ℕ) (input left : Option (List ℕ)) (before after : List ℕ) (buffered filled : ℕ)
+    → SoFar input left before after buffered filled → buffered ≤ length before → Unmarked delimiter after filled → Unmarked delimiter before buffered
+unmarked_before delimiter input left before after buffered filled so_far fits none n below ends =
     none n (omega (arith, so_far.count)) (ends.0, held_stays input left before after buffered n so_far.took so_far.fills below fits ∙ ends.1)
 
 -- the buffer is full and has no mark
-pub rests_full : (mark : List ℕ) (input left : Option (List ℕ)) (before after : List ℕ) (buffered filled : ℕ)
-    → SoFar input left before after buffered filled → filled ≡ length after → Unmarked mark after filled → FillsTo mark input left before after buffered Full
-rests_full mark input left before after buffered filled so_far full none = record {
+pub rests_full : (delimiter : List ℕ) (input left : Option (List ℕ)) (before after : List ℕ) (buffered filled : ℕ)
+    → SoFar input left before after buffered filled → filled ≡ length after → Unmarked delimiter after filled → FillsTo delimiter input left before after buffered Full
+rests_full delimiter input left before after buffered filled so_far full none = record {
   took = so_far.took;
   fills = so_far.fills;
   count = omega (arith, so_far.count);
-  rests = subst (HasNoMark mark) (take_all filled after (omega arith)) (no_mark_of_fronts mark after filled none);
+  rests = subst (HasNoMark delimiter) (take_all filled after (omega arith)) (no_mark_of_fronts delimiter after filled none);
 }
 
 -- the reader gave no more: it was asked for some bytes, and gave none
-pub rests_end : (mark : List ℕ) (input middle left : Option (List ℕ)) (before between ys : List ℕ) (buffered filled k n : ℕ)
+pub rests_end : (delimiter : List ℕ) (input middle left : Option (List ℕ)) (before between ys : List ℕ) (buffered filled k n : ℕ)
     → SoFar input middle before between buffered filled → filled < length between → filled + length ys ≡ length between
-    → length (put_mid filled k between ys) ≡ length between → Unmarked mark between filled
+    → length (put_mid filled k between ys) ≡ length between → Unmarked delimiter between filled
     → n ≡ 0 → Consumes middle left (take n ys) × (n ≡ 0 → 0 < length ys → IsAtEnd left)
-    → FillsTo mark input left before (put_mid filled k between ys) buffered (End filled)
-rests_end mark input middle left before between ys buffered filled k n so_far room whole same none nothing gave =
+    → FillsTo delimiter input left before (put_mid filled k between ys) buffered (End filled)
+rests_end delimiter input middle left before between ys buffered filled k n so_far room whole same none nothing gave =
     let consumed = subst (λ m. Consumes middle left (take m ys)) nothing gave.0 in
     let more = so_far_more input middle left before between ys buffered filled k 0 so_far (omega arith) whole same consumed in
     record {
       took = more.took;
       fills = more.fills;
       count = omega (arith, more.count);
-      rests = (omega arith, no_mark_of_fronts mark (put_mid filled k between ys) filled (unmarked_read mark between ys filled k (omega arith) none), gave.1 nothing (omega arith));
+      rests = (omega arith, no_mark_of_fronts delimiter (put_mid filled k between ys) filled (unmarked_read delimiter between ys filled k (omega arith) none), gave.1 nothing (omega arith));
     }
 
 -- the reader failed
-pub breaks_off : (mark : List ℕ) (input middle left : Option (List ℕ)) (before between ys : List ℕ) (buffered filled k : ℕ)
+pub breaks_off : (delimiter : List ℕ) (input middle left : Option (List ℕ)) (before between ys : List ℕ) (buffered filled k : ℕ)
     → SoFar input middle before between buffered filled → filled < length between
-    → length (put_mid filled k between ys) ≡ length between → Unmarked mark between filled
-    → Keeps middle left → FillsShort mark input left before (put_mid filled k between ys) buffered
-breaks_off mark input middle left before between ys buffered filled k so_far room same none keeps =
+    → length (put_mid filled k between ys) ≡ length between → Unmarked delimiter between filled
+    → Keeps middle left → FillsShort delimiter input left before (put_mid filled k between ys) buffered
+breaks_off delimiter input middle left before between ys buffered filled k so_far room same none keeps =
     let kept = so_far_kept input middle left before between ys buffered filled k so_far (omega arith) same keeps in
     record {
       took = kept.took;
       fills = kept.fills;
       room = omega (arith, kept.count);
-      unmarked = subst (λ n. HasNoMark mark (take n (put_mid filled k between ys))) kept.count
-          (no_mark_of_fronts mark (put_mid filled k between ys) filled (unmarked_read mark between ys filled k (omega arith) none));
+      unmarked = subst (λ n. HasNoMark delimiter (take n (put_mid filled k between ys))) kept.count
+          (no_mark_of_fronts delimiter (put_mid filled k between ys) filled (unmarked_read delimiter between ys filled k (omega arith) none));
     }
 
 -- ---- for those who read up to a mark
 
 -- what is held where the reading came to rest
-pub held_now : (mark : List ℕ) (input left : Option (List ℕ)) (before after : List ℕ) (buffered : ℕ) (reached : Reached)
-    → (to : FillsTo mark input left before after buffered reached) → take (kept_of_reading (length after) reached) after ≡ take buffered before ++ to.took
-held_now mark input left before after buffered reached to = ap (λ n. take n after) to.count ∙ to.fills.stands
+pub held_now : (delimiter : List ℕ) (input left : Option (List ℕ)) (before after : List ℕ) (buffered : ℕ) (reached : Reached)
+    → (to : FillsTo delimiter input left before after buffered reached) → take (kept_of_reading (length after) reached) after ≡ take buffered before ++ to.took
+held_now delimiter input left before after buffered reached to = ap (λ n. take n after) to.count ∙ to.fills.stands
 
 -- at a mark: the bytes up to its end, and those that are held behind it
-pub cut_at_mark : (mark : List ℕ) (input left : Option (List ℕ)) (before after : List ℕ) (buffered end now : ℕ)
-    → (to : FillsTo mark input left before after buffered (Mark end now)) → take buffered before ++ to.took ≡ take end after ++ drop end (take now after)
-cut_at_mark mark input left before after buffered end now to =
-    sym (held_now mark input left before after buffered (Mark end now) to)
+pub cut_at_mark : (delimiter : List ℕ) (input left : Option (List ℕ)) (before after : List ℕ) (buffered end now : ℕ)
+    → (to : FillsTo delimiter input left before after buffered (Mark end now)) → take buffered before ++ to.took ≡ take end after ++ drop end (take now after)
+cut_at_mark delimiter input left before after buffered end now to =
+    sym (held_now delimiter input left before after buffered (Mark end now) to)
     ∙ sym (take-append-drop end (take now after))
     ∙ ap (λ l. l ++ drop end (take now after)) (take-take end now after to.rests.0)

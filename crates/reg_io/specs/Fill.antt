@@ -4,7 +4,7 @@ use Rattle.std.specs.declared.option.Option.{Option}
 use Rattle.std.specs.Io.KnownBytes.{Consumes, IsAtEnd}
 use Rattle.reg_io.specs.declared.fill.Reached.{Reached}
 use Rattle.reg_io.specs.declared.fill.Reached.TheVariants.{Mark, Full, End}
-use Rattle.reg_io.specs.Mark.{FirstMark, HasNoMark}
+use Rattle.reg_io.specs.Mark.{FirstDelimiter, HasNoMark}
 
 -- these bytes were taken from the reader, and are in the buffer after the first `buffered` bytes, which stayed the same
 pub record Fills (input left : Option (List ℕ)) (before after : List ℕ) (buffered : ℕ)
@@ -20,40 +20,40 @@ kept_of_reading size Full = size
 kept_of_reading size (End buffered) = buffered
 
 -- what holds after a read: the buffer has the first mark, or is full without a mark, or the reader is at its end
-abbrev pub RestsAt : List ℕ → List ℕ → Option (List ℕ) → Reached → Type 0
-RestsAt mark buffer left (Mark end buffered) = (end ≤ buffered) × FirstMark mark buffer end
-RestsAt mark buffer left Full = HasNoMark mark buffer
-RestsAt mark buffer left (End buffered) =
-    (buffered < length buffer) × HasNoMark mark (take buffered buffer) × IsAtEnd left
+abbrev pub ReadStopsAt : List ℕ → List ℕ → Option (List ℕ) → Reached → Type 0
+ReadStopsAt delimiter buffer left (Mark end buffered) = (end ≤ buffered) × FirstDelimiter delimiter buffer end
+ReadStopsAt delimiter buffer left Full = HasNoMark delimiter buffer
+ReadStopsAt delimiter buffer left (End buffered) =
+    (buffered < length buffer) × HasNoMark delimiter (take buffered buffer) × IsAtEnd left
 
 -- a read up to a mark: these bytes were taken, and the buffer has them after the bytes before, and no others
-pub record FillsTo (mark : List ℕ) (input left : Option (List ℕ)) (before after : List ℕ) (buffered : ℕ)
+pub record FillsTo (delimiter : List ℕ) (input left : Option (List ℕ)) (before after : List ℕ) (buffered : ℕ)
     (reached : Reached) : Type 0 where
   pub took : List ℕ
   pub fills : Fills input left before after buffered took
   pub count : kept_of_reading (length after) reached ≡ buffered + length took
-  pub rests : RestsAt mark after left reached
+  pub rests : ReadStopsAt delimiter after left reached
 
 -- a read up to a mark that failed: these bytes were taken before that, the buffer is not full, and has no mark
-pub record FillsShort (mark : List ℕ) (input left : Option (List ℕ)) (before after : List ℕ)
+pub record FillsShort (delimiter : List ℕ) (input left : Option (List ℕ)) (before after : List ℕ)
     (buffered : ℕ) : Type 0 where
   pub took : List ℕ
   pub fills : Fills input left before after buffered took
   pub room : buffered + length took < length after
-  pub unmarked : HasNoMark mark (take (buffered + length took) after)
+  pub unmarked : HasNoMark delimiter (take (buffered + length took) after)
 
 -- ---- laws
 
 -- after a read, the buffer has the bytes that it had before, and then those that were taken
 abbrev pub KeepsWhatWasTaken : Type 0
 KeepsWhatWasTaken =
-    (mark : List ℕ) (input left : Option (List ℕ)) (before after : List ℕ) (buffered : ℕ) (reached : Reached)
-    → (to : FillsTo mark input left before after buffered reached)
+    (delimiter : List ℕ) (input left : Option (List ℕ)) (before after : List ℕ) (buffered : ℕ) (reached : Reached)
+    → (to : FillsTo delimiter input left before after buffered reached)
     → take (kept_of_reading (length after) reached) after ≡ take buffered before ++ to.took
 
 -- if the read stopped at a mark, these are the bytes up to its end, and then those after it
 abbrev pub PartsAtMark : Type 0
 PartsAtMark =
-    (mark : List ℕ) (input left : Option (List ℕ)) (before after : List ℕ) (buffered end now : ℕ)
-    → (to : FillsTo mark input left before after buffered (Mark end now))
+    (delimiter : List ℕ) (input left : Option (List ℕ)) (before after : List ℕ) (buffered end now : ℕ)
+    → (to : FillsTo delimiter input left before after buffered (Mark end now))
     → take buffered before ++ to.took ≡ take end after ++ drop end (take now after)

@@ -4,45 +4,45 @@ use Rattle.std.specs.List.{All}
 
 -- the bytes end with the mark
 abbrev pub EndsWith : List ℕ → List ℕ → Type 0
-EndsWith bytes mark = (prefix : List ℕ) × (bytes ≡ prefix ++ mark)
+EndsWith bytes delimiter = (prefix : List ℕ) × (bytes ≡ prefix ++ delimiter)
 
 -- the bytes do not contain the mark: no prefix of them ends with it
 abbrev pub HasNoMark : List ℕ → List ℕ → Type 0
-HasNoMark mark bytes = (n : ℕ) → ¬ EndsWith (take n bytes) mark
+HasNoMark delimiter bytes = (n : ℕ) → ¬ EndsWith (take n bytes) delimiter
 
 -- the first mark in the bytes ends at index `end`: the prefix of that length ends with it, and no shorter prefix does
-pub record FirstMark (mark bytes : List ℕ) (end : ℕ) : Type 0 where
+pub record FirstDelimiter (delimiter bytes : List ℕ) (end : ℕ) : Type 0 where
   pub within : end ≤ length bytes
-  pub here : EndsWith (take end bytes) mark
-  pub first : (n : ℕ) → n < end → ¬ EndsWith (take n bytes) mark
+  pub here : EndsWith (take end bytes) delimiter
+  pub first : (n : ℕ) → n < end → ¬ EndsWith (take n bytes) delimiter
 
 -- ---- laws
 
 -- bytes have at most one first mark
 abbrev pub OneFirstMark : Type 0
-OneFirstMark = (mark bytes : List ℕ) (m n : ℕ) → FirstMark mark bytes m → FirstMark mark bytes n → m ≡ n
+OneFirstMark = (delimiter bytes : List ℕ) (m n : ℕ) → FirstDelimiter delimiter bytes m → FirstDelimiter delimiter bytes n → m ≡ n
 
 -- the first mark stays the first if more bytes follow
 abbrev pub FirstMarkGoesOn : Type 0
 FirstMarkGoesOn =
-    (mark bytes more : List ℕ) (end : ℕ) → FirstMark mark bytes end → FirstMark mark (bytes ++ more) end
+    (delimiter bytes more : List ℕ) (end : ℕ) → FirstDelimiter delimiter bytes end → FirstDelimiter delimiter (bytes ++ more) end
 
 -- the first mark is also the first in each prefix that contains it
 abbrev pub FirstMarkInPrefix : Type 0
 FirstMarkInPrefix =
-    (mark bytes : List ℕ) (end count : ℕ) → FirstMark mark bytes end → end ≤ count
-    → FirstMark mark (take count bytes) end
+    (delimiter bytes : List ℕ) (end count : ℕ) → FirstDelimiter delimiter bytes end → end ≤ count
+    → FirstDelimiter delimiter (take count bytes) end
 
 -- a prefix does not contain the mark if no prefix of at most its length ends with the mark
 abbrev pub NoMarkInPrefix : Type 0
 NoMarkInPrefix =
-    (mark bytes : List ℕ) (count : ℕ) → ((n : ℕ) → n ≤ count → ¬ EndsWith (take n bytes) mark)
-    → HasNoMark mark (take count bytes)
+    (delimiter bytes : List ℕ) (count : ℕ) → ((n : ℕ) → n ≤ count → ¬ EndsWith (take n bytes) delimiter)
+    → HasNoMark delimiter (take count bytes)
 
 -- the bytes up to the first mark of one byte are other bytes, and then that byte
 abbrev pub FirstMarkOfByte : Type 0
 FirstMarkOfByte =
-    (byte : ℕ) (bytes : List ℕ) (end : ℕ) → FirstMark (byte ∷ []) bytes end
+    (byte : ℕ) (bytes : List ℕ) (end : ℕ) → FirstDelimiter (byte ∷ []) bytes end
     → (prefix : List ℕ) × (take end bytes ≡ prefix ++ byte ∷ []) × All (λ b. b ≢ byte) prefix
 
 -- bytes that do not contain a mark of one byte do not contain that byte

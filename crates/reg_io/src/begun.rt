@@ -2,7 +2,7 @@
 
 /// A result that is ready, or what must be signed to complete it.
 #[derive(Drop)]
-pub enum Begun<R, U> {
+pub enum ReadyOrUnsigned<R, U> {
     Ready(R),
     Unsigned(U),
 }

@@ -2,7 +2,7 @@
 
 ghost use Rattle.std.specs.Prelude.{◌≡◌, ℕ, ◌+◌, ◌<◌, ◌≤◌, ◌++◌, List, length, take, IfOk, MatchOption, OnErr, OnOk};
 ghost use Rattle.std.specs.Io.KnownBytes.{Consumes, IsAtEnd};
-ghost use Rattle.reg_io.specs.Mark.{EndsWith, FirstMark};
+ghost use Rattle.reg_io.specs.Mark.{EndsWith, FirstDelimiter};
 ghost use Rattle.reg_io.specs.Fill.{Fills, FillsShort, FillsTo};
 
 use std::io::Read;
@@ -21,28 +21,28 @@ pub enum Reached {
 
 /// Reads into `buf` after its first `buffered` bytes, until the buffered bytes contain the mark or fill the buffer, or the reader is at its end.
 /// [`ReadFault`] at the first read that fails, even with `Interrupted`.
-pub fn fill_to_mark<R: Read>(
+pub fn fill_to_delimiter<R: Read>(
     reader: &mut R,
     buf: &mut [u8],
     buffered: usize,
-    mark: &[u8],
+    delimiter: &[u8],
 ) -> Result<Reached, ReadFault>
     requires buffered_fits { buffered ≤ length buf.old }
-    requires mark_is_there { 0 < length mark.now }
-    ensures ok { IfOk result (FillsTo mark.now
+    requires mark_is_there { 0 < length delimiter.now }
+    ensures ok { IfOk result (FillsTo delimiter.now
         (R.remaining reader.old) (R.remaining reader.new) buf.old buf.new buffered) }
-    ensures err { OnErr result (FillsShort mark.now
+    ensures err { OnErr result (FillsShort delimiter.now
         (R.remaining reader.old) (R.remaining reader.new) buf.old buf.new buffered) }
 
     // If the buffer has a mark already, or is full, nothing is read.
-    ensures marked { (end : ℕ) → end ≤ buffered → EndsWith (take end buf.old) mark.now
+    ensures marked { (end : ℕ) → end ≤ buffered → EndsWith (take end buf.old) delimiter.now
         → (reader.new ≡ reader.old) × (buf.new ≡ buf.old) }
     ensures no_room { buffered ≡ length buf.old → (reader.new ≡ reader.old) × (buf.new ≡ buf.old) }
 {
     let mut filled = buffered;
     let mut searched: usize = 0;
     'reading: loop {
-        if let Some(end) = first_mark(buf, filled, mark, searched) {
+        if let Some(end) = first_delimiter(buf, filled, delimiter, searched) {
             return Ok(Reached::Mark {
                 end,
                 buffered: filled,
@@ -61,15 +61,20 @@ pub fn fill_to_mark<R: Read>(
 }
 
 /// The end of the first mark in the first `buffered` bytes. The caller knows that no mark ends within the first `searched` bytes.
-pub fn first_mark(buf: &[u8], buffered: usize, mark: &[u8], searched: usize) -> Option<usize>
+pub fn first_delimiter(
+    buf: &[u8],
+    buffered: usize,
+    delimiter: &[u8],
+    searched: usize,
+) -> Option<usize>
     requires buffered_fits { buffered ≤ length buf.now }
-    requires none_before { (n : ℕ) → n ≤ searched → ¬ EndsWith (take n buf.now) mark.now }
+    requires none_before { (n : ℕ) → n ≤ searched → ¬ EndsWith (take n buf.now) delimiter.now }
     ensures { MatchOption result
-        ((n : ℕ) → n ≤ buffered → ¬ EndsWith (take n buf.now) mark.now)
-        (λ end. (end ≤ buffered) × FirstMark mark.now buf.now end) }
+        ((n : ℕ) → n ≤ buffered → ¬ EndsWith (take n buf.now) delimiter.now)
+        (λ end. (end ≤ buffered) × FirstDelimiter delimiter.now buf.now end) }
 {
     for end in searched..buffered {
-        if buf[..end + 1].ends_with(mark) {
+        if buf[..end + 1].ends_with(delimiter) {
             return Some(end + 1);
         }
     }
@@ -78,7 +83,7 @@ pub fn first_mark(buf: &[u8], buffered: usize, mark: &[u8], searched: usize) -> 
 
 /// Reads into `buf` after its first `buffered` bytes, until the buffer is full. [`ReadFault`] at the first read that fails, even with
 /// `Interrupted`, and if the reader ends before.
-pub fn fill_whole<R: Read>(reader: &mut R, buf: &mut [u8], buffered: usize) -> Result<(), ReadFault>
+pub fn fill_exact<R: Read>(reader: &mut R, buf: &mut [u8], buffered: usize) -> Result<(), ReadFault>
     requires { buffered ≤ length buf.old }
     ensures ok { OnOk result ((took : List ℕ)
         × Consumes (R.remaining reader.old) (R.remaining reader.new) took

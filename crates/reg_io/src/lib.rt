@@ -6,6 +6,6 @@ mod fill;
 pub mod laws;
 mod put;
 
-pub use begun::Begun;
-pub use fill::{Reached, ReadFault, fill_to_end, fill_to_mark, fill_whole, first_mark};
+pub use begun::ReadyOrUnsigned;
+pub use fill::{Reached, ReadFault, fill_exact, fill_to_delimiter, fill_to_end, first_delimiter};
 pub use put::{WriteFault, write_whole};

@@ -19,17 +19,17 @@ use Rattle.reg_lines.specs.Meaning.{Meaning, means_command, means_query, is_ocsp
 use Rattle.reg_lines.specs.Replies.{line_of_status, listing_by, listing_line, next_crl_line, outcome_line, overdue_line, reply_line, with_lf, counts_line}
 use Rattle.reg_lines.specs.declared.answered.OcspReply.{OcspReply}
 use Rattle.reg_lines.specs.declared.answered.Answered.{Answered}
-use Rattle.reg_lines.specs.declared.answered.Answered.TheVariants.{CameTo, Response}
+use Rattle.reg_lines.specs.declared.answered.Answered.TheVariants.{Completed, Response}
 use Rattle.reg_lines.specs.declared.answered.LineKind.{LineKind}
 use Rattle.reg_lines.specs.declared.answered.LineKind.TheVariants.{Nothing, Command, Query}
 
 -- where a command was refused, the reply tells why
 pub told_why : (answered : Answered) → GivesReason (refused_of answered) (reply_of answered)
 unfolding outcome_line fault_line
-told_why (CameTo (Command command) (Err (Refused why))) = refl
-told_why (CameTo (Command command) (Err other)) = tt
-told_why (CameTo (Command command) (Ok reply)) = tt
-told_why (CameTo what outcome) = tt
+told_why (Completed (Command command) (Err (Refused why))) = refl
+told_why (Completed (Command command) (Err other)) = tt
+told_why (Completed (Command command) (Ok reply)) = tt
+told_why (Completed what outcome) = tt
 told_why (Response reply) = tt
 
 -- ---- the first byte of a reply
@@ -85,7 +85,7 @@ reply_begins other = lit< tt
 abbrev Agrees : Answered → Type 0
 Agrees answered = IsTrue (accepts answered) ↔ IsAccepted (reply_of answered)
 
-pub outcome_agrees : (what : LineKind) (outcome : Result Reply Fault) → Agrees (CameTo what outcome)
+pub outcome_agrees : (what : LineKind) (outcome : Result Reply Fault) → Agrees (Completed what outcome)
 outcome_agrees what (Ok reply) = ((λ accepted. later_accepted _ (reply_begins reply)), (λ accepted. refl))
 outcome_agrees what (Err fault) = ((λ accepted. absurd (false≢true accepted)), (λ accepted. absurd (first_refused _ (fault_begins fault) accepted)))
 
@@ -95,7 +95,7 @@ response_agrees response reply is =
     ((λ accepted. subst IsAccepted (sym is.line) (later_accepted (with_lf (codes "ocsp " ++ encode_lower response)) (lit< tt))), (λ accepted. refl))
 
 given_agrees : (given : Result (List ℕ) NoMemory) (answered : Answered) → OcspLineComesTo given answered → Agrees answered
-given_agrees given (CameTo what outcome) told = outcome_agrees what outcome
+given_agrees given (Completed what outcome) told = outcome_agrees what outcome
 given_agrees (Ok response) (Response reply) told = response_agrees response reply told
 given_agrees (Err memory) (Response reply) told = absurd told
 

@@ -12,7 +12,7 @@ use Rattle.reg_core.specs.declared.command.Query.{Query}
 use Rattle.reg_core.specs.declared.command.Query.TheVariants.{Status, Counts, Listing, Overdue, NextCrl}
 use Rattle.reg_lines.specs.Fields.{fields_of}
 use Rattle.reg_lines.specs.Meaning.{Meaning, means_command, means_query, is_ocsp_line, IsUnreadable, LineMeans, OneMeaning, SpellsCommand, SpellsOcsp, SpellsQuery, SpellsRegister, meaning_of}
-use Rattle.reg_lines.specs.LineReading.{alone, asked_by, four, hex_of, label_field, number_alone, ocsp_of, one, order_of, register_by, register_of, request_of, revoking_by, said_by, said_of, serial_alone, subscriber_of, two}
+use Rattle.reg_lines.specs.LineReading.{alone, query_by, four, hex_of, label_field, number_alone, ocsp_of, one, order_of, register_by, register_of, request_of, revoking_by, meaning_by, meaning_in_fields, serial_alone, subscriber_of, two}
 use Rattle.reg_lines.specs.declared.line.CommandLine.{CommandLine}
 use Rattle.reg_lines.proofs.Readings.{hex_of-is, hex_of-some, label_of-is, label_of-some}
 
@@ -181,8 +181,8 @@ lone Spells text value fields spelled v e =
     subst (λ w. Spells w (text ∷ fields)) is.1 (subst (λ rest. Spells value (text ∷ rest)) (sym is.0) spelled)
 
 -- what is read from a word and its fields is what they say
-asked_spelled : (word : List ℕ) (fields : List (List ℕ)) (v : Meaning) → asked_by word fields ≡ Some v → Says (word ∷ fields) v
-unfolding asked_by
+asked_spelled : (word : List ℕ) (fields : List (List ℕ)) (v : Meaning) → query_by word fields ≡ Some v → Says (word ∷ fields) v
+unfolding query_by
 asked_spelled word fields v =
     word_or means_query word (codes "status") fields (option_map Status (serial_alone fields)) _ v (λ q e. status_spelled fields q e)
     (word_or means_query word (codes "counts") fields (alone Counts fields) _ v (λ q e. lone SpellsQuery (codes "counts") Counts fields refl q e)
@@ -197,10 +197,10 @@ revoking_spelled word fields v =
     word_or means_command word (codes "request") fields (request_of fields) _ v (λ c e. request_spelled fields c e)
     (word_or means_command word (codes "decline") fields (option_map Decline (number_alone fields)) _ v (λ c e. decline_spelled fields c e)
     (word_or means_command word (codes "revoke") fields (option_map Revoke (number_alone fields)) _ v (λ c e. revoke_spelled fields c e)
-    (word_or means_command word (codes "crl") fields (alone Crl fields) (asked_by word fields) v (λ c e. lone SpellsCommand (codes "crl") Crl fields refl c e) (asked_spelled word fields v))))
+    (word_or means_command word (codes "crl") fields (alone Crl fields) (query_by word fields) v (λ c e. lone SpellsCommand (codes "crl") Crl fields refl c e) (asked_spelled word fields v))))
 
-said_spelled : (word : List ℕ) (fields : List (List ℕ)) (v : Meaning) → said_by word fields ≡ Some v → Says (word ∷ fields) v
-unfolding said_by
+said_spelled : (word : List ℕ) (fields : List (List ℕ)) (v : Meaning) → meaning_by word fields ≡ Some v → Says (word ∷ fields) v
+unfolding meaning_by
 said_spelled word fields v =
     word_or means_command word (codes "subscriber") fields (subscriber_of fields) _ v (λ c e. subscriber_spelled fields c e)
     (word_or means_command word (codes "order") fields (order_of fields) _ v (λ c e. order_spelled fields c e)
@@ -220,8 +220,8 @@ register_read order serial not_before not_after fields (a, b, is, first, second,
       moment_of-text not_after fourth,
     ) refl
 
-command_read : (c : Command) (fields : List (List ℕ)) → SpellsCommand c fields → said_of fields ≡ Some (means_command c)
-unfolding said_of said_by revoking_by subscriber_of order_of request_of number_alone
+command_read : (c : Command) (fields : List (List ℕ)) → SpellsCommand c fields → meaning_in_fields fields ≡ Some (means_command c)
+unfolding meaning_in_fields meaning_by revoking_by subscriber_of order_of request_of number_alone
 command_read (Subscriber name) fields (is, label) = rw (is, label_of-is name label) refl
 command_read (Order subscriber days) fields (a, b, is, first, second) =
     rw (is, number_of-some a subscriber first, number_of-some b days second) refl
@@ -232,27 +232,27 @@ command_read (Decline request) fields (a, is, first) = rw (is, number_of-some a 
 command_read (Revoke request) fields (a, is, first) = rw (is, number_of-some a request first) refl
 command_read Crl fields is = rw is refl
 
-query_read : (q : Query) (fields : List (List ℕ)) → SpellsQuery q fields → said_of fields ≡ Some (means_query q)
-unfolding said_of said_by revoking_by asked_by serial_alone
+query_read : (q : Query) (fields : List (List ℕ)) → SpellsQuery q fields → meaning_in_fields fields ≡ Some (means_query q)
+unfolding meaning_in_fields meaning_by revoking_by query_by serial_alone
 query_read (Status serial) fields (a, is, first) = rw (is, serial_of-some a serial first) refl
 query_read Counts fields is = rw is refl
 query_read (Listing serial) fields (a, is, first) = rw (is, serial_of-some a serial first) refl
 query_read Overdue fields is = rw is refl
 query_read NextCrl fields is = rw is refl
 
-ocsp_read : (bytes : List ℕ) (fields : List (List ℕ)) → SpellsOcsp bytes fields → said_of fields ≡ Some (is_ocsp_line bytes)
-unfolding said_of said_by revoking_by asked_by ocsp_of
+ocsp_read : (bytes : List ℕ) (fields : List (List ℕ)) → SpellsOcsp bytes fields → meaning_in_fields fields ≡ Some (is_ocsp_line bytes)
+unfolding meaning_in_fields meaning_by revoking_by query_by ocsp_of
 ocsp_read bytes fields (digits, is, hex) = rw (is, hex_of-is digits bytes hex) refl
 
 -- ---- the whole line
 
-means_said : (line : List ℕ) (m : Meaning) → LineMeans line m → said_of (fields_of line) ≡ Some m
+means_said : (line : List ℕ) (m : Meaning) → LineMeans line m → meaning_in_fields (fields_of line) ≡ Some m
 means_said line (means_command c) spelled = command_read c (fields_of line) spelled
 means_said line (means_query q) spelled = query_read q (fields_of line) spelled
 means_said line (is_ocsp_line bytes) spelled = ocsp_read bytes (fields_of line) spelled
 
-fields_said : (fields : List (List ℕ)) (m : Meaning) → said_of fields ≡ Some m → Says fields m
-unfolding said_of
+fields_said : (fields : List (List ℕ)) (m : Meaning) → meaning_in_fields fields ≡ Some m → Says fields m
+unfolding meaning_in_fields
 fields_said [] m e = cc e
 fields_said (word ∷ fields) m e = said_spelled word fields m e
 
@@ -262,17 +262,17 @@ said_means line (means_query q) said = said
 said_means line (is_ocsp_line bytes) said = said
 
 -- what is read is what the line means
-pub means_found : (line : List ℕ) (r : Option CommandLine) → option_map meaning_of r ≡ said_of (fields_of line) → IfSome r (λ read. LineMeans line (meaning_of read))
+pub means_found : (line : List ℕ) (r : Option CommandLine) → option_map meaning_of r ≡ meaning_in_fields (fields_of line) → IfSome r (λ read. LineMeans line (meaning_of read))
 means_found line None e = tt
 means_found line (Some read) e = said_means line (meaning_of read) (fields_said (fields_of line) (meaning_of read) (sym e))
 
 -- and what it means is read
-pub means_only : (line : List ℕ) (r : Option CommandLine) (m : Meaning) → option_map meaning_of r ≡ said_of (fields_of line) → LineMeans line m
+pub means_only : (line : List ℕ) (r : Option CommandLine) (m : Meaning) → option_map meaning_of r ≡ meaning_in_fields (fields_of line) → LineMeans line m
     → option_map meaning_of r ≡ Some m
 means_only line r m e is = e ∙ means_said line m is
 
 -- where nothing is read, it means nothing
-pub means_none : (line : List ℕ) (r : Option CommandLine) → option_map meaning_of r ≡ said_of (fields_of line) → IfNone r (IsUnreadable line)
+pub means_none : (line : List ℕ) (r : Option CommandLine) → option_map meaning_of r ≡ meaning_in_fields (fields_of line) → IfNone r (IsUnreadable line)
 means_none line None e = λ m is. let both : None ≡ Some m = e ∙ means_said line m is in cc
 means_none line (Some read) e = tt
 
@@ -286,8 +286,8 @@ one_meaning line a b is_a is_b = let both : Some a ≡ Some b = sym (means_said 
 pub row_spelled : (row : List (List ℕ)) (c : Command) → register_of row ≡ Some c → SpellsCommand c (codes "register" ∷ row)
 row_spelled row c e = register_spelled row c e
 
-register_said : (row : List (List ℕ)) → register_of row ≡ None → said_of (codes "register" ∷ row) ≡ None
-unfolding said_of said_by
+register_said : (row : List (List ℕ)) → register_of row ≡ None → meaning_in_fields (codes "register" ∷ row) ≡ None
+unfolding meaning_in_fields meaning_by
 register_said row e = rw e refl
 
 pub row_unread : (row : List (List ℕ)) → register_of row ≡ None → (c : Command) → ¬ SpellsCommand c (codes "register" ∷ row)

@@ -22,7 +22,7 @@ use Rattle.reg_lines.specs.ByCalls.{Call}
 use Rattle.reg_lines.specs.Import.{AreCsvRows, EndsBy, Row, RowReplies, RowsEnd, TextRead, TookRow, data_rows, is_header}
 use Rattle.reg_lines.specs.LineReading.{four, four_at}
 use Rattle.reg_lines.specs.Strict.{StrictRan, ended_part}
-use Rattle.reg_lines.specs.declared.answered.Passed.TheVariants as passed
+use Rattle.reg_lines.specs.declared.answered.Continuation.TheVariants as passed
 
 -- ---- the fields of a row
 

@@ -10,7 +10,7 @@ use Rattle.reg_core.specs.declared.refusal.Fault.{Fault}
 use Rattle.reg_core.specs.declared.refusal.Fault.TheVariants.{Memory, Read}
 use Rattle.reg_lines.specs.Import.{Row, TextRead, TookAll, data_rows, is_header}
 use Rattle.reg_lines.specs.LineReading.{four}
-use Rattle.reg_lines.specs.RowLines.{ListsRows, ListingEnds, row_line, all_row_lines, told_at}
+use Rattle.reg_lines.specs.RowLines.{ListsRows, ListingEnds, row_line, all_row_lines, line_added}
 use Rattle.reg_lines.proofs.RowLemmas.{Place, data_push, header_first, place_first, place_next, rows_all}
 
 -- the rows that were told so far, and where the reader is
@@ -29,7 +29,7 @@ rows_push (first ∷ rest) row =
     ap (λ l. row_line (four first) ++ l) (rows_push rest row) ∙ sym (append_assoc (row_line (four first)) (all_row_lines rest) (row_line (four row)))
 
 told_push : (rows : List Row) (row : Row) (index : ℕ) → length rows ≡ index
-    → all_row_lines (data_rows rows) ++ told_at (index == 0) row ≡ all_row_lines (data_rows (rows ++ row ∷ []))
+    → all_row_lines (data_rows rows) ++ line_added (index == 0) row ≡ all_row_lines (data_rows (rows ++ row ∷ []))
 told_push rows row index counted = by ((index == 0) && is_header row) refl
   where
     by : (b : Bool) → ((index == 0) && is_header row) ≡ b
@@ -44,11 +44,11 @@ told_push rows row index counted = by ((index == 0) && is_header row) refl
 module _ {R : Type 0} (text : List ℕ) (rem : R → Option (List ℕ)) (a b : Reader R) (row : Row) (lines : List ℕ) (index : ℕ) where
   -- one row more
   pub telling_more : (more : List ℕ) → Telling text lines (source_of rem a) a.state index → a.config ≡ default_config → ReadRecord rem a b true row
-      → more ≡ lines ++ told_at (index == 0) row → Telling text more (source_of rem b) b.state (index + 1)
+      → more ≡ lines ++ line_added (index == 0) row → Telling text more (source_of rem b) b.state (index + 1)
   telling_more more t config read is = record {
     rows = t.rows ++ row ∷ [];
     place = place_next text rem a b row t.rows index t.place config read;
-    told = is ∙ ap (λ l. l ++ told_at (index == 0) row) t.told ∙ told_push t.rows row index t.place.counted;
+    told = is ∙ ap (λ l. l ++ line_added (index == 0) row) t.told ∙ told_push t.rows row index t.place.counted;
   }
 
   -- no row is left

@@ -14,8 +14,8 @@ use Rattle.reg_lines.specs.Strict.{StrictEnds, StrictRan, ended_part}
 use Rattle.reg_lines.specs.declared.answered.Answered.{Answered as LineOutcome}
 use Rattle.reg_lines.specs.declared.answered.Ended.{Ended}
 use Rattle.reg_lines.specs.declared.answered.Ended.TheVariants as ended
-use Rattle.reg_lines.specs.declared.answered.Passed.{Passed}
-use Rattle.reg_lines.specs.declared.answered.Passed.TheVariants as passed
+use Rattle.reg_lines.specs.declared.answered.Continuation.{Continuation}
+use Rattle.reg_lines.specs.declared.answered.Continuation.TheVariants as passed
 use Rattle.reg_office_api.specs.Leads.{Leads}
 use Rattle.reg_office_api.proofs.PublicLaws.{stays, follows, chains, runs}
 
@@ -130,7 +130,7 @@ module _ {S I R : Type 0} (is_clean : S → Type 0) (stands : I → S → R → 
       chains is_clean stands _ _ s middle t (rows_move now s middle rows replies run) (row_moves now middle row reply t last)
 
   -- a run of rows that ends at the first refusal, if it is strict
-  row_run_moves : (is_strict : Bool) (now : ℕ) (s t : S) (out out' : Option (List ℕ)) (text : List ℕ) (result : Result Passed Fault)
+  row_run_moves : (is_strict : Bool) (now : ℕ) (s t : S) (out out' : Option (List ℕ)) (text : List ℕ) (result : Result Continuation Fault)
       → RowsEnd answers is_strict now s t out out' text result
       → Leads is_clean stands (λ i before after. RowsEnd (kept i) is_strict now before after out out' text result) s t
   row_run_moves is_strict now s t out out' text (Ok passed.On) ((all, run), each) =

@@ -12,7 +12,7 @@ use Rattle.reg_core.specs.declared.refusal.Fault.{Fault}
 use Rattle.reg_core.specs.declared.refusal.Fault.TheVariants.{Read, Write}
 use Rattle.reg_lines.specs.Script.{HasNoLf, IsCut, IsShort, IsWholeLine, LineEnds, NextEnds, RanLast, RanWhole, line_of}
 use Rattle.reg_lines.specs.declared.answered.Ended.TheVariants as ended
-use Rattle.reg_lines.specs.declared.answered.Passed.TheVariants as passed
+use Rattle.reg_lines.specs.declared.answered.Continuation.TheVariants as passed
 use Rattle.reg_lines.specs.declared.lines.Next.TheVariants.{Held, End as Ends}
 use Rattle.reg_lines.proofs.Pieces.{turned}
 

@@ -157,12 +157,12 @@ unfolding outcome_line reply_line
 same_line = refl
 
 -- the reply tells the outcome
-abbrev IsTold : Result Reply Fault → List ℕ → Type 0
-IsTold outcome told = told ≡ with_lf (outcome_line outcome)
+abbrev IsStatusFor : Result Reply Fault → List ℕ → Type 0
+IsStatusFor outcome told = told ≡ with_lf (outcome_line outcome)
 
 -- outcomes that are answered again, by the replies that tell them
 replied_again : (first second : Result Reply Fault) (told other : List ℕ)
-    → IsOfRow first → IsTold first told → IsTold second other → AnsweredAgain first second → RepliedAgain told other
+    → IsOfRow first → IsStatusFor first told → IsStatusFor second other → AnsweredAgain first second → RepliedAgain told other
 replied_again first second told other of is is' again said =
     let outcome : (first ≡ Ok Registered) ⊎ (first ≡ Ok Same) =
     elim said [
@@ -176,7 +176,7 @@ replied_again first second told other of is is' again said =
     ]
 
 all_again : (firsts : List (Result Reply Fault)) (replies : List (List ℕ)) (seconds : List (Result Reply Fault)) (others : List (List ℕ))
-    → AllByRecursion IsOfRow firsts → AllZip IsTold firsts replies → AllZip IsTold seconds others → AllZip AnsweredAgain firsts seconds
+    → AllByRecursion IsOfRow firsts → AllZip IsStatusFor firsts replies → AllZip IsStatusFor seconds others → AllZip AnsweredAgain firsts seconds
     → AllZip RepliedAgain replies others
 all_again [] [] [] [] of a b again = tt
 all_again (first ∷ firsts) (told ∷ replies) (second ∷ seconds) (other ∷ others) of a b again =
@@ -185,7 +185,7 @@ all_again firsts replies seconds others of a b again = absurd (assumption)
 
 -- where no reply tells a fault, no outcome is one
 no_faults : (outcomes : List (Result Reply Fault)) (replies : List (List ℕ))
-    → AllZip IsTold outcomes replies → AllByRecursion (λ told. ¬ IsFaultLine told) replies
+    → AllZip IsStatusFor outcomes replies → AllByRecursion (λ told. ¬ IsFaultLine told) replies
     → AllByRecursion (λ outcome. IsFault outcome → ⊥) outcomes
 no_faults [] [] is none = tt
 no_faults (outcome ∷ outcomes) (told ∷ replies) is none =
@@ -199,7 +199,7 @@ record RowsRan (signed : CertList → List ℕ → Type 0) (records : Records) (
   outcomes : List (Result Reply Fault)
   imports : Imports signed records now (map spelled rows) outcomes after
   of_rows : AllByRecursion IsOfRow outcomes
-  told : AllZip IsTold outcomes replies
+  told : AllZip IsStatusFor outcomes replies
 
 module _ (signed : CertList → List ℕ → Type 0) (answers : Records → ℕ → Call → Records → Type 0)
     (by_rules : (s : Records) (now : ℕ) (command : Command) (outcome : Result Reply Fault) (t : Records)

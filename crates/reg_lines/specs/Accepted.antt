@@ -7,8 +7,8 @@ use Rattle.std.specs.Io.KnownBytes.{Appends}
 use Rattle.reg_core.specs.Lines.{refusal_line}
 use Rattle.reg_core.specs.declared.refusal.Fault.{Fault}
 use Rattle.reg_lines.specs.Replies.{with_lf}
-use Rattle.reg_lines.specs.declared.answered.Passed.{Passed}
-use Rattle.reg_lines.specs.declared.answered.Passed.TheVariants.{On, Refused}
+use Rattle.reg_lines.specs.declared.answered.Continuation.{Continuation}
+use Rattle.reg_lines.specs.declared.answered.Continuation.TheVariants.{On, Refused}
 use Rattle.reg_lines.specs.declared.answered.RefusedCommand.{RefusedCommand}
 use Rattle.reg_io.specs.Put.{AppendsPrefix}
 use Rattle.reg_io.specs.declared.put.WriteFault.{WriteFault}
@@ -31,9 +31,9 @@ abbrev pub GivesReason : Option RefusedCommand → List ℕ → Type 0
 GivesReason refused reply = IfSome refused (λ command. reply ≡ with_lf (refusal_line command.why))
 
 -- whether a run goes on after a reply: a strict one, only after an accepted one
-abbrev pub GoesOn : Bool → List ℕ → Passed → Type 0
-GoesOn is_strict reply On = IsTrue is_strict → IsAccepted reply
-GoesOn is_strict reply (Refused refused) = IsTrue is_strict × (¬ IsAccepted reply) × GivesReason refused reply
+abbrev pub RunContinues : Bool → List ℕ → Continuation → Type 0
+RunContinues is_strict reply On = IsTrue is_strict → IsAccepted reply
+RunContinues is_strict reply (Refused refused) = IsTrue is_strict × (¬ IsAccepted reply) × GivesReason refused reply
 
 -- the bytes were written; or, after a fault, a prefix of them
 abbrev pub Wrote : Option (List ℕ) → Option (List ℕ) → List ℕ → Result (Unit {0}) WriteFault → Type 0
@@ -41,8 +41,8 @@ Wrote out out' bytes (Ok done) = Appends out out' bytes
 Wrote out out' bytes (Err fault) = AppendsPrefix out out' bytes
 
 -- a reply was written, with whether the run goes on after it; or a prefix of it was
-abbrev pub WritesReply : Bool → Option (List ℕ) → Option (List ℕ) → List ℕ → Result Passed WriteFault → Type 0
-WritesReply is_strict out out' reply (Ok passed) = Appends out out' reply × GoesOn is_strict reply passed
+abbrev pub WritesReply : Bool → Option (List ℕ) → Option (List ℕ) → List ℕ → Result Continuation WriteFault → Type 0
+WritesReply is_strict out out' reply (Ok passed) = Appends out out' reply × RunContinues is_strict reply passed
 WritesReply is_strict out out' reply (Err fault) = AppendsPrefix out out' reply
 
 -- the result of a run, without where it ended

@@ -11,7 +11,7 @@ use Rattle.reg_lines.specs.ByCalls.{Call, LineCalls, ran, asked, responded}
 use Rattle.reg_lines.specs.Meaning.{Meaning, means_command, means_query, is_ocsp_line, HasMoment, HasNoMoment, IsUnreadable, LineMeans}
 use Rattle.reg_lines.specs.Replies.{outcome_line, with_lf}
 use Rattle.reg_lines.specs.declared.answered.Answered.{Answered}
-use Rattle.reg_lines.specs.declared.answered.Answered.TheVariants.{CameTo, Response}
+use Rattle.reg_lines.specs.declared.answered.Answered.TheVariants.{Completed, Response}
 use Rattle.reg_lines.specs.declared.answered.LineKind.TheVariants.{Nothing, Command, Query, Ocsp}
 use Rattle.reg_lines.specs.declared.answered.OcspReply.{OcspReply}
 use Rattle.reg_lines.specs.declared.answered.RefusedCommand.{RefusedCommand}
@@ -19,22 +19,22 @@ use Rattle.reg_lines.specs.declared.host.Host.{Ghosts as Host}
 
 -- the reply, with its LF
 abbrev pub reply_of : Answered → List ℕ
-reply_of (CameTo what outcome) = with_lf (outcome_line outcome)
+reply_of (Completed what outcome) = with_lf (outcome_line outcome)
 reply_of (Response reply) = reply.line.items
 
 -- whether the result is neither a refusal nor a fault
 abbrev pub accepts : Answered → Bool
-accepts (CameTo what outcome) = is_ok outcome
+accepts (Completed what outcome) = is_ok outcome
 accepts (Response reply) = true
 
 -- the command that was refused, if one was
 abbrev pub refused_of : Answered → Option RefusedCommand
-refused_of (CameTo (Command command) (Err (Refused why))) = Some (record { command = command; why = why })
+refused_of (Completed (Command command) (Err (Refused why))) = Some (record { command = command; why = why })
 refused_of other = None
 
 -- the result of a line that can't be read
 abbrev pub unreadable : Answered
-unreadable = CameTo Nothing (Err (Refused Syntax))
+unreadable = Completed Nothing (Err (Refused Syntax))
 
 -- the reply to an OCSP request with this response; it is a refusal if it has five bytes, which is only a status (RFC 6960 4.2.1)
 pub record IsReplyOf (response : List ℕ) (reply : OcspReply) : Type 0 where
@@ -43,7 +43,7 @@ pub record IsReplyOf (response : List ℕ) (reply : OcspReply) : Type 0 where
 
 -- the result of a line with an OCSP request, by the response; or there was no memory for the request, the response or its digits
 abbrev pub OcspLineComesTo : Result (List ℕ) NoMemory → Answered → Type 0
-OcspLineComesTo given (CameTo what outcome) = (what ≡ Ocsp) × (outcome ≡ Err Memory)
+OcspLineComesTo given (Completed what outcome) = (what ≡ Ocsp) × (outcome ≡ Err Memory)
 OcspLineComesTo (Ok response) (Response reply) = IsReplyOf response reply
 OcspLineComesTo (Err memory) (Response reply) = ⊥
 
@@ -53,10 +53,10 @@ module _ {S : Type 0} (answers : S → ℕ → Call → S → Type 0) where
   abbrev pub OfficeAnswers : ℕ → S → Meaning → Answered → S → Type 0
   OfficeAnswers now s (means_command command) answered t =
       (outcome : Result Reply Fault) × answers s now (ran command outcome) t
-      × (answered ≡ CameTo (Command command) outcome)
+      × (answered ≡ Completed (Command command) outcome)
   OfficeAnswers now s (means_query query) answered t =
       (outcome : Result Reply Fault) × answers s now (asked query outcome) t
-      × (answered ≡ CameTo (Query query) outcome)
+      × (answered ≡ Completed (Query query) outcome)
   OfficeAnswers now s (is_ocsp_line request) answered t =
       (given : Result (List ℕ) NoMemory) × answers s now (responded request given) t
       × OcspLineComesTo given answered

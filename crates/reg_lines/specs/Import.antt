@@ -20,9 +20,9 @@ use Rattle.reg_lines.specs.Accepted.{EndsRefused, IsAccepted, WritesReply, Gives
 use Rattle.reg_lines.specs.ByCalls.{Call, ran}
 use Rattle.reg_lines.specs.Meaning.{SpellsCommand}
 use Rattle.reg_lines.specs.LineReading.{four}
-use Rattle.reg_lines.specs.declared.answered.Passed.{Passed}
-use Rattle.reg_lines.specs.declared.answered.Passed.TheVariants.{On}
-use Rattle.reg_lines.specs.declared.answered.Passed.TheVariants as passed
+use Rattle.reg_lines.specs.declared.answered.Continuation.{Continuation}
+use Rattle.reg_lines.specs.declared.answered.Continuation.TheVariants.{On}
+use Rattle.reg_lines.specs.declared.answered.Continuation.TheVariants as passed
 use Rattle.reg_lines.specs.Replies.{outcome_line, with_lf}
 
 -- the most bytes of an import
@@ -129,7 +129,7 @@ TookSome input input' = (took : List ℕ) × Consumes input input' took × (leng
 module _ {S : Type 0} (answers : S → ℕ → Call → S → Type 0) (is_strict : Bool) (now : ℕ) (s t : S) where
   -- How the run of a text's rows ends: each ran, or there was a fault. In a strict run all replies are accepted; or only the last one is not, and
   -- no row after it ran.
-  abbrev pub RowsEnd : Option (List ℕ) → Option (List ℕ) → List ℕ → Result Passed Fault → Type 0
+  abbrev pub RowsEnd : Option (List ℕ) → Option (List ℕ) → List ℕ → Result Continuation Fault → Type 0
   RowsEnd out out' text (Ok On) =
       (run : AllRan answers now s t out out' text)
       × (IsTrue is_strict → AllByRecursion IsAccepted run.0.replies)
@@ -159,7 +159,7 @@ abbrev pub ImportRan
     : {S : Type 0} → (S → ℕ → Call → S → Type 0) → ℕ → S → S → Option (List ℕ) → Option (List ℕ) → List ℕ
     → Result (Unit {0}) Fault → Type 0
 ImportRan answers now s t out out' text result =
-    (ran : Result Passed Fault) × RowsEnd answers false now s t out out' text ran × (result ≡ done_of ran)
+    (ran : Result Continuation Fault) × RowsEnd answers false now s t out out' text ran × (result ≡ done_of ran)
 
 -- an import at a moment: the office, the reader and the writer before and after
 abbrev pub ImportEnds
@@ -194,13 +194,13 @@ ReadsText rows text = source_of (λ (s : Bor (List ℕ)). Some s.now) rows ≡ S
 module _ {S : Type 0} (answers : S → ℕ → Call → S → Type 0) (is_strict : Bool) (now : ℕ) (s t : S) where
   -- a row ran, and its reply, or a prefix of that, was written
   pub record RanRow (row : Row) (out out' : Option (List ℕ))
-      (result : Result Passed WriteFault) : Type 0 where
+      (result : Result Continuation WriteFault) : Type 0 where
     pub reply : List ℕ
     pub replied : RowReplies answers now s row reply t
     pub said : WritesReply is_strict out out' reply result
 
   -- a row ran; or it is the first one and a header, and was skipped
-  abbrev pub TookRow : Bool → Row → Option (List ℕ) → Option (List ℕ) → Result Passed WriteFault → Type 0
+  abbrev pub TookRow : Bool → Row → Option (List ℕ) → Option (List ℕ) → Result Continuation WriteFault → Type 0
   TookRow first row out out' result =
       (((first && is_header row) ≡ true) × (t ≡ s) × (result ≡ Ok On) × Appends out out' [])
       ⊎ (((first && is_header row) ≡ false) × RanRow row out out' result)

@@ -108,8 +108,8 @@ unfoldable pub ocsp_of : List (List ℕ) → Option (List ℕ)
 ocsp_of fields = option_and_then hex_of (one fields)
 
 -- the query or OCSP request of a word and the fields after it; any other word has no meaning
-unfoldable pub asked_by : List ℕ → List (List ℕ) → Option Meaning
-asked_by word fields =
+unfoldable pub query_by : List ℕ → List (List ℕ) → Option Meaning
+query_by word fields =
     if bytes_eq word (codes "status") then option_map means_query (option_map Status (serial_alone fields))
     else if bytes_eq word (codes "counts") then option_map means_query (alone Counts fields)
     else if bytes_eq word (codes "listing")
@@ -128,17 +128,17 @@ revoking_by word fields =
     else if bytes_eq word (codes "revoke")
     then option_map means_command (option_map Revoke (number_alone fields))
     else if bytes_eq word (codes "crl") then option_map means_command (alone Crl fields)
-    else asked_by word fields
+    else query_by word fields
 
 -- the meaning of a word and the fields after it: a registration, or one of those above
-unfoldable pub said_by : List ℕ → List (List ℕ) → Option Meaning
-said_by word fields =
+unfoldable pub meaning_by : List ℕ → List (List ℕ) → Option Meaning
+meaning_by word fields =
     if bytes_eq word (codes "subscriber") then option_map means_command (subscriber_of fields)
     else if bytes_eq word (codes "order") then option_map means_command (order_of fields)
     else if bytes_eq word (codes "register") then option_map means_command (register_of fields)
     else revoking_by word fields
 
 -- the meaning of the fields of a line: its word, and the fields after it
-unfoldable pub said_of : List (List ℕ) → Option Meaning
-said_of [] = None
-said_of (word ∷ fields) = said_by word fields
+unfoldable pub meaning_in_fields : List (List ℕ) → Option Meaning
+meaning_in_fields [] = None
+meaning_in_fields (word ∷ fields) = meaning_by word fields

@@ -25,8 +25,8 @@ abbrev pub ListsRows : List ℕ → List ℕ → Type 0
 ListsRows text lines = (rows : List Row) × AreCsvRows text rows × (lines ≡ all_row_lines (data_rows rows))
 
 -- the line that a row adds, as the first row or as another
-abbrev pub told_at : Bool → Row → List ℕ
-told_at first row = cond (first && is_header row) [] (row_line (four row))
+abbrev pub line_added : Bool → Row → List ℕ
+line_added first row = cond (first && is_header row) [] (row_line (four row))
 
 -- how the listing of an input ends: it was read to its end, and these are the lines of its rows; or a fault of the input, or out of memory
 abbrev pub ListingEnds : Option (List ℕ) → Option (List ℕ) → Result (List ℕ) Fault → Type 0

@@ -8,13 +8,13 @@ use Rattle.reg_core.specs.declared.refusal.Fault.{Fault}
 use Rattle.reg_core.specs.declared.refusal.Fault.TheVariants.{Memory, Read, Write}
 use Rattle.reg_io.specs.Put.{AppendsPrefix}
 use Rattle.reg_io.specs.RunsOfAnswers.{Answered}
-use Rattle.reg_lines.specs.Accepted.{EndsRefused, GoesOn, IsAccepted, GivesReason, done_of}
+use Rattle.reg_lines.specs.Accepted.{EndsRefused, RunContinues, IsAccepted, GivesReason, done_of}
 use Rattle.reg_lines.specs.Answer.{LineReplies}
 use Rattle.reg_lines.specs.ByCalls.{Call}
 use Rattle.reg_lines.specs.Fields.{in_prefix}
 use Rattle.reg_lines.specs.declared.answered.Ended.{Ended}
 use Rattle.reg_lines.specs.declared.answered.Ended.TheVariants.{Whole, Refused, NoLineEnd}
-use Rattle.reg_lines.specs.declared.answered.Passed.{Passed}
+use Rattle.reg_lines.specs.declared.answered.Continuation.{Continuation}
 use Rattle.reg_lines.specs.declared.lines.Next.{Next}
 use Rattle.reg_lines.specs.declared.lines.Next.TheVariants.{Held, End}
 
@@ -171,9 +171,9 @@ module _ {S R W : Type 0} (answers : S → ℕ → Call → S → Type 0) (remai
 -- Lines that run; the office, and the output, before and after.
 module _ {S : Type 0} (runs : S → List ℕ → List ℕ → S → Type 0) (s t : S) (out out' : Option (List ℕ)) where
   -- a line ran, and its reply, or a prefix of that, was written; or the clock could not be read, and it did not run
-  abbrev pub LineEnds : Bool → Bool → List ℕ → Result Passed Fault → Type 0
+  abbrev pub LineEnds : Bool → Bool → List ℕ → Result Continuation Fault → Type 0
   LineEnds is_clocked is_strict line (Ok passed) =
-      (reply : List ℕ) × runs s line reply t × Appends out out' reply × GoesOn is_strict reply passed
+      (reply : List ℕ) × runs s line reply t × Appends out out' reply × RunContinues is_strict reply passed
   LineEnds is_clocked is_strict line (Err Write) =
       (reply : List ℕ) × runs s line reply t × AppendsPrefix out out' reply
   LineEnds is_clocked is_strict line (Err Read) = IsTrue is_clocked × (t ≡ s) × Appends out out' []

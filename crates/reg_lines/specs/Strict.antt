@@ -6,7 +6,7 @@ use Rattle.reg_lines.specs.ByCalls.{Call}
 use Rattle.reg_lines.specs.Import.{EndsBy, RowsEnd}
 use Rattle.reg_lines.specs.declared.answered.Ended.{Ended}
 use Rattle.reg_lines.specs.declared.answered.Ended.TheVariants.{Whole, Refused, NoLineEnd}
-use Rattle.reg_lines.specs.declared.answered.Passed.TheVariants as passed
+use Rattle.reg_lines.specs.declared.answered.Continuation.TheVariants as passed
 
 -- a byte within a line: neither CR nor LF (13 and 10), each of which ends a record
 abbrev pub is_within : ℕ → Bool

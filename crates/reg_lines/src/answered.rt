@@ -32,7 +32,7 @@ pub struct OcspReply {
 pub enum Answered {
     /// What the line was, and its outcome: [`Refusal::Syntax`] if it can't be read, and [`Fault::Memory`] for an OCSP request
     /// if there is no memory for the response.
-    CameTo(LineKind, Outcome),
+    Completed(LineKind, Outcome),
     Response(OcspReply),
 }
 
@@ -56,7 +56,7 @@ pub enum Ended {
 
 /// Whether a run goes on after a reply.
 #[derive(Clone, Copy)]
-pub(crate) enum Passed {
+pub(crate) enum Continuation {
     On,
     Refused(Option<RefusedCommand>),
 }
@@ -67,7 +67,7 @@ impl Answered {
         ensures { result ≡ accepts self.now }
     {
         match self {
-            Answered::CameTo(_, outcome) => outcome.is_ok(),
+            Answered::Completed(_, outcome) => outcome.is_ok(),
             Answered::Response(_) => true,
         }
     }
@@ -77,7 +77,7 @@ impl Answered {
         ensures { result ≡ refused_of self.now }
     {
         match self {
-            Answered::CameTo(LineKind::Command(command), Err(Fault::Refused(why))) => {
+            Answered::Completed(LineKind::Command(command), Err(Fault::Refused(why))) => {
                 Some(RefusedCommand {
                     command: *command,
                     why: *why,
@@ -94,7 +94,7 @@ impl Answered {
         ensures { result.items ≡ reply_of self }
     {
         match self {
-            Answered::CameTo(_, outcome) => {
+            Answered::Completed(_, outcome) => {
                 let text = ReplyText::of(&outcome);
                 let _ = room.extend_from_slice(text.as_bytes());
                 room
@@ -107,7 +107,10 @@ impl Answered {
         ensures { Wrote (W.contents writer.old) (W.contents writer.new) (reply_of self.now) result }
     {
         match self {
-            Answered::CameTo(_, outcome) => write_whole(writer, ReplyText::of(outcome).as_bytes()),
+            Answered::Completed(_, outcome) => write_whole(
+                writer,
+                ReplyText::of(outcome).as_bytes(),
+            ),
             Answered::Response(reply) => write_whole(writer, &reply.line),
         }
     }
@@ -117,16 +120,16 @@ impl Answered {
         &self,
         writer: &mut W,
         is_strict: bool,
-    ) -> Result<Passed, WriteFault>
+    ) -> Result<Continuation, WriteFault>
         requires { IsTrue (accepts self.now) ↔ IsAccepted (reply_of self.now) }
         ensures { WritesReply is_strict (W.contents writer.old) (W.contents writer.new) (reply_of self.now)
             result }
     {
         self.write(writer)?;
         if is_strict && !self.is_accepted() {
-            return Ok(Passed::Refused(self.refused()));
+            return Ok(Continuation::Refused(self.refused()));
         }
-        Ok(Passed::On)
+        Ok(Continuation::On)
     }
 }
 

@@ -6,7 +6,7 @@ ghost use Rattle.hex.specs.Hex.{is_hex_digit};
 ghost use Rattle.reg_core.specs.Calendar.{moment_of};
 ghost use Rattle.reg_lines.specs.Fields.{fields_of};
 ghost use Rattle.reg_lines.specs.Meaning.{Meaning, IsUnreadable, LineMeans, OneMeaning, meaning_of, decoded_bytes, means_command, means_query, is_ocsp_line};
-ghost use Rattle.reg_lines.specs.LineReading.{label_field, subscriber_of, order_of, register_by, register_of, request_of, number_alone, serial_alone, hex_of, ocsp_of, alone, asked_by, revoking_by, said_of};
+ghost use Rattle.reg_lines.specs.LineReading.{label_field, subscriber_of, order_of, register_by, register_of, request_of, number_alone, serial_alone, hex_of, ocsp_of, alone, query_by, revoking_by, meaning_in_fields};
 
 use crate::fields::{Fields, four, one, two};
 use reg_core::{Command, Label, Moment, Query, Serial, read_number};
@@ -32,9 +32,9 @@ pub fn read_line(line: &[u8]) -> Option<CommandLine<'_>>
 }
 
 /// Reads the fields of a line: `subscriber`, `order`, `register`, or else what `read_revoking` reads.
-#[tactic(auto, unfolding(crate::specs::LineReading::said_of, crate::specs::LineReading::said_by))]
+#[tactic(auto, unfolding(crate::specs::LineReading::meaning_in_fields, crate::specs::LineReading::meaning_by))]
 fn read_fields(mut fields: Fields<'_>) -> Option<CommandLine<'_>>
-    ensures { option_map meaning_of result ≡ said_of fields.entry }
+    ensures { option_map meaning_of result ≡ meaning_in_fields fields.entry }
 {
     let word = fields.next()?;
     if word == b"subscriber".as_slice() {
@@ -69,9 +69,9 @@ fn read_revoking<'a>(word: &[u8], fields: Fields<'a>) -> Option<CommandLine<'a>>
 }
 
 /// Reads a query or `ocsp`; `None` for any other word.
-#[tactic(auto, unfolding(crate::specs::LineReading::asked_by))]
+#[tactic(auto, unfolding(crate::specs::LineReading::query_by))]
 fn read_query<'a>(word: &[u8], fields: Fields<'a>) -> Option<CommandLine<'a>>
-    ensures { option_map meaning_of result ≡ asked_by word.now fields.entry }
+    ensures { option_map meaning_of result ≡ query_by word.now fields.entry }
 {
     if word == b"status".as_slice() {
         let serial = serial_alone(fields)?;

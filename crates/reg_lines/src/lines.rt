@@ -6,12 +6,12 @@ ghost use Rattle.reg_lines.specs.Answer.{HostLines, LineComesTo, TimedComesTo};
 ghost use Rattle.reg_lines.specs.ByCalls.{LineCalls, Lines};
 ghost use Rattle.reg_lines.specs.Script.{EndOrMore, LineEnds, LinesEnd, NextEnds, RunEnds, longest_of};
 
-use crate::answered::{Answered, Ended, Passed};
+use crate::answered::{Answered, Continuation, Ended};
 use crate::host::Host;
 use crate::moments::{MOMENT, take_moment, without_end};
 use crate::run::{run_line, unreadable};
 use reg_core::Fault;
-use reg_io::{Reached, fill_to_mark};
+use reg_io::{Reached, fill_to_delimiter};
 use reg_office_api::Office;
 use std::alloc::Global;
 use std::io::{Read, Write};
@@ -122,15 +122,15 @@ fn run_next<R: Read, W: Write, O: Office, H: Host>(
         (R.remaining reader.old) (R.remaining reader.new) (take buffered buffer.old)
         (H.clocked host.now) is_strict buffer.new result }
 {
-    match fill_to_mark(reader, buffer, buffered, b"\n") {
+    match fill_to_delimiter(reader, buffer, buffered, b"\n") {
         Ok(Reached::Mark { end, buffered }) => {
             let line = without_end(&buffer[..end]);
             match answer_line(alloc, writer, office, host, is_strict, line) {
-                Ok(Passed::On) => {
+                Ok(Continuation::On) => {
                     buffer.rotate_left(end);
                     Ok(Next::Held(buffered - end))
                 }
-                Ok(Passed::Refused(refused)) => Ok(Next::End(Ended::Refused(refused))),
+                Ok(Continuation::Refused(refused)) => Ok(Next::End(Ended::Refused(refused))),
                 Err(fault) => Err(fault),
             }
         }
@@ -157,7 +157,7 @@ fn answer_line<W: Write, O: Office, H: Host>(
     host: &H,
     is_strict: bool,
     line: &[u8],
-) -> Result<Passed, Fault>
+) -> Result<Continuation, Fault>
     ensures { LineEnds (HostLines O.Office H.Host host.now) office.old office.new
         (W.contents writer.old) (W.contents writer.new) (H.clocked host.now) is_strict line.now result }
 {
@@ -207,7 +207,7 @@ fn end_of_input<R: Read>(reader: &mut R, room: &mut [u8]) -> Result<Ended, Fault
     requires { length room.old ≡ 1 }
     ensures { EndOrMore (R.remaining reader.old) (R.remaining reader.new) result }
 {
-    match fill_to_mark(reader, room, 0, b"\n") {
+    match fill_to_delimiter(reader, room, 0, b"\n") {
         Ok(Reached::End { .. }) => Ok(Ended::Whole),
         Ok(Reached::Mark { .. }) | Ok(Reached::Full) | Err(_) => Err(Fault::Read),
     }

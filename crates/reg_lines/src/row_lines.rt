@@ -4,7 +4,7 @@ ghost use Rattle.std.specs.Prelude.{◌≡◌, [], ◌∷◌, ◌++◌, ℕ, Lis
 ghost use Rattle.std.specs.Result.{result_map_both};
 ghost use Rattle.csv.specs.Records.{fields_of};
 ghost use Rattle.reg_lines.specs.Import.{IsAtStart, ReadsText};
-ghost use Rattle.reg_lines.specs.RowLines.{ListsRows, ListingEnds, fields_listed, row_line, told_at};
+ghost use Rattle.reg_lines.specs.RowLines.{ListsRows, ListingEnds, fields_listed, row_line, line_added};
 
 use crate::line::read_registration;
 use crate::rows::{four_fields, is_header, read_text, rows_of};
@@ -69,7 +69,7 @@ fn put_each(
 
 /// Appends the line of a row, if it is not the header, which only the first row can be.
 fn put_row(row: &ByteRecord, first: bool, lines: &mut Vec<u8>) -> Result<(), AllocError>
-    ensures { OnOk result (lines.new.items ≡ lines.old.items ++ told_at first (fields_of row.now)) }
+    ensures { OnOk result (lines.new.items ≡ lines.old.items ++ line_added first (fields_of row.now)) }
 {
     if first && is_header(row) {
         return Ok(());

@@ -8,7 +8,7 @@ ghost use Rattle.reg_lines.specs.ByCalls.{LineCalls, Lines};
 ghost use Rattle.reg_lines.specs.Import.{ImportEnds, IsAtStart, RanRow, ReadsText, RowsEnd, TextRead, TookRow, is_header};
 ghost use Rattle.reg_lines.specs.LineReading.{four, four_at, register_of};
 
-use crate::answered::{Answered, LineKind, Passed, done};
+use crate::answered::{Answered, Continuation, LineKind, done};
 use crate::line::read_registration;
 use crate::run::unreadable;
 use csv::{ByteRecord, Reader, ReaderBuilder};
@@ -91,7 +91,7 @@ pub(crate) fn run_rows<W: Write, O: Office>(
     office: &mut O,
     is_strict: bool,
     text: &[u8],
-) -> Result<Passed, Fault>
+) -> Result<Continuation, Fault>
     ensures { RowsEnd (LineCalls O.Office) is_strict now office.old office.new
         (W.contents writer.old) (W.contents writer.new) text.now result }
 {
@@ -109,7 +109,7 @@ fn run_each<W: Write, O: Office>(
     is_strict: bool,
     rows: &mut Reader<&[u8]>,
     row: &mut ByteRecord,
-) -> Result<Passed, Fault>
+) -> Result<Continuation, Fault>
     requires { IsAtStart rows.old }
     ensures { (text : List ℕ) → ReadsText rows.old text
         → RowsEnd (LineCalls O.Office) is_strict now office.old office.new
@@ -118,11 +118,11 @@ fn run_each<W: Write, O: Office>(
     for index in 0..u64::MAX {
         match rows.read_byte_record(row) {
             Ok(true) => match take_row(alloc, writer, now, office, is_strict, row, index == 0) {
-                Ok(Passed::On) => {}
-                Ok(Passed::Refused(refused)) => return Ok(Passed::Refused(refused)),
+                Ok(Continuation::On) => {}
+                Ok(Continuation::Refused(refused)) => return Ok(Continuation::Refused(refused)),
                 Err(_) => return Err(Fault::Write),
             },
-            Ok(false) => return Ok(Passed::On),
+            Ok(false) => return Ok(Continuation::On),
             // Over bytes in memory, with rows of any length, a read fails only for lack of memory.
             Err(_) => return Err(Fault::Memory),
         }
@@ -140,12 +140,12 @@ fn take_row<W: Write, O: Office>(
     is_strict: bool,
     row: &ByteRecord,
     first: bool,
-) -> Result<Passed, WriteFault>
+) -> Result<Continuation, WriteFault>
     ensures { TookRow (LineCalls O.Office) is_strict now office.old office.new first (fields_of row.now)
         (W.contents writer.old) (W.contents writer.new) result }
 {
     if first && is_header(row) {
-        return Ok(Passed::On);
+        return Ok(Continuation::On);
     }
     run_row(alloc, writer, now, office, is_strict, row)
 }
@@ -157,14 +157,14 @@ fn run_row<W: Write, O: Office>(
     office: &mut O,
     is_strict: bool,
     row: &ByteRecord,
-) -> Result<Passed, WriteFault>
+) -> Result<Continuation, WriteFault>
     ensures { RanRow (LineCalls O.Office) is_strict now office.old office.new (fields_of row.now)
         (W.contents writer.old) (W.contents writer.new) result }
 {
     match read_row(row) {
         Some(command) => {
             let outcome = office.run_one(alloc, now, &command);
-            Answered::CameTo(LineKind::Command(command), outcome).write_reply(writer, is_strict)
+            Answered::Completed(LineKind::Command(command), outcome).write_reply(writer, is_strict)
         }
         None => unreadable().write_reply(writer, is_strict),
     }

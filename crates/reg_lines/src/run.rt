@@ -27,11 +27,11 @@ pub fn run_line<O: Office>(alloc: Global, office: &mut O, now: Moment, line: &[u
     match read_line(line) {
         Some(CommandLine::Command(command)) => {
             let outcome = office.run_one(alloc, now, &command);
-            Answered::CameTo(LineKind::Command(command), outcome)
+            Answered::Completed(LineKind::Command(command), outcome)
         }
         Some(CommandLine::Query(query)) => {
             let outcome = office.ask(alloc, now, &query);
-            Answered::CameTo(LineKind::Query(query), outcome)
+            Answered::Completed(LineKind::Query(query), outcome)
         }
         Some(CommandLine::Ocsp(digits)) => run_ocsp(alloc, office, now, digits),
         None => unreadable(),
@@ -41,7 +41,7 @@ pub fn run_line<O: Office>(alloc: Global, office: &mut O, now: Moment, line: &[u
 pub(crate) fn unreadable() -> Answered
     ensures { result ≡ syntax_refused }
 {
-    Answered::CameTo(LineKind::Nothing, Err(Fault::Refused(Refusal::Syntax)))
+    Answered::Completed(LineKind::Nothing, Err(Fault::Refused(Refusal::Syntax)))
 }
 
 fn run_ocsp<O: Office>(alloc: Global, office: &mut O, now: Moment, digits: &[u8]) -> Answered
@@ -70,9 +70,9 @@ fn respond(alloc: Global, response: &[u8]) -> Answered
 }
 
 fn no_memory() -> Answered
-    ensures { result ≡ Answered.CameTo LineKind.Ocsp (Err Fault.Memory) }
+    ensures { result ≡ Answered.Completed LineKind.Ocsp (Err Fault.Memory) }
 {
-    Answered::CameTo(LineKind::Ocsp, Err(Fault::Memory))
+    Answered::Completed(LineKind::Ocsp, Err(Fault::Memory))
 }
 
 fn response_line(alloc: Global, response: &[u8]) -> Result<Vec<u8>, AllocError>

@@ -5,7 +5,7 @@ ghost use Rattle.reg_office_api.specs.Calls.{LeadsIn};
 ghost use Rattle.reg_lines.specs.ByCalls.{LineCalls, Lines};
 ghost use Rattle.reg_lines.specs.Strict.{StrictEnds, StrictRan, ended_part, is_within};
 
-use crate::answered::{Ended, Passed};
+use crate::answered::{Continuation, Ended};
 use crate::rows::{read_text, run_rows};
 use reg_core::{Fault, Moment};
 use reg_office_api::Office;
@@ -48,9 +48,9 @@ fn run_ended<W: Write, O: Office>(
 {
     let ended = ended_part(text);
     match run_rows(alloc, writer, now, office, true, ended) {
-        Ok(Passed::On) if ended.len() == text.len() => Ok(Ended::Whole),
-        Ok(Passed::On) => Ok(Ended::NoLineEnd),
-        Ok(Passed::Refused(refused)) => Ok(Ended::Refused(refused)),
+        Ok(Continuation::On) if ended.len() == text.len() => Ok(Ended::Whole),
+        Ok(Continuation::On) => Ok(Ended::NoLineEnd),
+        Ok(Continuation::Refused(refused)) => Ok(Ended::Refused(refused)),
         Err(fault) => Err(fault),
     }
 }

@@ -10,24 +10,24 @@ use Rattle.reg_core.specs.declared.command.Status.{Status}
 use Rattle.reg_ocsp.specs.declared.asked.CertId.{CertId}
 use Rattle.reg_ocsp.specs.Request.{raw_length, CanBeAnswered}
 use Rattle.reg_ocsp.specs.Response.{SingleAnswer, single_response}
-use Rattle.reg_ocsp.specs.Views.{id_seen, ids_seen, answer_seen, answers_seen, answered, answered_length}
+use Rattle.reg_ocsp.specs.Views.{id_model, ids_model, answer_model, answers_model, answered, answered_length}
 
-answered_total : (answers : List (CertId × Status)) → sum_by answered_length answers ≡ sum_by raw_length (ids_seen (answered answers))
+answered_total : (answers : List (CertId × Status)) → sum_by answered_length answers ≡ sum_by raw_length (ids_model (answered answers))
 answered_total [] = refl
 answered_total (x ∷ answers) =
     let others = answered_total answers in
-    omega (arith, sum_by-cons answered_length x answers, sum_by-cons raw_length (id_seen x.0) (ids_seen (answered answers)))
+    omega (arith, sum_by-cons answered_length x answers, sum_by-cons raw_length (id_model x.0) (ids_model (answered answers)))
 
 -- what can be answered is within the bounds of what is answered
-pub few_answers : (answers : List (CertId × Status)) (nonce : Option (List ℕ)) → CanBeAnswered (ids_seen (answered answers)) nonce → length answers ≤ 65536
-few_answers answers told can = omega (arith, can.few, length-map answers (λ answer. answer.0), length-map (answered answers) id_seen)
+pub few_answers : (answers : List (CertId × Status)) (nonce : Option (List ℕ)) → CanBeAnswered (ids_model (answered answers)) nonce → length answers ≤ 65536
+few_answers answers told can = omega (arith, can.few, length-map answers (λ answer. answer.0), length-map (answered answers) id_model)
 
-pub short_answers : (answers : List (CertId × Status)) (nonce : Option (List ℕ)) → CanBeAnswered (ids_seen (answered answers)) nonce → sum_by answered_length answers ≤ 65536
+pub short_answers : (answers : List (CertId × Status)) (nonce : Option (List ℕ)) → CanBeAnswered (ids_model (answered answers)) nonce → sum_by answered_length answers ≤ 65536
 short_answers answers told can = omega (arith, can.short, answered_total answers)
 
 -- and what answers just these CertIDs is within them
-pub answers_fit : (answers : List (CertId × Status)) (ids : List CertId) (nonce : Option (List ℕ)) → answered answers ≡ ids → CanBeAnswered (ids_seen ids) nonce → CanBeAnswered (ids_seen (answered answers)) nonce
-answers_fit answers ids told same can = subst (λ (asked : List CertId). CanBeAnswered (ids_seen asked) told) (sym same) can
+pub answers_fit : (answers : List (CertId × Status)) (ids : List CertId) (nonce : Option (List ℕ)) → answered answers ≡ ids → CanBeAnswered (ids_model ids) nonce → CanBeAnswered (ids_model (answered answers)) nonce
+answers_fit answers ids told same can = subst (λ (asked : List CertId). CanBeAnswered (ids_model asked) told) (sym same) can
 
 -- ---- one answer more
 
@@ -36,15 +36,15 @@ module _ (answers : List (CertId × Status)) (i : ℕ) (answer : CertId × Statu
   taken_more = take_more answers i answer within ∙ ap (λ (x : CertId × Status). take i answers ++ x ∷ []) (sym is)
 
   -- what is written of them
-  pub written_more : (now next : ℕ) → flat_map (single_response now next) (answers_seen (take (i + 1) answers))
-      ≡ flat_map (single_response now next) (answers_seen (take i answers)) ++ single_response now next (answer_seen answer)
+  pub written_more : (now next : ℕ) → flat_map (single_response now next) (answers_model (take (i + 1) answers))
+      ≡ flat_map (single_response now next) (answers_model (take i answers)) ++ single_response now next (answer_model answer)
   written_more now next =
       let write : SingleAnswer → List ℕ = single_response now next in
-      let front = answers_seen (take i answers) in
-      ap (λ (xs : List (CertId × Status)). flat_map write (answers_seen xs)) taken_more
-      ∙ ap (flat_map write) (map-append answer_seen (take i answers) (answer ∷ []))
-      ∙ flat_map-append write front (answer_seen answer ∷ [])
-      ∙ ap (λ (r : List ℕ). flat_map write front ++ r) (flat_map-cons write (answer_seen answer) [] ∙ append-nil (write (answer_seen answer)))
+      let front = answers_model (take i answers) in
+      ap (λ (xs : List (CertId × Status)). flat_map write (answers_model xs)) taken_more
+      ∙ ap (flat_map write) (map-append answer_model (take i answers) (answer ∷ []))
+      ∙ flat_map-append write front (answer_model answer ∷ [])
+      ∙ ap (λ (r : List ℕ). flat_map write front ++ r) (flat_map-cons write (answer_model answer) [] ∙ append-nil (write (answer_model answer)))
 
   -- and the lengths of their CertIDs
   pub total_more : sum_by answered_length (take (i + 1) answers) ≡ sum_by answered_length (take i answers) + answered_length answer

@@ -10,11 +10,11 @@ use Rattle.reg_der.specs.Der.{tlv}
 use Rattle.reg_der.specs.ValueReading.{Gives}
 use Rattle.reg_der.specs.WrittenValues.{bits_value}
 use Rattle.reg_der.proofs.PublicLaws.{value_size, bind_then, kept, some_is}
-use Rattle.reg_ocsp.specs.declared.certificate.CertifiedKey.{CertifiedKey}
+use Rattle.reg_ocsp.specs.declared.certificate.SubjectPublicKey.{SubjectPublicKey}
 use Rattle.reg_ocsp.specs.Certificate.{Form, IsCertificateOf, key_info, certificate, no_unused, as_key, key_info_at, after_subject_at, signed_part_at, certificate_at}
 use Rattle.reg_der.specs.TaggedValues.{expect_at, whole_at, optional_at}
 use Rattle.reg_ocsp.specs.Request.{optional}
-use Rattle.reg_ocsp.specs.Views.{key_seen}
+use Rattle.reg_ocsp.specs.Views.{key_model}
 use Rattle.reg_ocsp.proofs.PartLaws.{chosen, expect_takes, expect_again, expect_next, whole_takes, whole_again, optional_takes, optional_next, begins_value}
 
 -- ---- the key
@@ -151,10 +151,10 @@ subject_again version serial signature issuer validity subject rest small =
 
 record TakesPart (bytes part : List ℕ) : Type 0 where
   short : length bytes ≤ 65536
-  signed_under : List ℕ
+  signature_algorithm : List ℕ
   signed : List ℕ
   each : IsBytes part
-  spelled : bytes ≡ tlv 0x30 (tlv 0x30 part ++ (tlv 0x30 signed_under ++ tlv 0x03 signed))
+  spelled : bytes ≡ tlv 0x30 (tlv 0x30 part ++ (tlv 0x30 signature_algorithm ++ tlv 0x03 signed))
 
 part_takes : (bytes part : List ℕ) → IsBytes bytes → signed_part_at bytes ≡ Some part → TakesPart bytes part
 unfolding signed_part_at
@@ -174,24 +174,24 @@ part_takes bytes part each e =
     subst (λ (y : List ℕ). TakesPart bytes y) (some_is first.0 part e4)
     (record {
       short = short;
-      signed_under = under.0;
+      signature_algorithm = under.0;
       signed = signed;
       each = t1.inner;
       spelled = t0.spelled ∙ ap (tlv 0x30) inner;
     })))))
 
-part_again : (part signed_under signed : List ℕ) → length (tlv 0x30 (tlv 0x30 part ++ (tlv 0x30 signed_under ++ tlv 0x03 signed))) ≤ 65536
-    → signed_part_at (tlv 0x30 (tlv 0x30 part ++ (tlv 0x30 signed_under ++ tlv 0x03 signed))) ≡ Some part
+part_again : (part signature_algorithm signed : List ℕ) → length (tlv 0x30 (tlv 0x30 part ++ (tlv 0x30 signature_algorithm ++ tlv 0x03 signed))) ≤ 65536
+    → signed_part_at (tlv 0x30 (tlv 0x30 part ++ (tlv 0x30 signature_algorithm ++ tlv 0x03 signed))) ≡ Some part
 unfolding signed_part_at
-part_again part signed_under signed small =
+part_again part signature_algorithm signed small =
     let b2 = tlv 0x03 signed in
-    let b1 = tlv 0x30 signed_under ++ b2 in
+    let b1 = tlv 0x30 signature_algorithm ++ b2 in
     let b0 = tlv 0x30 part ++ b1 in
     let within : length b0 ≤ 65536 = omega (arith, (value_size 0x30 b0).least) in
     let t : ltb 65536 (length (tlv 0x30 b0)) ≡ false = le-ltb 65536 (length (tlv 0x30 b0)) small in
     let e0 = whole_again 0x30 b0 (omega arith) within in
     let s1 = expect_next 0x30 part b1 (omega arith) within in
-    let s2 = expect_next 0x30 signed_under b2 (omega arith) s1.1 in
+    let s2 = expect_next 0x30 signature_algorithm b2 (omega arith) s1.1 in
     let e3 = whole_again 0x03 signed (omega arith) (omega (arith, s2.1, (value_size 0x03 signed).least)) in
     rw (t, e0, s1.0, s2.0, e3) refl
 
@@ -217,7 +217,7 @@ certificate_takes bytes x each e =
       algorithm = t3.algorithm;
       key = x.1;
       behind = info.1;
-      signed_under = t0.signed_under;
+      signature_algorithm = t0.signature_algorithm;
       signed = t0.signed;
     } in
     let of_info : rest ≡ key_info form ++ info.1 = t2.taken.parts ∙ ap (λ (c : List ℕ). tlv 0x30 c ++ info.1) t3.spelled in
@@ -227,7 +227,7 @@ certificate_takes bytes x each e =
       each = each;
       short = t0.short;
       form = form;
-      spelled = t0.spelled ∙ ap (λ (p : List ℕ). tlv 0x30 (tlv 0x30 p ++ (tlv 0x30 t0.signed_under ++ tlv 0x03 t0.signed))) of_part;
+      spelled = t0.spelled ∙ ap (λ (p : List ℕ). tlv 0x30 (tlv 0x30 p ++ (tlv 0x30 t0.signature_algorithm ++ tlv 0x03 t0.signed))) of_part;
       under = t3.same;
       of_key = refl;
       is_key = t3.is_key;
@@ -239,11 +239,11 @@ certificate_reads c is small =
     let info = tlv 0x30 c.algorithm ++ bits_value c.key in
     let rest = tlv 0x30 info ++ c.behind in
     let part = optional 0xA0 c.version ++ (tlv 0x02 c.serial ++ (tlv 0x30 c.signature ++ (tlv 0x30 c.issuer ++ (tlv 0x30 c.validity ++ (tlv 0x30 c.subject ++ rest))))) in
-    let after = tlv 0x30 c.signed_under ++ tlv 0x03 c.signed in
+    let after = tlv 0x30 c.signature_algorithm ++ tlv 0x03 c.signed in
     let whole = tlv 0x30 part ++ after in
     let size = length-append (tlv 0x30 part) after in
     let within : length part ≤ 65536 = omega (arith, small, size, (value_size 0x30 whole).least, (value_size 0x30 part).least) in
-    let e0 = part_again part c.signed_under c.signed small in
+    let e0 = part_again part c.signature_algorithm c.signed small in
     let s1 = subject_again c.version c.serial c.signature c.issuer c.validity c.subject rest within in
     let s2 = expect_next 0x30 info c.behind (omega arith) s1.1 in
     let few : length info ≤ 65536 = omega (arith, s1.1, length-append (tlv 0x30 info) c.behind, (value_size 0x30 info).least) in
@@ -260,12 +260,12 @@ certificate_again bytes algorithm key is =
 
 -- ---- what the call gives
 
-pub is_found : (bytes : List ℕ) (result : Option CertifiedKey) → IsBytes bytes → Gives key_seen result (certificate_at bytes)
+pub is_found : (bytes : List ℕ) (result : Option SubjectPublicKey) → IsBytes bytes → Gives key_model result (certificate_at bytes)
     → IfSome result (λ it. IsCertificateOf bytes it.algorithm.now it.key.now)
-is_found bytes (Some it) each gives = certificate_takes bytes (key_seen it) each gives
+is_found bytes (Some it) each gives = certificate_takes bytes (key_model it) each gives
 is_found bytes None each gives = tt
 
-pub is_only : (bytes : List ℕ) (result : Option CertifiedKey) → Gives key_seen result (certificate_at bytes)
-    → (algorithm key : List ℕ) → IsCertificateOf bytes algorithm key → option_map key_seen result ≡ Some (algorithm, key)
+pub is_only : (bytes : List ℕ) (result : Option SubjectPublicKey) → Gives key_model result (certificate_at bytes)
+    → (algorithm key : List ℕ) → IsCertificateOf bytes algorithm key → option_map key_model result ≡ Some (algorithm, key)
 is_only bytes (Some it) gives algorithm key is = sym gives ∙ certificate_again bytes algorithm key is
 is_only bytes None gives algorithm key is = absurd (let bad : None ≡ Some (algorithm, key) = sym gives ∙ certificate_again bytes algorithm key is in cc)

@@ -10,11 +10,11 @@ use Rattle.reg_core.specs.Integer.{IsBytes}
 use Rattle.reg_der.specs.Der.{tlv, length_octets}
 use Rattle.reg_der.specs.ValueReading.{Takes}
 use Rattle.reg_der.proofs.PublicLaws.{value_size, bind_then, kept, some_is}
-use Rattle.reg_ocsp.specs.Request.{Single, IsSingle, Extension, AreExtensions, Id, cert_id_in, Form, IsForm, single, request_version, optional, extensions, to_be_signed, spelling, repeated, nonce_of, first_nonce, IsOcspRequest, OneReading, cert_id, algorithm, raw_length, IsNonce, CanBeAnswered}
+use Rattle.reg_ocsp.specs.Request.{Single, IsSingle, Extension, AreExtensions, Id, cert_id_in, Form, IsForm, single, request_version, optional, extensions, to_be_signed, spelling, echoed_nonce, nonce_of, first_nonce, IsOcspRequest, OneReading, cert_id, algorithm, raw_length, IsNonce, CanBeAnswered}
 use Rattle.reg_ocsp.specs.declared.asked.Asked.{Asked}
 use Rattle.reg_ocsp.specs.declared.fault.RequestFault.{RequestFault}
 use Rattle.reg_ocsp.specs.declared.fault.RequestFault.TheVariants.{Malformed, Memory}
-use Rattle.reg_ocsp.specs.Views.{id_seen, ids_seen, GivesUnlessMemory}
+use Rattle.reg_ocsp.specs.Views.{id_model, ids_model, GivesUnlessMemory}
 use Rattle.reg_der.specs.TaggedValues.{expect_at, whole_at, optional_at, last_at, all_at}
 use Rattle.reg_ocsp.specs.RequestReading.{ids_at, single_at, is_version, version_at, last_nonce_at, list_at, signed_at, tbs_at, parts_at, request_at}
 use Rattle.reg_ocsp.proofs.PartLaws.{chosen, expect_takes, expect_again, expect_next, whole_takes, whole_again, optional_takes, optional_again, optional_next, last_takes, last_again, IsSmall, BeginsElse, begins_value, begins_optional}
@@ -101,7 +101,7 @@ version_again flag rest begins =
 
 -- ---- what is signed
 
-nonce_is : (tree : Option (List Extension)) → repeated (nonce_in tree) ≡ nonce_of tree
+nonce_is : (tree : Option (List Extension)) → echoed_nonce (nonce_in tree) ≡ nonce_of tree
 nonce_is None = refl
 nonce_is (Some es) = refl
 
@@ -151,7 +151,7 @@ signed_takes bytes x each e =
     let t1 = last_nonce_takes 0xA2 list.1 first t0.each read_first in
     let whole : bytes ≡ signed_text t0.flag t0.requestor list.0 t1.tree =
     t0.spelled ∙ ap (λ (r : List ℕ). request_version t0.flag ++ (optional 0xA1 t0.requestor ++ (tlv 0x30 list.0 ++ r))) t1.spelled in
-    subst (λ (y : List ℕ × Option (List ℕ)). TakesSigned bytes y.0 y.1) (some_is (list.0, repeated first) x e2)
+    subst (λ (y : List ℕ × Option (List ℕ)). TakesSigned bytes y.0 y.1) (some_is (list.0, echoed_nonce first) x e2)
     (record {
       flag = t0.flag;
       requestor = t0.requestor;
@@ -159,7 +159,7 @@ signed_takes bytes x each e =
       fits = t1.fits;
       spelled = whole;
       inner = t0.inner;
-      same = ap repeated t1.same ∙ nonce_is t1.tree;
+      same = ap echoed_nonce t1.same ∙ nonce_is t1.tree;
     })))
 
 signed_again : (flag : Bool) (requestor : Option (List ℕ)) (list : List ℕ) (tree : Option (List Extension)) → AreExtensions tree → length (signed_text flag requestor list tree) ≤ 65536
@@ -322,7 +322,7 @@ ids_few (s ∷ ss) =
     let t = s.target in
     omega (arith, sum_by-cons raw_length (cert_id_in s) (map cert_id_in ss), (value_size 0x30 (algorithm t.identifier t.parameters ++ (tlv 0x04 t.name_hash ++ (tlv 0x04 t.key_hash ++ tlv 0x02 t.serial)))).least)
 
-repeated_short : (first : Option (List ℕ)) → IfSome (repeated first) IsNonce
+repeated_short : (first : Option (List ℕ)) → IfSome (echoed_nonce first) IsNonce
 repeated_short None = tt
 repeated_short (Some value) = kept_short value (leb 1 (length value)) (leb (length value) 131) refl refl
   where
@@ -370,10 +370,10 @@ can_be_answered bytes ids nonce is =
 -- ---- what the reader gives
 
 abbrev asked_seen : Asked → List Id × Option (List ℕ)
-asked_seen a = (ids_seen a.ids.items, option_copied a.nonce)
+asked_seen a = (ids_model a.ids.items, option_copied a.nonce)
 
 pub is_found : (bytes : List ℕ) (outcome : Result Asked RequestFault) → IsBytes bytes → GivesUnlessMemory asked_seen outcome (request_at bytes)
-    → IfOk outcome (λ a. IsOcspRequest bytes (ids_seen a.ids.items) (option_copied a.nonce))
+    → IfOk outcome (λ a. IsOcspRequest bytes (ids_model a.ids.items) (option_copied a.nonce))
 is_found bytes (Ok a) each given = request_takes bytes (asked_seen a) each given
 is_found bytes (Err e) each given = tt
 
@@ -383,17 +383,17 @@ is_malformed bytes (Ok a) given is = absurd (cc)
 is_malformed bytes (Err Malformed) given is = no_request bytes given
 is_malformed bytes (Err Memory) given is = absurd (cc)
 
-pub is_answerable : (bytes : List ℕ) (outcome : Result Asked RequestFault) → IfOk outcome (λ a. IsOcspRequest bytes (ids_seen a.ids.items) (option_copied a.nonce))
-    → IfOk outcome (λ a. CanBeAnswered (ids_seen a.ids.items) (option_copied a.nonce))
-is_answerable bytes (Ok a) is = can_be_answered bytes (ids_seen a.ids.items) (option_copied a.nonce) is
+pub is_answerable : (bytes : List ℕ) (outcome : Result Asked RequestFault) → IfOk outcome (λ a. IsOcspRequest bytes (ids_model a.ids.items) (option_copied a.nonce))
+    → IfOk outcome (λ a. CanBeAnswered (ids_model a.ids.items) (option_copied a.nonce))
+is_answerable bytes (Ok a) is = can_be_answered bytes (ids_model a.ids.items) (option_copied a.nonce) is
 is_answerable bytes (Err e) is = tt
 
-pub is_some : (bytes : List ℕ) (outcome : Result Asked RequestFault) → IfOk outcome (λ a. IsOcspRequest bytes (ids_seen a.ids.items) (option_copied a.nonce))
+pub is_some : (bytes : List ℕ) (outcome : Result Asked RequestFault) → IfOk outcome (λ a. IsOcspRequest bytes (ids_model a.ids.items) (option_copied a.nonce))
     → IfOk outcome (λ a. 1 ≤ length a.ids.items)
-is_some bytes (Ok a) is = omega (arith, asks_some bytes (ids_seen a.ids.items) (option_copied a.nonce) is, length-map a.ids.items id_seen)
+is_some bytes (Ok a) is = omega (arith, asks_some bytes (ids_model a.ids.items) (option_copied a.nonce) is, length-map a.ids.items id_model)
 is_some bytes (Err e) is = tt
 
-pub is_repeated : (bytes : List ℕ) (outcome : Result Asked RequestFault) → IfOk outcome (λ a. IsOcspRequest bytes (ids_seen a.ids.items) (option_copied a.nonce))
+pub is_repeated : (bytes : List ℕ) (outcome : Result Asked RequestFault) → IfOk outcome (λ a. IsOcspRequest bytes (ids_model a.ids.items) (option_copied a.nonce))
     → IfOk outcome (λ a. IfSome (option_copied a.nonce) IsNonce)
-is_repeated bytes (Ok a) is = repeats_nonce bytes (ids_seen a.ids.items) (option_copied a.nonce) is
+is_repeated bytes (Ok a) is = repeats_nonce bytes (ids_model a.ids.items) (option_copied a.nonce) is
 is_repeated bytes (Err e) is = tt

@@ -10,7 +10,7 @@ use Rattle.reg_der.specs.ValueReading.{Parts, value_at, Takes}
 use Rattle.reg_der.proofs.PublicLaws.{value_takes, value_again, value_size, bind_then, kept, some_is, or_false}
 use Rattle.reg_ocsp.specs.Request.{Target, IsTarget, Single, IsSingle, Id, id_of, cert_id_in, parameters, algorithm, cert_id, single, extensions}
 use Rattle.reg_der.specs.TaggedValues.{expect_at, whole_at}
-use Rattle.reg_ocsp.specs.RequestReading.{last_nonce_at, read_all, algorithm_at, is_shortest, serial_at, names_at, target_at, single_at}
+use Rattle.reg_ocsp.specs.RequestReading.{last_nonce_at, read_all, algorithm_at, is_shortest, serial_at, hashes_and_serial_at, target_at, single_at}
 use Rattle.reg_ocsp.proofs.PartLaws.{chosen, expect_takes, expect_again, expect_next, whole_takes, whole_again}
 use Rattle.reg_ocsp.proofs.ItemLaws.{Reads, TakesItem}
 use Rattle.reg_ocsp.proofs.ExtensionLaws.{last_nonce_takes, last_nonce_again}
@@ -126,8 +126,8 @@ record AreNamesRead (bytes name key serial : List ℕ) : Type 0 where
   spelled : bytes ≡ tlv 0x04 name ++ (tlv 0x04 key ++ tlv 0x02 serial)
   shortest : IsShortest serial
 
-names_take : (bytes : List ℕ) (x : List ℕ × List ℕ × List ℕ) → IsBytes bytes → names_at bytes ≡ Some x → AreNamesRead bytes x.0 x.1 x.2
-unfolding names_at
+names_take : (bytes : List ℕ) (x : List ℕ × List ℕ × List ℕ) → IsBytes bytes → hashes_and_serial_at bytes ≡ Some x → AreNamesRead bytes x.0 x.1 x.2
+unfolding hashes_and_serial_at
 names_take bytes x each e =
     bind_then (expect_at 0x04 bytes) _ x e (λ name read_name e1.
     bind_then (expect_at 0x04 name.1) _ x e1 (λ key read_key e2.
@@ -153,7 +153,7 @@ unfolding target_at
 target_takes bytes x each e =
     bind_then (expect_at 0x30 bytes) _ x e (λ outer read_outer e1.
     bind_then (algorithm_at outer.0) _ x e1 (λ hash read_hash e2.
-    bind_then (names_at hash.1) _ x e2 (λ names read_names e3.
+    bind_then (hashes_and_serial_at hash.1) _ x e2 (λ names read_names e3.
     let made : Id = record { raw = tlv 0x30 outer.0; algorithm = hash.0; name_hash = names.0; key_hash = names.1; serial = names.2 } in
     let t0 = expect_takes 0x30 bytes outer each read_outer in
     let t1 = algorithm_takes outer.0 hash t0.inner read_hash in
@@ -170,7 +170,7 @@ target_takes bytes x each e =
     }))))
 
 target_again : (t : Target) (rest : List ℕ) → IsTarget t → length (cert_id t) ≤ 65536 → target_at (cert_id t ++ rest) ≡ Some (id_of t, rest)
-unfolding target_at names_at serial_at
+unfolding target_at hashes_and_serial_at serial_at
 target_again t rest fits small =
     let front = algorithm t.identifier t.parameters in
     let last = tlv 0x02 t.serial in

@@ -11,7 +11,7 @@ use Rattle.reg_der.specs.TaggedValues.{expect_at, whole_at, optional_at}
 -- ---- the tree
 
 -- A Certificate. Each field that is not read further is the contents of its value: `version` (if it is written) to `subject`; `algorithm`, of
--- the public key; `signed_under` and `signed`, which are signatureAlgorithm and signatureValue. `key` is the bits of the public key, and
+-- the public key; `signature_algorithm` and `signed`, which are signatureAlgorithm and signatureValue. `key` is the bits of the public key, and
 -- `behind` the bytes after subjectPublicKeyInfo in the TBSCertificate (unique identifiers, extensions).
 pub record Form : Type 0 where
   pub version : Option (List ℕ)
@@ -23,7 +23,7 @@ pub record Form : Type 0 where
   pub algorithm : List ℕ
   pub key : List ℕ
   pub behind : List ℕ
-  pub signed_under : List ℕ
+  pub signature_algorithm : List ℕ
   pub signed : List ℕ
 
 -- SubjectPublicKeyInfo ::= SEQUENCE { algorithm AlgorithmIdentifier, subjectPublicKey BIT STRING }, without unused bits
@@ -39,7 +39,7 @@ to_be_signed c =
 
 -- Certificate ::= SEQUENCE { tbsCertificate, signatureAlgorithm AlgorithmIdentifier, signatureValue BIT STRING }
 abbrev pub certificate : Form → List ℕ
-certificate c = tlv 0x30 (to_be_signed c ++ (tlv 0x30 c.signed_under ++ tlv 0x03 c.signed))
+certificate c = tlv 0x30 (to_be_signed c ++ (tlv 0x30 c.signature_algorithm ++ tlv 0x03 c.signed))
 
 -- the bytes, at most 65,536, are a certificate whose subjectPublicKeyInfo has this AlgorithmIdentifier and these bits of a key
 pub record IsCertificateOf (bytes algorithm key : List ℕ) : Type 0 where

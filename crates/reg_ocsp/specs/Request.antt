@@ -158,14 +158,14 @@ first_nonce [] = None
 first_nonce (e ∷ es) = if bytes_eq e.identifier nonce_identifier then Some e.value else first_nonce es
 
 -- the response repeats a nonce of 1 to 131 bytes, and leaves out any other
-abbrev pub repeated : Option (List ℕ) → Option (List ℕ)
-repeated None = None
-repeated (Some nonce) = if nat_le 1 (length nonce) && nat_le (length nonce) 131 then Some nonce else None
+abbrev pub echoed_nonce : Option (List ℕ) → Option (List ℕ)
+echoed_nonce None = None
+echoed_nonce (Some nonce) = if nat_le 1 (length nonce) && nat_le (length nonce) 131 then Some nonce else None
 
 -- the nonce in requestExtensions that the response repeats
 abbrev pub nonce_of : Option (List Extension) → Option (List ℕ)
 nonce_of None = None
-nonce_of (Some es) = repeated (first_nonce es)
+nonce_of (Some es) = echoed_nonce (first_nonce es)
 
 -- ---- the relation
 

@@ -5,7 +5,7 @@ use Rattle.reg_der.specs.Der.{tlv}
 use Rattle.reg_core.specs.Sequence.{◌>>=◌}
 use Rattle.reg_der.specs.TaggedValues.{expect_at, whole_at, optional_at, last_at, all_at}
 use Rattle.reg_der.specs.ValueReading.{Parts, value_at}
-use Rattle.reg_ocsp.specs.Request.{Extension, Id, nonce_identifier, first_nonce, repeated}
+use Rattle.reg_ocsp.specs.Request.{Extension, Id, nonce_identifier, first_nonce, echoed_nonce}
 
 -- ---- extensions
 
@@ -85,8 +85,8 @@ unfoldable pub serial_at : List ℕ → Option (List ℕ)
 serial_at bytes = whole_at 0x02 bytes >>= λ serial. if is_shortest serial then Some serial else None
 
 -- the hashes of the issuer's name and key, and the serial number
-unfoldable pub names_at : List ℕ → Option (List ℕ × List ℕ × List ℕ)
-names_at bytes = do
+unfoldable pub hashes_and_serial_at : List ℕ → Option (List ℕ × List ℕ × List ℕ)
+hashes_and_serial_at bytes = do
   name ← expect_at 0x04 bytes
   key ← expect_at 0x04 name.1
   serial ← serial_at key.1
@@ -96,7 +96,7 @@ unfoldable pub target_at : List ℕ → Option (Id × List ℕ)
 target_at bytes = do
   outer ← expect_at 0x30 bytes
   algorithm ← algorithm_at outer.0
-  names ← names_at algorithm.1
+  names ← hashes_and_serial_at algorithm.1
   Some (
     record {
       raw = tlv 0x30 outer.0;
@@ -141,7 +141,7 @@ unfoldable pub signed_at : List ℕ → Option (List ℕ × Option (List ℕ))
 signed_at bytes = do
   list ← list_at bytes
   nonce ← last_nonce_at 0xA2 list.1
-  Some (list.0, repeated nonce)
+  Some (list.0, echoed_nonce nonce)
 
 -- the contents of the TBSRequest in an OCSPRequest
 unfoldable pub tbs_at : List ℕ → Option (List ℕ)

@@ -3,15 +3,15 @@ use Rattle.std.specs.Prelude.{◌≡◌, ℕ, List, length, map, Option, Some, N
 use Rattle.reg_ocsp.specs.declared.fault.RequestFault.{RequestFault}
 use Rattle.reg_ocsp.specs.declared.fault.RequestFault.TheVariants.{Malformed, Memory}
 use Rattle.reg_ocsp.specs.declared.asked.CertId.{CertId}
-use Rattle.reg_ocsp.specs.declared.certificate.CertifiedKey.{CertifiedKey}
+use Rattle.reg_ocsp.specs.declared.certificate.SubjectPublicKey.{SubjectPublicKey}
 use Rattle.reg_ocsp.specs.declared.extensions.Extension as code
 use Rattle.reg_core.specs.declared.command.Status.{Status}
 use Rattle.reg_ocsp.specs.Request.{Id, Extension}
 use Rattle.reg_ocsp.specs.Response.{SingleAnswer}
 
 -- a CertID, each slice replaced by its bytes
-abbrev pub id_seen : CertId → Id
-id_seen id =
+abbrev pub id_model : CertId → Id
+id_model id =
     record {
       raw = id.raw.now;
       algorithm = id.algorithm.now;
@@ -20,8 +20,8 @@ id_seen id =
       serial = id.serial.now;
     }
 
-abbrev pub ids_seen : List CertId → List Id
-ids_seen ids = map id_seen ids
+abbrev pub ids_model : List CertId → List Id
+ids_model ids = map id_model ids
 
 -- the model of what a function returned is what reading gives, unless it ran out of memory
 abbrev pub GivesUnlessMemory : {X Y : Type 0} → (X → Y) → Result X RequestFault → Option Y → Type 0
@@ -30,15 +30,15 @@ GivesUnlessMemory view (Err Malformed) read = read ≡ None
 GivesUnlessMemory view (Err Memory) read = Unit {0}
 
 -- an extension, each slice replaced by its bytes
-abbrev pub extension_seen : code.Extension → Extension
-extension_seen e = record { identifier = e.identifier.now; critical = e.critical; value = e.value.now }
+abbrev pub extension_model : code.Extension → Extension
+extension_model e = record { identifier = e.identifier.now; critical = e.critical; value = e.value.now }
 
 -- a CertID's whole DER value, and its status
-abbrev pub answer_seen : CertId × Status → SingleAnswer
-answer_seen answer = record { raw = answer.0.raw.now; status = answer.1 }
+abbrev pub answer_model : CertId × Status → SingleAnswer
+answer_model answer = record { raw = answer.0.raw.now; status = answer.1 }
 
-abbrev pub answers_seen : List (CertId × Status) → List SingleAnswer
-answers_seen answers = map answer_seen answers
+abbrev pub answers_model : List (CertId × Status) → List SingleAnswer
+answers_model answers = map answer_model answers
 
 -- the CertIDs that are answered
 abbrev pub answered : List (CertId × Status) → List CertId
@@ -49,5 +49,5 @@ abbrev pub answered_length : CertId × Status → ℕ
 answered_length answer = length answer.0.raw.now
 
 -- a certificate's key: the whole DER value of its algorithm, and its bits
-abbrev pub key_seen : CertifiedKey → List ℕ × List ℕ
-key_seen it = (it.algorithm.now, it.key.now)
+abbrev pub key_model : SubjectPublicKey → List ℕ × List ℕ
+key_model it = (it.algorithm.now, it.key.now)

@@ -4,7 +4,7 @@ ghost use Rattle.std.specs.Prelude.{◌≡◌, ℕ, ◌↔◌, IsTrue, IfSome, I
 ghost use Rattle.sha1.specs.Sha1.{sha1};
 ghost use Rattle.sha2.specs.Sha256.{sha256};
 ghost use Rattle.reg_ocsp.specs.Matching.{IsHashAlgorithm, IsHashedBy, IsMatch, NamesIssuer, sha1_identifier, sha256_identifier};
-ghost use Rattle.reg_ocsp.specs.Views.{id_seen};
+ghost use Rattle.reg_ocsp.specs.Views.{id_model};
 
 use crate::asked::CertId;
 use reg_core::Serial;
@@ -30,9 +30,9 @@ const SHA256_NULL: [u8; 15] = [
 /// The serial number of a CertID, 1 to 2^159 - 1, if its hashes are the SHA-1 or the SHA-256 of the issuer's Name and key. The
 /// parameters of the algorithm may be NULL or left out. `None` for every other CertID.
 pub fn matches(issuer: &Issuer, id: &CertId<'_>) -> Option<Serial>
-    ensures found { IfSome result (λ serial. IsMatch issuer.now (id_seen id.now) serial) }
-    ensures none { IfNone result ((serial : ℕ) → ¬ (IsMatch issuer.now (id_seen id.now) serial)) }
-    ensures only { (serial : ℕ) → IsMatch issuer.now (id_seen id.now) serial → result ≡ Some serial }
+    ensures found { IfSome result (λ serial. IsMatch issuer.now (id_model id.now) serial) }
+    ensures none { IfNone result ((serial : ℕ) → ¬ (IsMatch issuer.now (id_model id.now) serial)) }
+    ensures only { (serial : ℕ) → IsMatch issuer.now (id_model id.now) serial → result ≡ Some serial }
 {
     if !names_by_sha1(issuer, id) && !names_by_sha256(issuer, id) {
         return None;
@@ -41,7 +41,7 @@ pub fn matches(issuer: &Issuer, id: &CertId<'_>) -> Option<Serial>
 }
 
 fn names_by_sha1(issuer: &Issuer, id: &CertId<'_>) -> bool
-    ensures { IsTrue result ↔ IsHashedBy sha1_identifier sha1 issuer.now (id_seen id.now) }
+    ensures { IsTrue result ↔ IsHashedBy sha1_identifier sha1 issuer.now (id_model id.now) }
 {
     is_sha1(id.algorithm)
         && id.name_hash == issuer.name_sha1().as_slice()
@@ -49,7 +49,7 @@ fn names_by_sha1(issuer: &Issuer, id: &CertId<'_>) -> bool
 }
 
 fn names_by_sha256(issuer: &Issuer, id: &CertId<'_>) -> bool
-    ensures { IsTrue result ↔ IsHashedBy sha256_identifier sha256 issuer.now (id_seen id.now) }
+    ensures { IsTrue result ↔ IsHashedBy sha256_identifier sha256 issuer.now (id_model id.now) }
 {
     is_sha256(id.algorithm)
         && is_sha256_of(id.name_hash, issuer.name())

@@ -3,7 +3,7 @@
 ghost use Rattle.std.specs.Prelude.{◌≡◌, ◌≤◌, ℕ, List, Some, IfOk, IfSome, IsErrOf, length, option_map};
 ghost use Rattle.reg_der.specs.ValueReading.{Gives};
 ghost use Rattle.reg_ocsp.specs.Certificate.{IsCertificateOf, after_subject_at, as_key, certificate_at, key_info_at, no_unused, signed_part_at};
-ghost use Rattle.reg_ocsp.specs.Views.{key_seen};
+ghost use Rattle.reg_ocsp.specs.Views.{key_model};
 ghost use Rattle.reg_ocsp.specs.declared.certificate.CertificateFault.TheVariants.{Memory};
 
 use reg_der::tags::{BIT_STRING, INTEGER, SEQUENCE, TAGGED_0};
@@ -18,7 +18,7 @@ const LONGEST_KEY: usize = 2_048;
 /// Why there is no [`Certificate`].
 #[derive(Clone, Copy, PartialEq, Eq)]
 pub enum CertificateFault {
-    /// The bytes are not a certificate with a public key that [`certified_key`] reads.
+    /// The bytes are not a certificate with a public key that [`subject_public_key`] reads.
     Bad,
     Memory,
 }
@@ -50,13 +50,13 @@ impl Model for Certificate {
 }
 
 impl Certificate {
-    /// A certificate from its DER; `Bad` if [`certified_key`] gives `None`; `Memory`.
+    /// A certificate from its DER; `Bad` if [`subject_public_key`] gives `None`; `Memory`.
     pub fn new(alloc: Global, der: &[u8]) -> Result<Certificate, CertificateFault>
         ensures der { IfOk result (λ it. it.der ≡ der.now) }
         ensures bad { IsErrOf result CertificateFault.Bad → (algorithm key : List ℕ)
             → ¬ (IsCertificateOf der.now algorithm key) }
     {
-        let certified = match certified_key(der) {
+        let certified = match subject_public_key(der) {
             Some(certified) => certified,
             None => return Err(CertificateFault::Bad),
         };
@@ -96,7 +96,7 @@ impl Certificate {
 
 /// The public key of a certificate, in slices of the certificate's bytes.
 #[derive(Clone, Copy)]
-pub struct CertifiedKey<'a> {
+pub struct SubjectPublicKey<'a> {
     /// The whole DER value of the AlgorithmIdentifier in its subjectPublicKeyInfo.
     pub algorithm: &'a [u8],
     /// The bits of its subjectPublicKey, without the octet that counts the unused bits: 1 to 2,048 bytes.
@@ -106,17 +106,17 @@ pub struct CertifiedKey<'a> {
 /// The public key of a certificate, whose DER is all of the bytes, at most 65,536. Of the fields, only the tags and the public
 /// key are checked: not the issuer, the validity, the subject, the extensions or the signature. `None` exactly for other bytes,
 /// and for a key that has unused bits, is empty, or is longer than 2,048 bytes.
-pub fn certified_key(certificate: &[u8]) -> Option<CertifiedKey<'_>>
+pub fn subject_public_key(certificate: &[u8]) -> Option<SubjectPublicKey<'_>>
     ensures found { IfSome result (λ it. IsCertificateOf certificate.now it.algorithm.now it.key.now) }
     ensures only { (algorithm key : List ℕ) → IsCertificateOf certificate.now algorithm key
-        → option_map key_seen result ≡ Some (algorithm, key) }
+        → option_map key_model result ≡ Some (algorithm, key) }
 {
     read_certificate(certificate)
 }
 
 #[tactic(auto, unfolding(crate::specs::Certificate::certificate_at))]
-fn read_certificate(bytes: &[u8]) -> Option<CertifiedKey<'_>>
-    ensures { Gives key_seen result (certificate_at bytes.now) }
+fn read_certificate(bytes: &[u8]) -> Option<SubjectPublicKey<'_>>
+    ensures { Gives key_model result (certificate_at bytes.now) }
 {
     let part = signed_part(bytes)?;
     let (info, _) = expect(SEQUENCE, after_subject(part)?)?;
@@ -153,13 +153,13 @@ fn after_subject(part: &[u8]) -> Option<&[u8]>
 
 /// The key and its algorithm, from the contents of a SubjectPublicKeyInfo.
 #[tactic(auto, unfolding(crate::specs::Certificate::key_info_at))]
-fn key_info(bytes: &[u8]) -> Option<CertifiedKey<'_>>
-    ensures { Gives key_seen result (key_info_at bytes.now) }
+fn key_info(bytes: &[u8]) -> Option<SubjectPublicKey<'_>>
+    ensures { Gives key_model result (key_info_at bytes.now) }
 {
     let (algorithm, rest) = expect(SEQUENCE, bytes)?;
     let bits = used(whole(BIT_STRING, rest)?)?;
     let key = key_of(bits)?;
-    Some(CertifiedKey {
+    Some(SubjectPublicKey {
         algorithm: algorithm.raw,
         key,
     })

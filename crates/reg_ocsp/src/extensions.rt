@@ -2,7 +2,7 @@ ghost use Rattle.std.specs.Prelude.{◌≡◌, ◌<◌, length, IfSome, option_c
 ghost use Rattle.reg_der.specs.ValueReading.{Gives};
 ghost use Rattle.reg_ocsp.specs.RequestReading.{critical_at, extension_at, fields_at, flag_of, last_nonce_at, nonce_at, written_flag};
 ghost use Rattle.reg_ocsp.specs.RequestReading as spec;
-ghost use Rattle.reg_ocsp.specs.Views.{extension_seen};
+ghost use Rattle.reg_ocsp.specs.Views.{extension_model};
 
 use reg_der::tags::{BOOLEAN, OBJECT_IDENTIFIER, OCTET_STRING, SEQUENCE};
 use reg_der::values::{expect, last, optional, whole};
@@ -57,7 +57,7 @@ fn first_nonce(bytes: &[u8]) -> Option<Option<&[u8]>>
 /// The first Extension, and the bytes after it.
 #[tactic(auto, unfolding(crate::specs::RequestReading::extension_at))]
 fn next_extension(bytes: &[u8]) -> Option<(Extension<'_>, &[u8])>
-    ensures exact { Gives (λ x. (extension_seen x.0, x.1.now)) result (extension_at bytes.now) }
+    ensures exact { Gives (λ x. (extension_model x.0, x.1.now)) result (extension_at bytes.now) }
     ensures shorter { IfSome result (λ x. length x.1.now < length bytes.now) }
 {
     let (outer, rest) = expect(SEQUENCE, bytes)?;
@@ -68,7 +68,7 @@ fn next_extension(bytes: &[u8]) -> Option<(Extension<'_>, &[u8])>
 /// The Extension with these contents.
 #[tactic(auto, unfolding(crate::specs::RequestReading::fields_at))]
 fn extension_of(bytes: &[u8]) -> Option<Extension<'_>>
-    ensures { Gives extension_seen result (fields_at bytes.now) }
+    ensures { Gives extension_model result (fields_at bytes.now) }
 {
     let (identifier, after_identifier) = expect(OBJECT_IDENTIFIER, bytes)?;
     let (critical, after_critical) = critical(after_identifier)?;

@@ -13,7 +13,7 @@ mod response;
 
 pub use asked::{Asked, CertId};
 pub use cert_id_match::matches;
-pub use certificate::{Certificate, CertificateFault, CertifiedKey, certified_key};
+pub use certificate::{Certificate, CertificateFault, SubjectPublicKey, subject_public_key};
 pub use draft::{Draft, slice_of};
 pub use fault::RequestFault;
 pub use ocsp_request::read_request;

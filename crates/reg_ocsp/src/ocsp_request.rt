@@ -3,10 +3,10 @@
 ghost use Rattle.std.specs.Prelude.{◌≡◌, ℕ, List, Option, ◌≤◌, ◌<◌, length, IfOk, IfSome, IsErrOf, option_copied};
 ghost use Rattle.reg_der.specs.ValueReading.{Gives, value_at};
 ghost use Rattle.reg_ocsp.specs.Request.{CanBeAnswered, Id, IsNonce, IsOcspRequest};
-ghost use Rattle.reg_ocsp.specs.RequestReading.{algorithm_at, ids_at, list_at, names_at, parts_at, read_all, request_at, serial_at, signed_at, single_at, target_at, tbs_at, version_at};
+ghost use Rattle.reg_ocsp.specs.RequestReading.{algorithm_at, ids_at, list_at, hashes_and_serial_at, parts_at, read_all, request_at, serial_at, signed_at, single_at, target_at, tbs_at, version_at};
 ghost use Rattle.reg_ocsp.specs.RequestReading as spec;
 ghost use Rattle.reg_ocsp.specs.Request as grammar;
-ghost use Rattle.reg_ocsp.specs.Views.{ids_seen, id_seen, GivesUnlessMemory};
+ghost use Rattle.reg_ocsp.specs.Views.{ids_model, id_model, GivesUnlessMemory};
 
 use crate::asked::{Asked, CertId};
 use crate::extensions::last_nonce;
@@ -31,10 +31,10 @@ const LONGEST_NONCE: usize = 131;
 /// (`laws::one_reading`). `Memory` if out of memory for the CertIDs.
 pub fn read_request(alloc: Global, bytes: &[u8]) -> Result<Asked<'_>, RequestFault>
     ensures found { IfOk result
-        (λ a. IsOcspRequest bytes.now (ids_seen a.ids.items) (option_copied a.nonce)) }
+        (λ a. IsOcspRequest bytes.now (ids_model a.ids.items) (option_copied a.nonce)) }
     ensures malformed { IsErrOf result RequestFault.Malformed → (ids : List Id) (nonce : Option (List ℕ))
         → IsOcspRequest bytes.now ids nonce → ⊥ }
-    ensures answerable { IfOk result (λ a. CanBeAnswered (ids_seen a.ids.items) (option_copied a.nonce)) }
+    ensures answerable { IfOk result (λ a. CanBeAnswered (ids_model a.ids.items) (option_copied a.nonce)) }
     ensures some { IfOk result (λ a. 1 ≤ length a.ids.items) }
     ensures nonce { IfOk result (λ a. IfSome (option_copied a.nonce) IsNonce) }
 {
@@ -43,7 +43,7 @@ pub fn read_request(alloc: Global, bytes: &[u8]) -> Result<Asked<'_>, RequestFau
 
 #[tactic(auto, unfolding(crate::specs::RequestReading::request_at))]
 fn request(alloc: Global, bytes: &[u8]) -> Result<Asked<'_>, RequestFault>
-    ensures { GivesUnlessMemory (λ a. (ids_seen a.ids.items, option_copied a.nonce)) result
+    ensures { GivesUnlessMemory (λ a. (ids_model a.ids.items, option_copied a.nonce)) result
         (request_at bytes.now) }
 {
     let Some((list, nonce)) = parts(bytes) else {
@@ -80,7 +80,7 @@ fn signed_parts(bytes: &[u8]) -> Option<(&[u8], Option<&[u8]>)>
 {
     let (list, rest) = list(bytes)?;
     let nonce = last_nonce(TAGGED_2, rest)?;
-    Some((list, repeated(nonce)))
+    Some((list, echoed_nonce(nonce)))
 }
 
 /// The contents of requestList in the contents of a TBSRequest, and the bytes after it.
@@ -105,8 +105,8 @@ fn after_version(bytes: &[u8]) -> Option<&[u8]>
     }
 }
 
-fn repeated(nonce: Option<&[u8]>) -> Option<&[u8]>
-    ensures { option_copied result ≡ grammar.repeated (option_copied nonce.entry) }
+fn echoed_nonce(nonce: Option<&[u8]>) -> Option<&[u8]>
+    ensures { option_copied result ≡ grammar.echoed_nonce (option_copied nonce.entry) }
 {
     nonce.filter(|value| !value.is_empty() && value.len() <= LONGEST_NONCE)
 }
@@ -114,7 +114,7 @@ fn repeated(nonce: Option<&[u8]>) -> Option<&[u8]>
 /// The CertIDs in the contents of requestList: at least one.
 #[tactic(auto, unfolding(crate::specs::RequestReading::ids_at))]
 fn ids(alloc: Global, bytes: &[u8]) -> Result<Vec<CertId<'_>>, RequestFault>
-    ensures { GivesUnlessMemory (λ ids. ids_seen ids.items) result (ids_at bytes.now) }
+    ensures { GivesUnlessMemory (λ ids. ids_model ids.items) result (ids_at bytes.now) }
 {
     if bytes.is_empty() {
         return Err(RequestFault::Malformed);
@@ -134,7 +134,7 @@ fn ids(alloc: Global, bytes: &[u8]) -> Result<Vec<CertId<'_>>, RequestFault>
 /// The CertID of the first Request, and the bytes after that Request.
 #[tactic(auto, unfolding(crate::specs::RequestReading::single_at))]
 fn single(bytes: &[u8]) -> Option<(CertId<'_>, &[u8])>
-    ensures exact { Gives (λ x. (id_seen x.0, x.1.now)) result (single_at bytes.now) }
+    ensures exact { Gives (λ x. (id_model x.0, x.1.now)) result (single_at bytes.now) }
     ensures shorter { IfSome result (λ x. length x.1.now < length bytes.now) }
 {
     let (outer, rest) = expect(SEQUENCE, bytes)?;
@@ -146,7 +146,7 @@ fn single(bytes: &[u8]) -> Option<(CertId<'_>, &[u8])>
 /// The CertID at the front, and the bytes after it.
 #[tactic(auto, unfolding(crate::specs::RequestReading::target_at))]
 fn cert_id(bytes: &[u8]) -> Option<(CertId<'_>, &[u8])>
-    ensures { Gives (λ x. (id_seen x.0, x.1.now)) result (target_at bytes.now) }
+    ensures { Gives (λ x. (id_model x.0, x.1.now)) result (target_at bytes.now) }
 {
     let (outer, rest) = expect(SEQUENCE, bytes)?;
     let (algorithm, after_algorithm) = algorithm(outer.contents)?;
@@ -162,9 +162,9 @@ fn cert_id(bytes: &[u8]) -> Option<(CertId<'_>, &[u8])>
 }
 
 /// issuerNameHash, issuerKeyHash, and the contents octets of serialNumber.
-#[tactic(auto, unfolding(crate::specs::RequestReading::names_at))]
+#[tactic(auto, unfolding(crate::specs::RequestReading::hashes_and_serial_at))]
 fn names(bytes: &[u8]) -> Option<(&[u8], &[u8], &[u8])>
-    ensures { Gives (λ x. (x.0.now, x.1.now, x.2.now)) result (names_at bytes.now) }
+    ensures { Gives (λ x. (x.0.now, x.1.now, x.2.now)) result (hashes_and_serial_at bytes.now) }
 {
     let (name_hash, after_name) = expect(OCTET_STRING, bytes)?;
     let (key_hash, after_key) = expect(OCTET_STRING, after_name)?;

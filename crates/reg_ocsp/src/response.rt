@@ -7,7 +7,7 @@ ghost use Rattle.reg_core.specs.declared.command.Status.TheVariants.{Revoked};
 ghost use Rattle.reg_ocsp.specs.Response.{basic_fields, basic_response, cert_status, certs_part, certs_room, data_fields, next_update, ocsp_response, reason_part, refusal_response, single_fields, single_response, successful_response};
 ghost use Rattle.reg_ocsp.specs.Response as spec;
 ghost use Rattle.reg_ocsp.specs.Request.{CanBeAnswered};
-ghost use Rattle.reg_ocsp.specs.Views.{answer_seen, answers_seen, answered, answered_length, ids_seen};
+ghost use Rattle.reg_ocsp.specs.Views.{answer_model, answers_model, answered, answered_length, ids_model};
 ghost use Rattle.reg_core.specs.Buffers.{AppendsOnOk, ItemsOnOk};
 
 use crate::asked::CertId;
@@ -61,9 +61,9 @@ pub fn response_data(
     answers: &[(CertId<'_>, Status)],
     nonce: Option<&[u8]>,
 ) -> Result<Vec<u8>, Memory>
-    requires { CanBeAnswered (ids_seen (answered answers.now)) (option_copied nonce) }
+    requires { CanBeAnswered (ids_model (answered answers.now)) (option_copied nonce) }
     ensures data { ItemsOnOk result
-        (spec.response_data issuer.now.key now next (answers_seen answers.now) (option_copied nonce.entry)) }
+        (spec.response_data issuer.now.key now next (answers_model answers.now) (option_copied nonce.entry)) }
     ensures bounded { IfOk result (λ v. length v.items ≤ 2 ^ 27) }
 {
     response_data_by(alloc, issuer.key(), now, next, answers, nonce)
@@ -80,9 +80,9 @@ pub fn response_data_by(
     answers: &[(CertId<'_>, Status)],
     nonce: Option<&[u8]>,
 ) -> Result<Vec<u8>, Memory>
-    requires { CanBeAnswered (ids_seen (answered answers.now)) (option_copied nonce) }
+    requires { CanBeAnswered (ids_model (answered answers.now)) (option_copied nonce) }
     ensures data { ItemsOnOk result
-        (spec.response_data key.now now next (answers_seen answers.now) (option_copied nonce.entry)) }
+        (spec.response_data key.now now next (answers_model answers.now) (option_copied nonce.entry)) }
     ensures bounded { IfOk result (λ v. length v.items ≤ 2 ^ 27) }
 {
     let mut fields = Vec::new(alloc);
@@ -103,7 +103,7 @@ fn put_data_fields(
     requires short { sum_by answered_length answers.now ≤ 65536 }
     requires short_nonce { IfSome (option_copied nonce) (λ value. length value ≤ 131) }
     ensures ok { AppendsOnOk out.old out.new result
-        (data_fields key.now now next (answers_seen answers.now) (option_copied nonce.entry)) }
+        (data_fields key.now now next (answers_model answers.now) (option_copied nonce.entry)) }
     ensures longer { OnOk result
         (length out.new.items
         ≤ length out.old.items + 100 * length answers.now + sum_by answered_length answers.now + 255) }
@@ -272,7 +272,7 @@ fn put_answers(
     requires few { length answers.now ≤ 65536 }
     requires short { sum_by answered_length answers.now ≤ 65536 }
     ensures ok { AppendsOnOk out.old out.new result
-        (tlv 0x30 (flat_map (single_response now next) (answers_seen answers.now))) }
+        (tlv 0x30 (flat_map (single_response now next) (answers_model answers.now))) }
     ensures longer { OnOk result
         (length out.new.items
         ≤ length out.old.items + 100 * length answers.now + sum_by answered_length answers.now + 6) }
@@ -293,7 +293,7 @@ fn put_single(
     answer: &(CertId<'_>, Status),
 ) -> Result<(), Memory>
     requires { answered_length answer.now ≤ 65536 }
-    ensures ok { AppendsOnOk out.old out.new result (single_response now next (answer_seen answer.now)) }
+    ensures ok { AppendsOnOk out.old out.new result (single_response now next (answer_model answer.now)) }
     ensures longer { OnOk result
         (length out.new.items ≤ length out.old.items + answered_length answer.now + 100) }
 {
@@ -309,7 +309,7 @@ fn put_single_fields(
     next: Moment,
     answer: &(CertId<'_>, Status),
 ) -> Result<(), Memory>
-    ensures ok { AppendsOnOk out.old out.new result (single_fields now next (answer_seen answer.now)) }
+    ensures ok { AppendsOnOk out.old out.new result (single_fields now next (answer_model answer.now)) }
     ensures longer { OnOk result
         (length out.new.items ≤ length out.old.items + answered_length answer.now + 76) }
 {

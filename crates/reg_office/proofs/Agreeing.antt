@@ -18,7 +18,7 @@ use Rattle.reg_ocsp.specs.Matching.{IsMatch}
 use Rattle.reg_ocsp.specs.Request.{Id}
 use Rattle.reg_ocsp.specs.Response.{SingleAnswer, cert_status}
 use Rattle.reg_office.specs.Agreement.{Agrees, OcspAgrees}
-use Rattle.reg_office_api.specs.Ocsp.{IsAnswer, IsTold}
+use Rattle.reg_office_api.specs.Ocsp.{IsAnswer, IsStatusFor}
 
 -- a CertID names one certificate of the issuer at most
 one_match : (issuer : core.Issuer) (id : Id) (first second : ℕ) → IsMatch issuer id first → IsMatch issuer id second → first ≡ second
@@ -30,7 +30,7 @@ one_match issuer id first second here there =
 -- a CertID that names one is told its status
 told_status
     : (records : Records) (now : ℕ) (id : Id) (told : Status)
-    → IsTold records now id told
+    → IsStatusFor records now id told
     → (serial : ℕ)
     → IsMatch records.issuer id serial
     → told ≡ status records serial now
@@ -41,7 +41,7 @@ told_status records now id told (inr unnamed) serial match = absurd (unnamed.0 s
 -- and one that names none is told unknown
 told_unknown
     : (records : Records) (now : ℕ) (id : Id) (told : Status)
-    → IsTold records now id told
+    → IsStatusFor records now id told
     → ((serial : ℕ) → ¬ (IsMatch records.issuer id serial))
     → told ≡ Unknown
 told_unknown records now id told (inl named) none = absurd (none named.0 named.1)

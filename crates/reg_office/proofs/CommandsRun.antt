@@ -31,10 +31,10 @@ use Rattle.reg_office.specs.AfterStoppedCommand.{Does}
 use Rattle.reg_office.specs.Commands.{IsCommandRun}
 use Rattle.reg_office.specs.Faults.{IsOfficeFault, IsTableFault}
 use Rattle.reg_office.specs.Looking.{IsAcceptance, IsDecidedOr}
-use Rattle.reg_office.specs.Stands.{Stands, CameTo}
+use Rattle.reg_office.specs.Stands.{Stands, HasOutcome}
 use Rattle.reg_office.proofs.Composing.{of_failure}
 use Rattle.reg_office.proofs.Following.{step_keeps_sound_for}
-use Rattle.reg_office.proofs.Standing.{changed_failed, changed_made, looked_failed, never_signer, office_fault, stands_looked}
+use Rattle.reg_office.proofs.RegisterSummary.{changed_failed, changed_made, looked_failed, never_signer, office_fault, stands_looked}
 
 -- a command is accepted with this reply and this change, which the records allow
 pub record MayChange (signed : CertList → List ℕ → Type 0) (records : Records) (now : ℕ) (command : Command) (reply : Reply) (change : Change) : Type 0 where
@@ -82,7 +82,7 @@ module _ {C S : Type 0} (g : Ghosts C) (signs : Identity → List ℕ → List �
       → IsRunTo new left outcome
   not_run (Ok reply) fault told same looked happens is_fault device = absurd told
   not_run {new = new} {left = left} (Err other) fault told same looked happens is_fault device = subst (λ (f : Fault). IsRunTo new left (Err f)) (sym told) (record {
-    step = λ records stands clean. subst (λ (signatory : Identity). CameTo g signs new signatory records now command (Err fault)) (sym same) (record {
+    step = λ records stands clean. subst (λ (signatory : Identity). HasOutcome g signs new signatory records now command (Err fault)) (sym same) (record {
       after = records;
       happens = happens records stands.shown stands.sound.rows clean;
       stands = stands_looked looked stands;
@@ -121,7 +121,7 @@ module _ {C S : Type 0} (g : Ghosts C) (signs : Identity → List ℕ → List �
       step = λ records stands clean.
           let it = may_of records stands clean in
           let after = changed_by records now change in
-          subst (λ (signatory : Identity). CameTo g signs new signatory records now command (Ok reply)) (sym same) (record {
+          subst (λ (signatory : Identity). HasOutcome g signs new signatory records now command (Ok reply)) (sym same) (record {
             after = after;
             happens = it.happens;
             stands = record {
@@ -142,7 +142,7 @@ module _ {C S : Type 0} (g : Ghosts C) (signs : Identity → List ℕ → List �
     not_carried_out (Err other) failure told below changed =
         let fault = fault_of failure in
         subst (λ (f : Fault). IsRunTo new left (Err f)) (sym told) (record {
-          step = λ records stands clean. subst (λ (signatory : Identity). CameTo g signs new signatory records now command (Err fault)) (sym same) (record {
+          step = λ records stands clean. subst (λ (signatory : Identity). HasOutcome g signs new signatory records now command (Err fault)) (sym same) (record {
             after = records;
             happens = of_failure (λ (f : Fault). Happens (signed_by signs (identity signer)) records now command (Err f) records) (below, refl) (below, refl) failure;
             stands = record {

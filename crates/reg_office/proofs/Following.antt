@@ -12,11 +12,11 @@ use Rattle.reg_core.specs.declared.command.Command.{Command}
 use Rattle.reg_core.specs.declared.command.Reply.{Reply}
 use Rattle.reg_core.specs.declared.refusal.Fault.{Fault}
 use Rattle.reg_crl.specs.Crl.{certificate_list, tbs_of}
-use Rattle.reg_crl.specs.Signing.{Identity, sealed, sealed_until, signed_by}
+use Rattle.reg_crl.specs.Signing.{Identity, has_placeholder_digest, signed_since, signed_by}
 use Rattle.reg_office_api.proofs.PublicLaws.{happens_by}
 use Rattle.reg_core_laws.specs.Run.{Happens, Run}
 use Rattle.reg_core_laws.proofs.PublicLaws.{Grows, next_is, all_join, numbered_below, created_sound, schedule_keeps_sound, step_grows, step_keeps_sound}
-use Rattle.reg_office.specs.Following.{IsSeal}
+use Rattle.reg_office.specs.Following.{IsDigestSigner}
 use Rattle.reg_office.specs.Stands.{SoundFor}
 
 -- the next number does not fall where records grow
@@ -32,27 +32,27 @@ module _ (since : ℕ) (signs : Identity → List ℕ → List ℕ → Type 0) (
   pub happens_since : (records : Records) (now : ℕ) (command : Command) (outcome : Result Reply Fault) (after : Records)
       → since ≤ next_number records.crls
       → Happens (signed_by signs identity) records now command outcome after
-      → Happens (sealed_until since signs identity) records now command outcome after
+      → Happens (signed_since since signs identity) records now command outcome after
   happens_since records now command outcome after reached =
-      happens_by (signed_by signs identity) (sealed_until since signs identity) records now (λ bytes signed. inr (reached, signed)) command outcome after
+      happens_by (signed_by signs identity) (signed_since since signs identity) records now (λ bytes signed. inr (reached, signed)) command outcome after
 
   -- and so are the records after it
   pub step_since : (records : Records) (now : ℕ) (command : Command) (outcome : Result Reply Fault) (after : Records)
-      → Sound (sealed_until since signs identity) records → since ≤ next_number records.crls
+      → Sound (signed_since since signs identity) records → since ≤ next_number records.crls
       → Happens (signed_by signs identity) records now command outcome after
-      → Sound (sealed_until since signs identity) after × (since ≤ next_number after.crls)
+      → Sound (signed_since since signs identity) after × (since ≤ next_number after.crls)
   step_since records now command outcome after sound reached happens =
       let here = happens_since records now command outcome after reached happens in
-      let sound_after = step_keeps_sound (sealed_until since signs identity) records now command outcome after sound here in
+      let sound_after = step_keeps_sound (signed_since since signs identity) records now command outcome after sound here in
       let later : next_number records.crls ≤ next_number after.crls =
-      next_grows records after sound.rows sound_after.rows (step_grows (sealed_until since signs identity) records now command outcome after sound here) in
+      next_grows records after sound.rows sound_after.rows (step_grows (signed_since since signs identity) records now command outcome after sound here) in
       (sound_after, omega arith)
 
   -- a run likewise
   pub run_since : (records after : Records) (commands : List (ℕ × Command)) (outcomes : List (Result Reply Fault))
-      → Sound (sealed_until since signs identity) records → since ≤ next_number records.crls
+      → Sound (signed_since since signs identity) records → since ≤ next_number records.crls
       → Run (signed_by signs identity) records commands outcomes after
-      → Run (sealed_until since signs identity) records commands outcomes after
+      → Run (signed_since since signs identity) records commands outcomes after
   run_since records after [] [] sound reached run = run
   run_since records after [] (outcome ∷ outcomes) sound reached run = absurd run
   run_since records after (timed ∷ commands) [] sound reached run = absurd run
@@ -64,11 +64,11 @@ module _ (since : ℕ) (signs : Identity → List ℕ → List ℕ → Type 0) (
       )
 
   pub after_since : (records after : Records) (commands : List (ℕ × Command)) (outcomes : List (Result Reply Fault))
-      → Sound (sealed_until since signs identity) records → since ≤ next_number records.crls
+      → Sound (signed_since since signs identity) records → since ≤ next_number records.crls
       → Run (signed_by signs identity) records commands outcomes after
-      → Sound (sealed_until since signs identity) after × (since ≤ next_number after.crls)
+      → Sound (signed_since since signs identity) after × (since ≤ next_number after.crls)
   after_since records after [] [] sound reached run =
-      subst (λ (r : Records). Sound (sealed_until since signs identity) r × (since ≤ next_number r.crls)) (sym run) (sound, reached)
+      subst (λ (r : Records). Sound (signed_since since signs identity) r × (since ≤ next_number r.crls)) (sym run) (sound, reached)
   after_since records after [] (outcome ∷ outcomes) sound reached run = absurd run
   after_since records after (timed ∷ commands) [] sound reached run = absurd run
   after_since records after (timed ∷ commands) (outcome ∷ outcomes) sound reached run =
@@ -79,7 +79,7 @@ module _ (since : ℕ) (signs : Identity → List ℕ → List ℕ → Type 0) (
 
 module _ (signs : Identity → List ℕ → List ℕ → Type 0) (identity : Identity) where
   -- over what is stored in them
-  abbrev pub over_stored : (records : Records) (sound : SoundFor signs identity records) → Sound (sealed_until sound.since signs identity) records
+  abbrev pub over_stored : (records : Records) (sound : SoundFor signs identity records) → Sound (signed_since sound.since signs identity) records
   over_stored records sound = record { rows = sound.rows; signatures = sound.signatures }
 
   -- one command keeps them so
@@ -92,28 +92,28 @@ module _ (signs : Identity → List ℕ → List ℕ → Type 0) (identity : Ide
   -- so does another schedule
   pub schedule_keeps_sound_for : (records : Records) (schedule : List (ℕ × ℕ)) → IsSchedule schedule → SoundFor signs identity records → SoundFor signs identity (with_schedule records schedule)
   schedule_keeps_sound_for records schedule is sound =
-      let kept = schedule_keeps_sound (sealed_until sound.since signs identity) records schedule is (over_stored records sound) in
+      let kept = schedule_keeps_sound (signed_since sound.since signs identity) records schedule is (over_stored records sound) in
       record { since = sound.since; reached = sound.reached; rows = kept.rows; signatures = kept.signatures }
 
   -- a register as it is created
   pub created_sound_for : (issuer : Issuer) (policy : Terms) → IsPolicy policy → SoundFor signs identity (no_records issuer policy)
   created_sound_for issuer policy is =
-      let made = created_sound (sealed_until 1 signs identity) issuer policy is in
+      let made = created_sound (signed_since 1 signs identity) issuer policy is in
       let next : next_number (no_records issuer policy).crls ≡ 1 = refl in
       record { since = 1; reached = omega (arith, next); rows = made.rows; signatures = made.signatures }
 
 -- ---- whoever signs next, where the digest alone sealed
 
-module _ (signs : Identity → List ℕ → List ℕ → Type 0) (seal : Identity) (is_seal : IsSeal signs seal) where
+module _ (signs : Identity → List ℕ → List ℕ → Type 0) (seal : Identity) (is_seal : IsDigestSigner signs seal) where
   -- what the digest signs is its seal
-  signed_is_sealed : (crl : CertList) (bytes : List ℕ) → signed_by signs seal crl bytes → sealed crl bytes
+  signed_is_sealed : (crl : CertList) (bytes : List ℕ) → signed_by signs seal crl bytes → has_placeholder_digest crl bytes
   signed_is_sealed crl bytes (signature, signed, is) =
       let tbs : List ℕ → List ℕ = λ algorithm. tbs_of algorithm crl in
       let Q : List ℕ → Type 0 = λ algorithm. bytes ≡ certificate_list (tbs algorithm) algorithm (sha1 (tbs algorithm)) in
       subst Q is_seal.algorithm
       (is ∙ ap (certificate_list (tbs seal.algorithm) seal.algorithm) (is_seal.seals (tbs seal.algorithm) signature signed))
 
-  stored_is_sealed : (since : ℕ) (crl : CertList) (bytes : List ℕ) → sealed_until since signs seal crl bytes → sealed crl bytes
+  stored_is_sealed : (since : ℕ) (crl : CertList) (bytes : List ℕ) → signed_since since signs seal crl bytes → has_placeholder_digest crl bytes
   stored_is_sealed since crl bytes (inl (below, is)) = is
   stored_is_sealed since crl bytes (inr (from, signed)) = signed_is_sealed crl bytes signed
 
@@ -127,8 +127,8 @@ module _ (signs : Identity → List ℕ → List ℕ → Type 0) (seal : Identit
         signatures =
             all_join
             (λ (crl : Crl). crl.number < 1 + length records.crls)
-            (λ (crl : Crl). sealed_until sound.since signs seal (cert_list records crl.number crl.this_update) crl.bytes)
-            (λ (crl : Crl). sealed_until (next_number records.crls) signs identity (cert_list records crl.number crl.this_update) crl.bytes)
+            (λ (crl : Crl). signed_since sound.since signs seal (cert_list records crl.number crl.this_update) crl.bytes)
+            (λ (crl : Crl). signed_since (next_number records.crls) signs identity (cert_list records crl.number crl.this_update) crl.bytes)
             (λ crl below stored.
             let earlier : crl.number < next_number records.crls = omega (arith, below, next) in
             inl (earlier, stored_is_sealed sound.since (cert_list records crl.number crl.this_update) crl.bytes stored))

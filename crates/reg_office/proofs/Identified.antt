@@ -7,7 +7,7 @@ use Rattle.reg_core.specs.Records.{Records, Crl}
 use Rattle.reg_core.specs.Sound.{NumberedFrom, SoundRows}
 use Rattle.reg_core.specs.declared.rows.Entry.{Entry}
 use Rattle.reg_crl.specs.Crl.{certificate_list, crl_extensions, key_identifier, tbs_cert_list, tbs_of}
-use Rattle.reg_crl.specs.Signing.{Identity, seal_of, sealed_until, sha1_algorithm}
+use Rattle.reg_crl.specs.Signing.{Identity, with_placeholder_digest, signed_since, sha1_algorithm}
 use Rattle.reg_der.specs.Authority.{HasIdentifier, key_identifier_at, name_of}
 use Rattle.reg_der.specs.Issuers.{with_key_identifier}
 use Rattle.reg_core_laws.proofs.PublicLaws.{next_is}
@@ -34,15 +34,15 @@ module _ (signs : Identity → List ℕ → List ℕ → Type 0) (identity : Ide
       (same_identifier after.issuer records.issuer number (has.earlier number before) has.key)
 
   stored_stays : (since number this_update : ℕ) (bytes : List ℕ) → number < next_number records.crls
-      → sealed_until since signs identity (cert_list records number this_update) bytes → sealed_until since signs identity (cert_list after number this_update) bytes
+      → signed_since since signs identity (cert_list records number this_update) bytes → signed_since since signs identity (cert_list after number this_update) bytes
   stored_stays since number this_update bytes before (inl (below, is)) =
-      inl (below, subst (λ tbs. bytes ≡ seal_of tbs) (sym (tbs_stays sha1_algorithm number this_update before)) is)
+      inl (below, subst (λ tbs. bytes ≡ with_placeholder_digest tbs) (sym (tbs_stays sha1_algorithm number this_update before)) is)
   stored_stays since number this_update bytes before (inr (from, signed)) =
       inr (from, subst (λ tbs. (signature : List ℕ) × signs identity tbs signature × (bytes ≡ certificate_list tbs identity.algorithm signature)) (sym (tbs_stays identity.algorithm number this_update before)) signed)
 
   all_stored : (since from : ℕ) (crls : List Crl) → NumberedFrom (λ crl. crl.number) from crls → from + length crls ≤ next_number records.crls
-      → AllByRecursion (λ crl. sealed_until since signs identity (cert_list records crl.number crl.this_update) crl.bytes) crls
-      → AllByRecursion (λ crl. sealed_until since signs identity (cert_list after crl.number crl.this_update) crl.bytes) crls
+      → AllByRecursion (λ crl. signed_since since signs identity (cert_list records crl.number crl.this_update) crl.bytes) crls
+      → AllByRecursion (λ crl. signed_since since signs identity (cert_list after crl.number crl.this_update) crl.bytes) crls
   all_stored since from [] numbered few all = tt
   all_stored since from (crl ∷ crls) numbered few all =
       let here : crl.number ≡ from = numbered.0 in

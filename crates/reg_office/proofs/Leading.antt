@@ -21,8 +21,8 @@ use Rattle.reg_office_api.specs.Drafts.{Begins, Drafts, IsDraft}
 use Rattle.reg_office_api.specs.Responses.{Replies}
 use Rattle.reg_office_api.specs.declared.response.OcspResponse.{OcspResponse}
 use Rattle.reg_ocsp.specs.Drafts.{Drafted}
-use Rattle.reg_io.specs.declared.begun.Begun.{Begun}
-use Rattle.reg_io.specs.declared.begun.Begun.TheVariants.{Ready, Unsigned}
+use Rattle.reg_io.specs.declared.begun.ReadyOrUnsigned.{ReadyOrUnsigned}
+use Rattle.reg_io.specs.declared.begun.ReadyOrUnsigned.TheVariants.{Ready, Unsigned}
 use Rattle.reg_store_tables.specs.Stays.{Changed, LeavesNothing, Looked}
 use Rattle.reg_store_tables.proofs.PublicLaws.{was_clean, ok_then}
 use Rattle.reg_office.proofs.Beginning.{draft_replied}
@@ -31,13 +31,13 @@ use Rattle.reg_office.specs.Calls.{LeadsOver, OfficeLeads, OfficeLooks, RanIn, S
 use Rattle.reg_office.specs.Beginning.{IsBegun, IsSignedBy}
 use Rattle.reg_office.specs.Faults.{IsTableFault}
 use Rattle.reg_store_tables.specs.LookUps.{LooksUp}
-use Rattle.reg_office.specs.Stands.{Stands, CameTo}
+use Rattle.reg_office.specs.Stands.{Stands, HasOutcome}
 use Rattle.reg_office_api.specs.Ocsp.{IsOcspReply}
 use Rattle.reg_office.proofs.Leaving.{leaves_done, leaves_looked}
 use Rattle.reg_office.specs.Answering.{signatory_of}
 use Rattle.reg_office.specs.declared.office.Office.{Office}
 use Rattle.reg_office.specs.declared.responder.Responder.{Responder as Held_by}
-use Rattle.reg_office.proofs.Standing.{stands_looked}
+use Rattle.reg_office.proofs.RegisterSummary.{stands_looked}
 use Rattle.reg_office.proofs.Stopping.{Settles}
 
 -- the same who signs CRLs and the same who answers are the same who sign
@@ -56,7 +56,7 @@ module _ {C : Type 0} (g : Ghosts C) (signs : Signs) (old new : Held C) (signato
   -- a command
   command_leads : (now : ℕ) (command : Command) (outcome : Result Reply Fault) → Settles g
       → Changed g old new (Does g signs old signatory.crls now command) outcome
-      → ((records : Records) → Stands g signs old signatory.crls records → HasCleanDisk (state g new) → CameTo g signs new signatory'.crls records now command outcome)
+      → ((records : Records) → Stands g signs old signatory.crls records → HasCleanDisk (state g new) → HasOutcome g signs new signatory'.crls records now command outcome)
       → LeadsOver g signs (λ those before after. Runs signs those before now command outcome after) (old, signatory) (new, signatory')
   command_leads now command outcome settles changed step = (
     was_clean (state g old) (state g new) changed.survives.clean,
@@ -133,7 +133,7 @@ module _ {C S : Type 0} (g : Ghosts C) (signer : Signer S) (old new : Office C S
       office_leads _ (λ signatory before after. Ocsps signer.signs signatory before now request (Err memory) after) looks (λ records replied. refl)
 
   -- an OCSP request that is begun
-  pub beginning_leads : (now : ℕ) (request : List ℕ) (result : Result (Begun OcspResponse Drafted) Memory)
+  pub beginning_leads : (now : ℕ) (request : List ℕ) (result : Result (ReadyOrUnsigned OcspResponse Drafted) Memory)
       → OfficeLooks g signer (λ records. IfOk result (IsBegun signer.signs (seen signer old).1.answers records now request)) old new
       → OfficeLeads g signer (λ signatory before after. Begins (Replies signer.signs signatory) (Drafts signatory) before now request result after) old new
   beginning_leads now request (Ok (Ready response)) looks =

@@ -22,7 +22,7 @@ use Rattle.reg_store_tables.specs.Kept.{ShowsKept}
 use Rattle.reg_store_tables.specs.Schema.{no_schema, register_schema}
 use Rattle.reg_store_tables.specs.Shows.{Shows}
 use Rattle.reg_store_tables.specs.Stays.{Changed, LeavesNothing}
-use Rattle.reg_store_tables.specs.AfterStop.{IsAtRest}
+use Rattle.reg_store_tables.specs.AfterStop.{ShowsDerivedAfterStop}
 use Rattle.reg_store_tables.proofs.PublicLaws.{kept_shows, was_clean as clean_first}
 use Rattle.reg_office.specs.AfterStoppedCommand.{Does, IsOneMore, LeavesThese, LeavesReported}
 use Rattle.reg_office.specs.Stands.{Stands}
@@ -103,7 +103,7 @@ module _ {C : Type 0} (g : Ghosts C) (connection held : Held C) (records : Recor
 
   -- a register that was made where there was no table
   pub leaves_made : (signs : Identity → List ℕ → List ℕ → Type 0) (identity : Identity) → connection.schema ≡ no_schema
-      → ((trees : Trees) → Made trees → IsAtRest records trees) → LeavesReported g signs held identity records
+      → ((trees : Trees) → Made trees → ShowsDerivedAfterStop records trees) → LeavesReported g signs held identity records
   leaves_made signs identity empty makes clean trees may register = elim (survives.crash clean trees may) [
     | inl before ↦ (
         let (opens, live) = whole (was_clean clean) in

@@ -16,7 +16,7 @@ pub mod Paging
 pub mod Responding
 pub mod Setting
 pub mod RowsTold
-pub mod Standing
+pub mod RegisterSummary
 pub mod Stopping
 pub mod ShowingNothingElse
 pub mod ShowingRevoked

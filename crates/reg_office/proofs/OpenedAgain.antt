@@ -15,13 +15,13 @@ use Rattle.sqlite_catalog.specs.Listing.{IsSound}
 use Rattle.sqlite_schema.specs.declared.schema.Schema.{Schema}
 use Rattle.reg_store.proofs.PublicLaws.{shows_again}
 use Rattle.reg_store_tables.specs.Schema.{register_schema}
-use Rattle.reg_store_tables.specs.AfterStop.{AreARegisters, IsAtRest}
-use Rattle.reg_office.specs.AfterStoppedCommand.{IsDone, IsNext, IsOneMore, IsPartlyRun, LeavesReported}
-use Rattle.reg_office.specs.OpenedAgain.{OpensReported, StandsDone, StandsOneMore, StandsPartlyRun}
+use Rattle.reg_store_tables.specs.AfterStop.{AreARegisters, ShowsDerivedAfterStop}
+use Rattle.reg_office.specs.AfterStoppedCommand.{IsDone, IsNext, IsOneMore, ShowsPrefix, LeavesReported}
+use Rattle.reg_office.specs.OpenedAgain.{OpensReported, ShowsAccepted, StandsOneMore, StandsPartlyRun}
 use Rattle.reg_office.specs.Stands.{SoundFor, Stands}
 
 module _ {C : Type 0} (g : Ghosts C) (signs : Identity → List ℕ → List ℕ → Type 0) (again : Held C) (identity : Identity) (opens : Opens (state g again)) (live : IsLive (state g again)) where
-  pub stands_done : (records : Records) (now : ℕ) (command : Command) → IsDone signs identity records now command (state g again).committed.trees → StandsDone g signs again identity records now command
+  pub stands_done : (records : Records) (now : ℕ) (command : Command) → IsDone signs identity records now command (state g again).committed.trees → ShowsAccepted g signs again identity records now command
   stands_done records now command it = record {
     answer = it.answer;
     came = record {
@@ -32,12 +32,12 @@ module _ {C : Type 0} (g : Ghosts C) (signs : Identity → List ℕ → List ℕ
   }
 
   stands_next : (records : Records) (left : List (ℕ × Command)) → IsNext (λ after now command. IsDone signs identity after now command (state g again).committed.trees) records left
-      → IsNext (StandsDone g signs again identity) records left
+      → IsNext (ShowsAccepted g signs again identity) records left
   stands_next records [] h = absurd h
   stands_next records (timed ∷ left) h = stands_done records timed.0 timed.1 h
 
   pub stands_partly_run :
-      (records : Records) (commands : List (ℕ × Command)) (outcomes : List (Result Reply Fault)) → IsPartlyRun signs identity records commands outcomes (state g again).committed.trees
+      (records : Records) (commands : List (ℕ × Command)) (outcomes : List (Result Reply Fault)) → ShowsPrefix signs identity records commands outcomes (state g again).committed.trees
       → StandsPartlyRun g signs again identity records commands outcomes
   stands_partly_run records commands outcomes it = record {
     done = it.done;
@@ -62,7 +62,7 @@ module _ {C : Type 0} (g : Ghosts C) (signs : Identity → List ℕ → List ℕ
   stands_one_more records (inr (inr (octets, rests))) = inr (inr (octets, shows_again g again opens live (with_key_identifier records octets) rests))
 
   pub stands_told : (records : Records) → SoundFor signs identity records
-      → IsAtRest records (state g again).committed.trees ⊎ IsOneMore signs identity records (state g again).committed.trees
+      → ShowsDerivedAfterStop records (state g again).committed.trees ⊎ IsOneMore signs identity records (state g again).committed.trees
       → Stands g signs again identity records ⊎ StandsOneMore g signs again identity records
   stands_told records sound (inl rests) = inl (record { shown = shows_again g again opens live records rests; sound = sound })
   stands_told records sound (inr more) = inr (stands_one_more records more)

@@ -16,7 +16,7 @@ use Rattle.reg_core.specs.declared.rows.SubscriberRow.{SubscriberRow}
 use Rattle.reg_core.specs.declared.refusal.Fault.{Fault}
 use Rattle.reg_core.specs.declared.refusal.Fault.TheVariants.{Refused, Memory, Store, Signer, Read, Write}
 use Rattle.reg_core.specs.declared.rows.CertRow.{CertRow}
-use Rattle.reg_core_lists.specs.Lists.{certificate_row, crl_row, expiring_row, history_row, key_of, next_behind, open_row, order_row, overdue_row, page, page_over, past, subscriber_row}
+use Rattle.reg_core_lists.specs.Lists.{certificate_row, crl_row, expiring_row, history_row, key_of, next_cursor, open_row, order_row, overdue_row, page, page_over, past, subscriber_row}
 use Rattle.reg_core_lists.specs.Pages.{IsPage, IsPaged}
 use Rattle.reg_core_lists.specs.declared.cursor.Cursor.{Cursor}
 use Rattle.reg_core_lists.specs.declared.cursor.Cursor.TheVariants.{Crls}
@@ -68,7 +68,7 @@ mapped_cond f false o = refl
 
 -- behind the key of the last row, where as many were looked at as a page may look at
 pub next_same : {A : Type 0} (key : A → ℕ) (at : ℕ → Cursor) (most : ℕ) (found : List A) (last : Option ℕ) (next : Option Cursor)
-    → last ≡ cond (length found == most) (option_map key (slice_get found (length found - 1))) None → next ≡ option_map at last → next ≡ next_behind at most (map key found)
+    → last ≡ cond (length found == most) (option_map key (slice_get found (length found - 1))) None → next ≡ option_map at last → next ≡ next_cursor at most (map key found)
 next_same key at most found last next is told =
     let size = mapped key found in
     told ∙ ap (option_map at) is ∙ mapped_cond at (length found == most) (option_map key (slice_get found (length found - 1)))
@@ -83,7 +83,7 @@ pub keyed_page : {A : Type 0} (key : A → ℕ) (row_for : A → Option Row) (at
     → (rows ≡ (page_over key row_for at after most all).rows) × (next ≡ (page_over key row_for at after most all).next)
 keyed_page key row_for at after most all found told counted rows last next is told_is counted_is has last_is next_is = (
   has ∙ ap (filter_map row_for) (told_is ∙ is),
-  next_same key at most counted last next last_is next_is ∙ ap (λ l. next_behind at most (map key l)) (counted_is ∙ is),
+  next_same key at most counted last next last_is next_is ∙ ap (λ l. next_cursor at most (map key l)) (counted_is ∙ is),
 )
 
 -- the certificates, or those that are good and end before a moment
@@ -121,8 +121,8 @@ crls_page records after most found told counted rows last next is told_is counte
     let looked = take most (past (λ (crl : Crl). crl.number) after records.crls) in (
       has ∙ ap (filter_map (λ (row : CrlRow). Some (OfCrl row))) (told_is ∙ is) ∙ rows_of_crls looked,
       next_same row_number (λ number. Crls number) most counted last next last_is next_is
-          ∙ ap (λ l. next_behind (λ number. Crls number) most (map row_number l)) (counted_is ∙ is)
-          ∙ ap (next_behind (λ number. Crls number) most) (numbers_of_crls looked),
+          ∙ ap (λ l. next_cursor (λ number. Crls number) most (map row_number l)) (counted_is ∙ is)
+          ∙ ap (next_cursor (λ number. Crls number) most) (numbers_of_crls looked),
     )
 
 -- ---- a list whose rows are numbered
@@ -183,7 +183,7 @@ ended_at after before end high stop stays = elim (cases_order end after) [
 ]
 
 -- where a list goes on of which so many ids were looked at
-next_number : (at : ℕ → Cursor) (most after n : ℕ) → cond (nat_lt after (after + n) && (n == most)) (Some (at (after + n))) None ≡ next_behind at most (numbers (after + 1) n)
+next_number : (at : ℕ → Cursor) (most after n : ℕ) → cond (nat_lt after (after + n) && (n == most)) (Some (at (after + n))) None ≡ next_cursor at most (numbers (after + 1) n)
 next_number at most after zero =
     let few : after + 0 ≤ after = omega arith in
     let none = le-ltb after (after + 0) few in
@@ -247,14 +247,14 @@ module _ {A : Type 0} (key : A → ℕ) (row_for : A → Option Row) (look : ℕ
 
   -- where the next one goes on
   pub numbered_next : (next : Option Cursor) → next ≡ cond (nat_lt after end && ((end - after) == most)) (Some (at end)) None
-      → next ≡ next_behind at most (map key (take most (past key after xs)))
+      → next ≡ next_cursor at most (map key (take most (past key after xs)))
   numbered_next next told =
       let size = length-take-le (end - after) behind_it few_looked in
       let keys : map key (take most (past key after xs)) ≡ numbers (after + 1) (end - after) =
       ap (λ l. map key (take most l)) (past_drop key after xs numbered) ∙ ap (map key) same_taken
       ∙ mapped_numbers key (after + 1) (take (end - after) behind_it) (numbered_taken key (after + 1) (end - after) behind_it (dropped_numbered key after xs numbered))
       ∙ ap (numbers (after + 1)) size in
-      told ∙ ended ∙ next_number at most after (end - after) ∙ sym (ap (next_behind at most) keys)
+      told ∙ ended ∙ next_number at most after (end - after) ∙ sym (ap (next_cursor at most) keys)
     where
       -- past the last id none is looked at
       ended : cond (nat_lt after end && ((end - after) == most)) (Some (at end)) None

@@ -10,15 +10,15 @@ use Rattle.reg_der.proofs.PublicLaws.{value_size}
 use Rattle.reg_ocsp.specs.declared.asked.CertId.{CertId}
 use Rattle.reg_ocsp.specs.declared.response.RefusalStatus.TheVariants.{Malformed, Internal, TryLater}
 use Rattle.reg_ocsp.specs.Response.{basic_response, enumerated, ocsp_response, refusal_response, response_bytes}
-use Rattle.reg_ocsp.specs.Views.{id_seen, ids_seen, answers_seen, answered}
-use Rattle.reg_office_api.specs.Ocsp.{IsAnswer, IsTold}
+use Rattle.reg_ocsp.specs.Views.{id_model, ids_model, answers_model, answered}
+use Rattle.reg_office_api.specs.Ocsp.{IsAnswer, IsStatusFor}
 
 -- each CertID is told what the records have
 abbrev pub AreTold : Records → ℕ → List (CertId × Status) → Type 0
-AreTold records now answers = AllByRecursion (λ answer. IsTold records now (id_seen answer.0) answer.1) answers
+AreTold records now answers = AllByRecursion (λ answer. IsStatusFor records now (id_model answer.0) answer.1) answers
 
 pub told_push : (records : Records) (now : ℕ) (answers : List (CertId × Status)) (id : CertId) (status : Status)
-    → AreTold records now answers → IsTold records now (id_seen id) status → AreTold records now (answers ++ (id, status) ∷ [])
+    → AreTold records now answers → IsStatusFor records now (id_model id) status → AreTold records now (answers ++ (id, status) ∷ [])
 told_push records now [] id status all told = (told, tt)
 told_push records now (answer ∷ answers) id status all told = (all.0, told_push records now answers id status all.1 told)
 
@@ -31,15 +31,15 @@ answered_push answers ids n default status front within =
     ∙ sym (take_more ids n default within)
 
 each_told : (records : Records) (now : ℕ) (answers : List (CertId × Status)) → AreTold records now answers
-    → AllZip (IsAnswer records now) (ids_seen (answered answers)) (answers_seen answers)
+    → AllZip (IsAnswer records now) (ids_model (answered answers)) (answers_model answers)
 each_told records now [] all = tt
 each_told records now (answer ∷ answers) all = (record { repeated = refl; told = all.0 }, each_told records now answers all.1)
 
 -- the CertIDs that were asked, and their answers
 pub each_answer : (records : Records) (now : ℕ) (ids : List CertId) (answers : List (CertId × Status)) → answered answers ≡ ids → AreTold records now answers
-    → AllZip (IsAnswer records now) (ids_seen ids) (answers_seen answers)
+    → AllZip (IsAnswer records now) (ids_model ids) (answers_model answers)
 each_answer records now ids answers same all =
-    subst (λ (xs : List CertId). AllZip (IsAnswer records now) (ids_seen xs) (answers_seen answers)) same (each_told records now answers all)
+    subst (λ (xs : List CertId). AllZip (IsAnswer records now) (ids_model xs) (answers_model answers)) same (each_told records now answers all)
 
 -- THE BYTES
 

@@ -9,7 +9,7 @@ use Rattle.reg_core.specs.Records.{Records}
 use Rattle.reg_office_api.specs.Signatories.{Signatory}
 use Rattle.reg_office_api.specs.CallSteps.{Signs}
 use Rattle.reg_office.proofs.Leaving.{leaves_more, leaves_settled}
-use Rattle.reg_office.proofs.Standing.{stands_on}
+use Rattle.reg_office.proofs.RegisterSummary.{stands_on}
 use Rattle.reg_office.proofs.Stopping.{Settles}
 use Rattle.reg_office.specs.AfterStoppedCommand.{IsOneMore}
 use Rattle.reg_office.specs.Calls.{LeadsOver}

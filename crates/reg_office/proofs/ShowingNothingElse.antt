@@ -17,9 +17,9 @@ use Rattle.reg_core.specs.declared.refusal.Refusal.{Refusal}
 use Rattle.reg_core.specs.declared.refusal.Fault.{Fault}
 use Rattle.reg_core.specs.declared.rows.CertRow.{CertRow}
 use Rattle.reg_core.specs.declared.rows.RevocationRow.{RevocationRow}
-use Rattle.reg_crl.specs.Signing.{Identity, sealed_until, signed_by}
+use Rattle.reg_crl.specs.Signing.{Identity, signed_since, signed_by}
 use Rattle.reg_der.specs.Der.{tlv}
-use Rattle.reg_core_laws.specs.History.{HistoryStands}
+use Rattle.reg_core_laws.specs.History.{HistoryIsKept}
 use Rattle.reg_core_laws.specs.Revocations.{IsRevocationBy, RevocationsMove, RevocationsMoveExactly}
 use Rattle.reg_core_laws.specs.Run.{Happens, Run}
 use Rattle.reg_core_laws.proofs.PublicLaws.{all_any, find_back, some_and_here, some_here, some_of}
@@ -151,7 +151,7 @@ module _ (signs : Identity → List ℕ → List ℕ → Type 0) (identity : Ide
 
   -- a revocation after a run stood when it began, or the run accepted it
   pub traced
-      : ((since : ℕ) → RevocationsMoveExactly (sealed_until since signs identity))
+      : ((since : ℕ) → RevocationsMoveExactly (signed_since since signs identity))
       → (start : Records) (commands : List (ℕ × Command)) (outcomes : List (Result Reply Fault))
       → (sound : SoundFor signs identity start)
       → (ran : Run (signed_by signs identity) start commands outcomes after)
@@ -240,8 +240,8 @@ told_is (Some refusal) status told is = absurd (let bad : ⊥ = cc in bad)
 -- a serial number that was not revoked is nowhere shown, where the headline stands
 pub nowhere_shown
     : (signs : Identity → List ℕ → List ℕ → Type 0) (identity : Identity)
-    → ((since : ℕ) → HistoryStands (sealed_until since signs identity))
-    → ((since : ℕ) → RevocationsMoveExactly (sealed_until since signs identity))
+    → ((since : ℕ) → HistoryIsKept (signed_since since signs identity))
+    → ((since : ℕ) → RevocationsMoveExactly (signed_since since signs identity))
     → OcspAgrees
     → (run : SoundRun signs identity)
     → (serial : ℕ)
@@ -250,13 +250,13 @@ pub nowhere_shown
 nowhere_shown signs identity history moves agree run serial not_revoked =
     shown (revocation_in run.after.revocations serial) refl
   where
-    before : Sound (sealed_until run.sound.since signs identity) run.start
+    before : Sound (signed_since run.sound.since signs identity) run.start
     before = over_stored signs identity run.start run.sound
 
-    sound : Sound (sealed_until run.sound.since signs identity) run.after
+    sound : Sound (signed_since run.sound.since signs identity) run.after
     sound = (after_since run.sound.since signs identity run.start run.after run.commands run.outcomes before run.sound.reached run.ran).0
 
-    ran : Run (sealed_until run.sound.since signs identity) run.start run.commands run.outcomes run.after
+    ran : Run (signed_since run.sound.since signs identity) run.start run.commands run.outcomes run.after
     ran = run_since run.sound.since signs identity run.start run.after run.commands run.outcomes before run.sound.reached run.ran
 
     shown

@@ -18,7 +18,7 @@ use Rattle.reg_core.specs.declared.refusal.Fault.TheVariants.{Refused, Memory, S
 use Rattle.reg_core.specs.declared.rows.CertRow.{CertRow}
 use Rattle.reg_core.specs.declared.rows.Entry.{Entry}
 use Rattle.reg_core.specs.declared.rows.RevocationRow.{RevocationRow}
-use Rattle.reg_crl.specs.Signing.{Identity, sealed_until}
+use Rattle.reg_crl.specs.Signing.{Identity, signed_since}
 use Rattle.reg_core_laws.specs.Headline.{ListsRevoked, lists, ListedByCrls, IsDueEntry}
 use Rattle.reg_core_laws.specs.Revocations.{IsRevocationBy}
 use Rattle.reg_core_laws.proofs.PublicLaws.{all_weaker, all_found, key_found, some_at}
@@ -56,19 +56,19 @@ status_told records moment serial reached outcome answered = go outcome answered
     go (Err Write) is = absurd is
 
 -- a revocation is shown, by what the headline says of it
-shown_of
+civil_of
     : (signs : Identity → List ℕ → List ℕ → Type 0) (identity : Identity)
     → OcspAgrees
     → (run : SoundRun signs identity)
     → (its : AcceptedRevocation run)
-    → Sound (sealed_until run.sound.since signs identity) run.after
+    → Sound (signed_since run.sound.since signs identity) run.after
     → (certificate : CertRow) (revocation : RevocationRow)
     → certificate_in run.after.certificates revocation.serial ≡ Some certificate
     → IsRevocationBy its.before its.at (Revoke its.id) revocation
     → ListedByCrls its.before.crls run.after certificate revocation
     → ((n : ℕ) → AllByRecursion (IsDueEntry run.after n) (entries run.after n))
     → IsShownEverywhere its
-shown_of signs identity agree run its sound certificate revocation found by tells due = record {
+civil_of signs identity agree run its sound certificate revocation found by tells due = record {
   request = by.request;
   requested = ap (request_in its.before.requests) own ∙ by.recorded;
   certificate = certificate;
@@ -158,7 +158,7 @@ shown_of signs identity agree run its sound certificate revocation found by tell
 -- each revocation is shown, where the headline stands
 pub shown_everywhere
     : (signs : Identity → List ℕ → List ℕ → Type 0) (identity : Identity)
-    → ((since : ℕ) → ListsRevoked (sealed_until since signs identity))
+    → ((since : ℕ) → ListsRevoked (signed_since since signs identity))
     → OcspAgrees
     → (run : SoundRun signs identity)
     → (its : AcceptedRevocation run)
@@ -186,7 +186,7 @@ shown_everywhere signs identity lists_them agree run its =
     (run_since since signs identity run.start its.before its.front its.early sound run.sound.reached its.ran_before)
     (happens_since since signs identity its.before its.at (Revoke its.id) (Ok (IsRevokedNow its.is_late)) its.next before.1 its.accepted)
     (run_since since signs identity its.next run.after its.rest its.late next.0 next.1 its.ran_after) in
-    shown_of
+    civil_of
     signs
     identity
     agree

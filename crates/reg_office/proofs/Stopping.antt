@@ -11,9 +11,9 @@ use Rattle.reg_core.specs.declared.command.Reply.{Reply}
 use Rattle.reg_core.specs.declared.refusal.Fault.{Fault}
 use Rattle.reg_crl.specs.Signing.{Identity}
 use Rattle.reg_store.proofs.PublicLaws.{at_rest, live_at_rest}
-use Rattle.reg_store_tables.specs.AfterStop.{AreARegisters, IsAtRest}
+use Rattle.reg_store_tables.specs.AfterStop.{AreARegisters, ShowsDerivedAfterStop}
 use Rattle.reg_store_tables.proofs.PublicLaws.{was_clean}
-use Rattle.reg_office.specs.AfterStoppedCommand.{AreRunByOne, HaveNoReply, IsPartlyRun, IsRunOne}
+use Rattle.reg_office.specs.AfterStoppedCommand.{AreRunByOne, HaveNoReply, ShowsPrefix, IsRunOne}
 use Rattle.reg_office.specs.Stands.{HasRun, Stands}
 
 -- between calls a stop finds what was committed
@@ -59,7 +59,7 @@ module _ {C : Type 0} (g : Ghosts C) (signs : Identity → List ℕ → List ℕ
 
   -- what a stop finds was there before the first of them, of which none was replied to, or they ran in part
   abbrev Finds : Held C → Records → List (ℕ × Command) → List (Result Reply Fault) → Trees → Type 0
-  Finds old records commands came trees = ((state g old).may_leave trees × HaveNoReply came) ⊎ IsPartlyRun signs identity records commands came trees
+  Finds old records commands came trees = ((state g old).may_leave trees × HaveNoReply came) ⊎ ShowsPrefix signs identity records commands came trees
 
   -- what it finds of those behind the first, behind it
   behind : (records : Records) (timed : ℕ × Command) (outcome : Result Reply Fault) (commands : List (ℕ × Command)) (came : List (Result Reply Fault)) (trees : Trees) (old next : Held C)
@@ -138,10 +138,10 @@ module _ {C : Type 0} (g : Ghosts C) (signs : Identity → List ℕ → List ℕ
   pub partly_run : (old new : Held C) (records : Records) (commands : List (ℕ × Command)) (came : List (Result Reply Fault)) (trees : Trees)
       → Settles g → Stands g signs old identity records → IsTrue (state g old).is_open → IsLive (state g old)
       → AreRunByOne g signs identity old commands came new → HasCleanDisk (state g new) → (state g new).may_leave trees
-      → IsPartlyRun signs identity records commands came trees
+      → ShowsPrefix signs identity records commands came trees
   partly_run old new records commands came trees settles stands up live runs clean may =
       let was = was_clean (state g old) (state g new) (run_clean old new commands came runs) clean in
-      let rest : (found : Trees) → (state g old).may_leave found → IsAtRest records found = λ found left. live_at_rest g old records found was up stands.shown live (settles old found up left) in
+      let rest : (found : Trees) → (state g old).may_leave found → ShowsDerivedAfterStop records found = λ found left. live_at_rest g old records found was up stands.shown live (settles old found up left) in
       elim (found_all old new records commands came trees settles (λ found left. (rest found left).3) stands runs clean may) [
         | inl before ↦ record {
           done = [];

@@ -13,9 +13,9 @@ use Rattle.reg_crl.specs.Signing.{Identity, signed_by}
 use Rattle.reg_office_api.specs.Signatories.{Signs}
 use Rattle.reg_der.specs.Issuers.{with_key_identifier}
 use Rattle.reg_store_tables.specs.Kept.{ShowsKept}
-use Rattle.reg_store_tables.specs.AfterStop.{AreARegisters, IsAtRest}
+use Rattle.reg_store_tables.specs.AfterStop.{AreARegisters, ShowsDerivedAfterStop}
 use Rattle.reg_core_laws.specs.Run.{Happens, Run}
-use Rattle.reg_office.specs.Stands.{SoundFor, Stands, CameTo}
+use Rattle.reg_office.specs.Stands.{SoundFor, Stands, HasOutcome}
 
 -- the rows show the records after the command, which was accepted over `records`; the derived tables match them, and they are sound for the
 -- office's signer
@@ -24,7 +24,7 @@ pub record IsDone (signs : Signs) (identity : Identity) (records : Records) (now
   pub answer : Reply
   pub after : Records
   pub happens : Happens (signed_by signs identity) records now command (Ok answer) after
-  pub rests : IsAtRest after trees
+  pub rests : ShowsDerivedAfterStop after trees
   pub sound : SoundFor signs identity after
 
 -- the rows after a command of an office that was accepted over the records before it
@@ -36,7 +36,7 @@ Does g signs old identity now command trees =
 -- the rows after the issuer was given a key identifier of its own, which CRLs have from the next one on
 abbrev pub IsIdentified : {C : Type 0} → Ghosts C → Held C → List ℕ → Trees → Type 0
 IsIdentified g old octets trees =
-    (records : Records) → ShowsKept g old records → IsAtRest (with_key_identifier records octets) trees
+    (records : Records) → ShowsKept g old records → ShowsDerivedAfterStop (with_key_identifier records octets) trees
 
 -- ---- over a run
 
@@ -69,17 +69,17 @@ pub record PartlyRun (signs : Signs) (identity : Identity) (Rests : Records → 
   pub rests : Rests after ⊎ IsNext Done after left
 
 -- the rows show the records after a prefix of the commands, and the derived tables match them
-abbrev pub IsPartlyRun : Signs → Identity → Records → List (ℕ × Command)
+abbrev pub ShowsPrefix : Signs → Identity → Records → List (ℕ × Command)
     → List (Result Reply Fault) → Trees → Type 0
-IsPartlyRun signs identity records commands outcomes trees =
-    PartlyRun signs identity (λ after. IsAtRest after trees)
+ShowsPrefix signs identity records commands outcomes trees =
+    PartlyRun signs identity (λ after. ShowsDerivedAfterStop after trees)
     (λ after now command. IsDone signs identity after now command trees) records commands outcomes
 
 -- what the clauses of `run_one` say of one command, from one state of an office's tables to the next
 pub record IsRunOne {C : Type 0} (g : Ghosts C) (signs : Signs) (identity : Identity) (old new : Held C)
     (now : ℕ) (command : Command) (outcome : Result Reply Fault) : Type 0 where
   pub step : (records : Records) → Stands g signs old identity records → HasCleanDisk (state g new)
-      → CameTo g signs new identity records now command outcome
+      → HasOutcome g signs new identity records now command outcome
   pub live : HasCleanDisk (state g new) → OnOk outcome (IsTrue (state g new).is_open)
   pub survives : Survives (state g old) (state g new) (Does g signs old identity now command)
 
@@ -98,17 +98,17 @@ AreRunByOne {C = C} g signs identity old (timed ∷ commands) (outcome ∷ outco
 -- a stop after a call, or in the middle of it, leaves rows that show these records, with derived tables that match them
 abbrev pub LeavesThese : {C : Type 0} → Ghosts C → Held C → Records → Type 0
 LeavesThese g held records =
-    HasCleanDisk (state g held) → (trees : Trees) → (state g held).may_leave trees → IsAtRest records trees
+    HasCleanDisk (state g held) → (trees : Trees) → (state g held).may_leave trees → ShowsDerivedAfterStop records trees
 
 -- the rows show the records after one more change, whose acceptance was not replied: a command, or another schedule or key identifier
 abbrev pub IsOneMore : Signs → Identity → Records → Trees → Type 0
 IsOneMore signs identity records trees =
     ((now : ℕ) × (command : Command) × IsDone signs identity records now command trees)
-    ⊎ (((steps : List (ℕ × ℕ)) × IsAtRest (with_schedule records steps) trees)
-    ⊎ ((octets : List ℕ) × IsAtRest (with_key_identifier records octets) trees))
+    ⊎ (((steps : List (ℕ × ℕ)) × ShowsDerivedAfterStop (with_schedule records steps) trees)
+    ⊎ ((octets : List ℕ) × ShowsDerivedAfterStop (with_key_identifier records octets) trees))
 
 -- if a stop after a call, or in the middle of it, leaves a register's tables, these show these records, or those after one more change
 abbrev pub LeavesReported : {C : Type 0} → Ghosts C → Signs → Held C → Identity → Records → Type 0
 LeavesReported g signs held identity records =
     HasCleanDisk (state g held) → (trees : Trees) → (state g held).may_leave trees → AreARegisters trees
-    → IsAtRest records trees ⊎ IsOneMore signs identity records trees
+    → ShowsDerivedAfterStop records trees ⊎ IsOneMore signs identity records trees

@@ -3,12 +3,12 @@ use Rattle.std.specs.Prelude.{◌≡◌, ◌<◌, ℕ, Some, None, option_copied
 use Rattle.reg_crl.specs.Signing.{Identity}
 use Rattle.reg_crl.specs.declared.signer.Signer.{Ghosts as Signer}
 use Rattle.reg_office_api.specs.Signatories.{Responder, Signatory}
-use Rattle.reg_office.specs.declared.responder.Naming.{Naming}
+use Rattle.reg_office.specs.declared.responder.ResponderFields.{ResponderFields}
 use Rattle.reg_office.specs.declared.responder.Responder.{Responder as Held}
 use Rattle.reg_office.specs.declared.responder.Responder.TheVariants.{Issuer, Delegate}
 
 -- the responder with this identity, and with the key and certificate of a naming
-abbrev pub responder_named : Identity → Naming → Responder
+abbrev pub responder_named : Identity → ResponderFields → Responder
 responder_named identity naming = record {
   identity = identity;
   own_key = option_copied naming.own_key;

@@ -15,20 +15,20 @@ use Rattle.reg_office_api.specs.Signatories.{Responder}
 use Rattle.reg_office_api.specs.declared.response.OcspResponse.{OcspResponse}
 use Rattle.reg_office_api.specs.declared.response.ResponseKind.{ResponseKind}
 use Rattle.reg_office_api.specs.declared.response.ResponseKind.TheVariants.{Signed, SignerFailure}
-use Rattle.reg_io.specs.declared.begun.Begun.{Begun}
-use Rattle.reg_io.specs.declared.begun.Begun.TheVariants.{Ready, Unsigned}
+use Rattle.reg_io.specs.declared.begun.ReadyOrUnsigned.{ReadyOrUnsigned}
+use Rattle.reg_io.specs.declared.begun.ReadyOrUnsigned.TheVariants.{Ready, Unsigned}
 use Rattle.reg_office.specs.declared.ocsp_faults.ResponseFault.{ResponseFault}
 use Rattle.reg_office.specs.declared.ocsp_faults.ResponseFault.TheVariants as fault
 
 -- the response to the bytes of a request, or a draft of it
-abbrev pub IsBegun : Signs → Responder → Records → ℕ → List ℕ → Begun OcspResponse Drafted → Type 0
+abbrev pub IsBegun : Signs → Responder → Records → ℕ → List ℕ → ReadyOrUnsigned OcspResponse Drafted → Type 0
 IsBegun signs responder records now request (Ready response) =
     IsOcspResponse signs responder records now request response.kind response.bytes.items
 IsBegun signs responder records now request (Unsigned draft) = IsDraft responder records now request draft
 
 -- Whatever the store shows: the response is malformedRequest exactly if the bytes are no request, and internalError if the signer
 -- failed. A draft is left only if the bytes are a request.
-abbrev pub RefusesRequest : List ℕ → Begun OcspResponse Drafted → Type 0
+abbrev pub RefusesRequest : List ℕ → ReadyOrUnsigned OcspResponse Drafted → Type 0
 RefusesRequest request (Ready response) =
     ((response.bytes.items ≡ refusal_response status.Malformed) ↔ HasNoReading request)
     × (response.kind ≡ SignerFailure → response.bytes.items ≡ refusal_response status.Internal)
@@ -64,12 +64,12 @@ IsMessage key records now ids echo (Err fault.Memory) = Unit {0}
 IsMessage key records now ids echo (Err fault.Store) = Unit {0}
 
 -- a ready response of this kind, with these bytes
-abbrev pub IsReady : ResponseKind → List ℕ → Begun OcspResponse Drafted → Type 0
+abbrev pub IsReady : ResponseKind → List ℕ → ReadyOrUnsigned OcspResponse Drafted → Type 0
 IsReady kind bytes (Ready response) = (response.kind ≡ kind) × (response.bytes.items ≡ bytes)
 IsReady kind bytes (Unsigned draft) = ⊥
 
 -- the response with this ResponseData: signed; or internalError, if the signer failed; or a draft for the responder to sign
-abbrev pub IsResponseOver : Signs → Responder → List ℕ → Begun OcspResponse Drafted → Type 0
+abbrev pub IsResponseOver : Signs → Responder → List ℕ → ReadyOrUnsigned OcspResponse Drafted → Type 0
 IsResponseOver signs responder message (Ready response) =
     ((response.kind ≡ Signed) × response_signed_by signs responder message response.bytes.items)
     ⊎ IsReady SignerFailure (refusal_response status.Internal) (Ready response)

@@ -15,7 +15,7 @@ use Rattle.reg_office_api.specs.Signatories.{Signs}
 use Rattle.reg_store_tables.specs.Stays.{Changed}
 use Rattle.reg_office.specs.AfterStoppedCommand.{Does}
 use Rattle.reg_office.specs.Faults.{IsOfficeFault}
-use Rattle.reg_office.specs.Stands.{Stands, CameTo}
+use Rattle.reg_office.specs.Stands.{Stands, HasOutcome}
 
 -- The command was run: it had this outcome over the store's records, and the store shows those after it. A stop leaves the records before
 -- it or after it. The signer has the same identity. `Signer` is the outcome only of a CRL for which the signer counted a failure.
@@ -23,7 +23,7 @@ pub record IsCommandRun {C S : Type 0} (g : Ghosts C) (signs : Signs) (identity 
     (failures : S → ℕ) (old new : Held C) (signer left : S) (now : ℕ) (command : Command)
     (outcome : Result Reply Fault) : Type 0 where
   pub step : (records : Records) → Stands g signs old (identity signer) records → HasCleanDisk (state g new)
-      → CameTo g signs new (identity left) records now command outcome
+      → HasOutcome g signs new (identity left) records now command outcome
   pub changed : Changed g old new (Does g signs old (identity signer) now command) outcome
   pub same_identity : identity left ≡ identity signer
   pub device : IsErrOf outcome SignerFailed → (command ≡ IssueCrl) × (failures signer < failures left)

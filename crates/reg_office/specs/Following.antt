@@ -8,7 +8,7 @@ use Rattle.reg_core.specs.declared.command.Command.{Command}
 use Rattle.reg_core.specs.declared.command.Reply.{Reply}
 use Rattle.reg_core.specs.declared.refusal.Fault.{Fault}
 use Rattle.reg_core.specs.Crls.{CertList}
-use Rattle.reg_crl.specs.Signing.{Identity, sealed_until, sha1_algorithm, signed_by}
+use Rattle.reg_crl.specs.Signing.{Identity, signed_since, sha1_algorithm, signed_by}
 use Rattle.reg_crl.specs.declared.signer.Signer.{Ghosts as Signer}
 use Rattle.reg_office_api.specs.Signatories.{Signs}
 use Rattle.reg_core_laws.specs.Run.{Run}
@@ -19,8 +19,8 @@ abbrev pub Signed : {S : Type 0} → Signer S → ((CertList → List ℕ → Ty
 Signed {S = S} signer Law = (it : S) → Law (signed_by signer.signs (signer.identity it))
 
 -- a law about signed CRLs, for any signer, and for CRLs with the placeholder digest below any number
-abbrev pub Sealed : {S : Type 0} → Signer S → ((CertList → List ℕ → Type 0) → Type 0) → Type 0
-Sealed {S = S} signer Law = (it : S) (since : ℕ) → Law (sealed_until since signer.signs (signer.identity it))
+abbrev pub SignedOrDigest : {S : Type 0} → Signer S → ((CertList → List ℕ → Type 0) → Type 0) → Type 0
+SignedOrDigest {S = S} signer Law = (it : S) (since : ℕ) → Law (signed_since since signer.signs (signer.identity it))
 
 -- a run whose new CRLs the signer signs is also one whose CRLs have the placeholder digest below a number that was reached before it
 abbrev pub RunsSince : Signs → Identity → Type 0
@@ -28,15 +28,15 @@ RunsSince signs identity =
     (records after : Records) (commands : List (ℕ × Command)) (outcomes : List (Result Reply Fault))
     → (sound : SoundFor signs identity records)
     → Run (signed_by signs identity) records commands outcomes after
-    → Run (sealed_until sound.since signs identity) records commands outcomes after
+    → Run (signed_since sound.since signs identity) records commands outcomes after
 
 -- this signer makes the placeholder digest: its AlgorithmIdentifier is that of SHA-1, and each signature is the SHA-1 of its message
-pub record IsSeal (signs : Signs) (identity : Identity) : Type 0 where
+pub record IsDigestSigner (signs : Signs) (identity : Identity) : Type 0 where
   pub algorithm : identity.algorithm ≡ sha1_algorithm
   pub seals : (message signature : List ℕ) → signs identity message signature → signature ≡ sha1 message
 
 -- records that are sound for the placeholder digest are sound for any next signer: all CRLs so far have the digest
-abbrev pub FollowsSeal : {C : Type 0} → Ghosts C → Signs → Type 0
-FollowsSeal {C = C} g signs =
+abbrev pub FollowsDigest : {C : Type 0} → Ghosts C → Signs → Type 0
+FollowsDigest {C = C} g signs =
     (held : Held C) (seal identity : Identity) (records : Records)
-    → IsSeal signs seal → Stands g signs held seal records → Stands g signs held identity records
+    → IsDigestSigner signs seal → Stands g signs held seal records → Stands g signs held identity records

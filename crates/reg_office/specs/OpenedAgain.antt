@@ -15,13 +15,13 @@ use Rattle.reg_store.specs.OpenedAgain.{IsOpenedAgain}
 use Rattle.reg_store_tables.specs.Kept.{ShowsKept}
 use Rattle.reg_store_tables.specs.Schema.{register_schema}
 use Rattle.reg_office.specs.AfterStoppedCommand.{AreRunByOne, Does, PartlyRun}
-use Rattle.reg_office.specs.Stands.{Stands, CameTo}
+use Rattle.reg_office.specs.Stands.{Stands, HasOutcome}
 
 -- the command was accepted over the records, and the store shows those after it
-pub record StandsDone {C : Type 0} (g : Ghosts C) (signs : Signs) (held : Held C) (identity : Identity)
+pub record ShowsAccepted {C : Type 0} (g : Ghosts C) (signs : Signs) (held : Held C) (identity : Identity)
     (records : Records) (now : ℕ) (command : Command) : Type 0 where
   pub answer : Reply
-  pub came : CameTo g signs held identity records now command (Ok answer)
+  pub came : HasOutcome g signs held identity records now command (Ok answer)
 
 -- if the machine stops after a command, or in the middle of it, and the register is opened again, it shows the records before the command, or
 -- those after its acceptance, with derived tables that match them; the disk may lose what was not synced
@@ -30,7 +30,7 @@ OpensBeforeOrAfter {C = C} g signs =
     (old new again : Held C) (identity : Identity) (records : Records) (now : ℕ) (command : Command)
     → Stands g signs old identity records → IsTrue (state g old).is_open → IsLive (state g old)
     → Survives (state g old) (state g new) (Does g signs old identity now command) → IsOpenedAgain g new again
-    → ∥ Stands g signs again identity records ⊎ StandsDone g signs again identity records now command ∥₁
+    → ∥ Stands g signs again identity records ⊎ ShowsAccepted g signs again identity records now command ∥₁
 
 -- ---- over a run
 
@@ -38,7 +38,7 @@ OpensBeforeOrAfter {C = C} g signs =
 abbrev pub StandsPartlyRun : {C : Type 0} → Ghosts C → Signs → Held C → Identity → Records
     → List (ℕ × Command) → List (Result Reply Fault) → Type 0
 StandsPartlyRun g signs held identity records commands outcomes =
-    PartlyRun signs identity (Stands g signs held identity) (StandsDone g signs held identity)
+    PartlyRun signs identity (Stands g signs held identity) (ShowsAccepted g signs held identity)
     records commands outcomes
 
 -- if the machine stops after such a run, or in the middle of it, and the register is opened again, it shows the records after a prefix of the
@@ -56,7 +56,7 @@ OpensAfterAPrefix {C = C} g signs =
 -- the store shows the records after one more change, whose acceptance was not replied: a command, or another schedule or key identifier
 abbrev pub StandsOneMore : {C : Type 0} → Ghosts C → Signs → Held C → Identity → Records → Type 0
 StandsOneMore g signs held identity records =
-    ((now : ℕ) × (command : Command) × StandsDone g signs held identity records now command)
+    ((now : ℕ) × (command : Command) × ShowsAccepted g signs held identity records now command)
     ⊎ (((steps : List (ℕ × ℕ)) × ShowsKept g held (with_schedule records steps))
     ⊎ ((octets : List ℕ) × ShowsKept g held (with_key_identifier records octets)))
 

@@ -22,7 +22,7 @@ use Rattle.reg_core.specs.declared.refusal.Fault.TheVariants.{Memory, Store}
 use Rattle.reg_core.specs.declared.rows.CertRow.{CertRow}
 use Rattle.reg_core.specs.declared.rows.Entry.{Entry}
 use Rattle.reg_core.specs.declared.rows.RequestRow.{RequestRow}
-use Rattle.reg_crl.specs.Signing.{Identity, sealed_until, signed_by}
+use Rattle.reg_crl.specs.Signing.{Identity, signed_since, signed_by}
 use Rattle.reg_core_laws.specs.Run.{Happens, Run}
 use Rattle.reg_ocsp.specs.Matching.{IsMatch}
 use Rattle.reg_ocsp.specs.Request.{Id, IsOcspRequest}
@@ -118,7 +118,7 @@ ListedThroughFirstPast records entry not_after (crl ∷ rest) =
 -- each recorded CRL is signed over its entries by the signer, or has the placeholder digest if its number is below `since`
 abbrev pub AreSignedSo : ℕ → Signs → Identity → Records → Type 0
 AreSignedSo since signs identity records =
-    AllByRecursion (λ crl. sealed_until since signs identity (signed_in records crl) crl.bytes) records.crls
+    AllByRecursion (λ crl. signed_since since signs identity (signed_in records crl) crl.bytes) records.crls
 
 -- A REVOKED CERTIFICATE IS SHOWN AS REVOKED EVERYWHERE
 

@@ -8,7 +8,7 @@ use Rattle.reg_core.specs.Sound.{CrlsSigned, SoundRows}
 use Rattle.reg_core.specs.declared.command.Command.{Command}
 use Rattle.reg_core.specs.declared.command.Reply.{Reply}
 use Rattle.reg_core.specs.declared.refusal.Fault.{Fault}
-use Rattle.reg_crl.specs.Signing.{Identity, sealed_until, signed_by}
+use Rattle.reg_crl.specs.Signing.{Identity, signed_since, signed_by}
 use Rattle.reg_office_api.specs.Signatories.{Signs}
 use Rattle.reg_store_tables.specs.Kept.{ShowsKept}
 use Rattle.reg_core_laws.specs.Run.{Happens, Run}
@@ -19,7 +19,7 @@ pub record SoundFor (signs : Signs) (identity : Identity) (records : Records) : 
   pub since : ℕ
   pub reached : since ≤ next_number records.crls
   pub rows : SoundRows records
-  pub signatures : CrlsSigned (sealed_until since signs identity) records
+  pub signatures : CrlsSigned (signed_since since signs identity) records
 
 -- the tables show the records, the derived tables match them, and the records are sound for the office's signer
 pub record Stands {C : Type 0} (g : Ghosts C) (signs : Signs) (held : Held C) (identity : Identity)
@@ -28,7 +28,7 @@ pub record Stands {C : Type 0} (g : Ghosts C) (signs : Signs) (held : Held C) (i
   pub sound : SoundFor signs identity records
 
 -- one command at a moment had this outcome over the records, and the store shows the records after it
-pub record CameTo {C : Type 0} (g : Ghosts C) (signs : Signs) (held : Held C) (identity : Identity)
+pub record HasOutcome {C : Type 0} (g : Ghosts C) (signs : Signs) (held : Held C) (identity : Identity)
     (records : Records) (now : ℕ) (command : Command) (outcome : Result Reply Fault) : Type 0 where
   pub after : Records
   pub happens : Happens (signed_by signs identity) records now command outcome after

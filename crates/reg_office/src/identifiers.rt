@@ -25,11 +25,11 @@ fn next_crl_number<C: Alter>(tables: &mut Tables<C>) -> Result<u64, DatabaseFaul
     ensures looked { Looked C.Store tables.old tables.new }
 {
     let latest = tables.latest_crl()?;
-    number_behind(latest).ok_or(DatabaseFault::Store)
+    next_number_after(latest).ok_or(DatabaseFault::Store)
 }
 
 /// The number of the next CRL, 1 if there is no CRL yet; `None` if the latest one has the greatest `u64`.
-fn number_behind(latest: Option<CrlRow>) -> Option<u64>
+fn next_number_after(latest: Option<CrlRow>) -> Option<u64>
     ensures { IfSome result (λ number. number ≡ number_after latest) }
 {
     match latest {

@@ -1,10 +1,10 @@
 //! Each function here does nothing when it runs: its contract is a law, which `rt check` proves.
 
 ghost use Rattle.std.specs.Prelude.{ℕ};
-ghost use Rattle.reg_core_laws.specs.Headline.{CreatedSound, KeepsSound, RunsInParts, StandsInExactlyOne, CountsMoveExactly, ListsRevoked, RefusalsChangeNothing};
-ghost use Rattle.reg_core_laws.specs.History.{HistoryStands};
+ghost use Rattle.reg_core_laws.specs.Headline.{CreatedSound, KeepsSound, RunsInParts, HasExactlyOneStatus, CountsMoveExactly, ListsRevoked, RefusalsChangeNothing};
+ghost use Rattle.reg_core_laws.specs.History.{HistoryIsKept};
 ghost use Rattle.reg_office.specs.Agreement.{OcspAgrees};
-ghost use Rattle.reg_office.specs.Following.{FollowsSeal, RunsSince, Sealed, Signed};
+ghost use Rattle.reg_office.specs.Following.{FollowsDigest, RunsSince, SignedOrDigest, Signed};
 ghost use Rattle.reg_office.specs.OpenedAgain.{OpensAfterAPrefix, OpensBeforeOrAfter};
 ghost use Rattle.reg_office.specs.Decisions.{SubscribersAreSteps, OrdersAreSteps, RegistrationsAreSteps, RequestsAreSteps, DeclinesAreSteps, RevocationsAreSteps, CrlsAreSteps};
 ghost use Rattle.reg_office.specs.Shown.{SoundRun, AcceptedRevocation, IsShownEverywhere, WasRevoked, IsNowhereShown};
@@ -15,16 +15,16 @@ use sqlite::Alter;
 /// The headline: what holds for every list of commands that an office runs from sound records, with any signer (RFC 5280 3.3, RFC 6960 2.2).
 /// CRLs below any one number may have the placeholder digest: they were issued before the register had a key.
 pub fn headline<S: Signer>()
-    ensures created { Sealed S.Signer CreatedSound }
+    ensures created { SignedOrDigest S.Signer CreatedSound }
     ensures since { (signer : S) → RunsSince S.signs (S.identity signer) }
-    ensures sound { Sealed S.Signer KeepsSound }
-    ensures parts { Sealed S.Signer RunsInParts }
-    ensures exactly_one { Sealed S.Signer StandsInExactlyOne }
-    ensures counts { Sealed S.Signer CountsMoveExactly }
-    ensures lists { Sealed S.Signer ListsRevoked }
-    ensures history { Sealed S.Signer HistoryStands }
+    ensures sound { SignedOrDigest S.Signer KeepsSound }
+    ensures parts { SignedOrDigest S.Signer RunsInParts }
+    ensures exactly_one { SignedOrDigest S.Signer HasExactlyOneStatus }
+    ensures counts { SignedOrDigest S.Signer CountsMoveExactly }
+    ensures lists { SignedOrDigest S.Signer ListsRevoked }
+    ensures history { SignedOrDigest S.Signer HistoryIsKept }
     ensures statuses { OcspAgrees }
-    ensures refused { Sealed S.Signer RefusalsChangeNothing }
+    ensures refused { SignedOrDigest S.Signer RefusalsChangeNothing }
 {
     reg_core_laws::laws::headline::<CrlSigner<S>>();
     reg_core_laws::laws::history::<CrlSigner<S>>();
@@ -33,7 +33,7 @@ pub fn headline<S: Signer>()
 
 /// A register can switch from the placeholder digest to a key: records that are sound for the digest are sound for any next signer.
 pub fn a_key_follows_the_digest<C: Alter, S: Signer>()
-    ensures { FollowsSeal C.Store S.signs }
+    ensures { FollowsDigest C.Store S.signs }
 {}
 
 /// OCSP statuses agree with the register, and with the entries of its CRLs (RFC 6960 2.2, RFC 5280 5.3).

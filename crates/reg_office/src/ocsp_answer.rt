@@ -3,7 +3,7 @@
 ghost use Rattle.std.specs.Prelude.{◌≡◌, ◌^◌, ◌≤◌, ◌↔◌, None, length, IfOk, IfSome, option_copied, unwrap_or};
 ghost use Rattle.reg_ocsp.specs.Request.{CanBeAnswered};
 ghost use Rattle.reg_ocsp.specs.Response.{refusal_response};
-ghost use Rattle.reg_ocsp.specs.Views.{ids_seen};
+ghost use Rattle.reg_ocsp.specs.Views.{ids_model};
 ghost use Rattle.reg_ocsp.specs.declared.response.RefusalStatus.TheVariants as refused;
 ghost use Rattle.reg_office_api.specs.Drafts.{IsSignerFailure};
 ghost use Rattle.reg_office.specs.Answering.{AnswerFailed, SameSignatory, SignerHasFailed, answering, failures_of, responder_named};
@@ -11,12 +11,12 @@ ghost use Rattle.reg_office.specs.Beginning.{IsBegun, IsMessage, IsReady, IsResp
 ghost use Rattle.reg_store_tables.specs.LookUps.{Learns, LooksUp};
 
 use crate::ocsp_faults::ResponseFault;
-use crate::responder::{Naming, Responder, of_delegate, of_issuer};
+use crate::responder::{Responder, ResponderFields, of_delegate, of_issuer};
 use crate::statuses::answers;
 use reg_core::{Memory, Moment, clock};
 use reg_crl::{SignFault, Signer};
 use reg_der::Issuer;
-use reg_io::Begun;
+use reg_io::ReadyOrUnsigned;
 use reg_ocsp::{
     Asked, Draft, RefusalStatus, RequestFault, basic_with, read_request, refusal, response_data_by,
     slice_of,
@@ -35,7 +35,7 @@ pub(crate) fn begin_ocsp<C: Alter, S: Signer>(
     responder: &mut Responder<S>,
     now: Moment,
     request: &[u8],
-) -> Result<Begun<OcspResponse, Draft>, Memory>
+) -> Result<ReadyOrUnsigned<OcspResponse, Draft>, Memory>
     ensures looks { Learns C.Store tables.old tables.new result (λ records.
         IsBegun S.signs (answering S.Signer signer.old responder.old) records now request.now) }
     ensures refuses { IfOk result (RefusesRequest request.now) }
@@ -80,10 +80,10 @@ fn begin<C: Alter, S: Signer>(
     alloc: Global,
     tables: &mut Tables<C>,
     signer: &mut S,
-    naming: Naming<'_>,
+    naming: ResponderFields<'_>,
     now: Moment,
     request: &[u8],
-) -> Result<Begun<OcspResponse, Draft>, Memory>
+) -> Result<ReadyOrUnsigned<OcspResponse, Draft>, Memory>
     requires { IfSome (option_copied naming.certificate) (λ bytes. length bytes ≤ 65536) }
     ensures looks { Learns C.Store tables.old tables.new result (λ records.
         IsBegun S.signs (responder_named (S.identity signer.old) naming.entry) records now request.now) }
@@ -116,11 +116,11 @@ fn refused(
     alloc: Global,
     status: RefusalStatus,
     kind: ResponseKind,
-) -> Result<Begun<OcspResponse, Draft>, Memory>
+) -> Result<ReadyOrUnsigned<OcspResponse, Draft>, Memory>
     ensures { IfOk result (IsReady kind (refusal_response status)) }
 {
     let bytes = Vec::from_slice(alloc, &refusal(status)).map_err(|_| Memory)?;
-    Ok(Begun::Ready(OcspResponse { bytes, kind }))
+    Ok(ReadyOrUnsigned::Ready(OcspResponse { bytes, kind }))
 }
 
 /// The ResponseData for a request. Its ResponderID is by the responder's own key, or else by the issuer's.
@@ -131,10 +131,10 @@ fn ocsp_data<C: Alter>(
     now: Moment,
     asked: &Asked<'_>,
 ) -> Result<Vec<u8>, ResponseFault>
-    requires { CanBeAnswered (ids_seen asked.now.ids.items) (option_copied asked.now.nonce) }
+    requires { CanBeAnswered (ids_model asked.now.ids.items) (option_copied asked.now.nonce) }
     ensures looks { LooksUp C.Store tables.old tables.new (λ records.
         IsMessage (key_in records (option_copied own_key.entry)) records now
-        (ids_seen asked.now.ids.items) (option_copied asked.now.nonce) result) }
+        (ids_model asked.now.ids.items) (option_copied asked.now.nonce) result) }
     ensures bounded { IfOk result (λ bytes. length bytes.items ≤ 2 ^ 27) }
 {
     let (issuer, next) = responding(tables, now)?;
@@ -168,9 +168,9 @@ fn responding<C: Alter>(
 fn respond<S: Signer>(
     alloc: Global,
     signer: &mut S,
-    naming: Naming<'_>,
+    naming: ResponderFields<'_>,
     message: &[u8],
-) -> Result<Begun<OcspResponse, Draft>, Memory>
+) -> Result<ReadyOrUnsigned<OcspResponse, Draft>, Memory>
     requires short { length message.now ≤ 2 ^ 27 }
     requires short_certificate { IfSome (option_copied naming.certificate) (λ bytes. length bytes ≤ 65536) }
     ensures responds { IfOk result
@@ -182,14 +182,14 @@ fn respond<S: Signer>(
 {
     if let Some(key) = signer.public_key() {
         let draft = Draft::of(alloc, message, signer.algorithm(), key, naming.certificate)?;
-        return Ok(Begun::Unsigned(draft));
+        return Ok(ReadyOrUnsigned::Unsigned(draft));
     }
     match signature_by(alloc, signer, message)? {
         Some(signature) => {
             let algorithm = signer.algorithm();
             let bytes = basic_with(alloc, message, algorithm, &signature, naming.certificate)?;
             let kind = ResponseKind::Signed;
-            Ok(Begun::Ready(OcspResponse { bytes, kind }))
+            Ok(ReadyOrUnsigned::Ready(OcspResponse { bytes, kind }))
         }
         None => refused(alloc, RefusalStatus::Internal, ResponseKind::SignerFailure),
     }

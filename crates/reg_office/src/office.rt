@@ -14,9 +14,9 @@ use crate::responder::{Responder, failures_in};
 use reg_core::{Command, Fault, Label, Memory, Moment, Outcome, Query, Refusal, Schedule, Serial};
 use reg_core_lists::{Cursor, Page};
 use reg_crl::Signer;
-use reg_io::Begun;
+use reg_io::ReadyOrUnsigned;
 use reg_ocsp::Draft;
-use reg_office_api::{Intake, OcspResponse, Standing};
+use reg_office_api::{Intake, OcspResponse, RegisterSummary};
 use reg_store::Store;
 use sqlite::Alter;
 use std::alloc::Global;
@@ -167,8 +167,8 @@ impl<C: Alter, S: Signer> reg_office_api::Office for Office<C, S> {
             → IfOk result (λ answer. answer.items ≡ refusal_response Internal) }
     {
         match self.begin_ocsp(alloc, now, request)? {
-            Begun::Ready(response) => Ok(response.bytes),
-            Begun::Unsigned(draft) => {
+            ReadyOrUnsigned::Ready(response) => Ok(response.bytes),
+            ReadyOrUnsigned::Unsigned(draft) => {
                 sign_draft(alloc, &mut self.signer, &mut self.responder, &draft)
             }
         }
@@ -179,7 +179,7 @@ impl<C: Alter, S: Signer> reg_office_api::Office for Office<C, S> {
         alloc: Global,
         now: Moment,
         request: &[u8],
-    ) -> Result<Begun<OcspResponse, Draft>, Memory>
+    ) -> Result<ReadyOrUnsigned<OcspResponse, Draft>, Memory>
         ensures begins { OfficeLeads C.Store S.Signer
             (BeginStep S.signs now request.now result) self.old self.new }
         ensures counts { IfOk result (λ begun. IsSignerFailure begun
@@ -240,7 +240,7 @@ impl<C: Alter, S: Signer> reg_office_api::Office for Office<C, S> {
         page(&mut self.store, alloc, now, from, most)
     }
 
-    fn standing(&mut self) -> Result<Standing, Fault> {
+    fn standing(&mut self) -> Result<RegisterSummary, Fault> {
         standing_in(&mut self.store)
     }
 

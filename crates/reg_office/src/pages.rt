@@ -106,11 +106,11 @@ fn certificates<C: Alter>(
     let found = tables.certs_after(after, most)?;
     let rows = certificate_rows(tables, alloc, now, &before, &found)?;
     let last = last_certificate(&found, most);
-    let next = certificates_behind(&before, last);
+    let next = next_certificates(&before, last);
     Ok(Page { rows, next })
 }
 
-fn certificates_behind(before: &Option<Moment>, last: Option<Serial>) -> Option<Cursor>
+fn next_certificates(before: &Option<Moment>, last: Option<Serial>) -> Option<Cursor>
     ensures { result ≡ option_map (λ serial. certificates_after before.now (Some serial)) last }
 {
     let after = Some(last?);
@@ -182,11 +182,11 @@ fn revoked<C: Alter>(
     let found = tables.revocations_after(after, most)?;
     let rows = revoked_rows(tables, alloc, now, &found)?;
     let last = last_revocation(&found, most);
-    let next = revoked_behind(last);
+    let next = next_revoked(last);
     Ok(Page { rows, next })
 }
 
-fn revoked_behind(last: Option<Serial>) -> Option<Cursor>
+fn next_revoked(last: Option<Serial>) -> Option<Cursor>
     ensures { result ≡ option_map (λ serial. cursor.Revoked (Some serial)) last }
 {
     Some(Cursor::Revoked(Some(last?)))
@@ -235,11 +235,11 @@ fn crls<C: Alter>(
     let found = tables.crls_after(after, most)?;
     let rows = crl_rows(alloc, &found)?;
     let last = last_crl(&found, most);
-    let next = crls_behind(last);
+    let next = next_crls(last);
     Ok(Page { rows, next })
 }
 
-fn crls_behind(last: Option<u64>) -> Option<Cursor>
+fn next_crls(last: Option<u64>) -> Option<Cursor>
     ensures { result ≡ option_map (λ number. cursor.Crls number) last }
 {
     Some(Cursor::Crls(last?))

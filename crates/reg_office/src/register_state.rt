@@ -1,24 +1,24 @@
 //! Summaries of a register: its sizes and latest CRL, its open requests, and the longest validity of an order.
 
 ghost use Rattle.std.specs.Prelude.{◌≡◌, ◌<◌, ◌^◌, IfErr};
-ghost use Rattle.reg_office_api.specs.LookUps.{HasIntake, HasLongest, HasOpen, HasStanding, IsOfStore, rows_in};
+ghost use Rattle.reg_office_api.specs.LookUps.{HasIntake, HasLongest, HasOpen, HasSummary, IsOfStore, rows_in};
 ghost use Rattle.reg_store_tables.specs.LookUps.{Learns, LooksUp};
 
 use reg_core::{Fault, Moment, Serial};
-use reg_office_api::{Intake, Rows, Standing};
+use reg_office_api::{Intake, RegisterSummary, Rows};
 use reg_store::{DatabaseFault, Table, Tables};
 use sqlite::Alter;
 
 #[tactic(auto, using(crate::proofs::Composing::answer_of_fault))]
-pub(crate) fn standing_in<C: Alter>(tables: &mut Tables<C>) -> Result<Standing, Fault>
-    ensures looks { LooksUp C.Store tables.old tables.new (λ records. HasStanding records result) }
+pub(crate) fn standing_in<C: Alter>(tables: &mut Tables<C>) -> Result<RegisterSummary, Fault>
+    ensures looks { LooksUp C.Store tables.old tables.new (λ records. HasSummary records result) }
     ensures faults { IfErr result IsOfStore }
 {
     let last = tables.last()?;
     let latest = tables.latest_crl()?;
     let policy = tables.policy()?;
     let rows = table_rows(tables)?;
-    Ok(Standing {
+    Ok(RegisterSummary {
         last,
         latest,
         crl_life: policy.crl_life(),

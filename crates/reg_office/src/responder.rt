@@ -17,7 +17,7 @@ pub enum Responder<S> {
 
 /// What a response says of its responder.
 #[derive(Clone, Copy)]
-pub(crate) struct Naming<'a> {
+pub(crate) struct ResponderFields<'a> {
     /// The key that names the responder in the ResponderID; `None` if it is the issuer's.
     pub(crate) own_key: Option<&'a [u8]>,
     /// The certificate that the response includes, if any.
@@ -25,12 +25,12 @@ pub(crate) struct Naming<'a> {
 }
 
 /// What responses say of the issuer as responder, with the certificate that they include.
-pub(crate) fn of_issuer(certificate: &Option<Certificate>) -> Naming<'_>
+pub(crate) fn of_issuer(certificate: &Option<Certificate>) -> ResponderFields<'_>
     ensures own { option_copied result.own_key ≡ None }
     ensures certificate { option_copied result.certificate ≡ option_map (λ it. it.der) certificate.now }
     ensures short { IfSome (option_copied result.certificate) (λ bytes. length bytes ≤ 65536) }
 {
-    Naming {
+    ResponderFields {
         own_key: None,
         certificate: der_of(certificate),
     }
@@ -44,12 +44,12 @@ fn der_of(certificate: &Option<Certificate>) -> Option<&[u8]>
 }
 
 /// What responses say of a responder with a certificate of its own.
-pub(crate) fn of_delegate(certificate: &Certificate) -> Naming<'_>
+pub(crate) fn of_delegate(certificate: &Certificate) -> ResponderFields<'_>
     ensures own { option_copied result.own_key ≡ Some certificate.now.key }
     ensures certificate { option_copied result.certificate ≡ Some certificate.now.der }
     ensures short { IfSome (option_copied result.certificate) (λ bytes. length bytes ≤ 65536) }
 {
-    Naming {
+    ResponderFields {
         own_key: Some(certificate.key()),
         certificate: Some(certificate.der()),
     }

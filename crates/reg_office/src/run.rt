@@ -6,7 +6,7 @@ ghost use Rattle.sqlite.specs.State.{HasCleanDisk, IsLive};
 ghost use Rattle.sqlite_trees.specs.Tree.{Trees};
 ghost use Rattle.sqlite_trees.specs.View.{doubt};
 ghost use Rattle.reg_core.specs.Records.{Records};
-ghost use Rattle.reg_office.specs.AfterStoppedCommand.{IsPartlyRun};
+ghost use Rattle.reg_office.specs.AfterStoppedCommand.{ShowsPrefix};
 ghost use Rattle.reg_office.specs.Calls.{StandsIn};
 ghost use Rattle.reg_office.specs.Stands.{Appends, HasRun};
 
@@ -38,7 +38,7 @@ impl<C: Alter, S: Signer> Office<C, S> {
             → HasCleanDisk (state C.Store self.new.store)
             → Appends result outcomes.old.items outcomes.new.items (λ came.
             (trees : Trees) → (state C.Store self.new.store).may_leave trees
-            → IsPartlyRun S.signs (S.identity self.old.signer) records commands.now came trees) }
+            → ShowsPrefix S.signs (S.identity self.old.signer) records commands.now came trees) }
         ensures clean { doubt (state C.Store self.old.store).is_clean
             ≤ doubt (state C.Store self.new.store).is_clean }
         ensures same_identity { S.identity self.new.signer ≡ S.identity self.old.signer }

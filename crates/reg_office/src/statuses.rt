@@ -3,8 +3,8 @@
 ghost use Rattle.std.specs.Prelude.{◌≡◌, ◌⊎◌, map, IfOk, IfErr};
 ghost use Rattle.std.specs.List.{AllByRecursion};
 ghost use Rattle.reg_core.specs.Status as spec;
-ghost use Rattle.reg_ocsp.specs.Views.{id_seen};
-ghost use Rattle.reg_office_api.specs.Ocsp.{IsTold};
+ghost use Rattle.reg_ocsp.specs.Views.{id_model};
+ghost use Rattle.reg_office_api.specs.Ocsp.{IsStatusFor};
 ghost use Rattle.reg_store_tables.specs.LookUps.{Learns, LooksUp};
 
 use crate::ocsp_faults::ResponseFault;
@@ -26,7 +26,7 @@ pub(crate) fn answers<'a, C: Alter>(
     ensures ids { IfOk result (λ answers. map (λ answer. answer.0) answers.items ≡ ids.now) }
     ensures looks { LooksUp C.Store tables.old tables.new (λ records.
         issuer.now ≡ records.issuer → IfOk result (λ answers.
-        AllByRecursion (λ answer. IsTold records now (id_seen answer.0) answer.1) answers.items)) }
+        AllByRecursion (λ answer. IsStatusFor records now (id_model answer.0) answer.1) answers.items)) }
     ensures faults { IfErr result (λ fault. (fault ≡ ResponseFault.Memory) ⊎ (fault ≡ ResponseFault.Store)) }
 {
     let mut answers = Vec::new(alloc);
@@ -46,7 +46,7 @@ fn told<C: Alter>(
     id: &CertId<'_>,
 ) -> Result<Status, ResponseFault>
     ensures looks { LooksUp C.Store tables.old tables.new (λ records.
-        issuer.now ≡ records.issuer → IfOk result (λ told. IsTold records now (id_seen id.now) told)) }
+        issuer.now ≡ records.issuer → IfOk result (λ told. IsStatusFor records now (id_model id.now) told)) }
     ensures faults { IfErr result (λ fault. (fault ≡ ResponseFault.Memory) ⊎ (fault ≡ ResponseFault.Store)) }
 {
     match matches(issuer, id) {

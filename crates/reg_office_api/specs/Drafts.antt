@@ -11,8 +11,8 @@ use Rattle.reg_office_api.specs.Signatories.{Responder, Signatory, Signs, respon
 use Rattle.reg_office_api.specs.declared.response.OcspResponse.{OcspResponse}
 use Rattle.reg_office_api.specs.declared.response.ResponseKind.{ResponseKind}
 use Rattle.reg_office_api.specs.declared.response.ResponseKind.TheVariants.{SignerFailure}
-use Rattle.reg_io.specs.declared.begun.Begun.{Begun}
-use Rattle.reg_io.specs.declared.begun.Begun.TheVariants.{Ready, Unsigned}
+use Rattle.reg_io.specs.declared.begun.ReadyOrUnsigned.{ReadyOrUnsigned}
+use Rattle.reg_io.specs.declared.begun.ReadyOrUnsigned.TheVariants.{Ready, Unsigned}
 
 -- the draft has the responder's algorithm and key, and its certificate if it has one
 pub record IsBy (responder : Responder) (draft : Drafted) : Type 0 where
@@ -43,20 +43,20 @@ Drafts signatory before now request draft after =
 -- the outcome of `begin_ocsp`: a ready response, of which `replies` holds, or a draft, of which `drafts` holds
 abbrev pub Begins : {S : Type 0} → (S → ℕ → List ℕ → Result (ResponseKind × List ℕ) Memory → S → Type 0)
     → (S → ℕ → List ℕ → Drafted → S → Type 0) → S → ℕ → List ℕ
-    → Result (Begun OcspResponse Drafted) Memory → S → Type 0
+    → Result (ReadyOrUnsigned OcspResponse Drafted) Memory → S → Type 0
 Begins replies drafts s now request (Ok (Ready response)) t =
     replies s now request (Ok (response.kind, response.bytes.items)) t
 Begins replies drafts s now request (Ok (Unsigned draft)) t = drafts s now request draft t
 Begins replies drafts s now request (Err memory) t = replies s now request (Err memory) t
 
 -- the outcome of `begin_ocsp` as a step of the records, given the signers
-abbrev pub BeginStep : Signs → ℕ → List ℕ → Result (Begun OcspResponse Drafted) Memory → Signatory
+abbrev pub BeginStep : Signs → ℕ → List ℕ → Result (ReadyOrUnsigned OcspResponse Drafted) Memory → Signatory
     → Records → Records → Type 0
 BeginStep signs now request begun =
     λ signatory before after.
     Begins (Replies signs signatory) (Drafts signatory) before now request begun after
 
 -- the response is internalError because the signer failed
-abbrev pub IsSignerFailure : {U : Type 0} → Begun OcspResponse U → Type 0
+abbrev pub IsSignerFailure : {U : Type 0} → ReadyOrUnsigned OcspResponse U → Type 0
 IsSignerFailure (Ready response) = response.kind ≡ SignerFailure
 IsSignerFailure (Unsigned left) = ⊥

@@ -12,7 +12,7 @@ use Rattle.reg_core_lists.specs.declared.rows.Page.{Page}
 use Rattle.reg_office_api.specs.Signatories.{Signatory}
 use Rattle.reg_office_api.specs.declared.register_summary.Intake.{Intake}
 use Rattle.reg_office_api.specs.declared.register_summary.Rows.{Rows}
-use Rattle.reg_office_api.specs.declared.register_summary.Standing.{Standing}
+use Rattle.reg_office_api.specs.declared.register_summary.RegisterSummary.{RegisterSummary}
 
 -- out of memory, or a failure of the store
 abbrev pub IsOfStore : Fault → Type 0
@@ -31,15 +31,15 @@ rows_in records = record {
 }
 
 -- the last accepted moment, the latest CRL without its bytes, the life of CRLs, the cap of each table, and how many rows the tables have
-abbrev pub IsStanding : Records → Standing → Type 0
-IsStanding records standing =
+abbrev pub IsRegisterSummary : Records → RegisterSummary → Type 0
+IsRegisterSummary records standing =
     (standing.last ≡ records.last) × (standing.latest ≡ option_map row_of (latest records.crls))
     × (standing.crl_life ≡ records.policy.crl_life)
     × (standing.cap ≡ records.policy.cap) × (standing.rows ≡ rows_in records)
 
--- `IsStanding`, if the call succeeds
-abbrev pub HasStanding : Records → Result Standing Fault → Type 0
-HasStanding records result = IfOk result (IsStanding records)
+-- `IsRegisterSummary`, if the call succeeds
+abbrev pub HasSummary : Records → Result RegisterSummary Fault → Type 0
+HasSummary records result = IfOk result (IsRegisterSummary records)
 
 -- how many requests for revocation are open, if the call succeeds
 abbrev pub HasOpen : Records → ℕ → Result ℕ Fault → Type 0

@@ -19,15 +19,15 @@ HasNoReading bytes = (ids : List Id) (nonce : Option (List ℕ)) → ¬ (IsOcspR
 
 -- the status for a CertID: that of the issuer's certificate that it names; unknown if it names none
 -- (RFC 6960 2.2)
-abbrev pub IsTold : Records → ℕ → Id → Status → Type 0
-IsTold records now id told =
+abbrev pub IsStatusFor : Records → ℕ → Id → Status → Type 0
+IsStatusFor records now id told =
     ((serial : ℕ) × IsMatch records.issuer id serial × (told ≡ status records serial now))
     ⊎ (((serial : ℕ) → ¬ (IsMatch records.issuer id serial)) × (told ≡ Unknown))
 
 -- the answer to a CertID: the CertID, repeated byte for byte, and its status (SingleResponse, RFC 6960 4.2.1)
 pub record IsAnswer (records : Records) (now : ℕ) (id : Id) (answer : SingleAnswer) : Type 0 where
   pub repeated : answer.raw ≡ id.raw
-  pub told : IsTold records now id answer.status
+  pub told : IsStatusFor records now id answer.status
 
 -- the ResponseData of the records at a moment, with the key that names the responder: one answer for each CertID, in the order of the
 -- request, valid from this moment on for the policy's life of OCSP answers; and the nonce (RFC 6960 4.2.1)

@@ -12,8 +12,8 @@ use Rattle.reg_ocsp.specs.declared.response.RefusalStatus.TheVariants as status
 use Rattle.reg_office_api.specs.CallSteps.{Signs}
 use Rattle.reg_office_api.specs.Ocsp.{HasNoReading, IsResponse}
 use Rattle.reg_office_api.specs.Signatories.{Responder, Signatory}
-use Rattle.reg_office_api.specs.declared.effects.SignatureFate.{SignatureFate}
-use Rattle.reg_office_api.specs.declared.effects.SignatureFate.TheVariants as signature
+use Rattle.reg_office_api.specs.declared.effects.SignatureOutcome.{SignatureOutcome}
+use Rattle.reg_office_api.specs.declared.effects.SignatureOutcome.TheVariants as signature
 use Rattle.reg_office_api.specs.declared.effects.StoreEffect.{StoreEffect}
 use Rattle.reg_office_api.specs.declared.effects.StoreEffect.TheVariants as store
 use Rattle.reg_office_api.specs.declared.response.ResponseKind.{ResponseKind}
@@ -51,10 +51,10 @@ Replies signs signatory before now request (Ok response) after =
 Replies signs signatory before now request (Err memory) after = after ≡ before
 
 -- whether the signature was requested, and the signer made it
-abbrev pub signature_of : ResponseKind → SignatureFate
+abbrev pub signature_of : ResponseKind → SignatureOutcome
 signature_of Signed = signature.Made
 signature_of SignerFailure = signature.Failed
-signature_of other = signature.NotAsked
+signature_of other = signature.NotRequested
 
 -- whether a response shows that the store failed
 abbrev pub store_of : ResponseKind → StoreEffect

@@ -7,8 +7,8 @@ use reg_core::Fault;
 
 /// Whether an exchange or a line requested a signature, and the signer made it.
 #[derive(Clone, Copy, PartialEq, Eq)]
-pub enum SignatureFate {
-    NotAsked,
+pub enum SignatureOutcome {
+    NotRequested,
     Made,
     /// The signer failed, or gave no answer in time.
     Failed,
@@ -48,8 +48,8 @@ pub enum LineReply {
 pub struct LineEffects {
     pub reply: LineReply,
     /// The signature of a CRL.
-    pub crl: SignatureFate,
+    pub crl: SignatureOutcome,
     /// The signature of an OCSP response.
-    pub ocsp: SignatureFate,
+    pub ocsp: SignatureOutcome,
     pub store: StoreEffect,
 }

@@ -6,7 +6,7 @@ mod office;
 mod register_summary;
 mod response;
 
-pub use effects::{LineEffects, LineReply, SignatureFate, StoreEffect};
+pub use effects::{LineEffects, LineReply, SignatureOutcome, StoreEffect};
 pub use office::Office;
-pub use register_summary::{Intake, Rows, Standing};
+pub use register_summary::{Intake, RegisterSummary, Rows};
 pub use response::{OcspResponse, ResponseKind};

@@ -1,10 +1,10 @@
 //! An office that keeps the records of a register.
 
-use crate::register_summary::{Intake, Standing};
+use crate::register_summary::{Intake, RegisterSummary};
 use crate::response::OcspResponse;
 use reg_core::{Command, Fault, Label, Memory, Moment, Outcome, Query, Schedule, Serial};
 use reg_core_lists::{Cursor, Page};
-use reg_io::Begun;
+use reg_io::ReadyOrUnsigned;
 use reg_ocsp::Draft;
 use std::alloc::Global;
 
@@ -16,7 +16,7 @@ pub trait Office {
     ghost use Rattle.reg_office_api.specs.Drafts.{BeginStep, IsSignerFailure};
     ghost use Rattle.reg_office_api.specs.Items.{items_of};
     ghost use Rattle.reg_office_api.specs.Leads.{Leads, Looks};
-    ghost use Rattle.reg_office_api.specs.LookUps.{HasIntake, HasLongest, HasOpen, HasStanding, IsOfStore, PageStep};
+    ghost use Rattle.reg_office_api.specs.LookUps.{HasIntake, HasLongest, HasOpen, HasSummary, IsOfStore, PageStep};
     ghost use Rattle.reg_office_api.specs.Settings.{Identifies, Reschedules};
     ghost use Rattle.reg_office_api.specs.Signatories.{Signatory};
     ghost use Rattle.reg_core.specs.Records.{Records};
@@ -61,7 +61,7 @@ pub trait Office {
         alloc: Global,
         now: Moment,
         request: &[u8],
-    ) -> Result<Begun<OcspResponse, Draft>, Memory>
+    ) -> Result<ReadyOrUnsigned<OcspResponse, Draft>, Memory>
         ensures begins { Leads is_clean stands (BeginStep signs now request.now result) self.old self.new }
         ensures counts { IfOk result (λ begun.
             IsSignerFailure begun ↔ (answer_failures self.old < answer_failures self.new)) }
@@ -81,8 +81,8 @@ pub trait Office {
         ensures { Leads is_clean stands (PageStep now most from result) self.old self.new };
 
     /// The register's summary: the last accepted moment, the latest CRL, the life of CRLs, the cap, and how many rows the tables have.
-    fn standing(&mut self) -> Result<Standing, Fault>
-        ensures looks { Looks is_clean stands (λ records. HasStanding records result) self.old self.new }
+    fn standing(&mut self) -> Result<RegisterSummary, Fault>
+        ensures looks { Looks is_clean stands (λ records. HasSummary records result) self.old self.new }
         ensures faults { IfErr result IsOfStore };
 
     /// How many requests for revocation are open at a moment, by a walk over all requests.

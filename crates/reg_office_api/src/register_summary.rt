@@ -4,7 +4,7 @@ use reg_core::{CrlRow, Moment};
 
 /// A summary of a register: its last accepted moment, its latest CRL, and how many rows its tables have.
 #[derive(Clone, Copy, PartialEq, Eq)]
-pub struct Standing {
+pub struct RegisterSummary {
     pub last: Moment,
     pub latest: Option<CrlRow>,
     /// The seconds from thisUpdate to nextUpdate of a CRL.

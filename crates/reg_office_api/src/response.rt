@@ -3,7 +3,7 @@
 ghost use Rattle.std.specs.Prelude.{◌≡◌};
 ghost use Rattle.reg_office_api.specs.Responses.{signature_of as signature_by, store_of as store_by};
 
-use crate::effects::{SignatureFate, StoreEffect};
+use crate::effects::{SignatureOutcome, StoreEffect};
 
 /// The kind of an OCSP response (OCSPResponseStatus, RFC 6960 4.2.1). The two causes of internalError are kept apart.
 #[derive(Clone, Copy, PartialEq, Eq)]
@@ -27,13 +27,13 @@ pub struct OcspResponse {
 
 impl ResponseKind {
     /// Whether the signature was requested, and the signer made it.
-    pub fn signature(self) -> SignatureFate
+    pub fn signature(self) -> SignatureOutcome
         ensures { result ≡ signature_by self }
     {
         match self {
-            ResponseKind::Signed => SignatureFate::Made,
-            ResponseKind::SignerFailure => SignatureFate::Failed,
-            _ => SignatureFate::NotAsked,
+            ResponseKind::Signed => SignatureOutcome::Made,
+            ResponseKind::SignerFailure => SignatureOutcome::Failed,
+            _ => SignatureOutcome::NotRequested,
         }
     }
 

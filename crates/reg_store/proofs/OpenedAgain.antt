@@ -12,8 +12,8 @@ use Rattle.sqlite.specs.State.{HasCleanDisk, IsLive, Opens}
 use Rattle.reg_core.specs.Records.{Records}
 use Rattle.reg_store_tables.specs.Kept.{ShowsKept}
 use Rattle.reg_store_tables.specs.Schema.{register_schema}
-use Rattle.reg_store_tables.specs.Shows.{AreBoth, Holds}
-use Rattle.reg_store_tables.specs.AfterStop.{IsAtRest}
+use Rattle.reg_store_tables.specs.Shows.{AreRecordsAndDerived, Holds}
+use Rattle.reg_store_tables.specs.AfterStop.{ShowsDerivedAfterStop}
 
 -- rows list one schema
 one_schema : (schema other : Schema) (trees : Trees) → IsSound schema trees → IsSound other trees → schema ≡ other
@@ -21,12 +21,12 @@ one_schema schema other trees is also = lists_once (trees catalog_tree) schema o
 
 module _ {S : Type 0} (g : Ghosts S) (again : Held S) (opens : Opens (state g again)) (live : IsLive (state g again)) where
   -- a new connection over a register's rows shows their records
-  pub shows_again : (records : Records) → IsAtRest records (state g again).committed.trees → ShowsKept g again records
+  pub shows_again : (records : Records) → ShowsDerivedAfterStop records (state g again).committed.trees → ShowsKept g again records
   shows_again records rests =
       let db = (state g again).committed in
       let schema : db.schema ≡ register_schema = one_schema db.schema register_schema db.trees (live opens.is_open).1 rests.3 in
-      let both : AreBoth db records rests.0 = record { shown = record { schema = schema; rows = rests.1.shown.rows }; kept = rests.1.kept } in
-      (rests.0, record { saved = λ clean up. opens.clean; tables = λ clean up. subst (λ (d : Database). AreBoth d records rests.0) (sym opens.clean) both }, rests.2)
+      let both : AreRecordsAndDerived db records rests.0 = record { shown = record { schema = schema; rows = rests.1.shown.rows }; kept = rests.1.kept } in
+      (rests.0, record { saved = λ clean up. opens.clean; tables = λ clean up. subst (λ (d : Database). AreRecordsAndDerived d records rests.0) (sym opens.clean) both }, rests.2)
 
   module _ (old : Held S) (was_open : IsTrue (state g old).is_open) (was_live : IsLive (state g old)) (is : (state g again).committed.trees ≡ (state g old).committed.trees) where
     -- and over the rows that were committed last it shows that database
@@ -46,4 +46,4 @@ module _ {S : Type 0} (g : Ghosts S) (again : Held S) (opens : Opens (state g ag
     }
 
     pub keeps_again : (records : Records) → HasCleanDisk (state g old) → ShowsKept g old records → ShowsKept g again records
-    keeps_again records clean kept = (kept.0, holds_again (λ (d : Database). AreBoth d records kept.0) clean kept.1, kept.2)
+    keeps_again records clean kept = (kept.0, holds_again (λ (d : Database). AreRecordsAndDerived d records kept.0) clean kept.1, kept.2)

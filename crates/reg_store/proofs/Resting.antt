@@ -10,12 +10,12 @@ use Rattle.reg_core.specs.Records.{Records}
 use Rattle.reg_store_tables.specs.Kept.{ShowsKept}
 use Rattle.reg_store_tables.specs.Shows.{IsShownBy, Shows}
 use Rattle.reg_store_tables.proofs.PublicLaws.{kept_shows, resting, rests_sound}
-use Rattle.reg_store_tables.specs.AfterStop.{AreARegisters, IsAtRest}
+use Rattle.reg_store_tables.specs.AfterStop.{AreARegisters, ShowsDerivedAfterStop}
 use Rattle.reg_store_migration.specs.Older.{version_number}
 use Rattle.reg_store_migration.specs.declared.version.OlderVersion.{OlderVersion}
 use Rattle.reg_store_migration.specs.declared.version.OlderVersion.TheVariants.{First, Second}
 use Rattle.reg_store_opening.specs.AfterStoppedOpening.{IsOpened}
-use Rattle.reg_store_opening.specs.Said.{IsOlder}
+use Rattle.reg_store_opening.specs.VersionAndOffice.{IsOlder}
 use Rattle.reg_store_opening.proofs.PublicLaws.{register_of, version_read, number_one, only_row}
 
 -- the rows are those that were committed last
@@ -32,7 +32,7 @@ at_rest_sound g held records trees clean up shows live is =
 
 -- and are rows of the records
 pub at_rest : {S : Type 0} (g : Ghosts S) (held : Held S) (records : Records) (trees : Trees) → HasCleanDisk (state g held) → IsTrue (state g held).is_open → ShowsKept g held records → AreARegisters trees → IsUntouched g held trees
-    → IsAtRest records trees
+    → ShowsDerivedAfterStop records trees
 at_rest g held records trees clean up kept sound is =
     let db = (state g held).now in
     let same : trees ≡ db.trees = is ∙ ap (λ (d : Database). d.trees) (sym (kept.1.saved clean up)) in
@@ -40,7 +40,7 @@ at_rest g held records trees clean up kept sound is =
 
 -- the same of a connection that obeys its schema
 pub live_at_rest : {S : Type 0} (g : Ghosts S) (held : Held S) (records : Records) (trees : Trees) → HasCleanDisk (state g held) → IsTrue (state g held).is_open → ShowsKept g held records → IsLive (state g held) → IsUntouched g held trees
-    → IsAtRest records trees
+    → ShowsDerivedAfterStop records trees
 live_at_rest g held records trees clean up kept live is = at_rest g held records trees clean up kept (at_rest_sound g held records trees clean up (kept_shows g held records kept) live is) is
 
 -- ---- tables of the program's version say no older one

@@ -1,7 +1,7 @@
 //! Creates a register in an empty database, and opens an existing one.
 
 ghost use Rattle.std.specs.Prelude.{◌≡◌, false, IfOk, IfErr};
-ghost use Rattle.reg_store_opening.specs.Opens.{Opens, IsUnopened, Creates, IsUncreated};
+ghost use Rattle.reg_store_opening.specs.Opens.{Opens, IsFailedOpen, Creates, IsFailedCreate};
 
 use crate::store::Store;
 use reg_core::Policy;
@@ -28,7 +28,7 @@ impl<S: Alter> Store<S> {
         requires { connection.in_transaction ≡ false }
         ensures creates { IfOk result (λ store. Creates S.Store connection store issuer policy) }
         ensures uncreated { IfErr result (λ unopened.
-            IsUncreated S.Store connection unopened.connection issuer policy unopened.fault) }
+            IsFailedCreate S.Store connection unopened.connection issuer policy unopened.fault) }
         ensures idle { IfErr result (λ unopened. unopened.connection.in_transaction ≡ false) }
     {
         let mut connection = connection;
@@ -46,7 +46,7 @@ impl<S: Alter> Store<S> {
         requires { connection.in_transaction ≡ false }
         ensures opens { IfOk result (λ store. Opens S.Store connection store) }
         ensures unopened { IfErr result (λ unopened.
-            IsUnopened S.Store connection unopened.connection unopened.fault) }
+            IsFailedOpen S.Store connection unopened.connection unopened.fault) }
         ensures idle { IfErr result (λ unopened. unopened.connection.in_transaction ≡ false) }
     {
         let mut connection = connection;

@@ -10,7 +10,7 @@ use Rattle.std.proofs.lemmas.List.Sorted.{IsPermutation-map, IsPermutation-appen
 use Rattle.sqlite_trees.proofs.ListLemmas.{map-map, filter-map, IsPermutation-filter}
 use Rattle.reg_core_laws.proofs.PublicLaws.{same_length, one_has, equal_numbers, same_number, all_push, all_weaker, all_join, find_none, find_front, find_back, find_past, some_and_of, past_end_is, last_stays, last_added, first_by_next, last_new, last_kept}
 use Rattle.reg_core.specs.Changes.{Fits, changed_by, touched, with_certificate, with_revocation, with_crl}
-use Rattle.reg_core.specs.Crls.{last_listing, is_past_end, is_past_on, next_number}
+use Rattle.reg_core.specs.Crls.{last_listing, is_past_end, ends_listing, next_number}
 use Rattle.reg_core.specs.Records.{Records, Crl, certificate_in, revocation_in}
 use Rattle.reg_core.specs.Sound.{SoundRows, SoundRevocation}
 use Rattle.reg_core.specs.Status.{status_by, counts}
@@ -21,7 +21,7 @@ use Rattle.reg_core.specs.declared.command.Status.{Status}
 use Rattle.reg_core.specs.declared.command.Status.TheVariants.{Good, Expired, Revoked}
 use Rattle.reg_core.specs.declared.rows.CertRow.{CertRow}
 use Rattle.reg_core.specs.declared.rows.RevocationRow.{RevocationRow}
-use Rattle.reg_store_tables.specs.Columns.{good, revoked, expired, is_good_letter, ends_before, Standing, Listed, Columns, letter_counts, turned, with_counts}
+use Rattle.reg_store_tables.specs.DerivedRows.{good, revoked, expired, is_good_letter, ends_before, Standing, Listed, DerivedRows, letter_counts, turned, with_counts}
 use Rattle.reg_store_tables.specs.Kept.{letter_of, standing_of, not_after_of, listed_of, Kept}
 use Rattle.reg_store_changes.specs.ColumnEffects.{lettered, swept, ended_by, is_good_at, good_at, with_revoked_letter, has_passed, with_last_listing, with_good, marked, shifted}
 use Rattle.reg_store_changes.specs.ChangeEffects.{columns_after}
@@ -64,7 +64,7 @@ letters_pass records now sound up =
     subst P (sym found) (pass_at records.last now up row (revocation_in records.revocations row.serial)))
     records.certificates (found_each records sound))
 
-module _ (records : Records) (columns : Columns) (now : ℕ) (sound : SoundRows records) (up : records.last ≤ now) (kept : Kept columns records) where
+module _ (records : Records) (columns : DerivedRows) (now : ℕ) (sound : SoundRows records) (up : records.last ≤ now) (kept : Kept columns records) where
   -- the letters once time has passed
   passed : IsPermutation (map (standing_of (touched records now)) records.certificates) (swept now columns).letters
   passed = subst (λ those. IsPermutation those (swept now columns).letters) (letters_pass records now sound up)
@@ -98,7 +98,7 @@ unrevoked records serial sound none =
     ])
     records.revocations sound.revocations.each)
 
-module _ (records : Records) (columns : Columns) (now : ℕ) (sound : SoundRows records) (up : records.last ≤ now) (kept : Kept columns records) (row : CertRow)
+module _ (records : Records) (columns : DerivedRows) (now : ℕ) (sound : SoundRows records) (up : records.last ≤ now) (kept : Kept columns records) (row : CertRow)
     (fresh : certificate_in records.certificates row.serial ≡ None) (lasting : now ≤ row.not_after) where
   abbrev later : Records
   later = with_certificate records now row
@@ -154,7 +154,7 @@ module _ (records : Records) (columns : Columns) (now : ℕ) (sound : SoundRows 
 
 -- ---- one revocation more
 
-module _ (records : Records) (columns : Columns) (now : ℕ) (sound : SoundRows records) (up : records.last ≤ now) (kept : Kept columns records) (row : RevocationRow) (certificate : CertRow)
+module _ (records : Records) (columns : DerivedRows) (now : ℕ) (sound : SoundRows records) (up : records.last ≤ now) (kept : Kept columns records) (row : RevocationRow) (certificate : CertRow)
     (found : certificate_in records.certificates row.serial ≡ Some certificate) (lasting : now ≤ certificate.not_after) (none : revocation_in records.revocations row.serial ≡ None) where
   abbrev revoking : Records
   revoking = with_revocation records now row
@@ -243,7 +243,7 @@ module _ (records : Records) (columns : Columns) (now : ℕ) (sound : SoundRows 
 
 -- ---- one CRL more
 
-module _ (records : Records) (columns : Columns) (now : ℕ) (sound : SoundRows records) (up : records.last ≤ now) (kept : Kept columns records) (crl : Crl) (next : crl.number ≡ next_number records.crls) where
+module _ (records : Records) (columns : DerivedRows) (now : ℕ) (sound : SoundRows records) (up : records.last ≤ now) (kept : Kept columns records) (crl : Crl) (next : crl.number ≡ next_number records.crls) where
   abbrev listing : RevocationRow → ℕ → Option ℕ → Listed
   listing r not_after last = record { serial = r.serial; at = r.at; reason = r.reason; first = r.first; not_after = not_after; last = last }
 
@@ -257,7 +257,7 @@ module _ (records : Records) (columns : Columns) (now : ℕ) (sound : SoundRows 
       ends : not_after_of records r.serial ≡ known.0.not_after
       ends = ap (λ found. unwrap_or (option_map (λ (c : CertRow). c.not_after) found) 0) known.1
 
-      past : is_past_on records.certificates r crl ≡ nat_lt (not_after_of records r.serial) crl.this_update
+      past : ends_listing records.certificates r crl ≡ nat_lt (not_after_of records r.serial) crl.this_update
       past =
           let first : nat_le r.first crl.number ≡ true = grind (arith, nat_tests) in
           ap (λ b. b && is_past_end records.certificates r.serial crl.this_update) first ∙ past_end_is records.certificates r.serial crl.this_update known.0 known.1 ∙ ap (λ n. nat_lt n crl.this_update) (sym ends)
@@ -293,7 +293,7 @@ module _ (records : Records) (columns : Columns) (now : ℕ) (sound : SoundRows 
 
 -- ---- each change
 
-pub kept_change : (records : Records) (columns : Columns) (now : ℕ) → SoundRows records → records.last ≤ now → Kept columns records → (change : Change) → Fits records now change
+pub kept_change : (records : Records) (columns : DerivedRows) (now : ℕ) → SoundRows records → records.last ≤ now → Kept columns records → (change : Change) → Fits records now change
     → Kept (columns_after now change columns) (changed_by records now change)
 kept_change records columns now sound up kept Touch fits = record { letters = passed records columns now sound up kept; counts = moved_stand records columns now sound up kept; listed = kept.listed }
 kept_change records columns now sound up kept (Subscriber row) fits = record { letters = passed records columns now sound up kept; counts = moved_stand records columns now sound up kept; listed = kept.listed }

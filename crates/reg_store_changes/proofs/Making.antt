@@ -10,7 +10,7 @@ use Rattle.reg_core.specs.Issuer.{Issuer}
 use Rattle.reg_core.specs.Records.{Records}
 use Rattle.reg_core.specs.declared.change.Change.{Change}
 use Rattle.reg_core.specs.declared.change.Change.TheVariants.{Touch, Subscriber, Order, Certificate, Request, Decline, Revocation, Crl as NewCrl}
-use Rattle.reg_store_tables.specs.Columns.{Columns, office_days}
+use Rattle.reg_store_tables.specs.DerivedRows.{DerivedRows, office_days}
 use Rattle.reg_store_tables.specs.Stays.{Changed, Looked, Moves, Stays}
 use Rattle.reg_store_tables.proofs.PublicLaws.{on_err, looked_fails, moves_as}
 use Rattle.reg_store_changes.specs.AfterStoppedChange.{IsNamed, IsScheduled}
@@ -19,7 +19,7 @@ use Rattle.reg_store_changes.specs.ChangeSteps.{Puts}
 use Rattle.reg_store_changes.specs.MadeChanges.{MakesChange, SetsIssuer, SetsSchedule}
 use Rattle.sqlite_value.specs.declared.value.Value.TheVariants.{Int}
 use Rattle.sqlite.specs.Effect.{Database}
-use Rattle.reg_store_tables.specs.Shows.{AreBoth, KeepsOfficeDays}
+use Rattle.reg_store_tables.specs.Shows.{AreRecordsAndDerived, KeepsOfficeDays}
 
 -- a change at the last accepted moment, and then the moment
 pub moment_set : (records : Records) (now : ℕ) (change : Change) → touched (changed_by records records.last change) now ≡ changed_by records now change
@@ -41,7 +41,7 @@ puts old new P {given} {change} r same moved turns =
 -- ---- the days of the office
 
 -- no change turns the days that are kept
-pub beside_days : (change : Change) (columns : Columns) → (kept_rows_after change columns).days ≡ columns.days
+pub beside_days : (change : Change) (columns : DerivedRows) → (kept_rows_after change columns).days ≡ columns.days
 beside_days Touch columns = refl
 beside_days (Subscriber row) columns = refl
 beside_days (Order row) columns = refl
@@ -52,7 +52,7 @@ beside_days (Revocation row not_after) columns = refl
 beside_days (NewCrl row der) columns = refl
 
 -- tables of the same days
-pub same_days : (db after : Database) (records later : Records) (columns others : Columns) → AreBoth db records columns → AreBoth after later others → others.days ≡ columns.days → office_days (after.trees 0) ≡ office_days (db.trees 0)
+pub same_days : (db after : Database) (records later : Records) (columns others : DerivedRows) → AreRecordsAndDerived db records columns → AreRecordsAndDerived after later others → others.days ≡ columns.days → office_days (after.trees 0) ≡ office_days (db.trees 0)
 same_days db after records later columns others both made same = made.kept.days ∙ ap Int same ∙ sym both.kept.days
 
 -- and so does a call after another

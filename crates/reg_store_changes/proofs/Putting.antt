@@ -22,7 +22,7 @@ use Rattle.reg_core.specs.declared.rows.RevocationRow.{RevocationRow}
 use Rattle.reg_core_laws.proofs.PublicLaws.{all_push, numbered_push}
 use Rattle.reg_store_tables.specs.Schema.{register_schema, subscriber, orders, cert, request, revocation, crl, standing, listed}
 use Rattle.reg_store_tables.specs.Rows.{number, serial_value, ground_index, counted_rows, stored_subscriber, stored_order, stored_certificate, stored_request, stored_revocation, stored_crl}
-use Rattle.reg_store_tables.specs.Columns.{good, Standing, Listed, stored_standing, stored_listed}
+use Rattle.reg_store_tables.specs.DerivedRows.{good, Standing, Listed, stored_standing, stored_listed}
 use Rattle.reg_store_tables.specs.Shows.{HaveSerials}
 use Rattle.reg_store_tables.specs.Stays.{Ran}
 use Rattle.reg_store_tables.specs.Steps.{Turns, TurnsWhere}

@@ -8,9 +8,9 @@ use Rattle.reg_core.specs.Issuer.{Issuer}
 use Rattle.reg_core.specs.Records.{Records}
 use Rattle.reg_store_tables.specs.Schema.{register_schema, longest}
 use Rattle.reg_store_tables.specs.Rows.{stored_step}
-use Rattle.reg_store_tables.specs.Columns.{Columns}
+use Rattle.reg_store_tables.specs.DerivedRows.{DerivedRows}
 use Rattle.reg_store_tables.specs.Kept.{Kept}
-use Rattle.reg_store_tables.specs.Shows.{IsShownBy, AreBoth}
+use Rattle.reg_store_tables.specs.Shows.{IsShownBy, AreRecordsAndDerived}
 use Rattle.reg_store_tables.specs.Stays.{Ran}
 use Rattle.reg_store_tables.specs.Staged.{IsStaged}
 use Rattle.reg_store_changes.specs.ChangeSteps.{ClearsSteps, WritesSchedule}
@@ -43,15 +43,15 @@ module _ (db after : Database) (records : Records) where
             (record { schedule = on.sound; crl_life = shown.rows.policy.crl_life; ocsp_life = shown.rows.policy.ocsp_life; cap = shown.rows.policy.cap });
       }
 
-  pub staged_both : (columns : Columns) (steps : List (ℕ × ℕ)) → AreBoth db records columns → WritesSchedule steps db after → AreBoth after (with_schedule records steps) columns
+  pub staged_both : (columns : DerivedRows) (steps : List (ℕ × ℕ)) → AreRecordsAndDerived db records columns → WritesSchedule steps db after → AreRecordsAndDerived after (with_schedule records steps) columns
   staged_both columns steps both on = record {
     shown = staged_shows steps both.shown on;
     kept = columns_after 17 db.trees after.trees (record { same = (staged_first steps both.shown on).0.others }) columns columns both.kept (refl, refl, refl, refl);
   }
 
-pub kept_schedule : (columns : Columns) (records : Records) (steps : List (ℕ × ℕ)) → Kept columns records → Kept columns (with_schedule records steps)
+pub kept_schedule : (columns : DerivedRows) (records : Records) (steps : List (ℕ × ℕ)) → Kept columns records → Kept columns (with_schedule records steps)
 kept_schedule columns records steps kept = record { letters = kept.letters; counts = kept.counts; listed = kept.listed }
 
 -- what is kept beside the records does not go by the issuer
-pub kept_issuer : (columns : Columns) (records : Records) (issuer : Issuer) → Kept columns records → Kept columns (with_issuer records issuer)
+pub kept_issuer : (columns : DerivedRows) (records : Records) (issuer : Issuer) → Kept columns records → Kept columns (with_issuer records issuer)
 kept_issuer columns records issuer kept = record { letters = kept.letters; counts = kept.counts; listed = kept.listed }

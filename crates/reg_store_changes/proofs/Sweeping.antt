@@ -23,7 +23,7 @@ use Rattle.reg_core.specs.Serial.{IsSerial, serial_bytes}
 use Rattle.reg_core.specs.declared.rows.RequestRow.{RequestRow}
 use Rattle.reg_store_tables.specs.Schema.{register_schema, standing, listed, office, request}
 use Rattle.reg_store_tables.specs.Rows.{number, serial_value, counted_rows, stored_office, stored_request}
-use Rattle.reg_store_tables.specs.Columns.{Letter, revoked, expired, is_good_letter, ends_before, letter_text, Standing, Listed, stored_standing, stored_listed, number_or_null, office_days, turned}
+use Rattle.reg_store_tables.specs.DerivedRows.{Letter, revoked, expired, is_good_letter, ends_before, letter_text, Standing, Listed, stored_standing, stored_listed, number_or_null, office_days, turned}
 use Rattle.reg_store_tables.specs.Shows.{HaveSerials}
 use Rattle.reg_core_laws.proofs.PublicLaws.{numbered_map}
 use Rattle.reg_store_tables.proofs.PublicLaws.{compares, and_true, eq_number, lt_number, eq_text, eq_serial, passes, all_of, is_g, IsWriting, updates, IsKeyed, behind_table, behind_keyed, behind_turned, behind_passing, stored_table, stored_keyed, stored_turned, made, cast_int, cast_null, turns_rows, turns_spares, Counted, both_after}

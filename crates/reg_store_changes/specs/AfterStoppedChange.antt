@@ -10,21 +10,21 @@ use Rattle.reg_core.specs.Records.{Records}
 use Rattle.reg_core.specs.Sound.{SoundRows}
 use Rattle.reg_store_tables.specs.Kept.{ShowsKept}
 use Rattle.reg_der.specs.Issuers.{with_issuer}
-use Rattle.reg_store_tables.specs.AfterStop.{IsAtRest}
+use Rattle.reg_store_tables.specs.AfterStop.{ShowsDerivedAfterStop}
 
 -- the rows after a change: they show the records after it, with derived tables that match them
 abbrev pub IsChanged : {S : Type 0} → Ghosts S → Held S → ℕ → Change → Trees → Type 0
 IsChanged g old now change trees =
     (records : Records) → ShowsKept g old records → SoundRows records → records.last ≤ now
-    → Fits records now change → IsAtRest (changed_by records now change) trees
+    → Fits records now change → ShowsDerivedAfterStop (changed_by records now change) trees
 
 -- the rows after a schedule was set
 abbrev pub IsScheduled : {S : Type 0} → Ghosts S → Held S → List (ℕ × ℕ) → Trees → Type 0
 IsScheduled g old steps trees =
-    (records : Records) → ShowsKept g old records → IsAtRest (with_schedule records steps) trees
+    (records : Records) → ShowsKept g old records → ShowsDerivedAfterStop (with_schedule records steps) trees
 
 -- the rows after an issuer with the same key was set
 abbrev pub IsNamed : {S : Type 0} → Ghosts S → Held S → Issuer → Trees → Type 0
 IsNamed g old issuer trees =
     (records : Records) → ShowsKept g old records → records.issuer.key ≡ issuer.key
-    → IsAtRest (with_issuer records issuer) trees
+    → ShowsDerivedAfterStop (with_issuer records issuer) trees

@@ -11,8 +11,8 @@ use Rattle.reg_core.specs.declared.change.Change.{Change}
 use Rattle.reg_core.specs.declared.command.Counts.{Counts}
 use Rattle.reg_core.specs.declared.rows.RevocationRow.{RevocationRow}
 use Rattle.reg_der.specs.Issuers.{with_issuer}
-use Rattle.reg_store_tables.specs.Columns.{Columns}
-use Rattle.reg_store_tables.specs.Shows.{AreBoth}
+use Rattle.reg_store_tables.specs.DerivedRows.{DerivedRows}
+use Rattle.reg_store_tables.specs.Shows.{AreRecordsAndDerived}
 use Rattle.reg_store_tables.specs.Staged.{IsStaged}
 use Rattle.reg_store_tables.specs.Steps.{TurnsWhere}
 use Rattle.reg_store_changes.specs.ChangeEffects.{TurnsOne, columns_after, kept_rows_after}
@@ -21,23 +21,23 @@ use Rattle.reg_store_changes.specs.ColumnEffects.{good_at, swept, with_revoked_l
 -- the revocation of a certificate, which had one good letter, with this notAfter
 abbrev pub Revokes : RevocationRow → ℕ → Database → Database → Type 0
 Revokes row not_after old new =
-    (records : Records) (columns : Columns) → AreBoth old records columns
-    → (good_at row.serial columns ≡ 1) × AreBoth new (with_revocation records records.last row)
+    (records : Records) (columns : DerivedRows) → AreRecordsAndDerived old records columns
+    → (good_at row.serial columns ≡ 1) × AreRecordsAndDerived new (with_revocation records records.last row)
     (with_unlisted row not_after (with_revoked_letter row.serial columns))
 
 -- the rows of a change, and the derived tables except the counts
 pub record Puts (change : Change) (old new : Database) : Type 0 where
-  pub turns : (records : Records) (columns : Columns) (now : ℕ) → SoundRows records → Fits records now change
-      → AreBoth old records columns
-      → AreBoth new (changed_by records records.last change) (kept_rows_after change columns)
-  pub one : (records : Records) (columns : Columns) → AreBoth old records columns → TurnsOne change columns
+  pub turns : (records : Records) (columns : DerivedRows) (now : ℕ) → SoundRows records → Fits records now change
+      → AreRecordsAndDerived old records columns
+      → AreRecordsAndDerived new (changed_by records records.last change) (kept_rows_after change columns)
+  pub one : (records : Records) (columns : DerivedRows) → AreRecordsAndDerived old records columns → TurnsOne change columns
 
 -- a whole change at a moment, if these counts are the stored ones
 pub record Enters (now : ℕ) (change : Change) (counts : Counts) (old new : Database) : Type 0 where
-  pub turns : (records : Records) (columns : Columns) → counts ≡ columns.counts → SoundRows records
-      → Fits records now change → AreBoth old records columns
-      → AreBoth new (changed_by records now change) (columns_after now change columns) × IsDatabase new
-  pub one : (records : Records) (columns : Columns) → AreBoth old records columns
+  pub turns : (records : Records) (columns : DerivedRows) → counts ≡ columns.counts → SoundRows records
+      → Fits records now change → AreRecordsAndDerived old records columns
+      → AreRecordsAndDerived new (changed_by records now change) (columns_after now change columns) × IsDatabase new
+  pub one : (records : Records) (columns : DerivedRows) → AreRecordsAndDerived old records columns
       → TurnsOne change (swept now columns)
 
 -- another issuer with the same key

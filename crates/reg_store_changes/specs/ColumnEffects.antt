@@ -2,19 +2,19 @@
 use Rattle.std.specs.Prelude.{ℕ, ◌+◌, ◌-◌, Bool, ◌&&◌, ◌==◌, nat_lt, [], ◌∷◌, ◌++◌, map, filter, length, is_none, Some, None}
 use Rattle.reg_core.specs.declared.command.Counts.{Counts}
 use Rattle.reg_core.specs.declared.rows.RevocationRow.{RevocationRow}
-use Rattle.reg_store_tables.specs.Columns.{Letter, good, revoked, expired, is_good_letter, ends_before, Standing, Listed, Columns, turned}
+use Rattle.reg_store_tables.specs.DerivedRows.{Letter, good, revoked, expired, is_good_letter, ends_before, Standing, Listed, DerivedRows, turned}
 
 -- the row with another letter
 abbrev pub lettered : Letter → Standing → Standing
 lettered letter row = record row { letter = letter }
 
 -- the letters of good certificates that ended before a moment become expired
-abbrev pub swept : ℕ → Columns → Columns
+abbrev pub swept : ℕ → DerivedRows → DerivedRows
 swept now columns =
     record columns { letters = map (turned (ends_before now) (lettered expired)) columns.letters }
 
 -- how many good certificates ended before a moment
-abbrev pub ended_by : ℕ → Columns → ℕ
+abbrev pub ended_by : ℕ → DerivedRows → ℕ
 ended_by now columns = length (filter (ends_before now) columns.letters)
 
 -- the row is that of a good certificate with this serial number
@@ -22,16 +22,16 @@ abbrev pub is_good_at : ℕ → Standing → Bool
 is_good_at serial row = (row.serial == serial) && is_good_letter row.letter
 
 -- the letter of the good certificate with a serial number becomes revoked
-abbrev pub with_revoked_letter : ℕ → Columns → Columns
+abbrev pub with_revoked_letter : ℕ → DerivedRows → DerivedRows
 with_revoked_letter serial columns =
     record columns { letters = map (turned (is_good_at serial) (lettered revoked)) columns.letters }
 
 -- how many good letters a serial number has
-abbrev pub good_at : ℕ → Columns → ℕ
+abbrev pub good_at : ℕ → DerivedRows → ℕ
 good_at serial columns = length (filter (is_good_at serial) columns.letters)
 
 -- the derived tables with the letter of one more certificate, which is good
-abbrev pub with_good : ℕ → ℕ → Columns → Columns
+abbrev pub with_good : ℕ → ℕ → DerivedRows → DerivedRows
 with_good serial not_after columns =
     record columns {
       letters = columns.letters
@@ -39,7 +39,7 @@ with_good serial not_after columns =
     }
 
 -- the derived tables with the `listed` row of one more revocation, without a last CRL
-abbrev pub with_unlisted : RevocationRow → ℕ → Columns → Columns
+abbrev pub with_unlisted : RevocationRow → ℕ → DerivedRows → DerivedRows
 with_unlisted row not_after columns =
     record columns {
       listed = columns.listed ++ (record {
@@ -61,7 +61,7 @@ abbrev pub with_last_listing : ℕ → Listed → Listed
 with_last_listing number row = record row { last = Some number }
 
 -- a CRL becomes the last one of each revocation that has none yet and whose certificate ended before it
-abbrev pub marked : ℕ → ℕ → Columns → Columns
+abbrev pub marked : ℕ → ℕ → DerivedRows → DerivedRows
 marked number now columns =
     record columns { listed = map (turned (has_passed now) (with_last_listing number)) columns.listed }
 

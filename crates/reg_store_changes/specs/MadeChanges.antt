@@ -9,7 +9,7 @@ use Rattle.reg_core.specs.Records.{Records}
 use Rattle.reg_core.specs.Sound.{SoundRows}
 use Rattle.reg_core.specs.declared.change.Change.{Change}
 use Rattle.reg_der.specs.Issuers.{with_issuer}
-use Rattle.reg_store_tables.specs.Columns.{Columns}
+use Rattle.reg_store_tables.specs.DerivedRows.{DerivedRows}
 use Rattle.reg_store_tables.specs.Kept.{ShowsKept}
 use Rattle.reg_store_tables.specs.Shows.{KeepsOfficeDays, Shows, ShowsBoth}
 use Rattle.reg_store_tables.specs.Stays.{Changed, Stays}
@@ -31,7 +31,7 @@ pub record MakesChange {S A E : Type 0} (g : Ghosts S) (old new : Held S) (now :
   pub ok : (records : Records) → ShowsKept g old records → SoundRows records → records.last ≤ now
       → Fits records now change
       → OnOk result (ShowsKept g new (changed_by records now change))
-  pub one : HasCleanDisk (state g new) → (records : Records) (columns : Columns)
+  pub one : HasCleanDisk (state g new) → (records : Records) (columns : DerivedRows)
       → ShowsBoth g old records columns
       → OnOk result (TurnsOne change (swept now columns))
   pub days : LeavesOfficeDays g old new now change result

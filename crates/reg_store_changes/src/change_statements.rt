@@ -3,15 +3,15 @@
 ghost use Rattle.std.specs.Prelude.{◌≡◌, ◌+◌, length, IfOk};
 ghost use Rattle.reg_core.specs.Changes.{touched, with_certificate, with_crl};
 ghost use Rattle.reg_store_tables.specs.Stays.{Stepped};
-ghost use Rattle.reg_store_tables.specs.Columns.{with_counts};
+ghost use Rattle.reg_store_tables.specs.DerivedRows.{with_counts};
 ghost use Rattle.reg_store_tables.specs.Steps.{Continues, Makes, MakesRows, Turns, TurnsWhere};
 ghost use Rattle.reg_store_changes.specs.ColumnEffects.{with_good, marked, shifted};
 ghost use Rattle.reg_store_changes.specs.ChangeEffects.{crl_of, lost, added};
 ghost use Rattle.reg_store_changes.specs.ChangeSteps.{Enters, Puts, Revokes};
 
 use crate::statements::{
-    mark_listed, mark_revoked, put_cert, put_crl, put_letter, put_listed, put_order, put_request,
-    put_revocation, put_subscriber, set_declined, set_last, sweep,
+    expire_ended, mark_revoked, put_cert, put_crl, put_letter, put_listed, put_order, put_request,
+    put_revocation, put_subscriber, set_declined, set_last, set_last_listed,
 };
 use reg_core::{CertRow, Change, Counts, CrlRow, Moment, RevocationRow};
 use reg_store_tables::{DatabaseFault, set_counts};
@@ -101,7 +101,7 @@ fn issue<S: Alter>(
 {
     let (number, this_update) = (row.number, row.this_update);
     put_crl(tx, row, der)?;
-    mark_listed(tx, number, this_update)
+    set_last_listed(tx, number, this_update)
 }
 
 /// Writes the rows of a change, and those of the derived tables except the counts, in a transaction that is under way.
@@ -131,7 +131,7 @@ pub(crate) fn enter<S: Alter>(
     ensures made { Makes S.Store tx.old tx.new result (Enters now change.now counts) }
     ensures stepped { Stepped S.Store tx.old tx.new }
 {
-    let ended = sweep(tx, now)?;
+    let ended = expire_ended(tx, now)?;
     put(tx, change)?;
     let next = shift(counts, ended, change)?;
     close(tx, now, next)

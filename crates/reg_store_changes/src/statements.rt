@@ -19,7 +19,10 @@ use sqlite::types::ValueRef;
 use sqlite::{Alter, Transaction};
 
 /// Sets the letter of each good certificate that ended before now to expired, and returns how many there were.
-pub fn sweep<S: Alter>(tx: &mut Transaction<'_, S>, now: Moment) -> Result<usize, DatabaseFault>
+pub fn expire_ended<S: Alter>(
+    tx: &mut Transaction<'_, S>,
+    now: Moment,
+) -> Result<usize, DatabaseFault>
     ensures made { Yields S.Store tx.old tx.new result (TurnsCounted (swept now) (ended_by now)) }
     ensures stepped { Stepped S.Store tx.old tx.new }
 {
@@ -40,7 +43,7 @@ pub fn mark_revoked<S: Alter>(
 }
 
 /// Records this CRL as the last one of the revocations that have none yet, and whose certificates ended before its thisUpdate.
-pub(crate) fn mark_listed<S: Alter>(
+pub(crate) fn set_last_listed<S: Alter>(
     tx: &mut Transaction<'_, S>,
     number: u64,
     this_update: Moment,

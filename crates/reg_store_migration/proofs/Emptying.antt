@@ -24,17 +24,17 @@ use Rattle.reg_store_tables.specs.ReadStatements.{command_of}
 use Rattle.reg_store_tables.specs.Schema.{standing, kept, listed}
 use Rattle.reg_store_tables.specs.Stays.{Ran}
 use Rattle.reg_store_tables.proofs.PublicLaws.{Empties, does_empty, deletes_keep, deletes, IsKeyed, unequal_trees}
-use Rattle.reg_store_migration.specs.Older.{kept_tables}
+use Rattle.reg_store_migration.specs.Older.{with_derived_tables}
 use Rattle.reg_store_migration.specs.NumberedRows.{IsNumbered, HasRows, with_rows}
 use Rattle.reg_store_migration.specs.declared.sql.TheConstants.{CLEAR_STANDING, CLEAR_KEPT, CLEAR_LISTED}
 
 -- no foreign key acts
 acts_by : (tree : ℕ) (olds news : List Row) (deletes : Bool)
-    → flat_map (λ (child : Table). filter_map (λ ref. work_by 0 tree (pairs olds news) child ref (deed_for Enforced deletes ref) (parent_key kept_tables.tables ref)) child.references) kept_tables.tables ≡ []
+    → flat_map (λ (child : Table). filter_map (λ ref. work_by 0 tree (pairs olds news) child ref (deed_for Enforced deletes ref) (parent_key with_derived_tables.tables ref)) child.references) with_derived_tables.tables ≡ []
 acts_by tree olds news true = refl
 acts_by tree olds news false = refl
 
-none_acts : (tree : ℕ) (olds news : List Row) → works kept_tables Enforced 0 tree olds news ≡ []
+none_acts : (tree : ℕ) (olds news : List Row) → works with_derived_tables Enforced 0 tree olds news ≡ []
 none_acts tree olds news = acts_by tree olds news (length news == 0)
 
 numbered_keyed : (rows : List Row) → AllByRecursion IsNumbered rows → AllByRecursion IsKeyed rows
@@ -56,22 +56,22 @@ with_other (t ∷ tables) tree those rows db after is others had = (
 -- the table of a tree is emptied, if its rows have numbers, and the tables stay
 abbrev pub Clears : ℕ → Database → Database → Type 0
 Clears tree old new =
-    ((rows : Trees) → AllByRecursion IsNumbered (rows tree) → HasRows kept_tables rows old → HasRows kept_tables (with_rows tree [] rows) new) × (old.schema ≡ kept_tables → new.schema ≡ kept_tables)
+    ((rows : Trees) → AllByRecursion IsNumbered (rows tree) → HasRows with_derived_tables rows old → HasRows with_derived_tables (with_rows tree [] rows) new) × (old.schema ≡ with_derived_tables → new.schema ≡ with_derived_tables)
 
-module _ (text : List ℕ) (place : ℕ) (table : Table) (there : slice_get kept_tables.tables place ≡ Some table) (plain : IsPlain (understood kept_tables text))
-    (means : command_of (understood kept_tables text) ≡ deletes place table.tree) (over : (trees : Trees) → overlay trees [] table.tree ≡ trees table.tree) where
+module _ (text : List ℕ) (place : ℕ) (table : Table) (there : slice_get with_derived_tables.tables place ≡ Some table) (plain : IsPlain (understood with_derived_tables text))
+    (means : command_of (understood with_derived_tables text) ≡ deletes place table.tree) (over : (trees : Trees) → overlay trees [] table.tree ≡ trees table.tree) where
   clears : (old new : State) (count : ℕ) → Ran text [] old new count → Clears table.tree old.now new.now
   clears old new count ran = (
     λ rows numbered was.
-        let w : Writes old new None (deletes place table.tree) (statement_of text (understood kept_tables text)) [] count =
-        runs_as text [] old new kept_tables was.schema (deletes place table.tree) means plain count ran.ran in
-        let done = subst (λ s. Does old.step_limit (mode_of old) [] (record old.now { schema = s }) (statement_of text (understood kept_tables text)) None (deletes place table.tree) (Ok (w.tally, new.now))) was.schema w.changed in
-        let had : old.now.trees table.tree ≡ rows table.tree = all-slice_get (λ (t : Table). old.now.trees t.tree ≡ rows t.tree) kept_tables.tables place table there was.rows in
-        let gone : Empties kept_tables table old.now.trees new.now =
-        does_empty old.step_limit (mode_of old) kept_tables table [] old.now.trees place w.tally new.now there (statement_of text (understood kept_tables text)) done (over old.now.trees) (none_acts table.tree)
+        let w : Writes old new None (deletes place table.tree) (statement_of text (understood with_derived_tables text)) [] count =
+        runs_as text [] old new with_derived_tables was.schema (deletes place table.tree) means plain count ran.ran in
+        let done = subst (λ s. Does old.step_limit (mode_of old) [] (record old.now { schema = s }) (statement_of text (understood with_derived_tables text)) None (deletes place table.tree) (Ok (w.tally, new.now))) was.schema w.changed in
+        let had : old.now.trees table.tree ≡ rows table.tree = all-slice_get (λ (t : Table). old.now.trees t.tree ≡ rows t.tree) with_derived_tables.tables place table there was.rows in
+        let gone : Empties with_derived_tables table old.now.trees new.now =
+        does_empty old.step_limit (mode_of old) with_derived_tables table [] old.now.trees place w.tally new.now there (statement_of text (understood with_derived_tables text)) done (over old.now.trees) (none_acts table.tree)
         (numbered_keyed (old.now.trees table.tree) (subst (AllByRecursion IsNumbered) (sym had) numbered)) in
-        record { schema = gone.keeps_schema; rows = with_other kept_tables.tables table.tree [] rows old.now.trees new.now.trees gone.rows gone.others was.rows },
-    λ has. (deletes_keep text [] old new count ran kept_tables has plain place _ means).0,
+        record { schema = gone.keeps_schema; rows = with_other with_derived_tables.tables table.tree [] rows old.now.trees new.now.trees gone.rows gone.others was.rows },
+    λ has. (deletes_keep text [] old new count ran with_derived_tables has plain place _ means).0,
   )
 
 pub clears_standing : (old new : State) (count : ℕ) → Ran CLEAR_STANDING.now [] old new count → Clears 12 old.now new.now

@@ -16,10 +16,10 @@ use Rattle.reg_core.specs.Issuer.{Issuer}
 use Rattle.reg_core.specs.Policy.{Terms}
 use Rattle.reg_core.specs.Records.{Records}
 use Rattle.reg_core.specs.Schedule.{greatest_of, one_step}
-use Rattle.reg_store_tables.specs.Columns.{stored_counts, office_days, turned}
+use Rattle.reg_store_tables.specs.DerivedRows.{stored_counts, office_days, turned}
 use Rattle.reg_store_tables.specs.Rows.{number, stored_office}
 use Rattle.reg_store_tables.specs.Schema.{register_schema, office, kept, table_trees}
-use Rattle.reg_store_tables.specs.Shows.{AreRows, AreColumns, AreBoth}
+use Rattle.reg_store_tables.specs.Shows.{AreRows, AreDerivedRows, AreRecordsAndDerived}
 use Rattle.reg_store_tables.proofs.PublicLaws.{passes, Turns, made, cast_int, cast_null, updates, inserts, IsWriting, at_known, turns_rows, puts_row, IsKeyed}
 use Rattle.reg_store_tables.specs.Stays.{Ran}
 use Rattle.reg_store_tables.specs.Staged.{IsStaged}
@@ -88,7 +88,7 @@ greatest_one days = omega arith
 
 -- the records are shown, and nothing is kept beside them
 pub begun_both : (version : OlderVersion) (days : ℕ) (db after : Database) (records : Records) (older : IsShownByOlder version db records) → records.policy.schedule ≡ one_step days
-    → IsStaged (first_rows db.trees older.days records.issuer records.policy records.last) ((0, days) ∷ []) after → AreBoth after records (no_columns records.policy.schedule)
+    → IsStaged (first_rows db.trees older.days records.issuer records.policy records.last) ((0, days) ∷ []) after → AreRecordsAndDerived after records (no_columns records.policy.schedule)
 begun_both version days db after records older one staged =
     let rows : AreRows after.trees records = record {
       days = pos older.days;
@@ -109,7 +109,7 @@ begun_both version days db after records older one staged =
       request_serials = older.rows.request_serials;
       revocation_serials = older.rows.revocation_serials;
     } in
-    let kept : AreColumns after.trees (no_columns records.policy.schedule) = record {
+    let kept : AreDerivedRows after.trees (no_columns records.policy.schedule) = record {
       days = ap office_days (staged.others 0 refl refl) ∙ ap number (greatest_one older.days ∙ ap greatest_of (sym older.schedule));
       letters = staged.others 12 refl refl;
       counts = staged.others 14 refl refl;

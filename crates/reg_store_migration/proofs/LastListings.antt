@@ -4,7 +4,7 @@ use Rattle.std.specs.Prelude.{nat_le, nat_lt}
 use Rattle.std.specs.List.{AllByRecursion}
 use Rattle.std.specs.List.Sorted.{IsPartitionedBy, IsPartitionPoint}
 use Rattle.std.proofs.lemmas.Bool.Decides.{nat_tests}
-use Rattle.reg_core.specs.Sound.{NumberedFrom, NeverFalls}
+use Rattle.reg_core.specs.Sound.{NumberedFrom, NeverDecreases}
 use Rattle.reg_core.specs.declared.rows.CrlRow.{CrlRow}
 use Rattle.reg_store_migration.specs.Refilled.{last_in}
 
@@ -23,7 +23,7 @@ each_later low [] all i d within = absurd (omega arith)
 each_later low (crl ∷ crls) all zero d within = all.0
 each_later low (crl ∷ crls) all (suc i) d within = each_later low crls all.1 i d (omega arith)
 
-later_update : (crls : List CrlRow) → NeverFalls (λ (crl : CrlRow). crl.this_update) crls → (i j : ℕ) (d : CrlRow) → i ≤ j → j < length crls → (get_or crls i d).this_update ≤ (get_or crls j d).this_update
+later_update : (crls : List CrlRow) → NeverDecreases (λ (crl : CrlRow). crl.this_update) crls → (i j : ℕ) (d : CrlRow) → i ≤ j → j < length crls → (get_or crls i d).this_update ≤ (get_or crls j d).this_update
 later_update [] never i j d le within = absurd (omega arith)
 later_update (crl ∷ crls) never zero zero d le within = omega arith
 later_update (crl ∷ crls) never zero (suc j) d le within = each_later crl.this_update crls never.0 j d (omega arith)
@@ -33,7 +33,7 @@ later_update (crl ∷ crls) never (suc i) (suc j) d le within = later_update crl
 past_on : (first not_after n m u v : ℕ) → n ≤ m → u ≤ v → not (nat_le first m && nat_lt not_after v) ≡ true → not (nat_le first n && nat_lt not_after u) ≡ true
 past_on first not_after n m u v le rise h = grind (arith, nat_tests)
 
-pub past_parted : (first not_after : ℕ) (crls : List CrlRow) → NumberedFrom (λ (crl : CrlRow). crl.number) 1 crls → NeverFalls (λ (crl : CrlRow). crl.this_update) crls → IsPartitionedBy (λ crl. not (is_past first not_after crl)) crls
+pub past_parted : (first not_after : ℕ) (crls : List CrlRow) → NumberedFrom (λ (crl : CrlRow). crl.number) 1 crls → NeverDecreases (λ (crl : CrlRow). crl.this_update) crls → IsPartitionedBy (λ crl. not (is_past first not_after crl)) crls
 past_parted first not_after crls numbered never i j d le within h =
     let lower = later_number 1 crls numbered i d (omega arith) in
     let upper = later_number 1 crls numbered j d within in

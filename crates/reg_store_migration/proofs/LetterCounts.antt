@@ -13,11 +13,11 @@ use Rattle.sqlite.specs.Listing.{understood}
 use Rattle.sqlite_resolve.specs.Compile.{first}
 use Rattle.sqlite_tied.specs.Compute.{everything}
 use Rattle.reg_core.specs.Records.{Records}
-use Rattle.reg_store_tables.specs.Columns.{Letter, letter_text, Standing, Columns, with_letter}
+use Rattle.reg_store_tables.specs.DerivedRows.{Letter, letter_text, Standing, DerivedRows, with_letter}
 use Rattle.reg_store_tables.specs.ReadStatements.{IsReading, command_of}
 use Rattle.reg_store_tables.specs.Rows.{number}
 use Rattle.reg_store_tables.specs.Schema.{register_schema}
-use Rattle.reg_store_tables.specs.Shows.{AreBoth}
+use Rattle.reg_store_tables.specs.Shows.{AreRecordsAndDerived}
 use Rattle.reg_store_tables.proofs.PublicLaws.{and_true, as_command, compares, counts_of, eq_text, letters_counted, select_never}
 use Rattle.reg_store_migration.specs.declared.sql.TheConstants.{COUNT_LETTER}
 
@@ -35,7 +35,7 @@ reading_letter = record { plain = (refl, refl); unlisted = refl; never = select_
 letter_test : (text : List ℕ) (test : Letter → Bool) → ((of : Letter) → bytes_eq (letter_text of) text ≡ test of) → (row : Standing) → (compares Eq (Text (letter_text row.letter)) (Text text) && true) ≡ test row.letter
 letter_test text test is row = and_true (compares Eq (Text (letter_text row.letter)) (Text text)) ∙ eq_text (letter_text row.letter) text ∙ is row.letter
 
-pub letters_shown : (text : List ℕ) (test : Letter → Bool) → ((of : Letter) → bytes_eq (letter_text of) text ≡ test of) → (db : Database) (records : Records) (kept : Columns) → AreBoth db records kept
+pub letters_shown : (text : List ℕ) (test : Letter → Bool) → ((of : Letter) → bytes_eq (letter_text of) text ≡ test of) → (db : Database) (records : Records) (kept : DerivedRows) → AreRecordsAndDerived db records kept
     → (rows : List Row) → Reads (command_of (understood register_schema COUNT_LETTER.now)) db (Text text ∷ []) rows → length kept.letters ≤ 1000000 → rows ≡ (number (with_letter test kept.letters) ∷ []) ∷ []
 letters_shown text test is db records kept both rows =
     letters_counted COUNT_LETTER.now letter_terms (Text text ∷ []) (λ row. test row.letter) (λ id row. letter_test text test is row) letter_means db records kept both rows

@@ -47,7 +47,7 @@ use Rattle.reg_core.specs.declared.command.Status.TheVariants.{Good, Expired}
 use Rattle.reg_core.specs.declared.rows.CertRow.{CertRow}
 use Rattle.reg_core.specs.declared.rows.RevocationRow.{RevocationRow}
 use Rattle.reg_core_laws.proofs.PublicLaws.{all_map}
-use Rattle.reg_store_tables.specs.Columns.{Letter, good, revoked, expired, letter_text, Standing, stored_standing}
+use Rattle.reg_store_tables.specs.DerivedRows.{Letter, good, revoked, expired, letter_text, Standing, stored_standing}
 use Rattle.reg_store_tables.specs.Kept.{letter_of, standing_of}
 use Rattle.reg_store_tables.specs.ReadStatements.{command_of}
 use Rattle.reg_store_tables.specs.Rows.{number, serial_value, behind_rowids, counted_rows, stored_certificate, stored_revocation}

@@ -6,7 +6,7 @@ pub mod LetterCounts
 pub mod Lettering
 pub mod Listing
 pub mod Questions
-pub mod Refills
+pub mod RebuildsDerived
 pub mod SchemaTexts
 pub mod Whole
 pub mod PublicLaws

@@ -13,7 +13,7 @@ use Rattle.sqlite.specs.State.{State}
 use Rattle.reg_core.specs.Serial.{IsSerial}
 use Rattle.reg_store_tables.specs.Schema.{register_schema, listed}
 use Rattle.reg_store_tables.specs.Rows.{number, serial_value, counted_rows}
-use Rattle.reg_store_tables.specs.Columns.{Listed, stored_listed, number_or_null}
+use Rattle.reg_store_tables.specs.DerivedRows.{Listed, stored_listed, number_or_null}
 use Rattle.reg_store_tables.specs.Stays.{Ran}
 use Rattle.reg_store_tables.specs.Steps.{Turns}
 use Rattle.reg_store_tables.proofs.PublicLaws.{cast_int, cast_null, inserts, IsWriting, counted_put, mapped_push, pushed, puts_row, puts_spares, both_after}

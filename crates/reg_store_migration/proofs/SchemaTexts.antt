@@ -7,7 +7,7 @@ use Rattle.sqlite_tied.specs.Compute.{everything}
 use Rattle.reg_store_tables.specs.Schema.{record_tables, all_tables, crl, standing, kept, listed, longest, crl_at, standing_due}
 use Rattle.reg_store_tables.specs.declared.schema.TheConstants.{STANDING, KEPT, LISTED, LONGEST, CRL_AT, STANDING_DUE}
 use Rattle.reg_store_migration.specs.Makes.{DefinesTable, DefinesIndex}
-use Rattle.reg_store_migration.specs.Older.{kept_tables}
+use Rattle.reg_store_migration.specs.Older.{with_derived_tables}
 
 pub standing_defined : DefinesTable record_tables STANDING.now (record standing { tree = 0 })
 unfolding understood everything table_defined_by
@@ -21,7 +21,7 @@ pub listed_defined : DefinesTable (created (created record_tables standing) kept
 unfolding understood everything table_defined_by
 listed_defined = record { plain = (refl, refl); is = refl; whole = refl; defined = refl; uncounted = refl }
 
-pub longest_defined : DefinesTable kept_tables LONGEST.now (record longest { tree = 0 })
+pub longest_defined : DefinesTable with_derived_tables LONGEST.now (record longest { tree = 0 })
 unfolding understood everything table_defined_by
 longest_defined = record { plain = (refl, refl); is = refl; whole = refl; defined = refl; uncounted = refl }
 

@@ -12,14 +12,14 @@ use Rattle.sqlite.specs.State.{HasCleanDisk}
 use Rattle.reg_core.specs.Records.{Records}
 use Rattle.reg_core.specs.Schedule.{greatest_of}
 use Rattle.reg_core.specs.Status.{counts}
-use Rattle.reg_store_tables.specs.Columns.{Columns}
+use Rattle.reg_store_tables.specs.DerivedRows.{DerivedRows}
 use Rattle.reg_store_tables.specs.Kept.{Kept, ShowsKept, standing_of, listed_of}
 use Rattle.reg_store_tables.specs.Shows.{HasOfficeDays, Holds}
-use Rattle.reg_store_tables.specs.AfterStop.{IsAtRest}
+use Rattle.reg_store_tables.specs.AfterStop.{ShowsDerivedAfterStop}
 use Rattle.reg_store_tables.proofs.PublicLaws.{resting, rests_sound}
 use Rattle.reg_store_migration.specs.Refilled.{HasKept}
 
-abbrev columns_of : Records → Columns
+abbrev columns_of : Records → DerivedRows
 columns_of records = record {
   letters = map (standing_of records) records.certificates;
   counts = counts records records.last;
@@ -55,5 +55,5 @@ pub any_days : {S : Type 0} (g : Ghosts S) (h : Held S) (days : ℕ) → (HasCle
 any_days g h days none = record { saved = λ clean up. absurd (none clean); tables = λ clean up. absurd (none clean) }
 
 -- what a database shows and keeps its rows show and keep, and what it obeys they obey
-pub kept_rests : (db : Database) (trees : Trees) (records : Records) → trees ≡ db.trees → HasKept db records → IsDatabase db → IsAtRest records trees
+pub kept_rests : (db : Database) (trees : Trees) (records : Records) → trees ≡ db.trees → HasKept db records → IsDatabase db → ShowsDerivedAfterStop records trees
 kept_rests db trees records is had sound = (had.0, resting db trees records had.0 is had.1, had.2, rests_sound db trees is had.1.shown.schema sound)

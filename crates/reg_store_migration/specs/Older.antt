@@ -16,7 +16,7 @@ use Rattle.reg_core.specs.Sound.{NumberedFrom}
 use Rattle.reg_store_tables.specs.Schema.{record_tables}
 use Rattle.reg_store_tables.specs.Rows.{number, counted_rows, stored_subscriber, stored_order, stored_certificate, stored_request, stored_revocation, stored_crl}
 use Rattle.reg_store_tables.specs.Shows.{HaveSerials, Holds}
-pub use Rattle.reg_store_tables.specs.Schema.{kept_tables}
+pub use Rattle.reg_store_tables.specs.Schema.{with_derived_tables}
 use Rattle.reg_store_migration.specs.NumberedRows.{IsNumbered}
 use Rattle.reg_store_migration.specs.declared.version.OlderVersion.{OlderVersion}
 use Rattle.reg_store_migration.specs.declared.version.OlderVersion.TheVariants.{First, Second}
@@ -29,7 +29,7 @@ version_number Second = 2
 -- version 1 has the tables of the records, version 2 also the derived tables; neither has the indexes of version 3
 abbrev pub older_schema : OlderVersion → Schema
 older_schema First = record_tables
-older_schema Second = kept_tables
+older_schema Second = with_derived_tables
 
 -- office: one, version, name, pubkey, days, crl_life, ocsp_life, cap, last_at; days is the longest validity at any moment
 abbrev pub stored_older : OlderVersion → ℕ → Issuer → Terms → ℕ → Row
@@ -54,9 +54,9 @@ pub record AreRecords (trees : Trees) (records : Records) : Type 0 where
   pub revocation_serials : HaveSerials (λ row. row.serial) records.revocations
 
 -- the derived tables of version 2 may have any rows whose rowids are numbers: they are rebuilt
-abbrev pub HasBeside : OlderVersion → Trees → Type 0
-HasBeside First trees = Unit {0}
-HasBeside Second trees =
+abbrev pub HasDerivedRows : OlderVersion → Trees → Type 0
+HasDerivedRows First trees = Unit {0}
+HasDerivedRows Second trees =
     AllByRecursion IsNumbered (trees 12) × AllByRecursion IsNumbered (trees 14)
     × AllByRecursion IsNumbered (trees 15)
 
@@ -68,7 +68,7 @@ pub record IsShownByOlder (version : OlderVersion) (db : Database) (records : Re
   pub schedule : records.policy.schedule ≡ one_step days
   pub policy : IsPolicy records.policy
   pub rows : AreRecords db.trees records
-  pub beside : HasBeside version db.trees
+  pub beside : HasDerivedRows version db.trees
 
 -- if the disk returned what was written, and the connection is open, its tables are of an older version, and show the records
 abbrev pub ShowsOlder : {S : Type 0} → OlderVersion → Ghosts S → Held S → Records → Type 0

@@ -14,15 +14,15 @@ use Rattle.reg_core.specs.Schedule.{one_step}
 use Rattle.reg_core.specs.Sound.{SoundRows}
 use Rattle.reg_core.specs.declared.rows.CrlRow.{CrlRow}
 use Rattle.reg_core.specs.declared.rows.RevocationRow.{RevocationRow}
-use Rattle.reg_store_tables.specs.Columns.{Columns, Standing, stored_counts}
+use Rattle.reg_store_tables.specs.DerivedRows.{DerivedRows, Standing, stored_counts}
 use Rattle.reg_store_tables.specs.Kept.{standing_of}
 use Rattle.reg_store_tables.specs.Rows.{stored_office}
 use Rattle.reg_store_tables.specs.Schema.{record_tables, register_schema}
-use Rattle.reg_store_tables.specs.Shows.{AreBoth}
+use Rattle.reg_store_tables.specs.Shows.{AreRecordsAndDerived}
 use Rattle.reg_store_tables.specs.Steps.{Turns}
 use Rattle.reg_store_migration.specs.Makes.{DefinesTable, DefinesIndex}
 use Rattle.reg_store_migration.specs.NumberedRows.{HasRows, with_rows, records_alone}
-use Rattle.reg_store_migration.specs.Older.{kept_tables, older_schema, stored_older, HasBeside, IsShownByOlder}
+use Rattle.reg_store_migration.specs.Older.{with_derived_tables, older_schema, stored_older, HasDerivedRows, IsShownByOlder}
 use Rattle.reg_store_migration.specs.Refilled.{no_columns, no_counts, with_letters, AreIssued, listed_by, with_listed, HasRelisted, HasKept, HasGreatestDays}
 use Rattle.reg_store_migration.specs.declared.version.OlderVersion.{OlderVersion}
 
@@ -38,16 +38,16 @@ pub record Defines (text : List ℕ) (old new : Database) : Type 0 where
 -- the derived tables are made
 abbrev pub AddsKept : Database → Database → Type 0
 AddsKept old new =
-    (rows : Trees) → HasRows record_tables rows old → HasRows kept_tables (records_alone rows) new
+    (rows : Trees) → HasRows record_tables rows old → HasRows with_derived_tables (records_alone rows) new
 
 -- the table of the schedule is made, and the indexes
 abbrev pub AddsSchedule : Database → Database → Type 0
 AddsSchedule old new =
-    (rows : Trees) → rows 17 ≡ [] → HasRows kept_tables rows old → HasRows register_schema rows new
+    (rows : Trees) → rows 17 ≡ [] → HasRows with_derived_tables rows old → HasRows register_schema rows new
 
 -- tables of an older version become those of a schema, and the derived tables are empty
 pub record Rebuilds (version : OlderVersion) (later : Schema) (old new : Database) : Type 0 where
-  pub rows : (rows : Trees) → HasBeside version rows → HasRows (older_schema version) rows old
+  pub rows : (rows : Trees) → HasDerivedRows version rows → HasRows (older_schema version) rows old
       → HasRows later (records_alone rows) new
   pub schema : old.schema ≡ older_schema version → new.schema ≡ later
 
@@ -69,16 +69,16 @@ PutsCounts old new =
 pub record BeginsTables (version : OlderVersion) (days : ℕ) (old new : Database) : Type 0 where
   pub both : (records : Records) → records.policy.schedule ≡ one_step days
       → IsShownByOlder version old records
-      → AreBoth new records (no_columns records.policy.schedule)
+      → AreRecordsAndDerived new records (no_columns records.policy.schedule)
   pub schema : old.schema ≡ older_schema version → new.schema ≡ register_schema
 
 -- each certificate gets its letter at the last accepted moment
 abbrev pub FillsLetters : ℕ → Database → Database → Type 0
 FillsLetters last old new =
-    (records : Records) (columns : Columns) → SoundRows records → records.last ≡ last → columns.letters ≡ []
-    → AreBoth old records columns
+    (records : Records) (columns : DerivedRows) → SoundRows records → records.last ≡ last → columns.letters ≡ []
+    → AreRecordsAndDerived old records columns
     → (letters : List Standing) × IsPermutation (map (standing_of records) records.certificates) letters
-    × AreBoth new records (with_letters letters columns)
+    × AreRecordsAndDerived new records (with_letters letters columns)
 
 -- a revocation gets its row of `listed`, with the last of these CRLs that lists it
 abbrev pub ListsOne : RevocationRow → List CrlRow → ℕ → Database → Database → Type 0
@@ -88,9 +88,9 @@ ListsOne row crls not_after old new =
 -- `ListsOne`, with the notAfter of the revocation's certificate
 abbrev pub RelistsOne : RevocationRow → List CrlRow → Database → Database → Type 0
 RelistsOne row crls old new =
-    (records : Records) (columns : Columns) → AreIssued crls → AreBoth old records columns
+    (records : Records) (columns : DerivedRows) → AreIssued crls → AreRecordsAndDerived old records columns
     → IsSomeAnd (certificate_in records.certificates row.serial)
-    (λ certificate. AreBoth new records (with_listed (listed_by crls row certificate.not_after) columns))
+    (λ certificate. AreRecordsAndDerived new records (with_listed (listed_by crls row certificate.not_after) columns))
 
 -- these revocations get their rows of `listed`, if they are those of the records, and so are the CRLs
 abbrev pub RelistsEach : List RevocationRow → List CrlRow → Database → Database → Type 0
@@ -106,14 +106,14 @@ Relists old new =
     → HasRelisted new records (length records.revocations)
 
 -- the derived tables are rebuilt: they match the records at the last accepted moment
-pub record Refills (last : ℕ) (old new : Database) : Type 0 where
+pub record RebuildsDerived (last : ℕ) (old new : Database) : Type 0 where
   pub kept : (records : Records) → SoundRows records → records.last ≡ last
-      → AreBoth old records (no_columns records.policy.schedule)
+      → AreRecordsAndDerived old records (no_columns records.policy.schedule)
       → HasKept new records × HasGreatestDays new records × IsDatabase new
   pub schema : old.schema ≡ register_schema → new.schema ≡ register_schema
 
 -- Tables of an older version, with this longest validity in days and this last accepted moment, become those of the program's version.
-pub record MakesNewer (version : OlderVersion) (days last : ℕ) (old new : Database) : Type 0 where
+pub record MigratesTables (version : OlderVersion) (days last : ℕ) (old new : Database) : Type 0 where
   -- they show the same records, with derived tables that match them, and the office has the greatest days of their schedule
   pub kept : (records : Records) → IsShownByOlder version old records → SoundRows records
       → records.policy.schedule ≡ one_step days → records.last ≡ last

@@ -4,10 +4,10 @@ use Rattle.sqlite_value.specs.Order.{Row}
 use Rattle.sqlite.specs.Effect.{Database, Reads}
 use Rattle.sqlite.specs.Listing.{understood}
 use Rattle.reg_core.specs.Records.{Records}
-use Rattle.reg_store_tables.specs.Columns.{Columns}
+use Rattle.reg_store_tables.specs.DerivedRows.{DerivedRows}
 use Rattle.reg_store_tables.specs.ReadStatements.{command_of}
 use Rattle.reg_store_tables.specs.Schema.{register_schema}
-use Rattle.reg_store_tables.specs.Shows.{AreBoth, IsShownBy}
+use Rattle.reg_store_tables.specs.Shows.{AreRecordsAndDerived, IsShownBy}
 
 -- the rows are what a text reads of a register's tables
 abbrev pub AreAnswer : List ℕ → Row → List Row → Database → Type 0
@@ -19,7 +19,7 @@ abbrev pub OfRecords : (Records → Type 0) → Database → Type 0
 OfRecords Holds db = (records : Records) → IsShownBy db records → Holds records
 
 -- `Holds` holds of the derived tables, if there are at most as many letters as a register may have
-abbrev pub OfColumns : (Columns → Type 0) → Database → Type 0
+abbrev pub OfColumns : (DerivedRows → Type 0) → Database → Type 0
 OfColumns Holds db =
-    (records : Records) (columns : Columns) → length columns.letters ≤ 1000000
-    → AreBoth db records columns → Holds columns
+    (records : Records) (columns : DerivedRows) → length columns.letters ≤ 1000000
+    → AreRecordsAndDerived db records columns → Holds columns

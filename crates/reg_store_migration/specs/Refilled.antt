@@ -3,35 +3,35 @@ use Rattle.std.specs.Prelude.{◌≡◌, ℕ, pos, ◌&&◌, nat_le, nat_lt, Lis
 use Rattle.sqlite.specs.Effect.{Database}
 use Rattle.reg_core.specs.Records.{Records}
 use Rattle.reg_core.specs.Schedule.{greatest_of}
-use Rattle.reg_core.specs.Sound.{NumberedFrom, NeverFalls}
+use Rattle.reg_core.specs.Sound.{NumberedFrom, NeverDecreases}
 use Rattle.reg_core.specs.declared.command.Counts.{Counts}
 use Rattle.reg_core.specs.declared.rows.CrlRow.{CrlRow}
 use Rattle.reg_core.specs.declared.rows.RevocationRow.{RevocationRow}
-use Rattle.reg_store_tables.specs.Columns.{Standing, Listed, Columns, office_days}
+use Rattle.reg_store_tables.specs.DerivedRows.{Standing, Listed, DerivedRows, office_days}
 use Rattle.reg_store_tables.specs.Kept.{Kept, standing_of, listed_of}
 use Rattle.reg_store_tables.specs.Rows.{number}
-use Rattle.reg_store_tables.specs.Shows.{AreBoth}
+use Rattle.reg_store_tables.specs.Shows.{AreRecordsAndDerived}
 
 -- no certificate is counted
 abbrev pub no_counts : Counts
 no_counts = record { good = 0; revoked = 0; expired = 0 }
 
 -- empty derived tables, with counts of 0; the office's days are the greatest of a schedule
-abbrev pub no_columns : List (ℕ × ℕ) → Columns
+abbrev pub no_columns : List (ℕ × ℕ) → DerivedRows
 no_columns schedule =
     record { letters = []; counts = no_counts; listed = []; days = pos (greatest_of schedule) }
 
 -- the derived tables with these letters
-abbrev pub with_letters : List Standing → Columns → Columns
+abbrev pub with_letters : List Standing → DerivedRows → DerivedRows
 with_letters letters columns = record columns { letters = letters }
 
 -- one letter for each certificate, as at the last accepted moment
-abbrev pub HasLetters : Columns → Records → Type 0
+abbrev pub HasLetters : DerivedRows → Records → Type 0
 HasLetters columns records = IsPermutation (map (standing_of records) records.certificates) columns.letters
 
 -- CRLs as they were issued: by their numbers, and no thisUpdate before an earlier one's
 abbrev pub AreIssued : List CrlRow → Type 0
-AreIssued crls = NumberedFrom (λ crl. crl.number) 1 crls × NeverFalls (λ crl. crl.this_update) crls
+AreIssued crls = NumberedFrom (λ crl. crl.number) 1 crls × NeverDecreases (λ crl. crl.this_update) crls
 
 -- the number of the first CRL from a number on whose thisUpdate is past a moment (RFC 5280 3.3)
 abbrev pub last_in : List CrlRow → ℕ → ℕ → Option ℕ
@@ -51,19 +51,19 @@ listed_by crls revocation not_after = record {
 }
 
 -- the derived tables with one more row of `listed`
-abbrev pub with_listed : Listed → Columns → Columns
+abbrev pub with_listed : Listed → DerivedRows → DerivedRows
 with_listed row columns = record columns { listed = columns.listed ++ row ∷ [] }
 
 -- the letters match the records, the first `n` revocations have their rows of `listed`, and the office's days are the greatest of the schedule
 abbrev pub HasRelisted : Database → Records → ℕ → Type 0
 HasRelisted db records n =
-    (columns : Columns) × AreBoth db records columns × HasLetters columns records
+    (columns : DerivedRows) × AreRecordsAndDerived db records columns × HasLetters columns records
     × (columns.listed ≡ map (listed_of records) (take n records.revocations))
     × (columns.days ≡ pos (greatest_of records.policy.schedule))
 
 -- the tables show the records, with derived tables that match them
 abbrev pub HasKept : Database → Records → Type 0
-HasKept db records = (columns : Columns) × AreBoth db records columns × Kept columns records
+HasKept db records = (columns : DerivedRows) × AreRecordsAndDerived db records columns × Kept columns records
 
 -- the office's row has the greatest days of the records' schedule
 abbrev pub HasGreatestDays : Database → Records → Type 0

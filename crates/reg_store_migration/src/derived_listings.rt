@@ -3,7 +3,7 @@
 ghost use Rattle.std.specs.Prelude.{◌≡◌, ◌&&◌, nat_le, nat_lt, IfOk};
 ghost use Rattle.sqlite_value.specs.Value.{owned};
 ghost use Rattle.sqlite.specs.Values.{bound_value};
-ghost use Rattle.reg_store_tables.specs.Columns.{number_or_null};
+ghost use Rattle.reg_store_tables.specs.DerivedRows.{number_or_null};
 ghost use Rattle.reg_store_tables.specs.Stays.{Stepped};
 ghost use Rattle.reg_store_tables.specs.Steps.{ContinuesRows, MakesRows};
 ghost use Rattle.reg_store_migration.specs.Rebuilds.{ListsOne, Relists, RelistsEach, RelistsOne};
@@ -67,7 +67,7 @@ fn put_listing<S: Alter>(
     Ok(())
 }
 
-fn relist_one<S: Alter>(
+fn rebuild_listed_row<S: Alter>(
     tx: &mut Transaction<'_, S>,
     revocation: RevocationRow,
     crls: &[CrlRow],
@@ -79,7 +79,7 @@ fn relist_one<S: Alter>(
     put_listing(tx, revocation, crls, not_after)
 }
 
-fn relist_each<S: Alter>(
+fn rebuild_listed_rows<S: Alter>(
     tx: &mut Transaction<'_, S>,
     revocations: &[RevocationRow],
     crls: &[CrlRow],
@@ -88,16 +88,16 @@ fn relist_each<S: Alter>(
     ensures stepped { Stepped S.Store tx.old tx.new }
 {
     for revocation in revocations {
-        relist_one(tx, *revocation, crls)?;
+        rebuild_listed_row(tx, *revocation, crls)?;
     }
     Ok(())
 }
 
-pub(crate) fn relist<S: Alter>(tx: &mut Transaction<'_, S>) -> Result<(), DatabaseFault>
+pub(crate) fn rebuild_listed<S: Alter>(tx: &mut Transaction<'_, S>) -> Result<(), DatabaseFault>
     ensures made { ContinuesRows S.Store tx.old tx.new result Relists }
     ensures stepped { Stepped S.Store tx.old tx.new }
 {
     let crls = crls(tx)?;
     let revocations = revocations(tx)?;
-    relist_each(tx, &revocations, &crls)
+    rebuild_listed_rows(tx, &revocations, &crls)
 }

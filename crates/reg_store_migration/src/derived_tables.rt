@@ -2,9 +2,9 @@
 
 ghost use Rattle.reg_store_tables.specs.Stays.{Stepped};
 ghost use Rattle.reg_store_tables.specs.Steps.{Makes, MakesRows};
-ghost use Rattle.reg_store_migration.specs.Rebuilds.{FillsLetters, Refills};
+ghost use Rattle.reg_store_migration.specs.Rebuilds.{FillsLetters, RebuildsDerived};
 
-use crate::derived_listings::relist;
+use crate::derived_listings::rebuild_listed;
 use crate::sql;
 use crate::status_counts::counts;
 use reg_core::Moment;
@@ -20,15 +20,15 @@ fn fill_letters<S: Alter>(tx: &mut Transaction<'_, S>, last: Moment) -> Result<(
     Ok(())
 }
 
-pub(crate) fn refill<S: Alter>(
+pub(crate) fn rebuild_derived_tables<S: Alter>(
     tx: &mut Transaction<'_, S>,
     last: Moment,
 ) -> Result<(), DatabaseFault>
-    ensures made { Makes S.Store tx.old tx.new result (Refills last) }
+    ensures made { Makes S.Store tx.old tx.new result (RebuildsDerived last) }
     ensures stepped { Stepped S.Store tx.old tx.new }
 {
     fill_letters(tx, last)?;
-    relist(tx)?;
+    rebuild_listed(tx)?;
     let counts = counts(tx)?;
     set_counts(tx, counts)
 }

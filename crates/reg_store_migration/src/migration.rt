@@ -4,9 +4,9 @@ ghost use Rattle.std.specs.Prelude.{◌≡◌, false};
 ghost use Rattle.reg_store_tables.specs.Stays.{Stepped};
 ghost use Rattle.reg_store_tables.specs.Commits.{Commits};
 ghost use Rattle.reg_store_tables.specs.Steps.{Makes};
-ghost use Rattle.reg_store_migration.specs.Rebuilds.{MakesNewer};
+ghost use Rattle.reg_store_migration.specs.Rebuilds.{MigratesTables};
 
-use crate::derived_tables::refill;
+use crate::derived_tables::rebuild_derived_tables;
 use crate::initial_rows::begin;
 use crate::version::OlderVersion;
 use reg_core::Moment;
@@ -14,17 +14,17 @@ use reg_store_tables::DatabaseFault;
 use reg_store_tables::write_statements::commit;
 use sqlite::{Alter, Connection, Transaction};
 
-fn make_newer<S: Alter>(
+fn migrate_tables<S: Alter>(
     tx: &mut Transaction<'_, S>,
     version: OlderVersion,
     days: u64,
     last: Moment,
 ) -> Result<(), DatabaseFault>
-    ensures made { Makes S.Store tx.old tx.new result (MakesNewer version days last) }
+    ensures made { Makes S.Store tx.old tx.new result (MigratesTables version days last) }
     ensures stepped { Stepped S.Store tx.old tx.new }
 {
     begin(tx, version, days)?;
-    refill(tx, last)
+    rebuild_derived_tables(tx, last)
 }
 
 /// Migrates a register of an older version to the program's version, in one transaction: the records stay, and the derived tables
@@ -37,9 +37,9 @@ pub fn migrate<S: Alter>(
     last: Moment,
 ) -> Result<(), DatabaseFault>
     requires { conn.old.in_transaction ≡ false }
-    ensures { Commits S.Store conn.old conn.new result (MakesNewer version days last) }
+    ensures { Commits S.Store conn.old conn.new result (MigratesTables version days last) }
 {
     let mut tx = conn.transaction();
-    make_newer(&mut tx, version, days, last)?;
+    migrate_tables(&mut tx, version, days, last)?;
     commit(tx)
 }

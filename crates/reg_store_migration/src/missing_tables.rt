@@ -3,7 +3,7 @@
 ghost use Rattle.reg_store_tables.specs.Schema.{register_schema};
 ghost use Rattle.reg_store_tables.specs.Stays.{Stepped};
 ghost use Rattle.reg_store_tables.specs.Steps.{Makes};
-ghost use Rattle.reg_store_migration.specs.Older.{kept_tables};
+ghost use Rattle.reg_store_migration.specs.Older.{with_derived_tables};
 ghost use Rattle.reg_store_migration.specs.Rebuilds.{AddsKept, AddsSchedule, Defines, Rebuilds};
 
 use crate::sql;
@@ -22,7 +22,7 @@ pub fn define<S: Alter>(tx: &mut Transaction<'_, S>, sql: &str) -> Result<(), Da
 }
 
 /// Makes the derived tables.
-pub fn make_kept_tables<S: Alter>(tx: &mut Transaction<'_, S>) -> Result<(), DatabaseFault>
+pub fn make_derived_tables<S: Alter>(tx: &mut Transaction<'_, S>) -> Result<(), DatabaseFault>
     ensures made { Makes S.Store tx.old tx.new result AddsKept }
     ensures stepped { Stepped S.Store tx.old tx.new }
 {
@@ -31,8 +31,8 @@ pub fn make_kept_tables<S: Alter>(tx: &mut Transaction<'_, S>) -> Result<(), Dat
     define(tx, schema::LISTED)
 }
 
-fn clear_kept_tables<S: Alter>(tx: &mut Transaction<'_, S>) -> Result<(), DatabaseFault>
-    ensures made { Makes S.Store tx.old tx.new result (Rebuilds OlderVersion.Second kept_tables) }
+fn clear_derived_tables<S: Alter>(tx: &mut Transaction<'_, S>) -> Result<(), DatabaseFault>
+    ensures made { Makes S.Store tx.old tx.new result (Rebuilds OlderVersion.Second with_derived_tables) }
     ensures stepped { Stepped S.Store tx.old tx.new }
 {
     write(tx, sql::CLEAR_LISTED, &[])?;
@@ -42,16 +42,16 @@ fn clear_kept_tables<S: Alter>(tx: &mut Transaction<'_, S>) -> Result<(), Databa
 }
 
 /// Makes the derived tables (version 1), or deletes their rows (version 2).
-fn make_beside<S: Alter>(
+fn make_or_clear_derived_tables<S: Alter>(
     tx: &mut Transaction<'_, S>,
     version: OlderVersion,
 ) -> Result<(), DatabaseFault>
-    ensures made { Makes S.Store tx.old tx.new result (Rebuilds version kept_tables) }
+    ensures made { Makes S.Store tx.old tx.new result (Rebuilds version with_derived_tables) }
     ensures stepped { Stepped S.Store tx.old tx.new }
 {
     match version {
-        OlderVersion::First => make_kept_tables(tx),
-        OlderVersion::Second => clear_kept_tables(tx),
+        OlderVersion::First => make_derived_tables(tx),
+        OlderVersion::Second => clear_derived_tables(tx),
     }
 }
 
@@ -73,6 +73,6 @@ pub(crate) fn make_missing<S: Alter>(
     ensures made { Makes S.Store tx.old tx.new result (Rebuilds version register_schema) }
     ensures stepped { Stepped S.Store tx.old tx.new }
 {
-    make_beside(tx, version)?;
+    make_or_clear_derived_tables(tx, version)?;
     make_schedule_and_indexes(tx)
 }

@@ -1,7 +1,7 @@
 //! How many certificates have each letter.
 
 ghost use Rattle.std.specs.Prelude.{◌≡◌, ℕ, [], ◌∷◌, Bool, bytes_eq, IfOk};
-ghost use Rattle.reg_store_tables.specs.Columns.{Letter, letter_counts, letter_text, with_letter};
+ghost use Rattle.reg_store_tables.specs.DerivedRows.{Letter, letter_counts, letter_text, with_letter};
 ghost use Rattle.reg_store_tables.specs.Rows.{number};
 ghost use Rattle.reg_store_tables.specs.Stays.{Stepped};
 ghost use Rattle.reg_store_tables.specs.Steps.{Asks};

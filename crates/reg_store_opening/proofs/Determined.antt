@@ -22,7 +22,7 @@ use Rattle.reg_core.specs.Schedule.{Ascends}
 use Rattle.reg_store_tables.specs.ReadStatements.{shown_step}
 use Rattle.reg_store_tables.specs.Rows.{number}
 use Rattle.reg_store_tables.proofs.PublicLaws.{selects, as_command, no_limit, passes, shows, Given, given, ascending_key, ascends, sorted_same, ascends_rises, moment_of, all_kept}
-use Rattle.reg_store_opening.specs.Said.{AreSteps}
+use Rattle.reg_store_opening.specs.VersionAndOffice.{AreSteps}
 use Rattle.reg_store_opening.proofs.Resolved.{Names, names_one}
 use Rattle.reg_store_opening.proofs.Registered.{are_steps}
 use Rattle.reg_store_opening.proofs.OneTable.{AreOutputs}

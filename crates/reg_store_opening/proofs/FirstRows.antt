@@ -18,9 +18,9 @@ use Rattle.reg_core.specs.Records.{no_records}
 use Rattle.reg_core.specs.Schedule.{greatest_of}
 use Rattle.reg_store_tables.specs.Schema.{register_schema, office}
 use Rattle.reg_store_tables.specs.Rows.{number, stored_office}
-use Rattle.reg_store_tables.specs.Columns.{stored_counts, office_days}
+use Rattle.reg_store_tables.specs.DerivedRows.{stored_counts, office_days}
 use Rattle.reg_store_tables.specs.Kept.{Kept}
-use Rattle.reg_store_tables.specs.Shows.{AreRows, AreColumns, AreBoth}
+use Rattle.reg_store_tables.specs.Shows.{AreRows, AreDerivedRows, AreRecordsAndDerived}
 use Rattle.reg_store_tables.specs.Stays.{Ran}
 use Rattle.reg_store_tables.specs.Staged.{IsStaged}
 use Rattle.reg_store_tables.proofs.PublicLaws.{cast_int, cast_null, inserts, IsWriting, puts_row}
@@ -64,7 +64,7 @@ staged_first issuer policy db has = record {
 }
 
 -- and once it is, no record is shown
-pub filled : (issuer : Issuer) (policy : Terms) (db : Database) → IsPolicy policy → IsStaged (first_rows issuer policy) policy.schedule db → AreBoth db (no_records issuer policy) (no_columns policy.schedule)
+pub filled : (issuer : Issuer) (policy : Terms) (db : Database) → IsPolicy policy → IsStaged (first_rows issuer policy) policy.schedule db → AreRecordsAndDerived db (no_records issuer policy) (no_columns policy.schedule)
 filled issuer policy db is staged =
     let rows : AreRows db.trees (no_records issuer policy) = record {
       days = pos (greatest_of policy.schedule);
@@ -85,7 +85,7 @@ filled issuer policy db is staged =
       request_serials = tt;
       revocation_serials = tt;
     } in
-    let kept : AreColumns db.trees (no_columns policy.schedule) = record {
+    let kept : AreDerivedRows db.trees (no_columns policy.schedule) = record {
       days = ap office_days (staged.others 0 refl refl);
       letters = staged.others 12 refl refl;
       counts = staged.others 14 refl refl;

@@ -2,7 +2,7 @@
 use Rattle.std.proofs.Common.{◌≡◌, Result, Ok, Err, IfOk, MatchResult, inl, inr}
 use Rattle.reg_store_tables.specs.declared.fault.StoreFault.{StoreFault}
 use Rattle.reg_store_tables.specs.declared.fault.StoreFault.TheVariants.{NotARegister}
-use Rattle.reg_store_opening.specs.Said.{Refuses}
+use Rattle.reg_store_opening.specs.VersionAndOffice.{Refuses}
 
 -- they are refused as others are
 pub refused_as : {Told Other : Type 0} (fault : StoreFault) → Refuses Told fault → (Told → Other) → Refuses Other fault

@@ -13,14 +13,14 @@ use Rattle.reg_store_tables.specs.Stays.{IsRegister, LeavesNothing, Stays}
 use Rattle.reg_store_tables.proofs.PublicLaws.{kept_shows, stays_holds, stays_kept, stays_shows, left, turns, stays_days, moving-was_clean as was_clean, leaves_first, leaves_less}
 use Rattle.reg_store_tables.specs.Commits.{Commits}
 use Rattle.reg_store_migration.specs.Older.{older_schema, IsShownByOlder, ShowsOlder}
-use Rattle.reg_store_migration.specs.Rebuilds.{MakesNewer}
+use Rattle.reg_store_migration.specs.Rebuilds.{MigratesTables}
 use Rattle.reg_store_migration.specs.Refilled.{HasKept, HasGreatestDays}
 use Rattle.reg_store_migration.specs.declared.version.OlderVersion.{OlderVersion}
 use Rattle.reg_store_migration.proofs.PublicLaws.{any_days, any_kept, kept_rests, kept_whole}
 use Rattle.reg_store_opening.specs.AfterStoppedOpening.{IsOpened}
 use Rattle.reg_store_opening.specs.Examined.{IsFoundOf}
 use Rattle.reg_store_opening.specs.Opens.{Opens}
-use Rattle.reg_store_opening.specs.Said.{IsCurrent, IsOlder, ShowsAs}
+use Rattle.reg_store_opening.specs.VersionAndOffice.{IsCurrent, IsOlder, ShowsAs}
 use Rattle.reg_store_opening.specs.declared.version_check.OlderOffice.{OlderOffice}
 
 never_some : {A : Type 0} (x : A) → Some x ≡ None → ⊥
@@ -53,10 +53,10 @@ module _ {S : Type 0} {g : Ghosts S} {old mid : Held S} (leaves : LeavesNothing 
   -- they are of an older version, and a migration was begun
   module _ {new : Held S} {E : Type 0} {r : Result (Unit {0}) E} (older : OlderOffice) (says : HasCleanDisk (state g mid) → IsOlder (state g old).now)
       (found : (version : Option OlderVersion) (records : Records) → ShowsAs version g old records → HasCleanDisk (state g mid) → IsFoundOf version records (Some older))
-      (done : Commits g mid new r (MakesNewer older.version older.days older.last)) where
+      (done : Commits g mid new r (MigratesTables older.version older.days older.last)) where
     -- what was shown is led to what follows from it
     made : (version : OlderVersion) (records : Records) → ShowsOlder version g old records → SoundRows records → HasCleanDisk (state g mid) → (before after : Database) → IsShownByOlder version before records
-        → MakesNewer older.version older.days older.last before after → HasKept after records × HasGreatestDays after records × Rattle.sqlite.specs.Effect.IsDatabase after
+        → MigratesTables older.version older.days older.last before after → HasKept after records × HasGreatestDays after records × Rattle.sqlite.specs.Effect.IsDatabase after
     made version records shows sound clean before after shown on =
         let is = found (Some version) records shows clean in
         on.kept records (subst (λ v. IsShownByOlder v before records) (sym is.0) shown) sound is.1 is.2
@@ -75,7 +75,7 @@ module _ {S : Type 0} {g : Ghosts S} {old mid : Held S} (leaves : LeavesNothing 
 
   pub opens_newer : {new : Held S} {E : Type 0} (older : OlderOffice) → (HasCleanDisk (state g mid) → IsOlder (state g old).now)
       → ((version : Option OlderVersion) (records : Records) → ShowsAs version g old records → HasCleanDisk (state g mid) → IsFoundOf version records (Some older))
-      → Holds g mid (λ db. db.schema ≡ older_schema older.version) → Commits {E = E} g mid new (Ok (tt {0})) (MakesNewer older.version older.days older.last) → Opens g old new
+      → Holds g mid (λ db. db.schema ≡ older_schema older.version) → Commits {E = E} g mid new (Ok (tt {0})) (MigratesTables older.version older.days older.last) → Opens g old new
   opens_newer {new = new} older says found schema done =
       let was : HasCleanDisk (state g new) → HasCleanDisk (state g mid) = was_clean (state g mid) (state g new) done.survives.clean in
       let never : (records : Records) → Shows g old records → HasCleanDisk (state g new) → ⊥ = λ records shows clean. never_some older (found None records shows (was clean)) in

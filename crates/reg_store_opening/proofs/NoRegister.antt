@@ -10,7 +10,7 @@ use Rattle.reg_store_tables.specs.declared.sql.TheConstants.{STEPS}
 use Rattle.reg_store_migration.specs.Older.{version_number}
 use Rattle.reg_store_migration.specs.declared.version.OlderVersion.{OlderVersion}
 use Rattle.reg_store_opening.specs.declared.sql.TheConstants.{VERSION, OFFICE, OLDER_OFFICE}
-use Rattle.reg_store_opening.specs.Said.{version_of, schema_of, IsRead, IsRefusedText, IsOne, KeepsTo, HasVersion, SaysOffice, SaysOlder, SaysOfficeOf, SaysNoOffice, SaysNoOlder, IsNoRegister}
+use Rattle.reg_store_opening.specs.VersionAndOffice.{version_of, schema_of, IsRead, IsRefusedText, IsOne, KeepsTo, HasVersion, HasOfficeRow, HasOlderOffice, HasOfficeRowOf, HasNoOfficeRow, HasNoOlderOffice, IsNoRegister}
 use Rattle.reg_store_opening.proofs.ScheduleRows.{one_version}
 use Rattle.reg_store_opening.proofs.Resolved.{ok_one}
 use Rattle.reg_store_opening.proofs.Understood.{ReadsTable}
@@ -47,7 +47,7 @@ module _ (text : List ℕ) (names keys : List (List ℕ)) (db : Database) (means
 -- ---- the tables of an office
 
 module _ (db : Database) (unviewed : db.schema.views ≡ []) where
-  no_office : SaysNoOffice db → SaysOffice db → ⊥
+  no_office : HasNoOfficeRow db → HasOfficeRow db → ⊥
   no_office (inl (inl refused)) says = not_refused OFFICE.now office_names [] db (office_is db.schema unviewed) says.0 says.2 refused
   no_office (inl (inr refused)) says = not_refused STEPS.now steps_names steps_keys db (steps_is db.schema unviewed) says.1 says.3 refused
   no_office (inr h) says =
@@ -61,7 +61,7 @@ module _ (db : Database) (unviewed : db.schema.views ≡ []) where
       (reads_of STEPS.now steps_names steps_keys db means says.1 says.3) (reads_as STEPS.now steps_names steps_keys db means says.1 h.1 says.3 h.3) rise are.2 in
       h.4 (are.0, are.1, steps, row)
 
-  no_older : SaysNoOlder db → SaysOlder db → ⊥
+  no_older : HasNoOlderOffice db → HasOlderOffice db → ⊥
   no_older (inl refused) says = not_refused OLDER_OFFICE.now older_names [] db (older_is db.schema unviewed) says.2.0 says.2.1 refused
   no_older (inr h) says =
       let P : Row → Type 0 = λ row. (column row 6 ≡ number says.0) × (column row 5 ≡ number says.1) × KeepsTo (one_step says.0) row in
@@ -70,7 +70,7 @@ module _ (db : Database) (unviewed : db.schema.views ≡ []) where
   version_again : (n m : ℕ) → HasVersion db n → HasVersion db m → n ≡ m
   version_again n m one two = one_version two.0 n m (one_again VERSION.now version_names [] db (version_is db.schema unviewed) (λ row. column row 0 ≡ number n) one.0 two.0 one.1 two.1 one.2) two.2
 
-  pub no_register : IsNoRegister db → (n : ℕ) → 1 ≤ n → HasVersion db n → (version : Option OlderVersion) × (n ≡ version_of version) × ((SaysOfficeOf version db → ⊥) ⊎ (db.schema ≢ schema_of version))
+  pub no_register : IsNoRegister db → (n : ℕ) → 1 ≤ n → HasVersion db n → (version : Option OlderVersion) × (n ≡ version_of version) × ((HasOfficeRowOf version db → ⊥) ⊎ (db.schema ≢ schema_of version))
   no_register (inl (inl (inl refused))) n low has = absurd (not_refused VERSION.now version_names [] db (version_is db.schema unviewed) has.0 has.1 refused)
   no_register (inl (inl (inr h))) n low has = absurd (h.2 n low (one_again VERSION.now version_names [] db (version_is db.schema unviewed) (λ row. column row 0 ≡ number n) has.0 h.0 has.1 h.1 has.2))
   no_register (inl (inr (inl h))) n low has = (None, version_again n 3 has h.0, inl (no_office h.1))

@@ -17,7 +17,7 @@ use Rattle.reg_store_tables.specs.declared.fault.StoreFault.TheVariants.{NotAReg
 use Rattle.reg_store_migration.specs.Older.{older_schema, stored_older, IsShownByOlder}
 use Rattle.reg_store_migration.specs.declared.version.OlderVersion.{OlderVersion}
 use Rattle.reg_store_migration.specs.declared.version.OlderVersion.TheVariants.{First, Second}
-use Rattle.reg_store_opening.specs.Said.{IsNeverRefused, IsRead, InRange, AreOlderOffice, AreVersionRows, version_of, schema_of, IsOfVersion, Refuses}
+use Rattle.reg_store_opening.specs.VersionAndOffice.{IsNeverRefused, IsRead, InRange, AreOlderOffice, AreVersionRows, version_of, schema_of, IsOfVersion, Refuses}
 use Rattle.reg_store_opening.specs.declared.sql.TheConstants.{VERSION, OLDER_OFFICE}
 use Rattle.reg_store_opening.proofs.Registered.{ReadsAll, never_refused, row_read, number_one}
 use Rattle.reg_store_opening.proofs.ScheduleRows.{one_version, only_row}

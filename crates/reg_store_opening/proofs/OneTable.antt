@@ -24,11 +24,11 @@ use Rattle.reg_store_opening.proofs.Resolved.{then_ok, ok_one, lift_ok, SpendsNo
 abbrev pub IsColumn : written.Shown → Name → Type 0
 IsColumn s name = (e : Expr) × (text : List ℕ) × (written.out-Shown s ≡ Shown-F.One e None text) × (out-Expr e ≡ Expr-F.Column None name) × (is_rowid name ≡ false)
 
-abbrev pub AreColumns : List written.Shown → List Name → Type 0
-AreColumns [] [] = Unit {0}
-AreColumns [] (name ∷ names) = ⊥
-AreColumns (s ∷ shown) [] = ⊥
-AreColumns (s ∷ shown) (name ∷ names) = IsColumn s name × AreColumns shown names
+abbrev pub AreDerivedRows : List written.Shown → List Name → Type 0
+AreDerivedRows [] [] = Unit {0}
+AreDerivedRows [] (name ∷ names) = ⊥
+AreDerivedRows (s ∷ shown) [] = ⊥
+AreDerivedRows (s ∷ shown) (name ∷ names) = IsColumn s name × AreDerivedRows shown names
 
 abbrev pub AreOutputs : Schema → List Bound → List Name → List Output → Type 0
 AreOutputs schema tables [] [] = Unit {0}
@@ -66,7 +66,7 @@ module _ (schema : Schema) (b : Bound) where
         (ap (λ (p : List Output × State). p.1.steps) (sym same) ∙ named.1.0, ap (λ (p : List Output × State). p.1.aggregates) (sym same) ∙ named.1.1),
       )
 
-  pub outputs_names : (shown : List written.Shown) (names : List Name) → AreColumns shown names → (done : List Output) (st : State) (x : List Output × State) → body.outputs_from lower at_result (b ∷ []) done shown st ≡ Ok x
+  pub outputs_names : (shown : List written.Shown) (names : List Name) → AreDerivedRows shown names → (done : List Output) (st : State) (x : List Output × State) → body.outputs_from lower at_result (b ∷ []) done shown st ≡ Ok x
       → (more : List Output) × (x.0 ≡ done ++ more) × AreOutputs schema (b ∷ []) names more × SpendsNothing st x.1
   outputs_names [] [] are done st x h =
       let same = ok_one (done, st) x h in

@@ -9,11 +9,11 @@ use Rattle.reg_store_tables.specs.Stays.{IsRegister, Stays}
 use Rattle.reg_store_schema.specs.declared.versions.Version.{Version}
 use Rattle.reg_store_migration.specs.Older.{older_schema}
 use Rattle.reg_store_migration.specs.declared.version.OlderVersion.{OlderVersion}
-use Rattle.reg_store_opening.specs.Examined.{SaysFound, IsFoundOf, found_version}
-use Rattle.reg_store_opening.specs.Said.{version_of, schema_of, HasVersion, HasOthers, IsOlder, IsShownAs, SchemaHasVersion, version_or_ours}
+use Rattle.reg_store_opening.specs.Examined.{HasVersionAndOffice, IsFoundOf, found_version}
+use Rattle.reg_store_opening.specs.VersionAndOffice.{version_of, schema_of, HasVersion, HasOthers, IsOlder, IsShownAs, SchemaHasVersion, version_or_current}
 use Rattle.reg_store_opening.specs.declared.version_check.OlderOffice.{OlderOffice}
 
-has_found : (db : Database) (found : Option OlderOffice) → SaysFound db found → HasVersion db (version_of (found_version found))
+has_found : (db : Database) (found : Option OlderOffice) → HasVersionAndOffice db found → HasVersion db (version_of (found_version found))
 has_found db None it = it.0
 has_found db (Some older) it = it.0
 
@@ -28,22 +28,22 @@ schema_as (Some version) db records shown = shown.schema
 
 -- the tables of a database, by what was compared
 module _ (db : Database) (tables : Option Version) (is : SchemaHasVersion tables db.schema) (found : Option OlderOffice) where
-  pub current_there : tables ≡ Some (version_or_ours (found_version found)) → found ≡ None → db.schema ≡ register_schema
+  pub current_there : tables ≡ Some (version_or_current (found_version found)) → found ≡ None → db.schema ≡ register_schema
   current_there same none = (is (found_version found)).0 same ∙ ap (λ f. schema_of (found_version f)) none
 
-  pub older_there : tables ≡ Some (version_or_ours (found_version found)) → (older : OlderOffice) → found ≡ Some older → db.schema ≡ older_schema older.version
+  pub older_there : tables ≡ Some (version_or_current (found_version found)) → (older : OlderOffice) → found ≡ Some older → db.schema ≡ older_schema older.version
   older_there same older some = (is (found_version found)).0 same ∙ ap (λ f. schema_of (found_version f)) some
 
-  pub older_said : tables ≡ Some (version_or_ours (found_version found)) → (older : OlderOffice) → found ≡ Some older → SaysFound db found → IsOlder db
+  pub older_said : tables ≡ Some (version_or_current (found_version found)) → (older : OlderOffice) → found ≡ Some older → HasVersionAndOffice db found → IsOlder db
   older_said same older some says =
-      let it = subst (SaysFound db) some says in
+      let it = subst (HasVersionAndOffice db) some says in
       (older.version, older_there same older some, it.0, (older.days, older.last, it.1))
 
-  module _ (other : tables ≢ Some (version_or_ours (found_version found))) where
+  module _ (other : tables ≢ Some (version_or_current (found_version found))) where
     differs : db.schema ≢ schema_of (found_version found)
     differs same = other ((is (found_version found)).1 same)
 
-    pub others_there : SaysFound db found → HasOthers db
+    pub others_there : HasVersionAndOffice db found → HasOthers db
     others_there it = (found_version found, has_found db found it, differs)
 
     pub never_shown : (version : Option OlderVersion) (records : Records) → IsFoundOf version records found → IsShownAs version db records → ⊥

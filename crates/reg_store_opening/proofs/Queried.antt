@@ -25,7 +25,7 @@ use Rattle.reg_store_tables.specs.Stays.{IsDatabaseFault}
 use Rattle.reg_store_tables.specs.declared.fault.StoreFault.{StoreFault}
 use Rattle.reg_store_tables.specs.declared.fault.StoreFault.TheVariants.{NotARegister}
 use Rattle.reg_store_tables.proofs.PublicLaws.{select_planned, selected, fails_remains}
-use Rattle.reg_store_opening.specs.Said.{is_call_error, NeverWrites, IsQuery, IsNeverRefused, IsRead, IsRefusedText}
+use Rattle.reg_store_opening.specs.VersionAndOffice.{is_call_error, NeverWrites, IsQuery, IsNeverRefused, IsRead, IsRefusedText}
 
 -- ---- a text that is a SELECT, whatever the tables are
 

@@ -4,7 +4,7 @@ use Rattle.sqlite_resolve.specs.Compile.{first}
 use Rattle.sqlite_tied.specs.Compute.{everything}
 use Rattle.reg_store_tables.specs.declared.sql.TheConstants.{STEPS}
 use Rattle.reg_store_opening.specs.declared.sql.TheConstants.{VERSION, OFFICE, OLDER_OFFICE}
-use Rattle.reg_store_opening.specs.Said.{IsQuery}
+use Rattle.reg_store_opening.specs.VersionAndOffice.{IsQuery}
 use Rattle.reg_store_opening.proofs.Queried.{query_text}
 
 pub version_query : IsQuery VERSION.now

@@ -24,7 +24,7 @@ use Rattle.reg_store_tables.specs.declared.sql.TheConstants.{STEPS}
 use Rattle.reg_store_tables.specs.Stays.{IsDatabaseFault}
 use Rattle.reg_store_tables.specs.declared.fault.StoreFault.{StoreFault}
 use Rattle.reg_store_opening.specs.declared.sql.TheConstants.{OFFICE}
-use Rattle.reg_store_opening.specs.Said.{is_call_error, IsNeverRefused, IsRead, IsOne, AreSteps, KeepsTo, AreOfficeRows, InRange, Refuses}
+use Rattle.reg_store_opening.specs.VersionAndOffice.{is_call_error, IsNeverRefused, IsRead, IsOne, AreSteps, KeepsTo, AreOfficeRows, InRange, Refuses}
 use Rattle.reg_store_opening.proofs.TableTexts.{office_names, steps_names}
 
 -- ---- a query on one table is refused for no reason of its own

@@ -4,7 +4,7 @@ use Rattle.std.proofs.Common.{◌≡◌, Option, None, Some, ◌<◌, ◌≤◌,
 use Rattle.sqlite_value.specs.Order.{Row, column}
 use Rattle.reg_core.specs.Calendar.{clock_end}
 use Rattle.reg_store_tables.specs.Rows.{number}
-use Rattle.reg_store_opening.specs.Said.{AreSteps, AreVersionRows, HaveMoments, IsStep}
+use Rattle.reg_store_opening.specs.VersionAndOffice.{AreSteps, AreVersionRows, HaveMoments, IsStep}
 use Rattle.reg_store_opening.proofs.Registered.{number_one}
 
 -- one row more is one step more

@@ -27,7 +27,7 @@ use Rattle.std.proofs.lemmas.Bool.{cases_Bool}
 use Rattle.sqlite_sql.specs.Term.{reads_below}
 use Rattle.sqlite_resolve.specs.Program.{is_named}
 use Rattle.reg_store_opening.proofs.Resolved.{then_ok, ok_one, lift_ok, SpendsNothing, kept_on, Names, lowered}
-use Rattle.reg_store_opening.proofs.OneTable.{AreColumns, AreOutputs, no_alias, outputs_names, bounds_one}
+use Rattle.reg_store_opening.proofs.OneTable.{AreDerivedRows, AreOutputs, no_alias, outputs_names, bounds_one}
 
 -- ---- the join
 
@@ -174,7 +174,7 @@ pub record IsBare (core : Core) (source : Source) (names : List Name) : Type 0 w
   pub on : (out-Source source).on ≡ None
   pub using : (out-Source source).using ≡ []
   pub named : is_named (out-Source source).origin ≡ true
-  pub shown : AreColumns (out-Core core).shown names
+  pub shown : AreDerivedRows (out-Core core).shown names
   pub filter : (out-Core core).filter ≡ None
   pub group : (out-Core core).group ≡ []
   pub having : (out-Core core).having ≡ None

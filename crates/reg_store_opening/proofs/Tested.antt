@@ -6,7 +6,7 @@ use Rattle.reg_core.specs.Records.{Records}
 use Rattle.reg_store_migration.specs.declared.version.OlderVersion.{OlderVersion}
 use Rattle.reg_store_tables.specs.Steps.{WhileOpen}
 use Rattle.reg_store_tables.proofs.PublicLaws.{unchanged_before}
-use Rattle.reg_store_opening.specs.Said.{IsOfVersion, IsShownAs}
+use Rattle.reg_store_opening.specs.VersionAndOffice.{IsOfVersion, IsShownAs}
 use Rattle.reg_store_opening.proofs.OlderRead.{register_of, older_of}
 
 pub of_version : (version : Option OlderVersion) (db : Database) (records : Records) → IsShownAs version db records → IsOfVersion version db

@@ -9,8 +9,8 @@ use Rattle.reg_store_tables.specs.Stays.{IsDatabaseFault, LeavesNothing, Stays}
 use Rattle.reg_store_tables.specs.declared.fault.StoreFault.{StoreFault}
 use Rattle.reg_store_tables.specs.declared.fault.StoreFault.TheVariants.{NewVersion, NotARegister, NotEmpty}
 use Rattle.reg_store_opening.specs.AfterStoppedOpening.{IsOpened}
-use Rattle.reg_store_opening.specs.Opens.{IsUnopened}
-use Rattle.reg_store_opening.specs.Said.{InRange, IsNewer, IsNoRegister, ShowsAs}
+use Rattle.reg_store_opening.specs.Opens.{IsFailedOpen}
+use Rattle.reg_store_opening.specs.VersionAndOffice.{InRange, IsNewer, IsNoRegister, ShowsAs}
 use Rattle.reg_store_opening.proofs.NoRegister.{no_register}
 use Rattle.reg_store_tables.proofs.PublicLaws.{leaves_less}
 
@@ -33,7 +33,7 @@ err_as P Q (Err e) is leads = leads e is
 
 -- memory or the database has failed
 pub fails_to_open : {S : Type 0} (g : Ghosts S) (old new : Held S) (fault : StoreFault) → IsDatabaseFault fault → Stays (state g old) (state g new)
-    → Survives (state g old) (state g new) (IsOpened g old) → IsUnopened g old new fault
+    → Survives (state g old) (state g new) (IsOpened g old) → IsFailedOpen g old new fault
 fails_to_open g old new fault is stays survives = record {
   same = stays;
   shown = λ version records within shows clean. is;
@@ -48,7 +48,7 @@ fails_to_open g old new fault is stays survives = record {
 pub refuses : {S : Type 0} (g : Ghosts S) (old new : Held S) (fault : StoreFault) → Stays (state g old) (state g new) → LeavesNothing (state g old) (state g new)
     → ((version : Option OlderVersion) (records : Records) → InRange records → ShowsAs version g old records → HasCleanDisk (state g new) → IsDatabaseFault fault)
     → (HasCleanDisk (state g new) → fault ≡ NewVersion → IsNewer (state g old).now) → (HasCleanDisk (state g new) → fault ≡ NotARegister → IsNoRegister (state g old).now)
-    → fault ≢ NotEmpty → IsUnopened g old new fault
+    → fault ≢ NotEmpty → IsFailedOpen g old new fault
 refuses g old new fault stays leaves shown newer none filled = record {
   same = stays;
   shown = shown;

@@ -10,7 +10,7 @@ use Rattle.reg_core.specs.Records.{no_records}
 use Rattle.reg_core.specs.Schedule.{greatest_of}
 use Rattle.reg_store_tables.specs.Rows.{stored_office}
 use Rattle.reg_store_tables.specs.Schema.{no_schema, register_schema, office, subscriber, orders, cert}
-use Rattle.reg_store_tables.specs.Shows.{AreBoth}
+use Rattle.reg_store_tables.specs.Shows.{AreRecordsAndDerived}
 use Rattle.reg_store_migration.specs.NumberedRows.{HasRows, with_rows}
 use Rattle.reg_store_migration.specs.Refilled.{no_columns}
 
@@ -41,6 +41,6 @@ PutsOffice issuer policy old new =
     IsBlank register_schema old → IsPolicy policy × HasRows register_schema (office_alone issuer policy) new
 
 -- tables of a schema, which have no rows, become those of a register with no records, and obey their schema
-abbrev pub Founds : Schema → Issuer → Terms → Database → Database → Type 0
-Founds tables issuer policy old new =
-    IsBlank tables old → AreBoth new (no_records issuer policy) (no_columns policy.schedule) × IsDatabase new
+abbrev pub CreatesRegister : Schema → Issuer → Terms → Database → Database → Type 0
+CreatesRegister tables issuer policy old new =
+    IsBlank tables old → AreRecordsAndDerived new (no_records issuer policy) (no_columns policy.schedule) × IsDatabase new

@@ -12,13 +12,13 @@ use Rattle.reg_store_tables.specs.declared.fault.StoreFault.TheVariants.{NewVers
 use Rattle.reg_store_tables.specs.Steps.{WhileOpen}
 use Rattle.reg_store_migration.specs.Older.{version_number}
 use Rattle.reg_store_migration.specs.declared.version.OlderVersion.{OlderVersion}
-use Rattle.reg_store_opening.specs.Said.{HasVersion, InRange, IsCurrent, IsNewer, ReadsOlder}
+use Rattle.reg_store_opening.specs.VersionAndOffice.{HasVersion, InRange, IsCurrent, IsNewer, ReadsOlder}
 use Rattle.reg_store_opening.specs.declared.version_check.OlderOffice.{OlderOffice}
 
 -- the tables have the program's version and an office, or an older version and its office
-abbrev pub SaysFound : Database → Option OlderOffice → Type 0
-SaysFound db None = IsCurrent db
-SaysFound db (Some older) = HasVersion db (version_number older.version) × ReadsOlder db older.days older.last
+abbrev pub HasVersionAndOffice : Database → Option OlderOffice → Type 0
+HasVersionAndOffice db None = IsCurrent db
+HasVersionAndOffice db (Some older) = HasVersion db (version_number older.version) × ReadsOlder db older.days older.last
 
 -- what was found matches the records that tables of a version show: for an older version, their schedule and their last accepted moment
 abbrev pub IsFoundOf : Option OlderVersion → Records → Option OlderOffice → Type 0

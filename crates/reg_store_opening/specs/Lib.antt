@@ -1,5 +1,5 @@
 pub mod Blank
-pub mod Said
+pub mod VersionAndOffice
 pub mod Examined
 pub mod AfterStoppedOpening
 pub mod Opens

@@ -17,7 +17,7 @@ use Rattle.reg_store_tables.specs.declared.fault.StoreFault.TheVariants.{NewVers
 use Rattle.reg_store_migration.specs.Older.{ShowsOlder}
 use Rattle.reg_store_migration.specs.declared.version.OlderVersion.{OlderVersion}
 use Rattle.reg_store_opening.specs.AfterStoppedOpening.{IsCreated, IsOpened}
-use Rattle.reg_store_opening.specs.Said.{HoldsNoRegister, InRange, IsCurrent, IsNewer, IsNoRegister, IsOlder, ShowsAs}
+use Rattle.reg_store_opening.specs.VersionAndOffice.{HoldsNoRegister, InRange, IsCurrent, IsNewer, IsNoRegister, IsOlder, ShowsAs}
 
 -- A database that is opened. Tables of the program's version stay as they are; those of version 1 or 2 are migrated to it.
 pub record Opens {S : Type 0} (g : Ghosts S) (old new : Held S) : Type 0 where
@@ -43,7 +43,7 @@ pub record Opens {S : Type 0} (g : Ghosts S) (old new : Held S) : Type 0 where
   pub survives : Survives (state g old) (state g new) (IsOpened g old)
 
 -- A database that can't be opened, and the fault that gives the reason.
-pub record IsUnopened {S : Type 0} (g : Ghosts S) (old new : Held S) (fault : StoreFault) : Type 0 where
+pub record IsFailedOpen {S : Type 0} (g : Ghosts S) (old new : Held S) (fault : StoreFault) : Type 0 where
   -- the tables are as they were
   pub same : Stays (state g old) (state g new)
   -- a register whose values are within their ranges is refused only if memory or the database fails
@@ -73,7 +73,7 @@ pub record Creates {S : Type 0} (g : Ghosts S) (old new : Held S) (issuer : Issu
   pub survives : Survives (state g old) (state g new) (IsCreated old issuer policy)
 
 -- A database in which no register can be created, and the fault that gives the reason.
-pub record IsUncreated {S : Type 0} (g : Ghosts S) (old new : Held S) (issuer : Issuer) (policy : Terms)
+pub record IsFailedCreate {S : Type 0} (g : Ghosts S) (old new : Held S) (issuer : Issuer) (policy : Terms)
     (fault : StoreFault) : Type 0 where
   -- the tables are as they were
   pub same : Stays (state g old) (state g new)

@@ -5,8 +5,8 @@ ghost use Rattle.reg_store_tables.specs.Schema.{no_schema};
 ghost use Rattle.reg_store_tables.specs.Stays.{Stepped};
 ghost use Rattle.reg_store_tables.specs.Commits.{Commits};
 ghost use Rattle.reg_store_tables.specs.Steps.{Makes};
-ghost use Rattle.reg_store_opening.specs.Blank.{Founds};
-ghost use Rattle.reg_store_opening.specs.Opens.{Creates, IsUncreated};
+ghost use Rattle.reg_store_opening.specs.Blank.{CreatesRegister};
+ghost use Rattle.reg_store_opening.specs.Opens.{Creates, IsFailedCreate};
 
 use crate::empty_tables::make;
 use crate::initial_rows::fill;
@@ -28,7 +28,7 @@ fn make_register<S: Alter>(
     issuer: &Issuer,
     policy: &Policy,
 ) -> Result<(), DatabaseFault>
-    ensures made { Makes S.Store tx.old tx.new result (Founds no_schema issuer.now policy.now) }
+    ensures made { Makes S.Store tx.old tx.new result (CreatesRegister no_schema issuer.now policy.now) }
     ensures stepped { Stepped S.Store tx.old tx.new }
 {
     make(tx)?;
@@ -41,7 +41,7 @@ fn found<S: Alter>(
     policy: &Policy,
 ) -> Result<(), DatabaseFault>
     requires { conn.old.in_transaction ≡ false }
-    ensures { Commits S.Store conn.old conn.new result (Founds no_schema issuer.now policy.now) }
+    ensures { Commits S.Store conn.old conn.new result (CreatesRegister no_schema issuer.now policy.now) }
 {
     let mut tx = conn.transaction();
     make_register(&mut tx, issuer, policy)?;
@@ -57,7 +57,7 @@ pub fn create<S: Alter>(
 ) -> Result<(), StoreFault>
     requires { conn.old.in_transaction ≡ false }
     ensures creates { OnOk result (Creates S.Store conn.old conn.new issuer.now policy.now) }
-    ensures uncreated { IfErr result (IsUncreated S.Store conn.old conn.new issuer.now policy.now) }
+    ensures uncreated { IfErr result (IsFailedCreate S.Store conn.old conn.new issuer.now policy.now) }
     ensures idle { conn.new.in_transaction ≡ false }
 {
     if !is_empty(conn) {

@@ -5,7 +5,7 @@ ghost use Rattle.reg_store_tables.specs.Stays.{Stepped};
 ghost use Rattle.reg_store_tables.specs.Steps.{Makes};
 ghost use Rattle.reg_store_opening.specs.Blank.{Grows, entry_tables};
 
-use reg_store_migration::missing_tables::{define, make_kept_tables, make_schedule_and_indexes};
+use reg_store_migration::missing_tables::{define, make_derived_tables, make_schedule_and_indexes};
 use reg_store_tables::{DatabaseFault, schema};
 use sqlite::{Alter, Transaction};
 
@@ -35,6 +35,6 @@ pub(crate) fn make<S: Alter>(tx: &mut Transaction<'_, S>) -> Result<(), Database
 {
     make_entry_tables(tx)?;
     make_revocation_tables(tx)?;
-    make_kept_tables(tx)?;
+    make_derived_tables(tx)?;
     make_schedule_and_indexes(tx)
 }

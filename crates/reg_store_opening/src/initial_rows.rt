@@ -3,7 +3,7 @@
 ghost use Rattle.reg_store_tables.specs.Schema.{register_schema};
 ghost use Rattle.reg_store_tables.specs.Stays.{Stepped};
 ghost use Rattle.reg_store_tables.specs.Steps.{Makes};
-ghost use Rattle.reg_store_opening.specs.Blank.{Founds, PutsOffice};
+ghost use Rattle.reg_store_opening.specs.Blank.{CreatesRegister, PutsOffice};
 
 use crate::sql;
 use reg_core::Policy;
@@ -42,7 +42,7 @@ pub(crate) fn fill<S: Alter>(
     issuer: &Issuer,
     policy: &Policy,
 ) -> Result<(), DatabaseFault>
-    ensures made { Makes S.Store tx.old tx.new result (Founds register_schema issuer.now policy.now) }
+    ensures made { Makes S.Store tx.old tx.new result (CreatesRegister register_schema issuer.now policy.now) }
     ensures stepped { Stepped S.Store tx.old tx.new }
 {
     put_office(tx, issuer, policy)?;

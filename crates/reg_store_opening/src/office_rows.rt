@@ -6,7 +6,7 @@ ghost use Rattle.reg_core.specs.Issuer as core;
 ghost use Rattle.reg_core.specs.Policy.{Terms};
 ghost use Rattle.reg_core.specs.Schedule.{IsSchedule, one_step};
 ghost use Rattle.reg_store_tables.specs.Rows.{number};
-ghost use Rattle.reg_store_opening.specs.Said.{version_of, AreVersionRows, HasPolicy, HasLast, HasIssuer, KeepsTo, AreOfficeRows, IsOlderRow, AreOlderOffice, Refuses, IsStep, HaveSteps};
+ghost use Rattle.reg_store_opening.specs.VersionAndOffice.{version_of, AreVersionRows, HasPolicy, HasLast, HasIssuer, KeepsTo, AreOfficeRows, IsOlderRow, AreOlderOffice, Refuses, IsStep, HaveSteps};
 
 use reg_core::{Moment, Policy, Schedule};
 use reg_der::{Issuer, IssuerFault};
@@ -32,7 +32,7 @@ fn version_in(rows: &[Row]) -> Option<u64>
 }
 
 /// The version of the tables if it is older than the program's; `None` if it is the program's.
-pub(crate) fn judge_version(rows: &[Row]) -> Result<Option<OlderVersion>, StoreFault>
+pub(crate) fn version_in_rows(rows: &[Row]) -> Result<Option<OlderVersion>, StoreFault>
     ensures ok { IfOk result (λ found. AreVersionRows (version_of found) rows.now) }
     ensures newer { result ≡ Err StoreFault.NewVersion → (n : ℕ) × (3 < n) × AreVersionRows n rows.now }
     ensures none { result ≡ Err StoreFault.NotARegister → (n : ℕ) → 1 ≤ n → ¬ AreVersionRows n rows.now }
@@ -97,7 +97,7 @@ fn last_in(row: &Row) -> Option<Moment>
     clock_moment_at(row, 5)
 }
 
-fn judge_issuer(alloc: Global, row: &Row) -> Result<(), StoreFault>
+fn check_issuer(alloc: Global, row: &Row) -> Result<(), StoreFault>
     ensures { MatchResult result (λ _. (issuer : core.Issuer) × HasIssuer row.now issuer)
         (Refuses ((issuer : core.Issuer) → ¬ HasIssuer row.now issuer)) }
 {
@@ -115,27 +115,27 @@ fn judge_issuer(alloc: Global, row: &Row) -> Result<(), StoreFault>
     }
 }
 
-fn judge_row(alloc: Global, row: &Row, schedule: Schedule) -> Result<(), StoreFault>
+fn check_office_row(alloc: Global, row: &Row, schedule: Schedule) -> Result<(), StoreFault>
     ensures { MatchResult result (λ _. KeepsTo schedule row.now) (Refuses (¬ KeepsTo schedule row.now)) }
 {
     match policy_in(row, schedule) {
         None => Err(StoreFault::NotARegister),
         Some(_) => match last_in(row) {
             None => Err(StoreFault::NotARegister),
-            Some(_) => judge_issuer(alloc, row),
+            Some(_) => check_issuer(alloc, row),
         },
     }
 }
 
 /// Checks that the rows are those of an office and of its schedule.
-pub(crate) fn judge_office(rows: &Vec<Row>, steps: &Vec<Row>) -> Result<(), StoreFault>
+pub(crate) fn check_office_rows(rows: &Vec<Row>, steps: &Vec<Row>) -> Result<(), StoreFault>
     ensures { MatchResult result (λ _. AreOfficeRows rows.now.items steps.now.items)
         (Refuses (¬ AreOfficeRows rows.now.items steps.now.items)) }
 {
     let schedule = schedule_in(steps)?;
     match only(rows) {
         None => Err(StoreFault::NotARegister),
-        Some(row) => judge_row(*rows.allocator(), row, schedule),
+        Some(row) => check_office_row(*rows.allocator(), row, schedule),
     }
 }
 
@@ -158,7 +158,7 @@ fn older_in(alloc: Global, row: &Row) -> Result<(u64, Moment), StoreFault>
         None => Err(StoreFault::NotARegister),
         Some((days, schedule)) => match last_in(row) {
             None => Err(StoreFault::NotARegister),
-            Some(last) => match judge_row(alloc, row, schedule) {
+            Some(last) => match check_office_row(alloc, row, schedule) {
                 Ok(()) => Ok((days, last)),
                 Err(fault) => Err(fault),
             },
@@ -167,7 +167,7 @@ fn older_in(alloc: Global, row: &Row) -> Result<(u64, Moment), StoreFault>
 }
 
 /// The days and the last accepted moment of an older office; `NotARegister` if the rows are not those of one.
-pub(crate) fn judge_older(rows: &Vec<Row>) -> Result<(u64, Moment), StoreFault>
+pub(crate) fn older_office_in(rows: &Vec<Row>) -> Result<(u64, Moment), StoreFault>
     ensures { MatchResult result (λ found. AreOlderOffice found.0 found.1 rows.now.items)
         (Refuses ((days : ℕ) → (last : ℕ) → ¬ AreOlderOffice days last rows.now.items)) }
 {

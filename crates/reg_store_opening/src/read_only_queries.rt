@@ -5,7 +5,7 @@ ghost use Rattle.sqlite.specs.Held.{state};
 ghost use Rattle.sqlite.specs.State.{HasCleanDisk};
 ghost use Rattle.sqlite_schema.specs.declared.schema.Schema.{Schema};
 ghost use Rattle.reg_store_tables.specs.Stays.{IsDatabaseFault, Stepped};
-ghost use Rattle.reg_store_opening.specs.Said.{is_call_error, IsQuery, IsNeverRefused, IsRead, IsRefusedText};
+ghost use Rattle.reg_store_opening.specs.VersionAndOffice.{is_call_error, IsQuery, IsNeverRefused, IsRead, IsRefusedText};
 ghost use Rattle.reg_store_opening.specs.Examined.{ReportsNone};
 ghost use Rattle.reg_store_tables.specs.Steps.{Asks, WhileOpen};
 
@@ -30,7 +30,10 @@ fn unread(error: Error) -> StoreFault
 }
 
 /// The rows that a query returns.
-pub(crate) fn peek<S: Alter>(tx: &mut Transaction<'_, S>, sql: &str) -> Result<Vec<Row>, StoreFault>
+pub(crate) fn read_rows<S: Alter>(
+    tx: &mut Transaction<'_, S>,
+    sql: &str,
+) -> Result<Vec<Row>, StoreFault>
     requires { IsQuery sql.now }
     ensures asked { Asks S.Store tx.old tx.new result (λ rows db. IsRead db sql.now rows.items) }
     ensures none { ReportsNone S.Store tx.old.conn.now tx.new.conn.now result

@@ -2,7 +2,7 @@
 
 ghost use Rattle.std.specs.Prelude.{◌≡◌, ◌↔◌, Some, false, IfOk, IsTrue};
 ghost use Rattle.sqlite.specs.Held.{state};
-ghost use Rattle.reg_store_opening.specs.Said.{SchemaHasVersion, version_or_ours};
+ghost use Rattle.reg_store_opening.specs.VersionAndOffice.{SchemaHasVersion, version_or_current};
 
 use reg_store_migration::OlderVersion;
 use reg_store_schema::{Version, version_of};
@@ -11,7 +11,7 @@ use std::alloc::{AllocError, Global};
 
 /// Whether the schema has this version; `None` stands for the program's version.
 pub(crate) fn is_same(tables: Option<Version>, version: Option<OlderVersion>) -> bool
-    ensures { IsTrue result ↔ (tables ≡ Some (version_or_ours version)) }
+    ensures { IsTrue result ↔ (tables ≡ Some (version_or_current version)) }
 {
     match version {
         None => matches!(tables, Some(Version::Third)),

@@ -9,12 +9,12 @@ ghost use Rattle.reg_store_tables.specs.Shows.{IsShownBy};
 ghost use Rattle.reg_store_tables.specs.Stays.{IsDatabaseFault, LeavesNothing, Stays, Stepped};
 ghost use Rattle.reg_store_migration.specs.Older.{IsShownByOlder};
 ghost use Rattle.reg_store_tables.specs.Steps.{Asks, WhileOpen};
-ghost use Rattle.reg_store_opening.specs.Said.{version_of, IsOfVersion, HasVersion, InRange, IsShownAs, ShowsAs, SaysOffice, ReadsOlder, SaysNoVersion, SaysNoOffice, SaysNoOlder, SaysNoRegister, version_or_ours};
-ghost use Rattle.reg_store_opening.specs.Examined.{ReportsState, ReportsNewer, ReportsNone, Finds, SaysFound, IsFoundOf, found_version};
-ghost use Rattle.reg_store_opening.specs.Opens.{Opens, IsUnopened};
+ghost use Rattle.reg_store_opening.specs.VersionAndOffice.{version_of, IsOfVersion, HasVersion, InRange, IsShownAs, ShowsAs, HasOfficeRow, ReadsOlder, HasNoVersion, HasNoOfficeRow, HasNoOlderOffice, HasNoRegister, version_or_current};
+ghost use Rattle.reg_store_opening.specs.Examined.{ReportsState, ReportsNewer, ReportsNone, Finds, HasVersionAndOffice, IsFoundOf, found_version};
+ghost use Rattle.reg_store_opening.specs.Opens.{Opens, IsFailedOpen};
 
-use crate::office_rows::{judge_office, judge_older, judge_version};
-use crate::read_only_queries::peek;
+use crate::office_rows::{check_office_rows, older_office_in, version_in_rows};
+use crate::read_only_queries::read_rows;
 use crate::schema_check::{is_same, look};
 use crate::sql;
 use reg_core::Moment;
@@ -34,66 +34,66 @@ pub struct OlderOffice {
 }
 
 /// The version of the tables if it is older than the program's; `None` if it is the program's.
-fn test_version<S: Alter>(tx: &mut Transaction<'_, S>) -> Result<Option<OlderVersion>, StoreFault>
+fn check_version<S: Alter>(tx: &mut Transaction<'_, S>) -> Result<Option<OlderVersion>, StoreFault>
     ensures asked { Asks S.Store tx.old tx.new result (λ found db. HasVersion db (version_of found)) }
     ensures newer { ReportsNewer S.Store tx.old.conn.now tx.new.conn.now result }
-    ensures none { ReportsNone S.Store tx.old.conn.now tx.new.conn.now result SaysNoVersion }
+    ensures none { ReportsNone S.Store tx.old.conn.now tx.new.conn.now result HasNoVersion }
     ensures version { HasCleanDisk (state S.Store tx.new.conn.now) → (version : Option OlderVersion)
         → WhileOpen (state S.Store tx.old.conn.now) (IsOfVersion version)
         → MatchResult result (λ found. found ≡ version) IsDatabaseFault }
     ensures stepped { Stepped S.Store tx.old tx.new }
     ensures faults { IfErr result (λ fault. fault ≢ StoreFault.NotEmpty) }
 {
-    let rows = peek(tx, sql::VERSION)?;
-    judge_version(&rows)
+    let rows = read_rows(tx, sql::VERSION)?;
+    version_in_rows(&rows)
 }
 
-fn test_office<S: Alter>(tx: &mut Transaction<'_, S>) -> Result<(), StoreFault>
-    ensures told { ReportsState S.Store tx.old.conn.now tx.new.conn.now result (λ _ db. SaysOffice db) }
-    ensures none { ReportsNone S.Store tx.old.conn.now tx.new.conn.now result SaysNoOffice }
+fn check_office<S: Alter>(tx: &mut Transaction<'_, S>) -> Result<(), StoreFault>
+    ensures told { ReportsState S.Store tx.old.conn.now tx.new.conn.now result (λ _ db. HasOfficeRow db) }
+    ensures none { ReportsNone S.Store tx.old.conn.now tx.new.conn.now result HasNoOfficeRow }
     ensures shown { Finds S.Store tx.old.conn.now tx.new.conn.now result IsShownBy (λ _ _. Unit {0}) }
     ensures stepped { Stepped S.Store tx.old tx.new }
     ensures faults { IfErr result (λ fault. IsDatabaseFault fault ⊎ (fault ≡ StoreFault.NotARegister)) }
 {
-    let office = peek(tx, sql::OFFICE)?;
-    let steps = peek(tx, STEPS)?;
-    judge_office(&office, &steps)
+    let office = read_rows(tx, sql::OFFICE)?;
+    let steps = read_rows(tx, STEPS)?;
+    check_office_rows(&office, &steps)
 }
 
-fn test_older<S: Alter>(tx: &mut Transaction<'_, S>) -> Result<(u64, Moment), StoreFault>
+fn check_older_office<S: Alter>(tx: &mut Transaction<'_, S>) -> Result<(u64, Moment), StoreFault>
     ensures told { ReportsState S.Store tx.old.conn.now tx.new.conn.now result
         (λ found db. ReadsOlder db found.0 found.1) }
-    ensures none { ReportsNone S.Store tx.old.conn.now tx.new.conn.now result SaysNoOlder }
+    ensures none { ReportsNone S.Store tx.old.conn.now tx.new.conn.now result HasNoOlderOffice }
     ensures shown { (version : OlderVersion)
         → Finds S.Store tx.old.conn.now tx.new.conn.now result (IsShownByOlder version) (λ found records.
         (records.policy.schedule ≡ one_step found.0) × (records.last ≡ found.1)) }
     ensures stepped { Stepped S.Store tx.old tx.new }
     ensures faults { IfErr result (λ fault. IsDatabaseFault fault ⊎ (fault ≡ StoreFault.NotARegister)) }
 {
-    let rows = peek(tx, sql::OLDER_OFFICE)?;
-    judge_older(&rows)
+    let rows = read_rows(tx, sql::OLDER_OFFICE)?;
+    older_office_in(&rows)
 }
 
 /// Checks the tables, the version first. Returns what an older office has; `None` if they are of the program's version.
-fn test_tables<S: Alter>(tx: &mut Transaction<'_, S>) -> Result<Option<OlderOffice>, StoreFault>
+fn check_tables<S: Alter>(tx: &mut Transaction<'_, S>) -> Result<Option<OlderOffice>, StoreFault>
     ensures told { ReportsState S.Store tx.old.conn.now tx.new.conn.now result
-        (λ found db. SaysFound db found) }
+        (λ found db. HasVersionAndOffice db found) }
     ensures newer { ReportsNewer S.Store tx.old.conn.now tx.new.conn.now result }
-    ensures none { ReportsNone S.Store tx.old.conn.now tx.new.conn.now result SaysNoRegister }
+    ensures none { ReportsNone S.Store tx.old.conn.now tx.new.conn.now result HasNoRegister }
     ensures shown { (version : Option OlderVersion)
         → Finds S.Store tx.old.conn.now tx.new.conn.now result (IsShownAs version)
         (λ found records. IsFoundOf version records found) }
     ensures stepped { Stepped S.Store tx.old tx.new }
     ensures faults { IfErr result (λ fault. fault ≢ StoreFault.NotEmpty) }
 {
-    let older = test_version(tx)?;
+    let older = check_version(tx)?;
     match older {
         None => {
-            test_office(tx)?;
+            check_office(tx)?;
             Ok(None)
         }
         Some(version) => {
-            let (days, last) = test_older(tx)?;
+            let (days, last) = check_older_office(tx)?;
             Ok(Some(OlderOffice {
                 version,
                 days,
@@ -112,11 +112,11 @@ fn test_tables<S: Alter>(tx: &mut Transaction<'_, S>) -> Result<Option<OlderOffi
 pub fn examine<S: Alter>(conn: &mut Connection<S>) -> Result<Option<OlderOffice>, StoreFault>
     requires { conn.old.in_transaction ≡ false }
     ensures ok { HasCleanDisk (state S.Store conn.new)
-        → IfOk result (λ found. SaysFound (state S.Store conn.old).now found) }
+        → IfOk result (λ found. HasVersionAndOffice (state S.Store conn.old).now found) }
     ensures live { HasCleanDisk (state S.Store conn.new)
         → OnOk result (IsTrue (state S.Store conn.old).is_open) }
     ensures newer { ReportsNewer S.Store conn.old conn.new result }
-    ensures none { ReportsNone S.Store conn.old conn.new result SaysNoRegister }
+    ensures none { ReportsNone S.Store conn.old conn.new result HasNoRegister }
     ensures shown { (version : Option OlderVersion) → (records : Records)
         → ShowsAs version S.Store conn.old records → HasCleanDisk (state S.Store conn.new)
         → MatchResult result (IsFoundOf version records) (λ fault. InRange records → IsDatabaseFault fault) }
@@ -128,7 +128,7 @@ pub fn examine<S: Alter>(conn: &mut Connection<S>) -> Result<Option<OlderOffice>
     ensures faults { IfErr result (λ fault. fault ≢ StoreFault.NotEmpty) }
 {
     let mut tx = conn.transaction();
-    let tested = test_tables(&mut tx);
+    let tested = check_tables(&mut tx);
     tx.rollback();
     tested
 }
@@ -142,10 +142,10 @@ fn version_in(found: Option<OlderOffice>) -> Option<OlderVersion>
     }
 }
 
-fn test_schema(tables: Option<Version>, found: Option<OlderOffice>) -> Result<(), StoreFault>
-    ensures ok { OnOk result (tables ≡ Some (version_or_ours (found_version found))) }
+fn check_schema(tables: Option<Version>, found: Option<OlderOffice>) -> Result<(), StoreFault>
+    ensures ok { OnOk result (tables ≡ Some (version_or_current (found_version found))) }
     ensures err { IfErr result (λ fault. (fault ≡ StoreFault.NotARegister)
-        × (tables ≢ Some (version_or_ours (found_version found)))) }
+        × (tables ≢ Some (version_or_current (found_version found)))) }
 {
     if is_same(tables, version_in(found)) {
         return Ok(());
@@ -163,14 +163,14 @@ fn test_schema(tables: Option<Version>, found: Option<OlderOffice>) -> Result<()
 pub fn open<S: Alter>(alloc: Global, conn: &mut Connection<S>) -> Result<(), StoreFault>
     requires { conn.old.in_transaction ≡ false }
     ensures opens { OnOk result (Opens S.Store conn.old conn.new) }
-    ensures unopened { IfErr result (IsUnopened S.Store conn.old conn.new) }
+    ensures unopened { IfErr result (IsFailedOpen S.Store conn.old conn.new) }
     ensures idle { conn.new.in_transaction ≡ false }
 {
     let Ok(tables) = look(alloc, conn) else {
         return Err(StoreFault::Memory);
     };
     let found = examine(conn)?;
-    test_schema(tables, found)?;
+    check_schema(tables, found)?;
     match found {
         None => Ok(()),
         Some(older) => Ok(migrate(conn, older.version, older.days, older.last)?),

@@ -4,7 +4,7 @@ ghost use Rattle.std.specs.Prelude.{◌≡◌, ◌<◌, ◌+◌, [], ◌∷◌, 
 ghost use Rattle.sqlite_resolve.specs.Compile.{table_defined_by, index_defined_by};
 ghost use Rattle.sqlite_catalog.specs.Change.{automatics, next_tree, created, indexed};
 ghost use Rattle.sqlite_catalog.specs.Steps.{guard_at};
-ghost use Rattle.reg_store_tables.specs.Schema.{no_schema, record_tables, kept_tables, register_schema};
+ghost use Rattle.reg_store_tables.specs.Schema.{no_schema, record_tables, with_derived_tables, register_schema};
 
 use reg_store_tables::schema;
 use sqlite_catalog::layout;
@@ -100,8 +100,8 @@ pub(crate) fn add_records(alloc: Global, made: &mut Schema) -> Result<(), AllocE
 }
 
 /// Adds the derived tables.
-pub(crate) fn add_kept(alloc: Global, made: &mut Schema) -> Result<(), AllocError>
-    ensures { made.old ≡ record_tables → OnOk result (made.new ≡ kept_tables) }
+pub(crate) fn add_derived_tables(alloc: Global, made: &mut Schema) -> Result<(), AllocError>
+    ensures { made.old ≡ record_tables → OnOk result (made.new ≡ with_derived_tables) }
 {
     add_table(alloc, made, schema::STANDING)?;
     add_table(alloc, made, schema::KEPT)?;
@@ -110,7 +110,7 @@ pub(crate) fn add_kept(alloc: Global, made: &mut Schema) -> Result<(), AllocErro
 
 /// Adds the schedule, and the indexes of the tables of CRLs and of state letters.
 pub(crate) fn add_schedule_and_indexes(alloc: Global, made: &mut Schema) -> Result<(), AllocError>
-    ensures { made.old ≡ kept_tables → OnOk result (made.new ≡ register_schema) }
+    ensures { made.old ≡ with_derived_tables → OnOk result (made.new ≡ register_schema) }
 {
     add_table(alloc, made, schema::LONGEST)?;
     add_index(alloc, made, 6, schema::CRL_AT)?;

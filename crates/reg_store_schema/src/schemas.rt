@@ -4,7 +4,7 @@ ghost use Rattle.std.specs.Prelude.{◌≡◌, ◌↔◌, Some, IfOk, IsTrue};
 ghost use Rattle.reg_store_tables.specs.Schema.{register_schema};
 ghost use Rattle.reg_store_schema.specs.Versions.{version_schema};
 
-use crate::expected_schema::{add_kept, add_records, add_schedule_and_indexes};
+use crate::expected_schema::{add_derived_tables, add_records, add_schedule_and_indexes};
 use crate::same::Same;
 use crate::versions::Version;
 use sqlite_schema::schema::Schema;
@@ -24,7 +24,7 @@ pub fn version_of(alloc: Global, schema: &Schema) -> Result<Option<Version>, All
     if schema.is_same(&made) {
         return Ok(Some(Version::First));
     }
-    add_kept(alloc, &mut made)?;
+    add_derived_tables(alloc, &mut made)?;
     if schema.is_same(&made) {
         return Ok(Some(Version::Second));
     }

@@ -12,7 +12,7 @@ use sqlite_value::value::Value;
 
 /// A term: the nodes, the depth to which they are read, and the index of its root.
 #[derive(Clone, Copy)]
-struct Place<'a> {
+struct TermRef<'a> {
     nodes: &'a [Op],
     depth: usize,
     at: usize,
@@ -25,7 +25,7 @@ impl Same for Value {
 }
 
 /// The root of a term, and the depth to which its operands are read; `None` if the term ends here, and so reads as NULL.
-fn node_at<'a>(term: Place<'a>) -> Option<(&'a Op, usize)>
+fn node_at<'a>(term: TermRef<'a>) -> Option<(&'a Op, usize)>
     ensures falls { IfSome result (λ found. found.1 < term.entry.depth) }
     ensures is { MatchOption result (term_to term.entry.nodes.now term.entry.depth term.entry.at ≡ lit Null)
         (λ found. term_to term.entry.nodes.now term.entry.depth term.entry.at
@@ -38,10 +38,10 @@ fn node_at<'a>(term: Place<'a>) -> Option<(&'a Op, usize)>
 }
 
 /// The term with another root among the same nodes, read to a depth.
-fn operand(term: Place<'_>, depth: usize, at: usize) -> Place<'_>
+fn operand(term: TermRef<'_>, depth: usize, at: usize) -> TermRef<'_>
     ensures { (result.nodes.now ≡ term.entry.nodes.now) × (result.depth ≡ depth) × (result.at ≡ at) }
 {
-    Place {
+    TermRef {
         nodes: term.nodes,
         depth,
         at,
@@ -49,7 +49,7 @@ fn operand(term: Place<'_>, depth: usize, at: usize) -> Place<'_>
 }
 
 /// Whether a term is NULL.
-fn is_null(term: Place<'_>) -> bool
+fn is_null(term: TermRef<'_>) -> bool
     ensures { IsTrue result ↔ (term_to term.entry.nodes.now term.entry.depth term.entry.at ≡ lit Null) }
 {
     match node_at(term) {
@@ -60,7 +60,7 @@ fn is_null(term: Place<'_>) -> bool
 }
 
 /// Whether two terms are the same.
-fn same_term(left: Place<'_>, right: Place<'_>) -> bool
+fn same_term(left: TermRef<'_>, right: TermRef<'_>) -> bool
     ensures { IsTrue result ↔ (term_to left.entry.nodes.now left.entry.depth left.entry.at
         ≡ term_to right.entry.nodes.now right.entry.depth right.entry.at) }
 {
@@ -105,10 +105,10 @@ fn same_term(left: Place<'_>, right: Place<'_>) -> bool
 }
 
 /// The term with this root, read to a depth that reaches all nodes.
-fn root(nodes: &[Op], at: usize) -> Place<'_>
+fn root(nodes: &[Op], at: usize) -> TermRef<'_>
     ensures { term_to result.nodes.now result.depth result.at ≡ term_in nodes.now at }
 {
-    Place {
+    TermRef {
         nodes,
         depth: nodes.len(),
         at,

@@ -53,9 +53,9 @@ abbrev pub serial_of : Entry → ℕ
 serial_of entry = entry.serial
 
 -- a serial number does not fall
-abbrev NeverFalls : List Entry → Type 0
-NeverFalls [] = Unit {0}
-NeverFalls (x ∷ xs) = AllByRecursion (λ later. serial_of x ≤ serial_of later) xs × NeverFalls xs
+abbrev NeverDecreases : List Entry → Type 0
+NeverDecreases [] = Unit {0}
+NeverDecreases (x ∷ xs) = AllByRecursion (λ later. serial_of x ≤ serial_of later) xs × NeverDecreases xs
 
 weaken_le : (low high : ℕ) (xs : List Entry) → low ≤ high → AllByRecursion (λ later. high ≤ serial_of later) xs → AllByRecursion (λ later. low ≤ serial_of later) xs
 weaken_le low high [] le all = tt
@@ -68,18 +68,18 @@ above_inserted low entry (x ∷ xs) le all = elim (cases_Bool (nat_lt (serial_of
   | inr more ↦ rw more (all.0, above_inserted low entry xs le all.1)
 ]
 
-inserted_rises : (entry : Entry) (xs : List Entry) → NeverFalls xs → NeverFalls (insert_entry entry xs)
+inserted_rises : (entry : Entry) (xs : List Entry) → NeverDecreases xs → NeverDecreases (insert_entry entry xs)
 inserted_rises entry [] rises = (tt, tt)
 inserted_rises entry (x ∷ xs) rises = elim (cases_Bool (nat_lt (serial_of entry) (serial_of x))) [
   | inl less ↦ let below : serial_of entry < serial_of x = ltb-true (serial_of entry) (serial_of x) less in rw less ((omega arith, weaken_le (serial_of entry) (serial_of x) xs (omega arith) rises.0), rises)
   | inr more ↦ let above : serial_of x ≤ serial_of entry = ltb-false (serial_of entry) (serial_of x) more in rw more (above_inserted (serial_of x) entry xs above rises.0, inserted_rises entry xs rises.1)
 ]
 
-ascending_rises : (xs : List Entry) → NeverFalls (ascending xs)
+ascending_rises : (xs : List Entry) → NeverDecreases (ascending xs)
 ascending_rises [] = tt
 ascending_rises (x ∷ xs) = inserted_rises x (ascending xs) (ascending_rises xs)
 
-by_index : (xs : List Entry) → NeverFalls xs → IsNonDecreasingBy serial_of xs
+by_index : (xs : List Entry) → NeverDecreases xs → IsNonDecreasingBy serial_of xs
 by_index [] rises i j d le within = absurd (omega arith)
 by_index (x ∷ xs) rises zero zero d le within = omega arith
 by_index (x ∷ xs) rises zero (suc j) d le within = All-from_recursion (λ later. serial_of x ≤ serial_of later) xs rises.0 j d (omega arith)

@@ -11,9 +11,9 @@ use Rattle.sqlite.specs.declared.transaction.Transaction.{Transaction}
 use Rattle.sqlite.proofs.Callers.{survives_begin}
 use Rattle.sqlite.proofs.StateLemmas.{survives_then, survives_weaker}
 use Rattle.reg_core.specs.Records.{Records}
-use Rattle.reg_store_tables.specs.Columns.{Columns, office_days}
+use Rattle.reg_store_tables.specs.DerivedRows.{DerivedRows, office_days}
 use Rattle.reg_store_tables.specs.Kept.{Kept, ShowsKept}
-use Rattle.reg_store_tables.specs.Shows.{AreBoth, Holds, KeepsOfficeDays}
+use Rattle.reg_store_tables.specs.Shows.{AreRecordsAndDerived, Holds, KeepsOfficeDays}
 use Rattle.reg_store_tables.specs.Stays.{Changed, Looked, Moves, Stays, Stepped}
 use Rattle.reg_store_tables.proofs.Staying.{stays_register, stays_then}
 use Rattle.reg_store_tables.specs.Commits.{AreLed, Commits, Ends, IsMade}
@@ -110,13 +110,13 @@ module _ {S T E : Type 0} {g : Ghosts S} {old new : Held S} {r : Result T E} {Le
       go (Err e) made = tt
 
   -- the records are shown that follow from those that were, and what is kept stands for them
-  pub keeps : (records later : Records) (columns others known : Columns)
-      → Holds g old (λ db. AreBoth db records columns) → (HasCleanDisk (state g new) → (before after : Database) → AreBoth before records columns → Leads before after → AreBoth after later others)
+  pub keeps : (records later : Records) (columns others known : DerivedRows)
+      → Holds g old (λ db. AreRecordsAndDerived db records columns) → (HasCleanDisk (state g new) → (before after : Database) → AreRecordsAndDerived before records columns → Leads before after → AreRecordsAndDerived after later others)
       → (HasCleanDisk (state g new) → others ≡ known) → Kept known later → OnOk r (ShowsKept g new later)
-  keeps records later columns others known holds leads same stands = go r (turns (λ db. AreBoth db records columns) (λ db. AreBoth db later known) holds
-      (λ clean before after both on. subst (λ k. AreBoth after later k) (same clean) (leads clean before after both on)))
+  keeps records later columns others known holds leads same stands = go r (turns (λ db. AreRecordsAndDerived db records columns) (λ db. AreRecordsAndDerived db later known) holds
+      (λ clean before after both on. subst (λ k. AreRecordsAndDerived after later k) (same clean) (leads clean before after both on)))
     where
-      go : (r : Result T E) → OnOk r (Holds g new (λ db. AreBoth db later known)) → OnOk r (ShowsKept g new later)
+      go : (r : Result T E) → OnOk r (Holds g new (λ db. AreRecordsAndDerived db later known)) → OnOk r (ShowsKept g new later)
       go (Ok x) both = (known, both, stands)
       go (Err e) both = tt
 

@@ -15,7 +15,7 @@ use Rattle.reg_core.specs.declared.command.Status.{Status}
 use Rattle.reg_core.specs.declared.command.Status.TheVariants.{Good, Expired}
 use Rattle.reg_core.specs.declared.rows.CertRow.{CertRow}
 use Rattle.reg_core.specs.declared.rows.RevocationRow.{RevocationRow}
-use Rattle.reg_store_tables.specs.Columns.{Columns, Standing, is_good_letter, ends_before}
+use Rattle.reg_store_tables.specs.DerivedRows.{DerivedRows, Standing, is_good_letter, ends_before}
 use Rattle.reg_store_tables.specs.Kept.{Kept, letter_of, standing_of}
 use Rattle.reg_store_tables.proofs.Few.{fewer}
 use Rattle.reg_store_tables.proofs.Greatest.{all_map}
@@ -126,7 +126,7 @@ module _ (records : Records) (differ : KeysDiffer (λ (row : CertRow). row.seria
   revoked_same : length (filter (passed is_revoked records.last) records.certificates) ≡ length (filter (passed is_revoked now) records.certificates)
   revoked_same = ap length (filter_same (passed is_revoked records.last) (passed is_revoked now) records.certificates each_revoked)
 
-  module _ (kept : Columns) (law : Kept kept records) where
+  module _ (kept : DerivedRows) (law : Kept kept records) where
     ended_as_many : length (filter (ends_before now) kept.letters) ≡ length (filter ended records.certificates)
     ended_as_many =
         let same = length_permutation (filter (ends_before now) (map (standing_of records) records.certificates)) (filter (ends_before now) kept.letters)
@@ -176,7 +176,7 @@ ends_later now later le (row ∷ rows) = let rest = ends_later now later le rows
 
 module _ (records : Records) (sound : SoundRows records) where
   -- no more certificates are kept than a table has rows
-  pub letters_few : IsPolicy records.policy → (kept : Columns) → Kept kept records → length kept.letters ≤ 1000000
+  pub letters_few : IsPolicy records.policy → (kept : DerivedRows) → Kept kept records → length kept.letters ≤ 1000000
   letters_few policy kept law =
       let many = letters_as_many records sound.certificates.serials_differ records.last (omega arith) kept law in
       let within = sound.certificates.within_cap in
@@ -184,14 +184,14 @@ module _ (records : Records) (sound : SoundRows records) where
       omega arith
 
   -- of those that are kept as good no more end before a moment than there are
-  pub ended_within : (now : ℕ) (kept : Columns) → Kept kept records → length (filter (ends_before now) kept.letters) ≤ kept.counts.good
+  pub ended_within : (now : ℕ) (kept : DerivedRows) → Kept kept records → length (filter (ends_before now) kept.letters) ≤ kept.counts.good
   ended_within now kept law =
       let good = good_then records sound.certificates.serials_differ (now + records.last) (omega arith) kept law in
       let more = ends_later now (now + records.last) (omega arith) kept.letters in
       omega arith
 
   -- and what is added to the expired ones stays a number
-  pub sums_few : IsPolicy records.policy → (now : ℕ) (kept : Columns) → Kept kept records → kept.counts.expired + length (filter (ends_before now) kept.letters) ≤ 2000000
+  pub sums_few : IsPolicy records.policy → (now : ℕ) (kept : DerivedRows) → Kept kept records → kept.counts.expired + length (filter (ends_before now) kept.letters) ≤ 2000000
   sums_few policy now kept law =
       let expired : kept.counts.expired ≡ length (filter (λ (row : CertRow). is_expired (status records row.serial records.last)) records.certificates) = ap (λ (c : Counts). c.expired) law.counts in
       let some = fewer (λ (row : CertRow). is_expired (status records row.serial records.last)) records.certificates in

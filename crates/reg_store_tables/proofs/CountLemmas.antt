@@ -29,8 +29,8 @@ use Rattle.reg_core.specs.Records.{Records}
 use Rattle.reg_core.specs.declared.command.Counts.{Counts}
 use Rattle.reg_store_tables.specs.Schema.{register_schema}
 use Rattle.reg_store_tables.specs.Rows.{number, counted_rows}
-use Rattle.reg_store_tables.specs.Columns.{Letter, good, revoked, expired, is_good_letter, ends_before, letter_text, Standing, Columns, stored_standing, stored_counts}
-use Rattle.reg_store_tables.specs.Shows.{AreBoth}
+use Rattle.reg_store_tables.specs.DerivedRows.{Letter, good, revoked, expired, is_good_letter, ends_before, letter_text, Standing, DerivedRows, stored_standing, stored_counts}
+use Rattle.reg_store_tables.specs.Shows.{AreRecordsAndDerived}
 use Rattle.reg_store_tables.specs.ReadStatements.{command_of}
 use Rattle.reg_store_tables.specs.ShownRows.{shown_counts}
 use Rattle.reg_store_tables.specs.declared.sql.TheConstants.{COUNTS, ENDED_BEFORE}
@@ -150,7 +150,7 @@ blank_standing row = ([], [])
 
 -- a text that counts the letters that pass a test
 module _ (text : List ℕ) (terms : List Term) (params : Row) (keep : Standing → Bool) (tests : (id : ℕ) (row : Standing) → passes terms params (number id ∷ stored_standing row) ≡ keep row)
-    (means : command_of (understood register_schema text) ≡ as_command (counts_of 12 terms) (codes "count(*)" ∷ [])) (db : Database) (records : Records) (kept : Columns) (both : AreBoth db records kept) (rows : List Row)
+    (means : command_of (understood register_schema text) ≡ as_command (counts_of 12 terms) (codes "count(*)" ∷ [])) (db : Database) (records : Records) (kept : DerivedRows) (both : AreRecordsAndDerived db records kept) (rows : List Row)
     (reads : Reads (command_of (understood register_schema text)) db params rows) where
   pub letters_counted : length kept.letters ≤ 1000000 → rows ≡ (number (length (filter keep kept.letters)) ∷ []) ∷ []
   letters_counted few =
@@ -163,7 +163,7 @@ module _ (text : List ℕ) (terms : List Term) (params : Row) (keep : Standing �
       let most = at_most_all keep kept.letters in
       shown ∙ ap (λ n. (count n ∷ []) ∷ []) size ∙ ap (λ n. (number n ∷ []) ∷ []) (min_is (length (filter keep kept.letters)) 9223372036854775807 (omega arith))
 
-pub ended_shown : (db : Database) (records : Records) (kept : Columns) → AreBoth db records kept → (now : ℕ) (rows : List Row) → Reads (command_of (understood register_schema ENDED_BEFORE.now)) db (number now ∷ []) rows
+pub ended_shown : (db : Database) (records : Records) (kept : DerivedRows) → AreRecordsAndDerived db records kept → (now : ℕ) (rows : List Row) → Reads (command_of (understood register_schema ENDED_BEFORE.now)) db (number now ∷ []) rows
     → length kept.letters ≤ 1000000 → rows ≡ (number (length (filter (ends_before now) kept.letters)) ∷ []) ∷ []
 ended_shown db records kept both now rows =
     letters_counted ENDED_BEFORE.now ended_terms (number now ∷ []) (ends_before now) (λ id row. ended_test row now) ended_text.means db records kept both rows
@@ -178,7 +178,7 @@ counts_text =
 abbrev counts_out : Counts → Output
 counts_out counts = ([], shown_counts counts)
 
-module _ (db : Database) (records : Records) (kept : Columns) (both : AreBoth db records kept) (rows : List Row) (reads : Reads (command_of (understood register_schema COUNTS.now)) db [] rows) where
+module _ (db : Database) (records : Records) (kept : DerivedRows) (both : AreRecordsAndDerived db records kept) (rows : List Row) (reads : Reads (command_of (understood register_schema COUNTS.now)) db [] rows) where
   counts_given : Given (λ _. true) counts_out (kept.counts ∷ []) (selects 14 [] (col 1 2 ∷ col 1 3 ∷ col 1 4 ∷ []) [] no_limit) [] rows
   counts_given =
       keyed_given (λ _. Unit {0}) stored_counts (λ _. true) counts_out (kept.counts ∷ []) (tt, tt) 14 [] (col 1 2 ∷ col 1 3 ∷ col 1 4 ∷ []) [] no_limit [] COUNTS.now (codes "n_good" ∷ codes "n_revoked" ∷ codes "n_expired" ∷ []) counts_text.means db refl rows reads

@@ -3,7 +3,7 @@ use Rattle.std.proofs.Common.{◌≡◌, ◌≤◌}
 use Rattle.sqlite_trees.specs.View.{doubt}
 use Rattle.sqlite_trees.specs.declared.store.Store.{Ghosts}
 use Rattle.sqlite.specs.Held.{Held, state}
-use Rattle.reg_store_tables.specs.Columns.{office_days}
+use Rattle.reg_store_tables.specs.DerivedRows.{office_days}
 use Rattle.reg_store_tables.specs.Rows.{number}
 use Rattle.reg_store_tables.specs.Shows.{KeepsOfficeDays}
 use Rattle.reg_store_tables.specs.Stays.{Stays}

@@ -30,7 +30,7 @@ use Rattle.sqlite.specs.declared.run.Mode.{Mode}
 use Rattle.sqlite.proofs.Callers.{one_step}
 use Rattle.reg_store_tables.proofs.Queries.{selects, no_limit, passes, shows, given}
 use Rattle.reg_store_tables.proofs.Meaning.{updates, inserts, deletes}
-use Rattle.reg_store_tables.specs.Columns.{turned}
+use Rattle.reg_store_tables.specs.DerivedRows.{turned}
 use Rattle.reg_store_tables.proofs.Turning.{IsKeyed, rows_turned, rows_gone}
 
 -- a part that gave a value did not stop on the way

@@ -25,7 +25,7 @@ use Rattle.sqlite.specs.Effect.{Database, Reads}
 use Rattle.sqlite.specs.Listing.{understood}
 use Rattle.sqlite_resolve.specs.Compile.{first}
 use Rattle.sqlite_tied.specs.Compute.{everything}
-use Rattle.reg_core.specs.Crls.{EntriesAscend, is_on, is_past_on, content, entry_of, entries}
+use Rattle.reg_core.specs.Crls.{EntriesAscend, is_listed_on, ends_listing, content, entry_of, entries}
 use Rattle.reg_core.specs.Records.{Records, Crl}
 use Rattle.reg_core.specs.Serial.{IsSerial, serial_bytes}
 use Rattle.reg_core.specs.Sound.{NumberedFrom, SoundRows}
@@ -34,8 +34,8 @@ use Rattle.reg_core.specs.declared.rows.RevocationRow.{RevocationRow}
 use Rattle.reg_core_laws.proofs.PublicLaws.{entries_ascending, all_map}
 use Rattle.reg_store_tables.specs.Schema.{register_schema}
 use Rattle.reg_store_tables.specs.Rows.{number, serial_value}
-use Rattle.reg_store_tables.specs.Columns.{Listed, Columns, stored_listed, number_or_null}
-use Rattle.reg_store_tables.specs.Shows.{AreBoth}
+use Rattle.reg_store_tables.specs.DerivedRows.{Listed, DerivedRows, stored_listed, number_or_null}
+use Rattle.reg_store_tables.specs.Shows.{AreRecordsAndDerived}
 use Rattle.reg_store_tables.specs.Kept.{Kept, listed_of}
 use Rattle.reg_store_tables.specs.ReadStatements.{command_of, shown_entry}
 use Rattle.reg_store_tables.specs.RecordValues.{AreMomentAndReason}
@@ -130,8 +130,8 @@ first_any p n from (crl ∷ rest) numbered = elim (cases_Bool (p crl)) [
 ]
 
 -- a row is listed where its revocation is
-listed_on : (records : Records) (n : ℕ) (row : RevocationRow) → NumberedFrom (λ crl. crl.number) 1 records.crls → lists n (listed_of records row) ≡ is_on records.certificates records.crls n row
-listed_on records n row numbered = ap (λ b. nat_le row.first n && b) (sym (first_any (is_past_on records.certificates row) n 1 records.crls numbered))
+listed_on : (records : Records) (n : ℕ) (row : RevocationRow) → NumberedFrom (λ crl. crl.number) 1 records.crls → lists n (listed_of records row) ≡ is_listed_on records.certificates records.crls n row
+listed_on records n row numbered = ap (λ b. nat_le row.first n && b) (sym (first_any (ends_listing records.certificates row) n 1 records.crls numbered))
 
 pub same_filter : {A : Type 0} (p q : A → Bool) → ((x : A) → p x ≡ q x) → (xs : List A) → filter p xs ≡ filter q xs
 same_filter p q same [] = refl
@@ -142,7 +142,7 @@ entries_listed : (records : Records) (n : ℕ) → NumberedFrom (λ crl. crl.num
 entries_listed records n numbered =
     ap (map entry_in) (filter-map (lists n) (listed_of records) records.revocations)
     ∙ map-map entry_in (listed_of records) (filter (λ row. lists n (listed_of records row)) records.revocations)
-    ∙ ap (map entry_of) (same_filter (λ row. lists n (listed_of records row)) (is_on records.certificates records.crls n) (λ row. listed_on records n row numbered) records.revocations)
+    ∙ ap (map entry_of) (same_filter (λ row. lists n (listed_of records row)) (is_listed_on records.certificates records.crls n) (λ row. listed_on records n row numbered) records.revocations)
 
 -- ---- the statement
 
@@ -184,7 +184,7 @@ entries_ascend (x ∷ xs) rises i j d le within =
     let rise : (get_or (x ∷ xs) i x).serial ≤ (get_or (x ∷ xs) j x).serial = rises i j x le inside in
     omega arith
 
-module _ (db : Database) (records : Records) (kept : Columns) (both : AreBoth db records kept) (law : Kept kept records) (n : ℕ) (rows : List Row)
+module _ (db : Database) (records : Records) (kept : DerivedRows) (both : AreRecordsAndDerived db records kept) (law : Kept kept records) (n : ℕ) (rows : List Row)
     (reads : Reads (command_of (understood register_schema ENTRIES.now)) db (number n ∷ []) rows) where
   pub entries_given : Given (lists n) out kept.listed (selects 15 listing_terms columns by_serial no_limit) (number n ∷ []) rows
   entries_given =
@@ -229,7 +229,7 @@ module _ (records : Records) (n : ℕ) (rows : List Row) (found : List Entry) (i
   entries_have all =
       let P : Entry → Type 0 = λ entry. AreMomentAndReason entry.at entry.reason in
       let listed = map entry_of (content records n) in
-      let each = all_map P entry_of (content records n) (kept_have (λ (row : RevocationRow). AreMomentAndReason row.at row.reason) (is_on records.certificates records.crls n) records.revocations all) in
+      let each = all_map P entry_of (content records n) (kept_have (λ (row : RevocationRow). AreMomentAndReason row.at row.reason) (is_listed_on records.certificates records.crls n) records.revocations all) in
       recursion_from_All P found (All-permutation P listed found it.same (All-from_recursion P listed each))
 
   -- no more than there are revocations
@@ -237,7 +237,7 @@ module _ (records : Records) (n : ℕ) (rows : List Row) (found : List Entry) (i
   entries_within =
       let same = length_permutation (map entry_of (content records n)) found it.same in
       let mapped : length (map entry_of (content records n)) ≡ length (content records n) = rw length-map refl in
-      let on = fewer (is_on records.certificates records.crls n) records.revocations in
+      let on = fewer (is_listed_on records.certificates records.crls n) records.revocations in
       omega arith
 
   -- and they ascend strictly

@@ -50,11 +50,11 @@ module _ {A : Type 0} (n : A → ℕ) where
   reaches from x (y ∷ xs) numbered most all = let rest = reaches (from + 1) y xs numbered.1 most all.1 in omega arith
 
   -- no row has a number past the last one's
-  pub none_past : (from m : ℕ) (xs : List A) → NumberedFrom n from xs → from + length xs ≤ m → None ≡ find (λ a. n a == m) xs
-  none_past from m [] numbered past = refl
-  none_past from m (x ∷ xs) numbered past =
+  pub none_above_range : (from m : ℕ) (xs : List A) → NumberedFrom n from xs → from + length xs ≤ m → None ≡ find (λ a. n a == m) xs
+  none_above_range from m [] numbered past = refl
+  none_above_range from m (x ∷ xs) numbered past =
       let other : (n x == m) ≡ false = grind (arith, nat_tests) in
-      rw other (none_past (from + 1) m xs numbered.1 (omega arith))
+      rw other (none_above_range (from + 1) m xs numbered.1 (omega arith))
 
   -- the greatest number is the count of the rows
   pub greatest_is : (xs : List A) (t : A) (more : List A) → NumberedFrom n 1 xs → IsPermutation xs (t ∷ more) → AllByRecursion (λ a. n a ≤ n t) xs → n t ≡ length xs

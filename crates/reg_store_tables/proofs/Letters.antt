@@ -15,7 +15,7 @@ use Rattle.reg_core.specs.declared.command.Status.{Status}
 use Rattle.reg_core.specs.declared.command.Status.TheVariants.{Good, Expired, Revoked}
 use Rattle.reg_core.specs.declared.rows.CertRow.{CertRow}
 use Rattle.reg_core.specs.declared.rows.RevocationRow.{RevocationRow}
-use Rattle.reg_store_tables.specs.Columns.{Letter, good, revoked, expired, is_good_letter, is_revoked_letter, is_expired_letter, Standing, with_letter, letter_counts}
+use Rattle.reg_store_tables.specs.DerivedRows.{Letter, good, revoked, expired, is_good_letter, is_revoked_letter, is_expired_letter, Standing, with_letter, letter_counts}
 use Rattle.reg_store_tables.specs.Kept.{letter_of, standing_of}
 use Rattle.reg_core_laws.proofs.PublicLaws.{same_length, all_weaker, each_found}
 

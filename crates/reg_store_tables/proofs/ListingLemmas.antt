@@ -21,8 +21,8 @@ use Rattle.reg_core.specs.declared.rows.RevocationRow.{RevocationRow}
 use Rattle.reg_core_laws.proofs.PublicLaws.{keys_map}
 use Rattle.reg_store_tables.specs.Schema.{register_schema}
 use Rattle.reg_store_tables.specs.Rows.{number, serial_value}
-use Rattle.reg_store_tables.specs.Columns.{Listed, Columns, stored_listed, number_or_null}
-use Rattle.reg_store_tables.specs.Shows.{AreBoth}
+use Rattle.reg_store_tables.specs.DerivedRows.{Listed, DerivedRows, stored_listed, number_or_null}
+use Rattle.reg_store_tables.specs.Shows.{AreRecordsAndDerived}
 use Rattle.reg_store_tables.specs.Kept.{Kept, listed_of}
 use Rattle.reg_store_tables.specs.ReadStatements.{command_of}
 use Rattle.reg_store_tables.specs.ShownRows.{IsRowOf, shown_listing}
@@ -64,7 +64,7 @@ option_map_twice : {A B C : Type 0} (g : B → C) (f : A → B) (o : Option A) �
 option_map_twice g f None = refl
 option_map_twice g f (Some x) = refl
 
-module _ (db : Database) (records : Records) (kept : Columns) (both : AreBoth db records kept) (law : Kept kept records) (serial : ℕ) (is_serial : IsSerial serial) (rows : List Row)
+module _ (db : Database) (records : Records) (kept : DerivedRows) (both : AreRecordsAndDerived db records kept) (law : Kept kept records) (serial : ℕ) (is_serial : IsSerial serial) (rows : List Row)
     (reads : Reads (command_of (understood register_schema LISTED_BY_SERIAL.now)) db (serial_value serial ∷ []) rows) where
   abbrev has_serial : Listed → Bool
   has_serial row = row.serial == serial

@@ -26,7 +26,7 @@ use Rattle.reg_core.specs.Serial.{IsSerial, serial_bytes}
 use Rattle.reg_core.specs.Sound.{KeysDiffer}
 use Rattle.reg_core.specs.declared.rows.CertRow.{CertRow}
 use Rattle.reg_core.specs.declared.rows.RevocationRow.{RevocationRow}
-use Rattle.reg_core_lists.specs.Lists.{in_order, past, put_in}
+use Rattle.reg_core_lists.specs.Lists.{in_order, past, insert_by_key}
 use Rattle.reg_core_lists.proofs.PublicLaws.{all_ordered, order_filter, order_rises, kept_rises}
 use Rattle.reg_core_lists.proofs.PublicLaws as orders
 use Rattle.reg_store_tables.specs.Schema.{register_schema}
@@ -47,11 +47,11 @@ module _ {A : Type 0} (key : A → ℕ) where
   swapped : (x y : A) (xs : List A) → IsPermutation (x ∷ y ∷ xs) (y ∷ x ∷ xs)
   swapped x y xs = IsPermutation-append_left xs (x ∷ y ∷ []) (y ∷ x ∷ []) (IsPermutation-append_comm (x ∷ []) (y ∷ []))
 
-  put_same : (x : A) (xs : List A) → IsPermutation (x ∷ xs) (put_in key x xs)
+  put_same : (x : A) (xs : List A) → IsPermutation (x ∷ xs) (insert_by_key key x xs)
   put_same x [] = IsPermutation-refl (x ∷ [])
   put_same x (y ∷ xs) = elim (cases_Bool (nat_lt (key x) (key y))) [
     | inl less ↦ rw less (IsPermutation-refl (x ∷ y ∷ xs))
-    | inr more ↦ rw more (IsPermutation-trans (x ∷ y ∷ xs) (y ∷ x ∷ xs) (y ∷ put_in key x xs) (swapped x y xs) (IsPermutation-cons y (x ∷ xs) (put_in key x xs) (put_same x xs)))
+    | inr more ↦ rw more (IsPermutation-trans (x ∷ y ∷ xs) (y ∷ x ∷ xs) (y ∷ insert_by_key key x xs) (swapped x y xs) (IsPermutation-cons y (x ∷ xs) (insert_by_key key x xs) (put_same x xs)))
   ]
 
   -- the same rows

@@ -6,24 +6,24 @@ use Rattle.sqlite.specs.Effect.{Database, IsDatabase}
 use Rattle.sqlite.specs.State.{State, Survives}
 use Rattle.sqlite.proofs.StateLemmas.{survives_then, survives_weaker}
 use Rattle.reg_core.specs.Records.{Records}
-use Rattle.reg_store_tables.specs.Columns.{Columns}
+use Rattle.reg_store_tables.specs.DerivedRows.{DerivedRows}
 use Rattle.reg_store_tables.specs.Kept.{Kept}
 use Rattle.reg_store_tables.specs.Schema.{register_schema}
-use Rattle.reg_store_tables.specs.Shows.{AreBoth}
+use Rattle.reg_store_tables.specs.Shows.{AreRecordsAndDerived}
 use Rattle.reg_store_tables.specs.Stays.{LeavesNothing}
-use Rattle.reg_store_tables.specs.AfterStop.{AreARegisters, IsAtRest}
+use Rattle.reg_store_tables.specs.AfterStop.{AreARegisters, ShowsDerivedAfterStop}
 
 -- what a database shows its rows show
-pub resting : (db : Database) (trees : Trees) (records : Records) (columns : Columns) → trees ≡ db.trees → AreBoth db records columns → AreBoth (record { schema = register_schema; trees = trees }) records columns
+pub resting : (db : Database) (trees : Trees) (records : Records) (columns : DerivedRows) → trees ≡ db.trees → AreRecordsAndDerived db records columns → AreRecordsAndDerived (record { schema = register_schema; trees = trees }) records columns
 resting db trees records columns is both =
-    subst (λ t. AreBoth (record { schema = register_schema; trees = t }) records columns) (sym is) (record { shown = record { schema = refl; rows = both.shown.rows }; kept = both.kept })
+    subst (λ t. AreRecordsAndDerived (record { schema = register_schema; trees = t }) records columns) (sym is) (record { shown = record { schema = refl; rows = both.shown.rows }; kept = both.kept })
 
 -- and what it obeys they obey
 pub rests_sound : (db : Database) (trees : Trees) → trees ≡ db.trees → db.schema ≡ register_schema → IsDatabase db → AreARegisters trees
 rests_sound db trees is schema sound = subst (λ t. IsSound register_schema t) (sym is) (subst (λ s. IsSound s db.trees) schema sound)
 
 -- what is kept stands for the records, and so they are at rest
-pub at_rest : (db : Database) (trees : Trees) (records : Records) (columns : Columns) → trees ≡ db.trees → AreBoth db records columns → IsDatabase db → Kept columns records → IsAtRest records trees
+pub at_rest : (db : Database) (trees : Trees) (records : Records) (columns : DerivedRows) → trees ≡ db.trees → AreRecordsAndDerived db records columns → IsDatabase db → Kept columns records → ShowsDerivedAfterStop records trees
 at_rest db trees records columns is both sound kept = (columns, resting db trees records columns is both, kept, rests_sound db trees is both.shown.schema sound)
 
 -- what commits nothing leaves what any call may

@@ -13,10 +13,10 @@ use Rattle.reg_core.specs.declared.rows.OrderRow.{OrderRow}
 use Rattle.reg_core.specs.declared.rows.CertRow.{CertRow}
 use Rattle.reg_core.specs.declared.rows.RequestRow.{RequestRow}
 use Rattle.reg_core.specs.declared.rows.RevocationRow.{RevocationRow}
-use Rattle.reg_store_tables.specs.Columns.{Columns, office_days, Standing, Listed, stored_standing, stored_counts, stored_listed}
+use Rattle.reg_store_tables.specs.DerivedRows.{DerivedRows, office_days, Standing, Listed, stored_standing, stored_counts, stored_listed}
 use Rattle.reg_store_tables.specs.Rows.{counted_rows, stored_office, stored_subscriber, stored_order, stored_certificate, stored_request, stored_revocation, stored_crl, stored_step}
 use Rattle.reg_store_tables.specs.Schema.{register_schema}
-use Rattle.reg_store_tables.specs.Shows.{AreRows, AreColumns, AreBoth, HaveSerials}
+use Rattle.reg_store_tables.specs.Shows.{AreRows, AreDerivedRows, AreRecordsAndDerived, HaveSerials}
 use Rattle.reg_store_tables.proofs.Registers.{Spares}
 
 -- rows with a key that counts, and rows with a serial number
@@ -48,7 +48,7 @@ RowsTold tree after was is =
     × Told 11 tree (Numbered stored_crl (λ (crl : Crl). crl.number) (after 11)) was.crls is.crls
     × Told 17 tree (λ steps. after 17 ≡ map stored_step steps) was.policy.schedule is.policy.schedule
 
-abbrev pub ColumnsTold : ℕ → Trees → Columns → Columns → Type 0
+abbrev pub ColumnsTold : ℕ → Trees → DerivedRows → DerivedRows → Type 0
 ColumnsTold tree after was is =
     Told 12 tree (Counted stored_standing (λ (row : Standing). row.serial) (after 12)) was.letters is.letters
     × Told 14 tree (λ counts. after 14 ≡ stored_counts counts ∷ []) was.counts is.counts
@@ -98,7 +98,7 @@ module _ (tree : ℕ) (db after : Trees) (spares : Spares tree db after) where
         request_serials = requests.2;
       }
 
-  pub columns_after : (was is : Columns) → AreColumns db was → ColumnsTold tree after was is → AreColumns after is
+  pub columns_after : (was is : DerivedRows) → AreDerivedRows db was → ColumnsTold tree after was is → AreDerivedRows after is
   columns_after was is kept told =
       let letters = part 12 (Counted stored_standing (λ (row : Standing). row.serial) (after 12)) _ _
       (λ e. (spares.same 12 refl e ∙ kept.letters, kept.letter_serials)) told.0 in
@@ -114,8 +114,8 @@ module _ (tree : ℕ) (db after : Trees) (spares : Spares tree db after) where
       }
 
 -- where one table was written, the tables show what was told of it
-pub both_after : (tree : ℕ) (old new : Database) (was is : Records) (columns those : Columns) → AreBoth old was columns → new.schema ≡ register_schema → Spares tree old.trees new.trees
-    → RowsTold tree new.trees was is → IsPolicy is.policy → ColumnsTold tree new.trees columns those → AreBoth new is those
+pub both_after : (tree : ℕ) (old new : Database) (was is : Records) (columns those : DerivedRows) → AreRecordsAndDerived old was columns → new.schema ≡ register_schema → Spares tree old.trees new.trees
+    → RowsTold tree new.trees was is → IsPolicy is.policy → ColumnsTold tree new.trees columns those → AreRecordsAndDerived new is those
 both_after tree old new was is columns those both schema spares rows policy kept = record {
   shown = record { schema = schema; rows = rows_after tree old.trees new.trees spares was is both.shown.rows rows policy };
   kept = columns_after tree old.trees new.trees spares columns those both.kept kept;

@@ -21,7 +21,7 @@ use Rattle.reg_store_tables.proofs.Edits as Edits
 use Rattle.reg_store_tables.proofs.Edits.{cast_int, cast_null, made}
 use Rattle.reg_store_tables.proofs.Registers.{puts_row, puts_spares, turns_rows, turns_spares}
 use Rattle.reg_core.specs.declared.command.Counts.{Counts}
-use Rattle.reg_store_tables.specs.Columns.{stored_counts, turned, with_counts}
+use Rattle.reg_store_tables.specs.DerivedRows.{stored_counts, turned, with_counts}
 use Rattle.reg_store_tables.proofs.Queries.{passes}
 use Rattle.reg_store_tables.proofs.Turning.{IsKeyed}
 use Rattle.reg_store_tables.proofs.Spared.{both_after}

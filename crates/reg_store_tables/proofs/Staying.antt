@@ -20,8 +20,8 @@ use Rattle.sqlite.proofs.StateLemmas.{survives_then, survives_weaker}
 use Rattle.reg_store_tables.specs.Schema.{register_schema}
 use Rattle.reg_store_tables.specs.ReadStatements.{Answers, IsReading, NeverReturns, command_of}
 use Rattle.reg_core.specs.Records.{Records}
-use Rattle.reg_store_tables.specs.Columns.{Columns}
-use Rattle.reg_store_tables.specs.Shows.{Holds, Shows, ShowsBoth, IsShownBy, AreBoth}
+use Rattle.reg_store_tables.specs.DerivedRows.{DerivedRows}
+use Rattle.reg_store_tables.specs.Shows.{Holds, Shows, ShowsBoth, IsShownBy, AreRecordsAndDerived}
 use Rattle.reg_store_tables.specs.Kept.{ShowsKept}
 use Rattle.reg_store_tables.specs.Stays.{IsRegister, Stays, LeavesNothing, Looked, Stepped}
 
@@ -133,7 +133,7 @@ shows_register g h records shows = record {
   committed = λ clean up. subst (λ (db : Database). db.schema ≡ register_schema) (shows.saved clean up) (shows.tables clean up).schema;
 }
 
-pub both_shows : {S : Type 0} (g : Ghosts S) (h : Held S) (records : Records) (columns : Columns) → ShowsBoth g h records columns → Shows g h records
+pub both_shows : {S : Type 0} (g : Ghosts S) (h : Held S) (records : Records) (columns : DerivedRows) → ShowsBoth g h records columns → Shows g h records
 both_shows g h records columns both = record { saved = both.saved; tables = λ clean up. (both.tables clean up).shown }
 
 pub kept_shows : {S : Type 0} (g : Ghosts S) (h : Held S) (records : Records) → ShowsKept g h records → Shows g h records
@@ -142,9 +142,9 @@ kept_shows g h records kept = both_shows g h records kept.0 kept.1
 pub stays_shows : {S : Type 0} (g : Ghosts S) (old new : Held S) (records : Records) → doubt (state g old).is_clean ≤ doubt (state g new).is_clean → Stays (state g old) (state g new) → Shows g old records → Shows g new records
 stays_shows g old new records = stays_holds g old new (λ db. IsShownBy db records)
 
-pub stays_both : {S : Type 0} (g : Ghosts S) (old new : Held S) (records : Records) (columns : Columns) → doubt (state g old).is_clean ≤ doubt (state g new).is_clean → Stays (state g old) (state g new)
+pub stays_both : {S : Type 0} (g : Ghosts S) (old new : Held S) (records : Records) (columns : DerivedRows) → doubt (state g old).is_clean ≤ doubt (state g new).is_clean → Stays (state g old) (state g new)
     → ShowsBoth g old records columns → ShowsBoth g new records columns
-stays_both g old new records columns = stays_holds g old new (λ db. AreBoth db records columns)
+stays_both g old new records columns = stays_holds g old new (λ db. AreRecordsAndDerived db records columns)
 
 pub stays_kept : {S : Type 0} (g : Ghosts S) (old new : Held S) (records : Records) → doubt (state g old).is_clean ≤ doubt (state g new).is_clean → Stays (state g old) (state g new)
     → ShowsKept g old records → ShowsKept g new records
@@ -203,8 +203,8 @@ pub some_then : {T E : Type 0} {P Q : T → Type 0} (r : Result T E) (o : Option
 some_then {Q = Q} r (Some x) e is h more = subst (λ r. IfOk r Q) (sym is) (more x h)
 some_then {Q = Q} r None e is h more = subst (λ r. IfOk r Q) (sym is) tt
 
-pub both_then : {S : Type 0} (g : Ghosts S) (old new : Held S) (records : Records) (columns : Columns) → doubt (state g old).is_clean ≤ doubt (state g new).is_clean → HasCleanDisk (state g new) → IsTrue (state g old).is_open
-    → ShowsBoth g old records columns → AreBoth (state g old).now records columns
+pub both_then : {S : Type 0} (g : Ghosts S) (old new : Held S) (records : Records) (columns : DerivedRows) → doubt (state g old).is_clean ≤ doubt (state g new).is_clean → HasCleanDisk (state g new) → IsTrue (state g old).is_open
+    → ShowsBoth g old records columns → AreRecordsAndDerived (state g old).now records columns
 both_then g old new records columns forgets clean up both = both.tables (was_clean (state g old) (state g new) forgets clean) up
 
 -- ---- what a stop leaves after what commits nothing
@@ -236,7 +236,7 @@ pub looked_shows : {S : Type 0} {g : Ghosts S} {old new : Held S} → Looked g o
 looked_shows {g = g} {old = old} {new = new} looked records shows = stays_shows g old new records looked.survives.clean (looked.same (shows_register g old records shows)) shows
 
 -- and what is kept beside it
-pub looked_both : {S : Type 0} {g : Ghosts S} {old new : Held S} → Looked g old new → (records : Records) (columns : Columns) → ShowsBoth g old records columns → ShowsBoth g new records columns
+pub looked_both : {S : Type 0} {g : Ghosts S} {old new : Held S} → Looked g old new → (records : Records) (columns : DerivedRows) → ShowsBoth g old records columns → ShowsBoth g new records columns
 looked_both {g = g} {old = old} {new = new} looked records columns both =
     stays_both g old new records columns looked.survives.clean (looked.same (shows_register g old records (both_shows g old records columns both))) both
 

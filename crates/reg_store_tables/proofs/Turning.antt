@@ -23,7 +23,7 @@ use Rattle.sqlite_rules.proofs.ProbeLemmas.{has_mapped, mapped_has}
 use Rattle.sqlite_rules.proofs.TableLemmas.{put_all_has, put_all_keeps, put_all_adds}
 use Rattle.reg_core.specs.Sound.{NumberedFrom}
 use Rattle.reg_store_tables.specs.Rows.{number, behind_rowids}
-use Rattle.reg_store_tables.specs.Columns.{turned}
+use Rattle.reg_store_tables.specs.DerivedRows.{turned}
 
 -- ---- two tables with the same rows are one
 

@@ -2,20 +2,20 @@
 use Rattle.sqlite_trees.specs.Tree.{Trees}
 use Rattle.sqlite_catalog.specs.Listing.{IsSound}
 use Rattle.reg_core.specs.Records.{Records}
-use Rattle.reg_store_tables.specs.Columns.{Columns}
+use Rattle.reg_store_tables.specs.DerivedRows.{DerivedRows}
 use Rattle.reg_store_tables.specs.Kept.{Kept}
 use Rattle.reg_store_tables.specs.Schema.{register_schema}
-use Rattle.reg_store_tables.specs.Shows.{AreBoth}
+use Rattle.reg_store_tables.specs.Shows.{AreRecordsAndDerived}
 
 -- as the rows of a register's tables, these show the records, and the derived tables have these rows
-abbrev pub AreRowsOf : Records → Columns → Trees → Type 0
-AreRowsOf records columns trees = AreBoth (record { schema = register_schema; trees = trees }) records columns
+abbrev pub AreRowsOf : Records → DerivedRows → Trees → Type 0
+AreRowsOf records columns trees = AreRecordsAndDerived (record { schema = register_schema; trees = trees }) records columns
 
 -- the rows include the list of a register's tables and indexes, and obey that schema: an opening finds it there
 abbrev pub AreARegisters : Trees → Type 0
 AreARegisters trees = IsSound register_schema trees
 
 -- as the rows of a register's tables, these show the records, with derived tables that match them
-abbrev pub IsAtRest : Records → Trees → Type 0
-IsAtRest records trees =
-    (columns : Columns) × AreRowsOf records columns trees × Kept columns records × AreARegisters trees
+abbrev pub ShowsDerivedAfterStop : Records → Trees → Type 0
+ShowsDerivedAfterStop records trees =
+    (columns : DerivedRows) × AreRowsOf records columns trees × Kept columns records × AreARegisters trees

@@ -8,8 +8,8 @@ use Rattle.reg_der.specs.declared.issuer.IssuerFault.{IssuerFault}
 use Rattle.reg_der.specs.declared.issuer.IssuerFault.TheVariants as issuer
 use Rattle.reg_store_tables.specs.declared.fault.DatabaseFault.{DatabaseFault}
 use Rattle.reg_store_tables.specs.declared.fault.DatabaseFault.TheVariants as call
-use Rattle.reg_store_tables.specs.declared.fault.Unshown.{Unshown}
-use Rattle.reg_store_tables.specs.declared.fault.Unshown.TheVariants as rows
+use Rattle.reg_store_tables.specs.declared.fault.RowFault.{RowFault}
+use Rattle.reg_store_tables.specs.declared.fault.RowFault.TheVariants as rows
 use Rattle.reg_store_tables.specs.declared.fault.StoreFault.{StoreFault}
 use Rattle.reg_store_tables.specs.declared.fault.StoreFault.TheVariants.{Memory, Store}
 
@@ -25,7 +25,7 @@ issuer_fault_of issuer.BadName = call.Store
 issuer_fault_of issuer.BadKey = call.Store
 
 -- the fault of a call if memory ran out, or a row is one that no register writes
-abbrev pub unshown_fault_of : Unshown → DatabaseFault
+abbrev pub unshown_fault_of : RowFault → DatabaseFault
 unshown_fault_of rows.Memory = call.Memory
 unshown_fault_of (rows.At place) = call.Store
 

@@ -9,7 +9,7 @@ use Rattle.reg_core.specs.declared.rows.CertRow.{CertRow}
 use Rattle.reg_core.specs.declared.rows.RevocationRow.{RevocationRow}
 use Rattle.reg_core.specs.declared.command.Status.{Status}
 use Rattle.reg_core.specs.declared.command.Status.TheVariants.{Unknown, Good, Expired, Revoked}
-use Rattle.reg_store_tables.specs.Columns.{Letter, good, revoked, expired, Standing, Listed, Columns}
+use Rattle.reg_store_tables.specs.DerivedRows.{Letter, good, revoked, expired, Standing, Listed, DerivedRows}
 use Rattle.reg_store_tables.specs.Shows.{ShowsBoth}
 
 -- the letter of a status; a registered certificate never has the status unknown
@@ -45,11 +45,11 @@ listed_of records revocation = record {
 }
 
 -- one letter for each certificate, the counts of the letters, and one row for each revocation, in any order
-pub record Kept (columns : Columns) (records : Records) : Type 0 where
+pub record Kept (columns : DerivedRows) (records : Records) : Type 0 where
   pub letters : IsPermutation (map (standing_of records) records.certificates) columns.letters
   pub counts : columns.counts ≡ counts records records.last
   pub listed : IsPermutation (map (listed_of records) records.revocations) columns.listed
 
 -- the tables show the records, with derived tables that match them
 abbrev pub ShowsKept : {S : Type 0} → Ghosts S → Held S → Records → Type 0
-ShowsKept g h records = (columns : Columns) × ShowsBoth g h records columns × Kept columns records
+ShowsKept g h records = (columns : DerivedRows) × ShowsBoth g h records columns × Kept columns records

@@ -1,6 +1,6 @@
 pub mod Schema
 pub mod Rows
-pub mod Columns
+pub mod DerivedRows
 pub mod RecordValues
 pub mod Shows
 pub mod Faults

@@ -179,8 +179,8 @@ record_tables =
     request) revocation) crl
 
 -- and then the derived tables
-abbrev pub kept_tables : Schema
-kept_tables = created (created (created record_tables standing) kept) listed
+abbrev pub with_derived_tables : Schema
+with_derived_tables = created (created (created record_tables standing) kept) listed
 
 -- the tables of the records, then the derived tables, then the schedule
 abbrev pub all_tables : Schema

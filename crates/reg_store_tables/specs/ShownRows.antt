@@ -7,7 +7,7 @@ use Rattle.sqlite.specs.State.{State}
 use Rattle.reg_core.specs.Issuer.{Issuer}
 use Rattle.reg_core.specs.declared.command.Counts.{Counts}
 use Rattle.reg_core.specs.declared.command.Listing.{Listing}
-use Rattle.reg_store_tables.specs.Columns.{number_or_null}
+use Rattle.reg_store_tables.specs.DerivedRows.{number_or_null}
 use Rattle.reg_store_tables.specs.Rows.{number}
 use Rattle.reg_store_tables.specs.ReadStatements.{Answers}
 

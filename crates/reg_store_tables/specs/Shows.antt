@@ -13,7 +13,7 @@ use Rattle.reg_core.specs.Policy.{IsPolicy}
 use Rattle.reg_core.specs.Sound.{NumberedFrom}
 use Rattle.reg_store_tables.specs.Schema.{register_schema}
 use Rattle.reg_store_tables.specs.Rows.{number, counted_rows, stored_office, stored_subscriber, stored_order, stored_certificate, stored_request, stored_revocation, stored_crl, stored_step}
-use Rattle.reg_store_tables.specs.Columns.{Columns, office_days, stored_standing, stored_counts, stored_listed}
+use Rattle.reg_store_tables.specs.DerivedRows.{DerivedRows, office_days, stored_standing, stored_counts, stored_listed}
 
 -- the serial numbers of the rows are valid (RFC 5280 4.1.2.2)
 abbrev pub HaveSerials : {A : Type 0} → (A → ℕ) → List A → Type 0
@@ -42,7 +42,7 @@ pub record AreRows (trees : Trees) (records : Records) : Type 0 where
   pub revocation_serials : HaveSerials (λ row. row.serial) records.revocations
 
 -- the derived tables have these rows, and the office's row these days
-pub record AreColumns (trees : Trees) (columns : Columns) : Type 0 where
+pub record AreDerivedRows (trees : Trees) (columns : DerivedRows) : Type 0 where
   pub letters : trees 12 ≡ counted_rows (map stored_standing columns.letters)
   pub counts : trees 14 ≡ stored_counts columns.counts ∷ []
   pub listed : trees 15 ≡ counted_rows (map stored_listed columns.listed)
@@ -56,9 +56,9 @@ pub record IsShownBy (db : Database) (records : Records) : Type 0 where
   pub rows : AreRows db.trees records
 
 -- and its derived tables have these rows
-pub record AreBoth (db : Database) (records : Records) (columns : Columns) : Type 0 where
+pub record AreRecordsAndDerived (db : Database) (records : Records) (columns : DerivedRows) : Type 0 where
   pub shown : IsShownBy db records
-  pub kept : AreColumns db.trees columns
+  pub kept : AreDerivedRows db.trees columns
 
 -- if the disk returned what was written, and the connection is open, its database has the property, and all of it is committed
 pub record Holds {S : Type 0} (g : Ghosts S) (h : Held S) (P : Database → Type 0) : Type 0 where
@@ -70,8 +70,8 @@ abbrev pub Shows : {S : Type 0} → Ghosts S → Held S → Records → Type 0
 Shows g h records = Holds g h (λ db. IsShownBy db records)
 
 -- the tables show the records, and the derived tables have these rows
-abbrev pub ShowsBoth : {S : Type 0} → Ghosts S → Held S → Records → Columns → Type 0
-ShowsBoth g h records columns = Holds g h (λ db. AreBoth db records columns)
+abbrev pub ShowsBoth : {S : Type 0} → Ghosts S → Held S → Records → DerivedRows → Type 0
+ShowsBoth g h records columns = Holds g h (λ db. AreRecordsAndDerived db records columns)
 
 -- the office's row has these days
 abbrev pub HasOfficeDays : {S : Type 0} → Ghosts S → Held S → ℕ → Type 0

@@ -6,9 +6,9 @@ use Rattle.sqlite.specs.Held.{state}
 use Rattle.sqlite.specs.State.{State, HasCleanDisk, IsUnchanged}
 use Rattle.sqlite.specs.declared.transaction.Transaction.{Transaction}
 use Rattle.reg_core.specs.Records.{Records}
-use Rattle.reg_store_tables.specs.Columns.{Columns}
+use Rattle.reg_store_tables.specs.DerivedRows.{DerivedRows}
 use Rattle.reg_store_tables.specs.Schema.{register_schema}
-use Rattle.reg_store_tables.specs.Shows.{AreBoth}
+use Rattle.reg_store_tables.specs.Shows.{AreRecordsAndDerived}
 use Rattle.reg_store_tables.specs.Stays.{Moves}
 
 -- while the connection is open, its database has the property
@@ -62,28 +62,28 @@ module _ {S : Type 0} (g : Ghosts S) (old new : Transaction S) where
       × Told told (state g old.conn.now).now)
 
 -- if the tables show records that fit, with some derived tables, they then show these records and derived tables
-abbrev pub TurnsWhere : (Records → Type 0) → (Records → Records) → (Columns → Columns) → Database
+abbrev pub TurnsWhere : (Records → Type 0) → (Records → Records) → (DerivedRows → DerivedRows) → Database
     → Database → Type 0
 TurnsWhere Fits records_after columns_after old new =
-    (records : Records) (columns : Columns) → Fits records → AreBoth old records columns
-    → AreBoth new (records_after records) (columns_after columns)
+    (records : Records) (columns : DerivedRows) → Fits records → AreRecordsAndDerived old records columns
+    → AreRecordsAndDerived new (records_after records) (columns_after columns)
 
 -- `TurnsWhere` for any records
-abbrev pub Turns : (Records → Records) → (Columns → Columns) → Database → Database → Type 0
+abbrev pub Turns : (Records → Records) → (DerivedRows → DerivedRows) → Database → Database → Type 0
 Turns records_after columns_after old new =
-    (records : Records) (columns : Columns) → AreBoth old records columns
-    → AreBoth new (records_after records) (columns_after columns)
+    (records : Records) (columns : DerivedRows) → AreRecordsAndDerived old records columns
+    → AreRecordsAndDerived new (records_after records) (columns_after columns)
 
 -- the records become these, and the derived tables stay
 abbrev pub TurnsRecords : (Records → Records) → Database → Database → Type 0
 TurnsRecords records_after = Turns records_after (λ columns. columns)
 
 -- the records stay, and the derived tables become these
-abbrev pub TurnsColumns : (Columns → Columns) → Database → Database → Type 0
+abbrev pub TurnsColumns : (DerivedRows → DerivedRows) → Database → Database → Type 0
 TurnsColumns columns_after = Turns (λ records. records) columns_after
 
 -- `TurnsColumns`, with the number of rows that change
-abbrev pub TurnsCounted : (Columns → Columns) → (Columns → ℕ) → ℕ → Database → Database → Type 0
+abbrev pub TurnsCounted : (DerivedRows → DerivedRows) → (DerivedRows → ℕ) → ℕ → Database → Database → Type 0
 TurnsCounted columns_after turned count old new =
-    (records : Records) (columns : Columns) → AreBoth old records columns
-    → AreBoth new records (columns_after columns) × (count ≡ turned columns)
+    (records : Records) (columns : DerivedRows) → AreRecordsAndDerived old records columns
+    → AreRecordsAndDerived new records (columns_after columns) × (count ≡ turned columns)

@@ -7,7 +7,7 @@ ghost use Rattle.reg_store_tables.specs.LookUps.{Finds};
 
 use crate::fault::DatabaseFault;
 use crate::read_statements::{at_most_one, look_up, read};
-use crate::sizes::{Table, none_past};
+use crate::sizes::{Table, none_above_range};
 use crate::sql::{CRL_BYTES, LATEST_CRL};
 use crate::sql_values::sql_key;
 use crate::tables::Tables;
@@ -42,7 +42,7 @@ pub fn crl<S: Alter>(
         option_map (λ bytes. bytes.items) der ≡ option_map (λ crl. crl.bytes) (crl_in records.crls number)) }
 {
     let Some(value) = sql_key(number) else {
-        return none_past(conn, Table::Crls, number);
+        return none_above_range(conn, Table::Crls, number);
     };
     let found = read(conn, CRL_BYTES, params![&value])?;
     match at_most_one(&found)? {

@@ -33,32 +33,32 @@ pub enum StoreFault {
 
 /// Why rows are not read.
 #[derive(Clone, Copy, PartialEq, Eq)]
-pub enum Unshown {
+pub enum RowFault {
     /// Out of memory.
     Memory,
     /// The row with this index, counted from 0, has a value that no register writes.
     At(usize),
 }
 
-impl<T: Drop> From<AllocFailed<T>> for Unshown {
-    ghost use Rattle.reg_store_tables.specs.declared.fault.Unshown.TheVariants.{Memory};
+impl<T: Drop> From<AllocFailed<T>> for RowFault {
+    ghost use Rattle.reg_store_tables.specs.declared.fault.RowFault.TheVariants.{Memory};
 
     ghost from_gives = { λ _ why. why ≡ Memory };
 
-    fn from(_error: AllocFailed<T>) -> Unshown {
-        Unshown::Memory
+    fn from(_error: AllocFailed<T>) -> RowFault {
+        RowFault::Memory
     }
 }
 
-impl From<Unshown> for DatabaseFault {
+impl From<RowFault> for DatabaseFault {
     ghost use Rattle.reg_store_tables.specs.Faults.{unshown_fault_of};
 
     ghost from_gives = { λ why fault. fault ≡ unshown_fault_of why };
 
-    fn from(why: Unshown) -> DatabaseFault {
+    fn from(why: RowFault) -> DatabaseFault {
         match why {
-            Unshown::Memory => DatabaseFault::Memory,
-            Unshown::At(_) => DatabaseFault::Store,
+            RowFault::Memory => DatabaseFault::Memory,
+            RowFault::At(_) => DatabaseFault::Store,
         }
     }
 }

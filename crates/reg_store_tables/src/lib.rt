@@ -24,10 +24,10 @@ mod tables;
 pub mod write_statements;
 
 pub use crls::crl;
-pub use fault::{DatabaseFault, StoreFault, Unshown};
+pub use fault::{DatabaseFault, RowFault, StoreFault};
 pub use office::{issuer, policy};
 pub use schedule_rows::put_schedule_steps;
 pub use sizes::Table;
-pub use status_counts::kept_counts;
+pub use status_counts::stored_counts_now;
 pub use tables::Tables;
 pub use write_statements::set_counts;

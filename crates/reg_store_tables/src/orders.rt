@@ -6,7 +6,7 @@ ghost use Rattle.reg_store_tables.specs.LookUps.{Finds};
 
 use crate::fault::DatabaseFault;
 use crate::read_statements::look_up;
-use crate::sizes::{Table, none_past};
+use crate::sizes::{Table, none_above_range};
 use crate::sql::ORDER_BY_ID;
 use crate::sql_values::sql_key;
 use crate::tables::Tables;
@@ -19,7 +19,7 @@ impl<S: Alter> Tables<S> {
         ensures { Finds S.Store self.old self.new result (λ records row. row ≡ order_in records.orders id) }
     {
         let Some(value) = sql_key(id) else {
-            return none_past(&mut self.connection, Table::Orders, id);
+            return none_above_range(&mut self.connection, Table::Orders, id);
         };
         look_up::<S, OrderRow>(&mut self.connection, ORDER_BY_ID, params![&value])
     }

@@ -6,7 +6,7 @@ ghost use Rattle.reg_store_tables.specs.LookUps.{Finds};
 
 use crate::fault::DatabaseFault;
 use crate::read_statements::look_up;
-use crate::sizes::{Table, none_past};
+use crate::sizes::{Table, none_above_range};
 use crate::sql::REQUEST_BY_ID;
 use crate::sql_values::sql_key;
 use crate::tables::Tables;
@@ -20,7 +20,7 @@ impl<S: Alter> Tables<S> {
             row ≡ request_in records.requests id) }
     {
         let Some(value) = sql_key(id) else {
-            return none_past(&mut self.connection, Table::Requests, id);
+            return none_above_range(&mut self.connection, Table::Requests, id);
         };
         look_up::<S, RequestRow>(&mut self.connection, REQUEST_BY_ID, params![&value])
     }

@@ -4,7 +4,7 @@ ghost use Rattle.std.specs.Prelude.{◌≡◌, ◌≤◌, List, Option, map, len
 ghost use Rattle.std.specs.List.{AllByRecursion};
 ghost use Rattle.reg_store_tables.specs.ShownRows.{IsRowOf};
 
-use crate::fault::{DatabaseFault, Unshown};
+use crate::fault::{DatabaseFault, RowFault};
 use crate::sql_values::{
     clock_moment_at, flag_at, ground_at, label_at, moment_at, number_at, number_or_null_at,
     reason_at, serial_at,
@@ -313,19 +313,19 @@ impl ShownRow for Terms {
     }
 }
 
-/// Reads all rows. [`Unshown::At`] has the index of the first row with a value that no register writes.
-pub fn rows_in<T: ShownRow>(alloc: Global, rows: &[Row]) -> Result<Vec<T::Record>, Unshown>
+/// Reads all rows. [`RowFault::At`] has the index of the first row with a value that no register writes.
+pub fn rows_in<T: ShownRow>(alloc: Global, rows: &[Row]) -> Result<Vec<T::Record>, RowFault>
     ensures read { (shown : List T.Record) → AllByRecursion T.is_keyed shown → rows.now ≡ map T.shown shown
         → IfOk result (λ read. read.items ≡ shown) }
     ensures has { (shown : List T.Record) → AllByRecursion T.is_keyed shown
         → AllByRecursion T.has_values shown → rows.now ≡ map T.shown shown
-        → IfErr result (λ why. why ≡ Unshown.Memory) }
+        → IfErr result (λ why. why ≡ RowFault.Memory) }
 {
     let mut found = Vec::new(alloc);
     for row in rows {
         match T::in_row(row) {
             Some(it) => found.push(it)?,
-            None => return Err(Unshown::At(found.len())),
+            None => return Err(RowFault::At(found.len())),
         }
     }
     Ok(found)

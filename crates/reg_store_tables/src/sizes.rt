@@ -55,7 +55,7 @@ pub(crate) fn held<S: Alter>(conn: &mut Connection<S>, table: Table) -> Result<u
 }
 
 /// The look-up of a number above 2^63 - 1, which SQL doesn't have. It finds nothing, since the number of the last row is lower.
-pub(crate) fn none_past<S: Alter, T>(
+pub(crate) fn none_above_range<S: Alter, T>(
     conn: &mut Connection<S>,
     table: Table,
     number: u64,

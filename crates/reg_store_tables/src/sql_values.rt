@@ -7,7 +7,7 @@ ghost use Rattle.sqlite_value.specs.Order.{column};
 ghost use Rattle.reg_core.specs.Calendar.{IsMoment, clock_end};
 ghost use Rattle.reg_core.specs.Label.{IsLabel};
 ghost use Rattle.reg_core.specs.Serial.{IsSerial};
-ghost use Rattle.reg_store_tables.specs.Columns.{number_or_null};
+ghost use Rattle.reg_store_tables.specs.DerivedRows.{number_or_null};
 ghost use Rattle.reg_store_tables.specs.Rows.{number, serial_value, ground_index};
 
 use crate::fault::DatabaseFault;

@@ -4,7 +4,7 @@ ghost use Rattle.std.specs.Prelude.{◌≡◌, ◌≤◌, length, filter, IsTrue
 ghost use Rattle.sqlite.specs.Held.{state};
 ghost use Rattle.reg_core.specs.Sound.{SoundRows};
 ghost use Rattle.reg_core.specs.Status as status;
-ghost use Rattle.reg_store_tables.specs.Columns.{Columns, ends_before};
+ghost use Rattle.reg_store_tables.specs.DerivedRows.{DerivedRows, ends_before};
 ghost use Rattle.reg_store_tables.specs.Kept.{ShowsKept};
 ghost use Rattle.reg_store_tables.specs.LookUps.{Finds};
 ghost use Rattle.reg_store_tables.specs.Shows.{ShowsBoth};
@@ -25,7 +25,7 @@ impl<S: Alter> Tables<S> {
             ShowsKept S.Store self.old records → SoundRows records → records.last ≤ now
             → found ≡ status.counts records now) }
     {
-        let kept = kept_counts(&mut self.connection)?;
+        let kept = stored_counts_now(&mut self.connection)?;
         let ended = ended_before(&mut self.connection, now)?;
         Ok(Counts {
             good: kept.good.checked_sub(ended).ok_or(DatabaseFault::Store)?,
@@ -36,16 +36,16 @@ impl<S: Alter> Tables<S> {
 }
 
 /// The counts in the table `kept`, as of the last accepted moment. It reads one row.
-pub fn kept_counts<S: Alter>(conn: &mut Connection<S>) -> Result<Counts, DatabaseFault>
+pub fn stored_counts_now<S: Alter>(conn: &mut Connection<S>) -> Result<Counts, DatabaseFault>
     ensures { Finds S.Store conn.old conn.new result (λ records counts.
-        (kept : Columns) → ShowsBoth S.Store conn.old records kept → counts ≡ kept.counts) }
+        (kept : DerivedRows) → ShowsBoth S.Store conn.old records kept → counts ≡ kept.counts) }
 {
     look_up_one::<S, Counts>(conn, COUNTS, &[])
 }
 
 fn ended_before<S: Alter>(conn: &mut Connection<S>, now: Moment) -> Result<u64, DatabaseFault>
     ensures { Finds S.Store conn.old conn.new result (λ records ended.
-        (kept : Columns) → ShowsBoth S.Store conn.old records kept
+        (kept : DerivedRows) → ShowsBoth S.Store conn.old records kept
         → IsTrue (state S.Store conn.old).is_open
         × (length kept.letters ≤ 1000000 → ended ≡ length (filter (ends_before now) kept.letters))) }
 {

@@ -6,7 +6,7 @@ ghost use Rattle.reg_store_tables.specs.LookUps.{Finds};
 
 use crate::fault::DatabaseFault;
 use crate::read_statements::look_up;
-use crate::sizes::{Table, none_past};
+use crate::sizes::{Table, none_above_range};
 use crate::sql::{SUBSCRIBER_BY_ID, SUBSCRIBER_BY_NAME};
 use crate::sql_values::sql_key;
 use crate::tables::Tables;
@@ -21,7 +21,7 @@ impl<S: Alter> Tables<S> {
             row ≡ subscriber_in records.subscribers id) }
     {
         let Some(value) = sql_key(id) else {
-            return none_past(&mut self.connection, Table::Subscribers, id);
+            return none_above_range(&mut self.connection, Table::Subscribers, id);
         };
         look_up::<S, SubscriberRow>(&mut self.connection, SUBSCRIBER_BY_ID, params![&value])
     }

@@ -6,7 +6,7 @@ ghost use Rattle.sqlite.specs.Held.{state};
 ghost use Rattle.sqlite.specs.State.{HasCleanDisk};
 ghost use Rattle.reg_store_tables.specs.Rows.{ground_index};
 ghost use Rattle.reg_store_tables.specs.Stays.{Stepped, Ran};
-ghost use Rattle.reg_store_tables.specs.Columns.{with_counts};
+ghost use Rattle.reg_store_tables.specs.DerivedRows.{with_counts};
 ghost use Rattle.reg_store_tables.specs.Commits.{Ends};
 ghost use Rattle.reg_store_tables.specs.Steps.{MakesRows, TurnsColumns};
 

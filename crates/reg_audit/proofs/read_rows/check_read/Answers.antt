@@ -3,7 +3,7 @@ use Rattle.std.proofs.lemmas.List.{length-map}
 use Rattle.reg_core.specs.Crls.{row_of}
 use Rattle.reg_core.specs.Records.{Records}
 use Rattle.reg_core.specs.Sound.{SoundRows}
-use Rattle.reg_store_tables.specs.Columns.{Columns}
+use Rattle.reg_store_tables.specs.DerivedRows.{DerivedRows}
 use Rattle.reg_store_tables.specs.Kept.{Kept}
 use Rattle.reg_audit_rows.specs.Faults as found
 use Rattle.reg_audit_rows.specs.KeptAsRead.{standing_in, listed_in}
@@ -18,7 +18,7 @@ both : {A B P Q : Type 0} → (A → P) → (A → B → Q) → A → B → P ×
 both one two a b = (one a, two a b)
 
 -- where readable rows have no such end, those of sound records have none
-never : {End : Type 0} (records : Records) (columns : Columns) → (AreReadable records columns → End → ⊥) → End → HasValues records × SoundRows records × Kept columns records → ⊥
+never : {End : Type 0} (records : Records) (columns : DerivedRows) → (AreReadable records columns → End → ⊥) → End → HasValues records × SoundRows records × Kept columns records → ⊥
 never records columns has is held = has (each_has records columns held.0 held.1 held.2) is
 
 pub returns-clause-sound : goal.returns-clause-sound

@@ -1,5 +1,5 @@
 use Rattle.std.proofs.Common.{◌≡◌, ℕ}
-use Rattle.reg_store_tables.specs.declared.fault.Unshown.TheVariants.{Memory, At}
+use Rattle.reg_store_tables.specs.declared.fault.RowFault.TheVariants.{Memory, At}
 use Rattle.reg_audit.proofs.typed.typed.Goals as goal
 
 -- a place is not want of memory

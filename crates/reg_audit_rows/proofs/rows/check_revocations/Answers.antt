@@ -27,7 +27,7 @@ returns-clause-ok c numbered = record {
   serials_differ = c.in_ok-revocations.ensures.differ;
   requests_differ = c.in_ok-revocations_by_request.ensures.differ;
   each = c.in_ok-revocations_fit.ensures.ok numbered;
-  moments_never_fall = c.in_ok-moments_never_fall.ensures.ok;
-  firsts_never_fall = c.in_ok-firsts_never_fall.ensures.ok;
+  moments_never_decrease = c.in_ok-moments_never_decrease.ensures.ok;
+  firsts_never_decrease = c.in_ok-firsts_never_decrease.ensures.ok;
   none_after = befores (get nat_cmp c.in_ok-revocations.revocations) (λ key. revocation_in c.args.rows.now.revocations.now key) c.args.rows.now.requests.now c.in_ok-revocations.ensures.found c.in_ok-none_after.ensures.ok;
 }

@@ -8,8 +8,8 @@ use Rattle.reg_desk_jobs.proofs.ControlLines.{fault_came}
 use Rattle.reg_desk_jobs.proofs.LookedAt.{then_still}
 use Rattle.reg_desk_jobs.proofs.control_lines.answer_command_line.Goals as goal
 
-pub returns-in_default-clause-came : goal.returns-in_default-clause-came
-returns-in_default-clause-came g c = fault_came Memory _ _ c.fault.ensures
+pub returns-in_default-clause-line_outcome : goal.returns-in_default-clause-line_outcome
+returns-in_default-clause-line_outcome g c = fault_came Memory _ _ c.fault.ensures
 
 pub returns-clause-moves : goal.returns-clause-moves
 returns-clause-moves g c =

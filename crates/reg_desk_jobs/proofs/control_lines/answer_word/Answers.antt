@@ -20,8 +20,8 @@ returns-in-Ok-Line-Some-clause-moves g c =
     entered g.M.Office.Office.is_clean g.M.Office.Office.stands c.args.accepted.now g.M.Office.Office.signs c.args.now _ _ c.args.line.now _
     c.in-Ok-Line-Some.command.now word.0 word.1.0 word.1.1 c.answer_by_clock.ensures.moves
 
-pub returns-in-Ok-Line-None-clause-came : goal.returns-in-Ok-Line-None-clause-came
-returns-in-Ok-Line-None-clause-came g c = fault_came Read _ _ c.fault.ensures
+pub returns-in-Ok-Line-None-clause-line_outcome : goal.returns-in-Ok-Line-None-clause-line_outcome
+returns-in-Ok-Line-None-clause-line_outcome g c = fault_came Read _ _ c.fault.ensures
 
-pub returns-in-Err-clause-came : goal.returns-in-Err-clause-came
-returns-in-Err-clause-came g c = fault_came Memory _ _ c.fault-in-Err.ensures
+pub returns-in-Err-clause-line_outcome : goal.returns-in-Err-clause-line_outcome
+returns-in-Err-clause-line_outcome g c = fault_came Memory _ _ c.fault-in-Err.ensures

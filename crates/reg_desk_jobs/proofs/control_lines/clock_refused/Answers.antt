@@ -6,6 +6,6 @@ use Rattle.reg_desk_jobs.specs.declared.control_reply.LineOutcome.TheVariants.{F
 use Rattle.reg_desk_jobs.proofs.ControlLines.{came_told}
 use Rattle.reg_desk_jobs.proofs.control_lines.clock_refused.Goals as goal
 
-pub returns-clause-came : goal.returns-clause-came
+pub returns-clause-line_outcome : goal.returns-clause-line_outcome
 unfolding failure_line
-returns-clause-came c = came_told (codes "bad-clock\n") (Failed BadClock) _ _ c.line.ensures refl
+returns-clause-line_outcome c = came_told (codes "bad-clock\n") (Failed BadClock) _ _ c.line.ensures refl

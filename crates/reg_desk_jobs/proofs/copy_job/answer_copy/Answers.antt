@@ -1,13 +1,13 @@
 use Rattle.std.proofs.Common.{[], ◌∷◌, ◌++◌, refl}
 use Rattle.reg_core.specs.Lines.{fault_line}
 use Rattle.reg_desk_jobs.specs.Copies.{copied_text}
-use Rattle.reg_desk_jobs.specs.declared.control_reply.LineOutcome.TheVariants.{Done, Uncopied}
+use Rattle.reg_desk_jobs.specs.declared.control_reply.LineOutcome.TheVariants.{Done, CopyFault}
 use Rattle.reg_desk_jobs.proofs.ControlLines.{came_told, copy_accepted}
 use Rattle.reg_desk_jobs.proofs.copy_job.answer_copy.Goals as goal
 
-pub returns-in-Ok-clause-came : goal.returns-in-Ok-clause-came
-returns-in-Ok-clause-came g c =
+pub returns-in-Ok-clause-line_outcome : goal.returns-in-Ok-clause-line_outcome
+returns-in-Ok-clause-line_outcome g c =
     came_told (copied_text c.in-Ok.bytes c.millis_since.result) Done _ _ c.copied_reply.ensures (copy_accepted c.in-Ok.bytes c.millis_since.result)
 
-pub returns-in-Err-clause-came : goal.returns-in-Err-clause-came
-returns-in-Err-clause-came g c = came_told (fault_line c.in-Err.why.fault ++ 10 ∷ []) (Uncopied c.in-Err.why.fault) _ _ c.uncopied_reply.ensures refl
+pub returns-in-Err-clause-line_outcome : goal.returns-in-Err-clause-line_outcome
+returns-in-Err-clause-line_outcome g c = came_told (fault_line c.in-Err.why.fault ++ 10 ∷ []) (CopyFault c.in-Err.why.fault) _ _ c.uncopied_reply.ensures refl

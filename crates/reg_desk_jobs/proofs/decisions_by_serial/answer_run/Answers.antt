@@ -3,15 +3,15 @@ use Rattle.reg_core.specs.Records.{Records}
 use Rattle.reg_core.specs.declared.refusal.Fault.TheVariants.{Memory}
 use Rattle.reg_office_api.proofs.PublicLaws.{follows}
 use Rattle.reg_office_api.specs.Signatories.{Signatory}
-use Rattle.reg_lines.specs.declared.answered.Answered.TheVariants.{CameTo}
+use Rattle.reg_lines.specs.declared.answered.Answered.TheVariants.{Completed}
 use Rattle.reg_lines.specs.declared.answered.LineKind.TheVariants.{Command}
 use Rattle.reg_desk_jobs.specs.SerialDecisions.{RunsAt}
 use Rattle.reg_desk_jobs.proofs.ControlLines.{fault_came}
 use Rattle.reg_desk_jobs.proofs.LookedAt.{then_still}
 use Rattle.reg_desk_jobs.proofs.decisions_by_serial.answer_run.Goals as goal
 
-pub returns-in_default-clause-came : goal.returns-in_default-clause-came
-returns-in_default-clause-came g c = fault_came Memory _ _ c.fault.ensures
+pub returns-in_default-clause-line_outcome : goal.returns-in_default-clause-line_outcome
+returns-in_default-clause-line_outcome g c = fault_came Memory _ _ c.fault.ensures
 
 pub returns-clause-moves : goal.returns-clause-moves
 returns-clause-moves g c =
@@ -19,6 +19,6 @@ returns-clause-moves g c =
     RunsAt g.M.Office.Office.signs c.args.now signatory before c.args.command c.answer_command.result.text.items after in
     then_still g.M.Office.Office.is_clean g.M.Office.Office.stands step _ _ _
     (follows g.M.Office.Office.is_clean g.M.Office.Office.stands _ step
-    (λ signatory before after ran. inl (CameTo (Command c.args.command) c.run_one-outcome.result, (c.run_one-outcome.result, ran, refl), c.answer_command.ensures.text)) _ _
+    (λ signatory before after ran. inl (Completed (Command c.args.command) c.run_one-outcome.result, (c.run_one-outcome.result, ran, refl), c.answer_command.ensures.text)) _ _
     c.run_one-outcome.ensures.runs)
     c.answer_command.ensures.stays

@@ -1,13 +1,13 @@
 use Rattle.std.proofs.Common.{◌∷◌, ◌++◌, []}
 use Rattle.reg_desk_jobs.specs.RowLookUps.{help_text}
 use Rattle.reg_desk_jobs.specs.declared.control_reply.LineOutcome.TheVariants.{Done}
-use Rattle.reg_desk_jobs.proofs.ControlLines.{came_told, help_accepted, said_of}
+use Rattle.reg_desk_jobs.proofs.ControlLines.{came_told, help_accepted, meaning_in_fields}
 use Rattle.reg_desk_jobs.proofs.show.answer_help.Goals as goal
 
 pub returns-clause-told : goal.returns-clause-told
 unfolding help_text
-returns-clause-told c = said_of (help_text ++ 10 ∷ []) Done _ _ c.line.ensures
+returns-clause-told c = meaning_in_fields (help_text ++ 10 ∷ []) Done _ _ c.line.ensures
 
-pub returns-clause-came : goal.returns-clause-came
+pub returns-clause-line_outcome : goal.returns-clause-line_outcome
 unfolding help_text
-returns-clause-came c = came_told (help_text ++ 10 ∷ []) Done _ _ c.line.ensures help_accepted
+returns-clause-line_outcome c = came_told (help_text ++ 10 ∷ []) Done _ _ c.line.ensures help_accepted

@@ -10,6 +10,6 @@ returns c = (
   λ yes. inl (c.is_same-2.ensures.0 yes),
   λ follows. elim follows [
     | inl same ↦ c.is_same-2.ensures.1 same
-    | inr sealed ↦ absurd (iff_false c.is_same.ensures c.if-is_same.false (sealed ∙ sym c.algorithm.ensures.value))
+    | inr has_placeholder_digest ↦ absurd (iff_false c.is_same.ensures c.if-is_same.false (has_placeholder_digest ∙ sym c.algorithm.ensures.value))
   ],
 )

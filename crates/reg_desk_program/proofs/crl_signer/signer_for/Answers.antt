@@ -6,16 +6,16 @@ use Rattle.reg_store_tables.proofs.PublicLaws.{looked_then}
 use Rattle.reg_desk_program.proofs.Signers.{signs_for}
 use Rattle.reg_desk_program.proofs.crl_signer.signer_for.Goals as goal
 
-pub returns-in-Holder-clause-signs : goal.returns-in-Holder-clause-signs
-returns-in-Holder-clause-signs g c =
+pub returns-in-OpenedBy-clause-signs : goal.returns-in-OpenedBy-clause-signs
+returns-in-OpenedBy-clause-signs g c =
     IfOk-weaker c.signer_after.result _ _
     (λ signer it. signs_for g.C.Store _ _ _ _ _ c.args.crls.now _ _
-    (λ key signatory same. subst (λ (s : CrlSigner). IsSigning s key signatory) (sym c.in-Holder.is) same)
+    (λ key signatory same. subst (λ (s : CrlSigner). IsSigning s key signatory) (sym c.in-OpenedBy.is) same)
     c.latest_crl.ensures.looked c.signer_after.ensures.looked c.in_ok-latest.ensures.found it)
     c.signer_after.ensures.signs
 
-pub returns-in-Holder-clause-looked : goal.returns-in-Holder-clause-looked
-returns-in-Holder-clause-looked g c = looked_then c.latest_crl.ensures.looked c.signer_after.ensures.looked
+pub returns-in-OpenedBy-clause-looked : goal.returns-in-OpenedBy-clause-looked
+returns-in-OpenedBy-clause-looked g c = looked_then c.latest_crl.ensures.looked c.signer_after.ensures.looked
 
 pub returns-in-Digest-clause-signs : goal.returns-in-Digest-clause-signs
 returns-in-Digest-clause-signs g c =

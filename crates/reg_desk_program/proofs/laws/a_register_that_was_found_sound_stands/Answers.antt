@@ -3,13 +3,13 @@ use Rattle.std.proofs.Common.{sym, subst}
 use Rattle.sqlite.specs.Files.{over_files}
 use Rattle.sqlite_disk.specs.declared.Disk as disk
 use Rattle.reg_core.specs.Records.{Records}
-use Rattle.reg_store_tables.specs.Columns.{Columns}
-use Rattle.reg_store_tables.specs.Shows.{AreBoth, ShowsBoth}
+use Rattle.reg_store_tables.specs.DerivedRows.{DerivedRows}
+use Rattle.reg_store_tables.specs.Shows.{AreRecordsAndDerived, ShowsBoth}
 use Rattle.reg_desk_program.specs.Audited.{FoundSound, tables_of}
 use Rattle.reg_desk_program.proofs.laws.a_register_that_was_found_sound_stands.Goals as goal
 
 -- what the tables show, the connection that audited them shows
-by_connection : {D : Type 0} {g : disk.Ghosts D} (found : FoundSound g) (records : Records) (columns : Columns) → AreBoth (tables_of found) records columns
+by_connection : {D : Type 0} {g : disk.Ghosts D} (found : FoundSound g) (records : Records) (columns : DerivedRows) → AreRecordsAndDerived (tables_of found) records columns
     → ShowsBoth over_files found.audited.connection records columns
 by_connection found records columns shown = record { saved = λ clean up. (found.audited.connects.whole clean).0.clean; tables = λ clean up. shown }
 
@@ -23,7 +23,7 @@ returns g c = λ found.
       stand = λ records columns shown register signatory opens since reached signed.
           let opened = opens.opened in
           let it = says.sound records columns (by_connection found records columns shown) found.clean found.sound in
-          let there = subst (λ db. AreBoth db records columns) (sym opens.same) shown in
+          let there = subst (λ db. AreRecordsAndDerived db records columns) (sym opens.same) shown in
           record {
             shown = opened.opens.kept records (columns, record { saved = λ clean up. (opened.connects.whole clean).0.clean; tables = λ clean up. there }, it.1);
             sound = record { since = since; reached = reached; rows = it.0.rows; signatures = signed };

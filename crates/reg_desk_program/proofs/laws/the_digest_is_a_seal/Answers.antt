@@ -7,7 +7,7 @@ pub returns : goal.returns
 returns g c = record {
   algorithm = refl;
   seals = λ message signature signed. elim signed [
-    | inl sealed ↦ sealed.1
+    | inl has_placeholder_digest ↦ has_placeholder_digest.1
     | inr keyed ↦ absurd (no_key keyed.1.algorithm keyed.1.named)
   ];
 }

@@ -8,13 +8,13 @@ use Rattle.reg_office.specs.Stands.{Stands}
 use Rattle.reg_desk_program.proofs.Clean.{sample_made}
 use Rattle.reg_desk_program.proofs.memory.office_in_memory.Goals as goal
 
-pub returns-in-Ok-made_over-clause-ok : goal.returns-in-Ok-made_over-clause-ok
-returns-in-Ok-made_over-clause-ok c =
-    subst (λ (records : Records). Stands over_memory digests c.in-Ok-made_over.office.store digest records)
-    (sample_made c.in-Ok.issuer c.usual.result (search rules) (search rules) c.usual.ensures) c.in-Ok-made_over.ensures.made.stands
+pub returns-in-Ok-create_over-clause-ok : goal.returns-in-Ok-create_over-clause-ok
+returns-in-Ok-create_over-clause-ok c =
+    subst (λ (records : Records). Stands over_memory digests c.in-Ok-create_over.office.store digest records)
+    (sample_made c.in-Ok.issuer c.usual.result (search rules) (search rules) c.usual.ensures) c.in-Ok-create_over.ensures.made.stands
 
-pub returns-in-Ok-made_over-clause-leaves : goal.returns-in-Ok-made_over-clause-leaves
-returns-in-Ok-made_over-clause-leaves c =
-    subst (λ (records : Records). LeavesReported over_memory digests c.in-Ok-made_over.office.store digest records)
+pub returns-in-Ok-create_over-clause-leaves : goal.returns-in-Ok-create_over-clause-leaves
+returns-in-Ok-create_over-clause-leaves c =
+    subst (λ (records : Records). LeavesReported over_memory digests c.in-Ok-create_over.office.store digest records)
     (sample_made c.in-Ok.issuer c.usual.result (search rules) (search rules) c.usual.ensures)
-    (c.in-Ok-made_over.ensures.made.leaves (λ clean. let empty = c.in-Ok-open_in_memory.ensures.empty in (empty.0, empty.1)))
+    (c.in-Ok-create_over.ensures.made.leaves (λ clean. let empty = c.in-Ok-open_in_memory.ensures.empty in (empty.0, empty.1)))

@@ -12,7 +12,7 @@ use Rattle.reg_http.proofs.routes.answer.Goals as goal
 
 pub returns-in-Posted-clause-calls : goal.returns-in-Posted-clause-calls
 returns-in-Posted-clause-calls g c =
-    responds_to g.O.Office c.args.now _ _ (ocsp_of c.args.body.now) _ (shown c.ocsp_answer.result) (rw c.in-Posted.is at c.in_ok-read_part.ensures)
+    responds_to g.O.Office c.args.now _ _ (ocsp_of c.args.body.now) _ (shown c.ocsp_answer.result) (rw c.in-Posted.is at c.in_ok-meaning_of.ensures)
     (ocsp_responds (RunsIn g.O.Office) (AsksIn g.O.Office) (OcspsIn g.O.Office) (CrlsIn g.O.Office) c.args.now _ _ c.args.body.now
     (items_of c.ocsp.result) (shown c.ocsp_answer.result) c.ocsp.ensures c.ocsp_answer.ensures)
 
@@ -24,7 +24,7 @@ returns-in-Posted-clause-ok g c =
 pub returns-in-Decoded-clause-calls : goal.returns-in-Decoded-clause-calls
 returns-in-Decoded-clause-calls g c =
     responds_to g.O.Office c.args.now _ _ (ocsp_of c.in-Decoded.request.items) _ (shown c.ocsp_answer-in-Decoded.result)
-    (rw c.in-Decoded.is at c.in_ok-read_part.ensures)
+    (rw c.in-Decoded.is at c.in_ok-meaning_of.ensures)
     (ocsp_responds (RunsIn g.O.Office) (AsksIn g.O.Office) (OcspsIn g.O.Office) (CrlsIn g.O.Office) c.args.now _ _ c.in-Decoded.request.items
     (items_of c.ocsp-in-Decoded.result) (shown c.ocsp_answer-in-Decoded.result) (rw c.deref.ensures.value at c.ocsp-in-Decoded.ensures)
     c.ocsp_answer-in-Decoded.ensures)
@@ -37,7 +37,7 @@ returns-in-Decoded-clause-ok g c =
 pub returns-in-Other-clause-calls : goal.returns-in-Other-clause-calls
 returns-in-Other-clause-calls g c =
     responds_to g.O.Office c.args.now _ _ (request_of_call c.in-Other.call) _ (shown c.respond.result.answer)
-    (rw c.in-Other.is at c.in_ok-read_part.ensures) (
+    (rw c.in-Other.is at c.in_ok-meaning_of.ensures) (
       answer_effects c.respond.result,
       call_answers (RunsIn g.O.Office) (AsksIn g.O.Office) (RepliesIn g.O.Office) (of_any_kind (OcspsIn g.O.Office)) (CrlsIn g.O.Office)
           c.args.now c.args.office.now c.respond.new.office c.in-Other.call (answer_effects c.respond.result) c.respond.ensures,

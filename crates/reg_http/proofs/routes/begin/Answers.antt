@@ -1,4 +1,4 @@
-use Rattle.reg_io.specs.declared.begun.Begun.TheVariants.{Ready}
+use Rattle.reg_io.specs.declared.begun.ReadyOrUnsigned.TheVariants.{Ready}
 use Rattle.reg_http.specs.Parts.{request_of_call}
 use Rattle.reg_http.specs.RoutedRequests.{asked, ocsp_of}
 use Rattle.reg_http.proofs.ByRecords.{begin_leads, begins_ocsp, begins_to}
@@ -6,7 +6,7 @@ use Rattle.reg_http.proofs.routes.begin.Goals as goal
 
 pub returns-in-Posted-clause-calls : goal.returns-in-Posted-clause-calls
 returns-in-Posted-clause-calls g c =
-    begins_to g.O.Office c.args.now _ _ (ocsp_of c.args.body.now) _ c.begun_answer.result (rw c.in-Posted.is at c.in_ok-read_part.ensures)
+    begins_to g.O.Office c.args.now _ _ (ocsp_of c.args.body.now) _ c.begun_answer.result (rw c.in-Posted.is at c.in_ok-meaning_of.ensures)
     (begins_ocsp g.O.Office c.args.now _ _ c.args.body.now c.begin_ocsp.result c.begun_answer.result c.begin_ocsp.ensures.begins c.begun_answer.ensures)
 
 pub returns-in-Posted-clause-ok : goal.returns-in-Posted-clause-ok
@@ -15,7 +15,7 @@ returns-in-Posted-clause-ok g c =
 
 pub returns-in-Decoded-clause-calls : goal.returns-in-Decoded-clause-calls
 returns-in-Decoded-clause-calls g c =
-    begins_to g.O.Office c.args.now _ _ (ocsp_of c.in-Decoded.request.items) _ c.begun_answer-in-Decoded.result (rw c.in-Decoded.is at c.in_ok-read_part.ensures)
+    begins_to g.O.Office c.args.now _ _ (ocsp_of c.in-Decoded.request.items) _ c.begun_answer-in-Decoded.result (rw c.in-Decoded.is at c.in_ok-meaning_of.ensures)
     (begins_ocsp g.O.Office c.args.now _ _ c.in-Decoded.request.items c.begin_ocsp-in-Decoded.result c.begun_answer-in-Decoded.result
     (rw c.deref.ensures.value at c.begin_ocsp-in-Decoded.ensures.begins) c.begun_answer-in-Decoded.ensures)
 
@@ -26,7 +26,7 @@ returns-in-Decoded-clause-ok g c =
 
 pub returns-in-Other-clause-calls : goal.returns-in-Other-clause-calls
 returns-in-Other-clause-calls g c =
-    begins_to g.O.Office c.args.now _ _ (request_of_call c.in-Other.call) _ (Ready c.respond.result) (rw c.in-Other.is at c.in_ok-read_part.ensures)
+    begins_to g.O.Office c.args.now _ _ (request_of_call c.in-Other.call) _ (Ready c.respond.result) (rw c.in-Other.is at c.in_ok-meaning_of.ensures)
     c.respond.ensures
 
 pub returns-in-Other-clause-ok : goal.returns-in-Other-clause-ok

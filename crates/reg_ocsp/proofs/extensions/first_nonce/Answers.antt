@@ -3,7 +3,7 @@ use Rattle.std.specs.Prelude.{option_copied}
 use Rattle.std.specs.Str.{bytes_eq}
 use Rattle.std.proofs.lemmas.Bool.{eqb-false}
 use Rattle.reg_ocsp.specs.Request.{nonce_identifier}
-use Rattle.reg_ocsp.specs.Views.{extension_seen}
+use Rattle.reg_ocsp.specs.Views.{extension_model}
 use Rattle.reg_ocsp.proofs.Loops.{nonce_begins, nonce_goes_on, nonce_was, nonce_now, nonce_not}
 use Rattle.reg_ocsp.proofs.extensions.first_nonce.Goals as goal
 use Rattle.reg_ocsp.proofs.extensions.first_nonce.Goals.{else-is_none-via-then-is_none+else-eq, else-is_none-via-else-is_none}
@@ -13,7 +13,7 @@ loop-rest-init c = nonce_begins c.args.bytes.now c.in_ok-rest.rest.now (λ i. om
 
 pub loop-rest-preserved-then-eq : goal.loop-rest-preserved-then-eq
 loop-rest-preserved-then-eq c =
-    let e = extension_seen c.in_ok-extension.extension in
+    let e = extension_model c.in_ok-extension.extension in
     let some : 1 ≤ length c.loop-rest.rest.now = let ne = eqb-false (length c.loop-rest.rest.now) 0 (sym c.is_empty.ensures ∙ c.loop-rest-test.true) in omega (arith, ne) in
     let is : bytes_eq e.identifier nonce_identifier ≡ true = (rw c.as_slice.ensures at (sym c.eq.ensures)) ∙ c.if-eq.true in
     nonce_goes_on (option_copied c.loop-rest.nonce) (Some e.value) c.loop-rest.rest.now c.in_ok-extension.after.now c.in_ok-rest.rest.now e
@@ -21,7 +21,7 @@ loop-rest-preserved-then-eq c =
 
 pub loop-rest-preserved : goal.loop-rest-preserved
 loop-rest-preserved c =
-    let e = extension_seen c.in_ok-extension.extension in
+    let e = extension_model c.in_ok-extension.extension in
     let some : 1 ≤ length c.loop-rest.rest.now = let ne = eqb-false (length c.loop-rest.rest.now) 0 (sym c.is_empty.ensures ∙ c.loop-rest-test.true) in omega (arith, ne) in
     let goes_on = nonce_goes_on (option_copied c.loop-rest.nonce) (option_copied c.loop-rest.nonce) c.loop-rest.rest.now c.in_ok-extension.after.now c.in_ok-rest.rest.now e in
     elim c.else-is_none.branch [

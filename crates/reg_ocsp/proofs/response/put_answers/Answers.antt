@@ -1,6 +1,6 @@
 use Rattle.std.proofs.Common.{◌++◌, List, ℕ, ap, sym, ◌∙◌, arith}
 use Rattle.reg_ocsp.specs.Response.{single_response}
-use Rattle.reg_ocsp.specs.Views.{answer_seen}
+use Rattle.reg_ocsp.specs.Views.{answer_model}
 use Rattle.reg_ocsp.proofs.Answering.{written_more, total_more}
 use Rattle.reg_ocsp.proofs.response.put_answers.Goals as goal
 
@@ -12,7 +12,7 @@ loop-answer-preserved c =
     let answer = c.answer-item.result in
     record {
       written = c.in_ok-put_single.ensures.ok
-          ∙ ap (λ (r : List ℕ). r ++ single_response c.args.now c.args.next (answer_seen answer)) it.written
+          ∙ ap (λ (r : List ℕ). r ++ single_response c.args.now c.args.next (answer_model answer)) it.written
           ∙ sym (written_more answers i answer c.loop-answer-test.true c.answer-item.is c.args.now c.args.next);
       few = omega (arith, it.few, c.in_ok-put_single.ensures.longer, total_more answers i answer c.loop-answer-test.true c.answer-item.is);
     }

@@ -6,4 +6,4 @@ use Rattle.reg_office.proofs.identifiers.next_crl_number.Goals as goal
 pub returns-clause-found : goal.returns-clause-found
 returns-clause-found g c records shows clean =
     let latest_is = c.in_ok-latest.ensures.found records shows clean in
-    some_then c.ok_or.result c.number_behind.result _ c.ok_or.ensures.value c.number_behind.ensures (λ number is. is ∙ ap number_after latest_is)
+    some_then c.ok_or.result c.next_number_after.result _ c.ok_or.ensures.value c.next_number_after.ensures (λ number is. is ∙ ap number_after latest_is)

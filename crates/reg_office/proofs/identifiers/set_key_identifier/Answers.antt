@@ -5,9 +5,9 @@ use Rattle.reg_core.specs.Issuer.{Issuer}
 use Rattle.reg_der.specs.Issuers.{with_issuer}
 use Rattle.reg_store_tables.specs.Kept.{ShowsKept}
 use Rattle.reg_store_tables.specs.Stays.{Looked}
-use Rattle.reg_store_tables.specs.AfterStop.{IsAtRest}
+use Rattle.reg_store_tables.specs.AfterStop.{ShowsDerivedAfterStop}
 use Rattle.reg_store_tables.proofs.PublicLaws.{after_looked, kept_shows, was_clean, ok_if}
-use Rattle.reg_office.proofs.Standing.{looked_failed, changed_after}
+use Rattle.reg_office.proofs.RegisterSummary.{looked_failed, changed_after}
 use Rattle.reg_office.proofs.identifiers.set_key_identifier.Goals as goal
 
 pub returns-clause-ok : goal.returns-clause-ok
@@ -40,5 +40,5 @@ returns-clause-changed g c =
     let lent = subst (λ those. ShowsKept s those records) (sym c.deref_mut.ensures.shows) kept in
     let clean_1 = was_clean (state s c.identified.new.tables) (state s c.set_issuer.new.self) c.set_issuer.ensures.changed.survives.clean clean in
     let is = c.in_ok-issuer.ensures.found records (kept_shows s c.deref_mut.result.now records lent) clean_1 in
-    subst (λ i. IsAtRest (with_issuer records i) trees) is
+    subst (λ i. ShowsDerivedAfterStop (with_issuer records i) trees) is
     (changed records (after_looked c.identified.ensures.looked records lent) (ap (λ (i : Issuer). i.key) (sym is))))

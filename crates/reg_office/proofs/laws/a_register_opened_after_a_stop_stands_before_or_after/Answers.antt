@@ -5,7 +5,7 @@ use Rattle.sqlite.specs.Held.{state}
 use Rattle.sqlite.specs.State.{HasCleanDisk}
 use Rattle.reg_store.proofs.PublicLaws.{keeps_again}
 use Rattle.reg_store_tables.proofs.PublicLaws.{was_clean}
-use Rattle.reg_office.specs.OpenedAgain.{StandsDone}
+use Rattle.reg_office.specs.OpenedAgain.{ShowsAccepted}
 use Rattle.reg_office.specs.Stands.{Stands}
 use Rattle.reg_office.proofs.OpenedAgain.{stands_done}
 use Rattle.reg_office.proofs.laws.a_register_opened_after_a_stop_stands_before_or_after.Goals as goal
@@ -17,7 +17,7 @@ returns g c = λ old new again identity records now command stands up live survi
     let trees = (state s again).committed.trees in
     let first : HasCleanDisk (state s old) = was_clean (state s old) (state s new) survives.clean opened.honest in
     ∥∥₁_map opened.found (λ may.
-    let shown : Stands s signs again identity records ⊎ StandsDone s signs again identity records now command = elim (survives.crash opened.honest trees may) [
+    let shown : Stands s signs again identity records ⊎ ShowsAccepted s signs again identity records now command = elim (survives.crash opened.honest trees may) [
       | inl before ↦ inl (record {
         shown = keeps_again s again opened.opens opened.live old up live (g.met.C.Store.settled old.store trees up before) records first stands.shown;
         sound = stands.sound;

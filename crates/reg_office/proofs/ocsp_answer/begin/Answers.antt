@@ -2,7 +2,7 @@ use Rattle.std.proofs.Common.{ap, inl, inr, refl}
 use Rattle.std.specs.Prelude.{Err, option_copied}
 use Rattle.reg_core.specs.Checks.{clock_checks, first_of_all}
 use Rattle.reg_ocsp.specs.Response.{refusal_response}
-use Rattle.reg_ocsp.specs.Views.{ids_seen}
+use Rattle.reg_ocsp.specs.Views.{ids_model}
 use Rattle.reg_ocsp.specs.declared.response.RefusalStatus.TheVariants as status
 use Rattle.reg_office_api.specs.Ocsp.{HasNoReading}
 use Rattle.reg_office_api.specs.declared.response.ResponseKind.TheVariants.{Malformed, TryLater, StoreFailure}
@@ -28,24 +28,24 @@ returns-in-Err-Malformed-clause-counts g c = unasked_counts Malformed _ c.refuse
 pub returns-in-Ok-ocsp_data-clause-looks : goal.returns-in-Ok-ocsp_data-clause-looks
 returns-in-Ok-ocsp_data-clause-looks g c =
     so c.in-Ok-ocsp_data.ensures.looks (λ records sound told.
-    message_begun g.S.Signer.signs _ records c.args.now c.args.request.now (ids_seen c.in-Ok.asked.ids.items) (option_copied c.in-Ok.asked.nonce) c.in-Ok-ocsp_data.message.items c.respond.result
+    message_begun g.S.Signer.signs _ records c.args.now c.args.request.now (ids_model c.in-Ok.asked.ids.items) (option_copied c.in-Ok.asked.nonce) c.in-Ok-ocsp_data.message.items c.respond.result
     c.in-Ok.ensures.found told.0 told.1 (rw c.deref.ensures.value at c.respond.ensures.responds))
 
 pub returns-in-Ok-ocsp_data-clause-refuses : goal.returns-in-Ok-ocsp_data-clause-refuses
 returns-in-Ok-ocsp_data-clause-refuses g c =
     message_refuses g.S.Signer.signs _ c.args.request.now c.deref.result.now c.respond.result
-    (λ unread. unread (ids_seen c.in-Ok.asked.ids.items) (option_copied c.in-Ok.asked.nonce) c.in-Ok.ensures.found) c.respond.ensures.responds
+    (λ unread. unread (ids_model c.in-Ok.asked.ids.items) (option_copied c.in-Ok.asked.nonce) c.in-Ok.ensures.found) c.respond.ensures.responds
 
 pub returns-in-Err-Clock-clause-looks : goal.returns-in-Err-Clock-clause-looks
 returns-in-Err-Clock-clause-looks g c =
     so (rw c.in-Err-Clock.field-0-is at c.in-Err-Clock.ensures.looks) (λ records sound told.
     let refusal = the_refusal (first_of_all (clock_checks c.args.now records.last)) told in
     ready_begun g.S.Signer.signs _ records c.args.now c.args.request.now _ _ c.refused-in-Err-Clock.result
-    (inr (ids_seen c.in-Ok.asked.ids.items, option_copied c.in-Ok.asked.nonce, c.in-Ok.ensures.found, (refusal, refl))) c.refused-in-Err-Clock.ensures)
+    (inr (ids_model c.in-Ok.asked.ids.items, option_copied c.in-Ok.asked.nonce, c.in-Ok.ensures.found, (refusal, refl))) c.refused-in-Err-Clock.ensures)
 
 pub returns-in-Err-Clock-clause-refuses : goal.returns-in-Err-Clock-clause-refuses
 returns-in-Err-Clock-clause-refuses g c =
-    let read : ¬ (HasNoReading c.args.request.now) = λ unread. unread (ids_seen c.in-Ok.asked.ids.items) (option_copied c.in-Ok.asked.nonce) c.in-Ok.ensures.found in
+    let read : ¬ (HasNoReading c.args.request.now) = λ unread. unread (ids_model c.in-Ok.asked.ids.items) (option_copied c.in-Ok.asked.nonce) c.in-Ok.ensures.found in
     ready_refuses c.args.request.now TryLater _ c.refused-in-Err-Clock.result (no_malformed c.args.request.now _ read try_later_apart) (λ failed. absurd (late_apart failed)) c.refused-in-Err-Clock.ensures
 
 pub returns-in-Err-Clock-clause-counts : goal.returns-in-Err-Clock-clause-counts
@@ -55,11 +55,11 @@ pub returns-in-Err-Store-clause-looks : goal.returns-in-Err-Store-clause-looks
 returns-in-Err-Store-clause-looks g c =
     so c.in-Err-Store.ensures.looks (λ records sound told.
     ready_begun g.S.Signer.signs _ records c.args.now c.args.request.now _ _ c.refused-in-Err-Store.result
-    (inr (ids_seen c.in-Ok.asked.ids.items, option_copied c.in-Ok.asked.nonce, c.in-Ok.ensures.found, refl)) c.refused-in-Err-Store.ensures)
+    (inr (ids_model c.in-Ok.asked.ids.items, option_copied c.in-Ok.asked.nonce, c.in-Ok.ensures.found, refl)) c.refused-in-Err-Store.ensures)
 
 pub returns-in-Err-Store-clause-refuses : goal.returns-in-Err-Store-clause-refuses
 returns-in-Err-Store-clause-refuses g c =
-    let read : ¬ (HasNoReading c.args.request.now) = λ unread. unread (ids_seen c.in-Ok.asked.ids.items) (option_copied c.in-Ok.asked.nonce) c.in-Ok.ensures.found in
+    let read : ¬ (HasNoReading c.args.request.now) = λ unread. unread (ids_model c.in-Ok.asked.ids.items) (option_copied c.in-Ok.asked.nonce) c.in-Ok.ensures.found in
     ready_refuses c.args.request.now StoreFailure _ c.refused-in-Err-Store.result (no_malformed c.args.request.now _ read internal_apart) (λ failed. refl) c.refused-in-Err-Store.ensures
 
 pub returns-in-Err-Store-clause-counts : goal.returns-in-Err-Store-clause-counts

@@ -2,7 +2,7 @@ use Rattle.std.proofs.Common.{◌≡◌, ◌+◌, ◌∙◌, ap, inl, refl}
 use Rattle.std.specs.Prelude.{option_copied, unwrap_or}
 use Rattle.reg_core.specs.Issuer as core
 use Rattle.reg_ocsp.specs.Response.{response_data}
-use Rattle.reg_ocsp.specs.Views.{answered, answers_seen}
+use Rattle.reg_ocsp.specs.Views.{answered, answers_model}
 use Rattle.reg_ocsp.proofs.PublicLaws.{answers_fit}
 use Rattle.reg_store_tables.proofs.PublicLaws.{and_so, by_none, looked_then, so}
 use Rattle.reg_office.specs.declared.ocsp_faults.ResponseFault.TheVariants.{Memory}
@@ -32,11 +32,11 @@ returns-clause-looks g c = so (and_so c.in_ok-issuer.ensures c.in_ok-answers.ens
     let own = option_copied c.args.own_key in
     let key_is : c.key_of-key.result.now ≡ unwrap_or own records.issuer.key =
     c.key_of-key.ensures ∙ ap (λ (it : core.Issuer). unwrap_or own it.key) issuer in
-    let spelled : c.in_ok-response_data_by.field-0.items ≡ response_data (unwrap_or own records.issuer.key) c.args.now (c.args.now + records.policy.ocsp_life) (answers_seen c.in_ok-answers.answers.items) (option_copied c.args.asked.now.nonce) =
-    c.in_ok-response_data_by.ensures.data ∙ (λ i. response_data (key_is i) c.args.now (both.0.2 i) (answers_seen (c.deref-2.ensures.value i)) (option_copied c.args.asked.now.nonce)) in (
+    let spelled : c.in_ok-response_data_by.field-0.items ≡ response_data (unwrap_or own records.issuer.key) c.args.now (c.args.now + records.policy.ocsp_life) (answers_model c.in_ok-answers.answers.items) (option_copied c.args.asked.now.nonce) =
+    c.in_ok-response_data_by.ensures.data ∙ (λ i. response_data (key_is i) c.args.now (both.0.2 i) (answers_model (c.deref-2.ensures.value i)) (option_copied c.args.asked.now.nonce)) in (
       both.0.0,
       record {
-        answers = answers_seen c.in_ok-answers.answers.items;
+        answers = answers_model c.in_ok-answers.answers.items;
         each = each_answer records c.args.now c.args.asked.now.ids.items c.in_ok-answers.answers.items asked (both.1 issuer);
         spelled = spelled;
       },

@@ -13,6 +13,6 @@ returns g c =
     so (and_so (by_finding_sound c.in_ok-found.ensures) c.in_ok-rows.ensures)
     (λ records sound it.
     let is = certificates_page records c.args.now c.args.most c.args.before c.args.after
-    c.in_ok-found.found.items c.deref.result.now c.deref-2.result.now c.in_ok-rows.rows.items c.last_certificate-last.result c.certificates_behind-next.result it.0 c.deref.ensures.value c.deref-2.ensures.value it.1
-    c.last_certificate-last.ensures c.certificates_behind-next.ensures in
+    c.in_ok-found.found.items c.deref.result.now c.deref-2.result.now c.in_ok-rows.rows.items c.last_certificate-last.result c.next_certificates-next.result it.0 c.deref.ensures.value c.deref-2.ensures.value it.1
+    c.last_certificate-last.ensures c.next_certificates-next.ensures in
     record { rows = is.0; next = is.1 })

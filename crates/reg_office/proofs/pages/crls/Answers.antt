@@ -12,6 +12,6 @@ pub returns : goal.returns
 returns g c =
     so (by_finding c.in_ok-found.ensures)
     (λ records sound it now.
-    let is = crls_page records c.args.after c.args.most c.in_ok-found.found.items c.deref.result.now c.deref-2.result.now c.in_ok-rows.rows.items c.last_crl-last.result c.crls_behind-next.result
-    it c.deref.ensures.value c.deref-2.ensures.value c.in_ok-rows.ensures.found c.last_crl-last.ensures c.crls_behind-next.ensures now in
+    let is = crls_page records c.args.after c.args.most c.in_ok-found.found.items c.deref.result.now c.deref-2.result.now c.in_ok-rows.rows.items c.last_crl-last.result c.next_crls-next.result
+    it c.deref.ensures.value c.deref-2.ensures.value c.in_ok-rows.ensures.found c.last_crl-last.ensures c.next_crls-next.ensures now in
     record { rows = is.0; next = is.1 })

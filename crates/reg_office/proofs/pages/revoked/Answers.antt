@@ -17,6 +17,6 @@ returns g c =
     so (and_so (by_finding_sound c.in_ok-found.ensures) c.in_ok-rows.ensures)
     (λ records sound it.
     let is = keyed_page (λ (row : RevocationRow). row.serial) (revoked_row records c.args.now) (λ serial. Revoked (Some serial)) (key_of c.args.after) c.args.most records.revocations
-    c.in_ok-found.found.items c.deref.result.now c.deref-2.result.now c.in_ok-rows.rows.items c.last_revocation-last.result c.revoked_behind-next.result it.0 c.deref.ensures.value c.deref-2.ensures.value it.1
-    c.last_revocation-last.ensures c.revoked_behind-next.ensures in
+    c.in_ok-found.found.items c.deref.result.now c.deref-2.result.now c.in_ok-rows.rows.items c.last_revocation-last.result c.next_revoked-next.result it.0 c.deref.ensures.value c.deref-2.ensures.value it.1
+    c.last_revocation-last.ensures c.next_revoked-next.ensures in
     record { rows = is.0; next = is.1 })

@@ -1,4 +1,4 @@
-use Rattle.reg_store_tables.specs.Columns.{with_counts}
+use Rattle.reg_store_tables.specs.DerivedRows.{with_counts}
 use Rattle.reg_store_tables.proofs.PublicLaws.{writes_on, then_moves, stepped_clean}
 use Rattle.reg_store_changes.proofs.change_statements.close.Goals as goal
 

@@ -5,6 +5,6 @@ use Rattle.reg_store_changes.proofs.change_statements.issue.Goals as goal
 
 pub returns-clause-made : goal.returns-clause-made
 returns-clause-made g c clean =
-    let first = c.in_ok-put_crl.ensures.made (stepped_clean c.mark_listed.ensures.stepped clean) in
-    then_moves _ _ _ _ _ _ c.mark_listed.result first (c.mark_listed.ensures.made clean)
+    let first = c.in_ok-put_crl.ensures.made (stepped_clean c.set_last_listed.ensures.stepped clean) in
+    then_moves _ _ _ _ _ _ c.set_last_listed.result first (c.set_last_listed.ensures.made clean)
     (λ _ on records columns next both. on (with_crl records records.last (crl_of c.args.row c.args.der.now)) columns (first.tables records columns next both))

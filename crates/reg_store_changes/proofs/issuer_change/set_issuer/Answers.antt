@@ -1,6 +1,6 @@
 use Rattle.std.proofs.Common.{rules, refl}
 use Rattle.reg_der.specs.Issuers.{with_issuer}
-use Rattle.reg_store_tables.specs.Shows.{AreBoth}
+use Rattle.reg_store_tables.specs.Shows.{AreRecordsAndDerived}
 use Rattle.reg_store_tables.specs.Steps.{WritesRows}
 use Rattle.reg_store_tables.proofs.PublicLaws.{changes, commits, keeps, keeps_days, at_rest}
 use Rattle.reg_store_changes.specs.AfterStoppedChange.{IsNamed}
@@ -20,7 +20,7 @@ returns-clause-sets g c =
           keeps done records (with_issuer records issuer) kept.0 kept.0 kept.0 kept.1 (λ clean before after both on. on.0 records kept.0 (key clean) both) (λ clean. refl)
           (kept_issuer kept.0 records issuer kept.2);
       days = λ records kept key.
-          keeps_days done (λ db. AreBoth db records kept.0) kept.1 (λ clean before after both on.
+          keeps_days done (λ db. AreRecordsAndDerived db records kept.0) kept.1 (λ clean before after both on.
           same_days before after records (with_issuer records issuer) kept.0 kept.0 both (on.0 records kept.0 key both) refl);
       changed = changes done (IsNamed g.S.Store old issuer) (λ clean up after trees is on records kept key.
           let both = kept.1.tables clean up in

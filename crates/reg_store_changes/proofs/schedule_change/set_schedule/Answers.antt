@@ -1,6 +1,6 @@
 use Rattle.std.proofs.Common.{rules, ap, refl}
 use Rattle.reg_core.specs.Changes.{with_schedule}
-use Rattle.reg_store_tables.specs.Columns.{office_days}
+use Rattle.reg_store_tables.specs.DerivedRows.{office_days}
 use Rattle.reg_store_tables.specs.Shows.{IsShownBy}
 use Rattle.reg_store_tables.proofs.PublicLaws.{changes, commits, keeps, keeps_days, turns, at_rest}
 use Rattle.reg_store_changes.specs.AfterStoppedChange.{IsScheduled}

@@ -4,7 +4,7 @@ use Rattle.sqlite.specs.State.{HasCleanDisk}
 use Rattle.reg_core.specs.Changes.{changed_by}
 use Rattle.reg_core.specs.Records.{Records}
 use Rattle.reg_store_tables.specs.Kept.{ShowsKept}
-use Rattle.reg_store_tables.specs.Shows.{AreBoth}
+use Rattle.reg_store_tables.specs.Shows.{AreRecordsAndDerived}
 use Rattle.reg_store_tables.proofs.PublicLaws.{kept_shows, looked_both, shows_register, changes, keeps, keeps_days, led, looked_changes, stays_days, moving-was_clean as was_clean, at_rest}
 use Rattle.reg_store_changes.specs.AfterStoppedChange.{IsChanged}
 use Rattle.reg_store_changes.specs.ChangeEffects.{columns_after}
@@ -19,8 +19,8 @@ returns-clause-makes g c =
     let now = c.args.now in
     let change = c.args.change.now in
     let old = c.args.conn.now in
-    let mid = c.kept_counts.new.conn in
-    let looked = c.kept_counts.ensures.looked in
+    let mid = c.stored_counts_now.new.conn in
+    let looked = c.stored_counts_now.ensures.looked in
     let done = c.commit.ensures in
     let was : HasCleanDisk (state s c.commit.new.conn) → HasCleanDisk (state s mid) = was_clean (state s mid) (state s c.commit.new.conn) done.survives.clean in
     let counted : (records : Records) (kept : ShowsKept s old records) → HasCleanDisk (state s mid) → c.in_ok-counts.counts ≡ kept.0.counts =
@@ -31,11 +31,11 @@ returns-clause-makes g c =
           (λ clean before after both on. (on.turns records kept.0 (counted records kept (was clean)) sound fits both).0)
           (λ clean. refl) (kept_change records kept.0 now sound up kept.2 change fits);
       one = λ clean records columns both.
-          led done (λ db. AreBoth db records columns) (looked_both looked records columns both) clean (λ after shown on. on.one records columns shown);
+          led done (λ db. AreRecordsAndDerived db records columns) (looked_both looked records columns both) clean (λ after shown on. on.one records columns shown);
       days = λ records kept sound fits.
           keeps_days_then s old mid c.commit.new.conn c.commit.result
           (stays_days s old mid looked.survives.clean (looked.same (shows_register s old records (kept_shows s old records kept))))
-          (keeps_days done (λ db. AreBoth db records kept.0) (looked_both looked records kept.0 kept.1) (λ clean before after both on.
+          (keeps_days done (λ db. AreRecordsAndDerived db records kept.0) (looked_both looked records kept.0 kept.1) (λ clean before after both on.
           let made = on.turns records kept.0 (counted records kept (was clean)) sound fits both in
           same_days before after records _ kept.0 _ both made.0 (beside_days change (swept now kept.0))));
       changed =
@@ -46,4 +46,4 @@ returns-clause-makes g c =
     }
 
 pub returns-in_err-counts-clause-makes : goal.returns-in_err-counts-clause-makes
-returns-in_err-counts-clause-makes g c = not_made _ c.from_residual.ensures.0 c.kept_counts.ensures.looked
+returns-in_err-counts-clause-makes g c = not_made _ c.from_residual.ensures.0 c.stored_counts_now.ensures.looked

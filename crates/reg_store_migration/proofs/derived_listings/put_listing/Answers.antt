@@ -1,7 +1,7 @@
 use Rattle.std.proofs.Common.{[], ◌∷◌, ap, subst, ◌∙◌}
 use Rattle.sqlite_value.specs.declared.value.Value.TheVariants.{Blob}
 use Rattle.sqlite.specs.Held.{state}
-use Rattle.reg_store_tables.specs.Columns.{number_or_null}
+use Rattle.reg_store_tables.specs.DerivedRows.{number_or_null}
 use Rattle.reg_store_tables.specs.Stays.{Ran}
 use Rattle.reg_store_tables.proofs.PublicLaws.{inserts_rows, moves, number_is, moment_is}
 use Rattle.reg_store_migration.specs.Refilled.{listed_by}

@@ -2,7 +2,7 @@ use Rattle.std.proofs.Common.{◌≡◌, ℕ, List, [], ◌∷◌, Result, Ok, E
 use Rattle.sqlite_value.specs.Order.{Row}
 use Rattle.sqlite.specs.Held.{state}
 use Rattle.reg_store_tables.specs.Rows.{number}
-use Rattle.reg_store_tables.specs.Columns.{with_letter}
+use Rattle.reg_store_tables.specs.DerivedRows.{with_letter}
 use Rattle.reg_store_migration.proofs.LetterCounts.{reading_letter, letters_shown}
 use Rattle.reg_store_migration.proofs.status_counts.count_letter.Goals as goal
 

@@ -1,5 +1,5 @@
 use Rattle.std.proofs.Common.{rules}
-use Rattle.reg_store_opening.specs.Opens.{IsUncreated}
+use Rattle.reg_store_opening.specs.Opens.{IsFailedCreate}
 use Rattle.reg_store_opening.proofs.FirstShown.{creates, uncreates}
 use Rattle.reg_store_opening.proofs.Unopened.{err_as}
 use Rattle.reg_store_opening.proofs.creation.create.Goals as goal
@@ -10,5 +10,5 @@ returns-clause-creates g c = creates c.in_ok-found.ensures (c.is_empty.ensures.0
 pub returns-in_err-found-clause-uncreated : goal.returns-in_err-found-clause-uncreated
 returns-in_err-found-clause-uncreated g c =
     let done = c.in_err-found.ensures in
-    err_as (IsUncreated g.S.Store c.args.conn.now _ c.args.issuer.now c.args.policy.now) _ c.from_residual.result c.from_residual.ensures.1
+    err_as (IsFailedCreate g.S.Store c.args.conn.now _ c.args.issuer.now c.args.policy.now) _ c.from_residual.result c.from_residual.ensures.1
     (λ fault is. uncreates done (c.is_empty.ensures.0 (search rules)) fault is.1 done.stays)

@@ -12,10 +12,10 @@ unfolding register_schema
 returns-clause-made g c clean =
     let new = (state g.S.Store c.make_schedule_and_indexes.new.tx.conn.now).now in
     let clean3 = stepped_clean c.make_schedule_and_indexes.ensures.stepped clean in
-    let clean2 = stepped_clean c.make_kept_tables.ensures.stepped clean3 in
+    let clean2 = stepped_clean c.make_derived_tables.ensures.stepped clean3 in
     let first = c.in_ok-make_entry_tables.ensures.made (stepped_clean c.make_revocation_tables.ensures.stepped clean2) in
     let second = c.in_ok-make_revocation_tables.ensures.made clean2 in
-    let third = c.in_ok-make_kept_tables.ensures.made clean3 in
+    let third = c.in_ok-make_derived_tables.ensures.made clean3 in
     then_moves _ _ _ _ _ _ c.make_schedule_and_indexes.result (moves_on (moves_on first second) third) (c.make_schedule_and_indexes.ensures.made clean) (λ _ fourth blank.
     has_same register_schema (records_alone no_rows) no_rows new (refl, (refl, (refl, (refl, (refl, (refl, (refl, (refl, (refl, (refl, (refl, tt)))))))))))
     (fourth (records_alone no_rows) refl (third.tables no_rows (second.tables (first.tables blank)))))

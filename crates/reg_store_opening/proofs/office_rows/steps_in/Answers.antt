@@ -1,7 +1,7 @@
 use Rattle.std.proofs.Common.{◌≡◌, ◌<◌, ◌+◌, ℕ, inr, take, get_or, length, refl, sym, ap, subst, ◌∙◌}
 use Rattle.reg_core.specs.Calendar.{IsMoment}
 use Rattle.reg_store_tables.proofs.PublicLaws.{pushed}
-use Rattle.reg_store_opening.specs.Said.{AreSteps, HaveMoments}
+use Rattle.reg_store_opening.specs.VersionAndOffice.{AreSteps, HaveMoments}
 use Rattle.reg_store_opening.proofs.ScheduleRows.{steps_at, steps_pushed, is_step}
 use Rattle.reg_store_opening.proofs.office_rows.steps_in.Goals as goal
 

@@ -1,5 +1,5 @@
 use Rattle.std.proofs.Common.{◌≡◌, ◌∙◌}
-use Rattle.reg_store_tables.specs.Schema.{record_tables, kept_tables}
+use Rattle.reg_store_tables.specs.Schema.{record_tables, with_derived_tables}
 use Rattle.reg_store_schema.specs.declared.versions.Version.TheVariants.{First, Second}
 use Rattle.reg_store_schema.proofs.Told.{version_is}
 use Rattle.reg_store_schema.proofs.schemas.version_of.Goals as goal
@@ -12,5 +12,5 @@ returns-then-is_same c =
 pub returns-then-is_same-2 : goal.returns-then-is_same-2
 returns-then-is_same-2 c =
     let first : c.add_records.new.made ≡ record_tables = c.in_ok-add_records.ensures c.new-made.ensures in
-    let made : c.add_kept.new.made ≡ kept_tables = c.in_ok-add_kept.ensures first in
+    let made : c.add_derived_tables.new.made ≡ with_derived_tables = c.in_ok-add_derived_tables.ensures first in
     version_is c.args.schema.now Second (c.is_same-2.ensures.0 c.if-is_same-2.true ∙ made)

@@ -10,16 +10,16 @@ use Rattle.reg_store_tables.specs.Rows.{number}
 use Rattle.reg_store_tables.specs.declared.fault.DatabaseFault.TheVariants.{Store}
 use Rattle.reg_store_tables.proofs.CrlLemmas.{bytes_text, bytes_row, same_blob, bytes_few}
 use Rattle.reg_store_tables.proofs.FailingLemmas.{none_made, written_shows}
-use Rattle.reg_store_tables.proofs.Greatest.{none_past}
+use Rattle.reg_store_tables.proofs.Greatest.{none_above_range}
 use Rattle.reg_store_tables.proofs.LookingUp.{by_rows, finds_so, gives_none, not_store, unasked}
 use Rattle.reg_store_tables.proofs.crls.crl.Goals as goal
 
 pub returns-in_default : goal.returns-in_default
 returns-in_default g c =
-    finds_so c.none_past.ensures (λ records may. none_made _ c.sql_key.result c.in_default.not-Some c.sql_key.ensures.value)
+    finds_so c.none_above_range.ensures (λ records may. none_made _ c.sql_key.result c.in_default.not-Some c.sql_key.ensures.value)
     (λ records shows clean found it.
     ap (option_map (λ bytes. bytes.items)) it.0
-    ∙ ap (option_map (λ (crl : Crl). crl.bytes)) (none_past (λ (crl : Crl). crl.number) 1 c.args.number records.crls (shows.tables clean it.1).rows.crls_numbered (let past = it.2 in omega arith)))
+    ∙ ap (option_map (λ (crl : Crl). crl.bytes)) (none_above_range (λ (crl : Crl). crl.number) 1 c.args.number records.crls (shows.tables clean it.1).rows.crls_numbered (let past = it.2 in omega arith)))
 
 pub returns-in_err-found : goal.returns-in_err-found
 returns-in_err-found g c =

@@ -3,14 +3,14 @@ use Rattle.sqlite.specs.Held.{state}
 use Rattle.reg_store_tables.specs.Failing.{HasFailed}
 use Rattle.reg_store_tables.specs.Faults.{unshown_fault_of}
 use Rattle.reg_store_tables.specs.declared.fault.DatabaseFault.TheVariants as call
-use Rattle.reg_store_tables.specs.declared.fault.Unshown.{Unshown}
-use Rattle.reg_store_tables.specs.declared.fault.Unshown.TheVariants as rows
+use Rattle.reg_store_tables.specs.declared.fault.RowFault.{RowFault}
+use Rattle.reg_store_tables.specs.declared.fault.RowFault.TheVariants as rows
 use Rattle.reg_store_tables.proofs.Few.{both_all}
 use Rattle.reg_store_tables.proofs.LookingUp.{gives_none, on_err, unread}
 use Rattle.reg_store_tables.proofs.read_statements.look_up_all.Goals as goal
 
 -- want of memory is no failure of the store
-no_store : (why : Unshown) → why ≡ rows.Memory → unshown_fault_of why ≡ call.Store → ⊥
+no_store : (why : RowFault) → why ≡ rows.Memory → unshown_fault_of why ≡ call.Store → ⊥
 no_store why memory store = let no : call.Memory ≡ call.Store = sym (ap unshown_fault_of memory) ∙ store in cc
 
 pub returns-in_err-rows-clause-reads : goal.returns-in_err-rows-clause-reads

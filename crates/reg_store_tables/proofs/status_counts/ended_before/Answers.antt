@@ -1,7 +1,7 @@
 use Rattle.std.proofs.Common.{◌≤◌, length, refl, arith}
 use Rattle.std.specs.List.{filter}
 use Rattle.sqlite.specs.Held.{state}
-use Rattle.reg_store_tables.specs.Columns.{ends_before}
+use Rattle.reg_store_tables.specs.DerivedRows.{ends_before}
 use Rattle.reg_store_tables.proofs.CountLaws.{letters_few}
 use Rattle.reg_store_tables.proofs.CountLemmas.{ended_text, ended_shown}
 use Rattle.reg_store_tables.proofs.FailingLemmas.{written_register}

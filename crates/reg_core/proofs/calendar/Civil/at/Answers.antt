@@ -1,6 +1,6 @@
 use Rattle.std.proofs.Common.{arith, refl, sym, subst}
 use Rattle.jiff_core.proofs.SignedLemmas.{signed_arith}
-use Rattle.reg_core.specs.Calendar.{IsShownAt, IsCivil}
+use Rattle.reg_core.specs.Calendar.{IsCivilAt, IsCivil}
 use Rattle.reg_core.proofs.Dates.{ranges, shown, date_shown, parts_shown}
 use Rattle.reg_core.proofs.calendar.Civil.at.Goals as goal
 
@@ -20,4 +20,4 @@ pub returns-clause-ranges : goal.returns-clause-ranges
 returns-clause-ranges c = subst IsCivil (sym (returns-clause-exact c)) (ranges c.args.seconds c.requires)
 
 pub returns-clause-shown : goal.returns-clause-shown
-returns-clause-shown c = subst (IsShownAt c.args.seconds) (sym (returns-clause-exact c)) (shown c.args.seconds c.requires)
+returns-clause-shown c = subst (IsCivilAt c.args.seconds) (sym (returns-clause-exact c)) (shown c.args.seconds c.requires)

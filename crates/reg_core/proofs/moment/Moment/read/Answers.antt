@@ -1,5 +1,5 @@
 use Rattle.std.proofs.Common.{Some, sym, ap, ◌∙◌}
-use Rattle.reg_core.specs.Calendar.{shown_of, moment_text}
+use Rattle.reg_core.specs.Calendar.{civil_of, moment_text}
 use Rattle.reg_core.proofs.Dates.{ranges, shown_injective}
 use Rattle.reg_core.proofs.Moments.{digits_of, date_time_injective, given}
 use Rattle.reg_core.proofs.moment.Moment.read.Goals as goal
@@ -7,22 +7,22 @@ use Rattle.reg_core.proofs.moment.Moment.read.Goals as goal
 pub returns-in_err-read-clause-none : goal.returns-in_err-read-clause-none
 unfolding moment_text
 returns-in_err-read-clause-none c =
-    rw c.from_residual.ensures (λ m h e. c.in_err-read.ensures (shown_of m) (digits_of (shown_of m) (ranges m h)) e)
+    rw c.from_residual.ensures (λ m h e. c.in_err-read.ensures (civil_of m) (digits_of (civil_of m) (ranges m h)) e)
 
 pub returns-in_err-read-clause-only : goal.returns-in_err-read-clause-only
 unfolding moment_text
 returns-in_err-read-clause-only c = λ m h e.
-    absurd (c.in_err-read.ensures (shown_of m) (digits_of (shown_of m) (ranges m h)) e)
+    absurd (c.in_err-read.ensures (civil_of m) (digits_of (civil_of m) (ranges m h)) e)
 
 pub returns-in_err-seconds-clause-none : goal.returns-in_err-seconds-clause-none
 unfolding moment_text
 returns-in_err-seconds-clause-none c =
-    rw c.from_residual-in_err-seconds.ensures (λ m h e. c.in_err-seconds.ensures m h (date_time_injective (shown_of m) _ (sym e ∙ c.in_ok-read.ensures.1)))
+    rw c.from_residual-in_err-seconds.ensures (λ m h e. c.in_err-seconds.ensures m h (date_time_injective (civil_of m) _ (sym e ∙ c.in_ok-read.ensures.1)))
 
 pub returns-in_err-seconds-clause-only : goal.returns-in_err-seconds-clause-only
 unfolding moment_text
 returns-in_err-seconds-clause-only c = λ m h e.
-    absurd (c.in_err-seconds.ensures m h (date_time_injective (shown_of m) _ (sym e ∙ c.in_ok-read.ensures.1)))
+    absurd (c.in_err-seconds.ensures m h (date_time_injective (civil_of m) _ (sym e ∙ c.in_ok-read.ensures.1)))
 
 pub returns-clause-found : goal.returns-clause-found
 unfolding moment_text
@@ -34,5 +34,5 @@ pub returns-clause-only : goal.returns-clause-only
 unfolding moment_text
 returns-clause-only c = λ m h e.
     let s = c.in_ok-seconds.ensures in
-    let parts = date_time_injective (shown_of m) c.in_ok-read.field-0 (sym e ∙ c.in_ok-read.ensures.1) in
+    let parts = date_time_injective (civil_of m) c.in_ok-read.field-0 (sym e ∙ c.in_ok-read.ensures.1) in
     given _ _ s.0 c.of_secs.ensures ∙ ap Some (shown_injective _ m s.0 h (s.1 ∙ sym parts))

@@ -6,7 +6,7 @@ use Rattle.reg_core.specs.declared.command.Reply.{Reply}
 use Rattle.reg_core.specs.declared.refusal.Fault.{Fault}
 use Rattle.reg_crl.specs.Signing.{Identity}
 use Rattle.reg_office.specs.AfterStoppedCommand.{AreRunByOne, IsRunOne}
-use Rattle.reg_office.specs.Stands.{CameTo, HasRun}
+use Rattle.reg_office.specs.Stands.{HasOutcome, HasRun}
 use Rattle.reg_office.proofs.Stopping.{one_more, partly_run, ran_all, run_clean, run_length}
 use Rattle.reg_office.proofs.office.Office.run.Goals as goal
 
@@ -36,7 +36,7 @@ loop-now-preserved g c =
     c.loop-now.invariant.same_identity
     (record {
       step = λ stood standing clean.
-          subst (λ (w : Identity). CameTo s signs new w stood timed.0 timed.1 ran.result) ran.ensures.ran.same_identity (ran.ensures.ran.step stood standing clean);
+          subst (λ (w : Identity). HasOutcome s signs new w stood timed.0 timed.1 ran.result) ran.ensures.ran.same_identity (ran.ensures.ran.step stood standing clean);
       live = ran.ensures.ran.changed.live;
       survives = ran.ensures.ran.changed.survives;
     }) in

@@ -7,7 +7,7 @@ use Rattle.reg_crl.specs.Signing.{signed_by}
 use Rattle.reg_office.proofs.CommandsRun.{carried_out, fault_happens, may_change, not_carried_out, not_run}
 use Rattle.reg_office.proofs.Leading.{ran_leads}
 use Rattle.reg_office.proofs.Looking.{lent}
-use Rattle.reg_office.proofs.Standing.{never_signer, office_fault}
+use Rattle.reg_office.proofs.RegisterSummary.{never_signer, office_fault}
 use Rattle.reg_office.proofs.office.OfficeOffice.run_one.Goals as goal
 
 pub returns-in-Crl-clause-ran : goal.returns-in-Crl-clause-ran

@@ -6,7 +6,7 @@ use Rattle.reg_core.specs.Policy.{IsPolicy}
 use Rattle.reg_core.specs.Records.{Records}
 use Rattle.reg_core.specs.Status.{counts}
 use Rattle.reg_core.specs.declared.command.Counts.{Counts}
-use Rattle.reg_store_tables.specs.Columns.{Columns, ends_before}
+use Rattle.reg_store_tables.specs.DerivedRows.{DerivedRows, ends_before}
 use Rattle.reg_store_tables.specs.LookUps.{Finds}
 use Rattle.reg_store_tables.specs.Shows.{ShowsBoth}
 use Rattle.reg_store_tables.specs.declared.fault.DatabaseFault.{DatabaseFault}
@@ -18,12 +18,12 @@ use Rattle.reg_store_tables.proofs.tables.Tables.counts.Goals as goal
 -- the kept counts, and how many have ended since
 abbrev Since : {C : Type 0} → Ghosts C → Held C → ℕ → Counts → Records → ℕ → Type 0
 Since g held now were records ended =
-    (columns : Columns) → ShowsBoth g held records columns
+    (columns : DerivedRows) → ShowsBoth g held records columns
     → (were ≡ columns.counts) × (length columns.letters ≤ 1000000 → ended ≡ length (filter (ends_before now) columns.letters)) × IsPolicy records.policy
 
 both_told : {C : Type 0} {g : Ghosts C} {a b c : Held C} (now : ℕ) {were : Counts} {result : Result ℕ DatabaseFault}
-    → Finds g a b (Ok were) (λ records it. (columns : Columns) → ShowsBoth g a records columns → it ≡ columns.counts)
-    → Finds g b c result (λ records ended. (columns : Columns) → ShowsBoth g b records columns → IsTrue (state g b).is_open × (length columns.letters ≤ 1000000 → ended ≡ length (filter (ends_before now) columns.letters)))
+    → Finds g a b (Ok were) (λ records it. (columns : DerivedRows) → ShowsBoth g a records columns → it ≡ columns.counts)
+    → Finds g b c result (λ records ended. (columns : DerivedRows) → ShowsBoth g b records columns → IsTrue (state g b).is_open × (length columns.letters ≤ 1000000 → ended ≡ length (filter (ends_before now) columns.letters)))
     → Finds g a c result (Since g a now were)
 both_told now first second = finds_then first second (λ records written was may. may) (λ records shows clean was ended now_ended columns both.
     let mid = looked_both first.looked records columns both in

@@ -3,7 +3,7 @@ use Rattle.reg_core.specs.Records.{order_in}
 use Rattle.reg_core.specs.declared.rows.OrderRow.{OrderRow}
 use Rattle.reg_store_tables.specs.Rows.{number}
 use Rattle.reg_store_tables.proofs.FailingLemmas.{none_made, written_shows}
-use Rattle.reg_store_tables.proofs.Greatest.{none_past}
+use Rattle.reg_store_tables.proofs.Greatest.{none_above_range}
 use Rattle.reg_store_tables.proofs.LookingUp.{by_statement, past_rows}
 use Rattle.reg_store_tables.proofs.OrderLemmas.{by_id_text, by_id_row, by_id_few}
 use Rattle.reg_store_tables.proofs.Queries.{all_of}
@@ -12,8 +12,8 @@ use Rattle.reg_store_tables.proofs.tables.Tables.order.Goals as goal
 
 pub returns-in_default : goal.returns-in_default
 returns-in_default g c =
-    rw (← c.self.view_is) (past_rows Orders (none_made _ c.sql_key.result c.in_default.not-Some c.sql_key.ensures.value) c.none_past.ensures (λ records. order_in records.orders c.args.id)
-    (λ records shown past. none_past (λ (row : OrderRow). row.id) 1 c.args.id records.orders shown.rows.orders_numbered (omega arith)))
+    rw (← c.self.view_is) (past_rows Orders (none_made _ c.sql_key.result c.in_default.not-Some c.sql_key.ensures.value) c.none_above_range.ensures (λ records. order_in records.orders c.args.id)
+    (λ records shown past. none_above_range (λ (row : OrderRow). row.id) 1 c.args.id records.orders shown.rows.orders_numbered (omega arith)))
 
 pub returns : goal.returns
 returns g c =

@@ -6,7 +6,7 @@ use Rattle.reg_core.specs.declared.rows.RequestRow.{RequestRow}
 use Rattle.reg_store_tables.specs.Rows.{number}
 use Rattle.reg_store_tables.proofs.Few.{all_both}
 use Rattle.reg_store_tables.proofs.FailingLemmas.{none_made, written_shows}
-use Rattle.reg_store_tables.proofs.Greatest.{none_past}
+use Rattle.reg_store_tables.proofs.Greatest.{none_above_range}
 use Rattle.reg_store_tables.proofs.LookingUp.{by_statement, past_rows}
 use Rattle.reg_store_tables.proofs.RequestLemmas.{by_id_text, by_id_row, by_id_few}
 use Rattle.reg_store_tables.proofs.Written.{received_early}
@@ -15,8 +15,8 @@ use Rattle.reg_store_tables.proofs.tables.Tables.request.Goals as goal
 
 pub returns-in_default : goal.returns-in_default
 returns-in_default g c =
-    rw (← c.self.view_is) (past_rows Requests (none_made _ c.sql_key.result c.in_default.not-Some c.sql_key.ensures.value) c.none_past.ensures (λ records. request_in records.requests c.args.id)
-    (λ records shown past. none_past (λ (row : RequestRow). row.id) 1 c.args.id records.requests shown.rows.requests_numbered (omega arith)))
+    rw (← c.self.view_is) (past_rows Requests (none_made _ c.sql_key.result c.in_default.not-Some c.sql_key.ensures.value) c.none_above_range.ensures (λ records. request_in records.requests c.args.id)
+    (λ records shown past. none_above_range (λ (row : RequestRow). row.id) 1 c.args.id records.requests shown.rows.requests_numbered (omega arith)))
 
 pub returns : goal.returns
 returns g c =

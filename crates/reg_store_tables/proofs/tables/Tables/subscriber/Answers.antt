@@ -5,7 +5,7 @@ use Rattle.reg_core.specs.declared.rows.SubscriberRow.{SubscriberRow}
 use Rattle.reg_store_tables.specs.Rows.{number}
 use Rattle.reg_store_tables.proofs.Few.{all_both}
 use Rattle.reg_store_tables.proofs.FailingLemmas.{none_made, written_shows}
-use Rattle.reg_store_tables.proofs.Greatest.{none_past}
+use Rattle.reg_store_tables.proofs.Greatest.{none_above_range}
 use Rattle.reg_store_tables.proofs.LookingUp.{by_statement, past_rows}
 use Rattle.reg_store_tables.proofs.Queries.{all_of}
 use Rattle.reg_store_tables.proofs.SubscriberLemmas.{by_id_text, by_id_row, by_id_few}
@@ -14,8 +14,8 @@ use Rattle.reg_store_tables.proofs.tables.Tables.subscriber.Goals as goal
 
 pub returns-in_default : goal.returns-in_default
 returns-in_default g c =
-    rw (← c.self.view_is) (past_rows Subscribers (none_made _ c.sql_key.result c.in_default.not-Some c.sql_key.ensures.value) c.none_past.ensures (λ records. subscriber_in records.subscribers c.args.id)
-    (λ records shown past. none_past (λ (row : SubscriberRow). row.id) 1 c.args.id records.subscribers shown.rows.subscribers_numbered (omega arith)))
+    rw (← c.self.view_is) (past_rows Subscribers (none_made _ c.sql_key.result c.in_default.not-Some c.sql_key.ensures.value) c.none_above_range.ensures (λ records. subscriber_in records.subscribers c.args.id)
+    (λ records shown past. none_above_range (λ (row : SubscriberRow). row.id) 1 c.args.id records.subscribers shown.rows.subscribers_numbered (omega arith)))
 
 pub returns : goal.returns
 returns g c =

@@ -1,9 +1,0 @@
-use Rattle.std.proofs.Common.{Some, ◌∙◌, sym, ap}
-use Rattle.std.specs.Prelude.{option_map}
-use Rattle.reg_desk_program.proofs.Misfitting.{of_latest}
-use Rattle.reg_desk_program.proofs.crl_signer.misfit.Goals as goal
-
-pub returns-in-Some : goal.returns-in-Some
-returns-in-Some c =
-    of_latest (option_map (λ bytes. bytes.items) c.args.latest.now) c.deref.result.now c.args.algorithm.now c.misfit_of.result
-    (ap (option_map (λ bytes. bytes.items)) c.in-Some.is ∙ ap Some (sym c.deref.ensures.value)) c.misfit_of.ensures

@@ -1,0 +1,27 @@
+-- Why a signer does not fit a register.
+use Rattle.std.specs.Prelude.{◌≡◌, ◌⊎◌, ℕ, List, Option, Some}
+use Rattle.reg_core.specs.declared.cause.Cause.{Cause}
+use Rattle.reg_core.specs.declared.cause.Cause.TheVariants as cause
+use Rattle.reg_desk_jobs.specs.Signers.{MayFollow}
+use Rattle.reg_crl_signer.specs.Algorithms.{identifier_of}
+use Rattle.reg_crl_signer.specs.Signed.{IsCrlUnder}
+use Rattle.reg_crl_signer.specs.declared.algorithm.Algorithm.{Algorithm}
+
+-- an algorithm of a key that is known here (RFC 5280 4.1.1.2)
+abbrev pub IsKnownAlgorithm : List ℕ → Type 0
+IsKnownAlgorithm algorithm = (known : Algorithm) × (identifier_of known ≡ algorithm)
+
+-- the algorithm of a CRL is one that the other may not follow, and why: it is known here, or it is not
+abbrev pub Differs : List ℕ → List ℕ → Cause → Type 0
+Differs found algorithm why =
+    (¬ MayFollow algorithm found)
+    × (((why ≡ cause.OtherAlgorithm) × IsKnownAlgorithm found)
+    ⊎ ((why ≡ cause.UnknownAlgorithm) × (¬ IsKnownAlgorithm found)))
+
+-- why no CRL with an algorithm may follow this one, by the algorithm in it (RFC 5280 5.1.1.2)
+abbrev pub IsMismatch : List ℕ → List ℕ → Cause → Type 0
+IsMismatch crl algorithm cause = (other : List ℕ) → IsCrlUnder crl other → Differs other algorithm cause
+
+-- why no CRL with an algorithm may follow the latest one
+abbrev pub IsMisfitAfter : Option (List ℕ) → List ℕ → Cause → Type 0
+IsMisfitAfter latest algorithm cause = (crl : List ℕ) × (latest ≡ Some crl) × IsMismatch crl algorithm cause

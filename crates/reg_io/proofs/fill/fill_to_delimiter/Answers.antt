@@ -1,0 +1,52 @@
+use Rattle.std.proofs.Common.{rules, ◌≡◌, ◌+◌, ℕ, length, arith, length-drop, length-take, refl}
+use Rattle.reg_io.proofs.Buffers.{so_far_start, so_far_more}
+use Rattle.reg_io.proofs.Searches.{unmarked_start, unmarked_read, unmarked_before, rests_full, rests_end, breaks_off}
+use Rattle.reg_io.proofs.fill.fill_to_delimiter.Goals as goal
+
+pub reading-init : goal.reading-init
+reading-init g c = record {
+  so_far = so_far_start _ c.args.buf.now c.args.buffered c.requires.buffered_fits;
+  searched_held = omega arith;
+  unmarked = unmarked_start c.args.delimiter.now c.args.buf.now c.requires.mark_is_there;
+  marked = λ end below ends. (refl, refl);
+  no_room = λ full. (refl, refl);
+}
+
+pub returns-then-filled-buf-clause-ok : goal.returns-then-filled-buf-clause-ok
+returns-then-filled-buf-clause-ok g c =
+    rests_full c.args.delimiter.now _ _ c.args.buf.now c.reading.buf c.args.buffered c.reading.filled c.reading.invariant.so_far (omega arith) c.in_default.ensures
+
+pub returns-in-Ok-eq0-clause-ok : goal.returns-in-Ok-eq0-clause-ok
+returns-in-Ok-eq0-clause-ok g c =
+    let whole : c.reading.filled + length c.read.new.buf ≡ length c.reading.buf =
+    omega (arith, c.read.auto.buf, length-take {A = ℕ}, length-drop {A = ℕ}, c.reading.invariant.so_far.fills.within, c.reading.invariant.so_far.count) in
+    rests_end c.args.delimiter.now _ _ _ c.args.buf.now c.reading.buf c.read.new.buf c.args.buffered c.reading.filled _ c.in-Ok-eq0.field-0
+    c.reading.invariant.so_far (omega (arith, c.reading.invariant.so_far.fills.within, c.reading.invariant.so_far.count))
+    whole (search rules) c.in_default.ensures c.in-Ok-eq0.field-0-test c.in-Ok-eq0.ensures.bytes
+
+pub returns-in-Ok-eq0-clause-marked : goal.returns-in-Ok-eq0-clause-marked
+returns-in-Ok-eq0-clause-marked g c end below ends =
+    absurd (unmarked_before c.args.delimiter.now _ _ c.args.buf.now c.reading.buf c.args.buffered c.reading.filled c.reading.invariant.so_far c.requires.buffered_fits c.in_default.ensures end below ends)
+
+pub reading-preserved : goal.reading-preserved
+reading-preserved g c = record {
+  so_far = so_far_more _ _ _ c.args.buf.now c.reading.buf c.read.new.buf c.args.buffered c.reading.filled _ c.in-Ok.count
+      c.reading.invariant.so_far c.in-Ok.ensures.bound.0
+      (omega (arith, c.read.auto.buf, length-take {A = ℕ}, length-drop {A = ℕ}))
+      (search rules) c.in-Ok.ensures.bytes.0;
+  searched_held = omega arith;
+  unmarked = unmarked_read c.args.delimiter.now c.reading.buf c.read.new.buf c.reading.filled _ (search rules) c.in_default.ensures;
+  marked = λ end below ends. absurd (unmarked_before c.args.delimiter.now _ _ c.args.buf.now c.reading.buf c.args.buffered c.reading.filled
+      c.reading.invariant.so_far c.requires.buffered_fits c.in_default.ensures end below ends);
+  no_room = λ full. absurd (omega (arith, c.reading.invariant.so_far.count));
+}
+
+pub returns-in-Err-clause-err : goal.returns-in-Err-clause-err
+returns-in-Err-clause-err g c =
+    breaks_off c.args.delimiter.now _ _ _ c.args.buf.now c.reading.buf c.read.new.buf c.args.buffered c.reading.filled _
+    c.reading.invariant.so_far (omega (arith, c.reading.invariant.so_far.fills.within, c.reading.invariant.so_far.count))
+    (search rules) c.in_default.ensures c.in-Err.ensures.bytes
+
+pub returns-in-Err-clause-marked : goal.returns-in-Err-clause-marked
+returns-in-Err-clause-marked g c end below ends =
+    absurd (unmarked_before c.args.delimiter.now _ _ c.args.buf.now c.reading.buf c.args.buffered c.reading.filled c.reading.invariant.so_far c.requires.buffered_fits c.in_default.ensures end below ends)

@@ -1,4 +1,0 @@
-use Rattle.reg_store_opening.proofs.office_rows.judge_version.Goals as goal
-
-pub returns-in-None-clause-none : goal.returns-in-None-clause-none
-returns-in-None-clause-none c same n low = c.in-None.ensures n
