@@ -213,7 +213,7 @@ OLDER = {"all": lambda at: True, "the first five, before an upgrade": lambda at:
 def a_log_of_an_older_desk_is_replayed_as_well(t, is_older):
     log = a_day(t).splitlines(keepends=True)
     mixed = [line.replace("Z control ", "Z counter ") if is_older(at) else line for at, line in enumerate(log)]
-    t.same({line.split(" ")[1] for line in log if "127.0.0.1" not in line}, {"control"}, "whom a log of today names")
+    t.same({line.split(" ")[1] for line in log if "127.0.0.1" not in line}, {"control"}, "the name of the control socket in the log")
     t.true(mixed != log, "older lines")
     (t.room / "ca.log").write_text("".join(mixed))
     desk = t.open("copy.db")
