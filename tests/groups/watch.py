@@ -192,6 +192,19 @@ def a_reset_connection_is_counted_as_lost(t):
 
 
 @test(seconds=2)
+def an_ocsp_answer_is_counted_that_the_store_failed(t):
+    """A sync that fails shuts the register: from then on each answer is internalError."""
+    t.register()
+    t.clock(DAY)
+    t.open("ca.db", faults=faults.environment(count=t.room / "usual")).end()
+    before = faults.counted(t.room / "usual")["sync"]
+    desk = t.open("ca.db", faults=faults.environment(count=t.room / "count", fail=f"sync:{before + 1}+"))
+    t.same(t.desk("at", "counter", given="subscriber acme\n").lines, ["F2 store"])
+    t.same(parted(desk.ask("POST", "/ocsp", OCSP))[2], b"0\x03\n\x01\x02", "internalError")
+    t.same(of(metrics(t, desk), "desk_ocsp_internal_errors_total"), {'{cause="signer"}': 0, '{cause="store"}': 1})
+
+
+@test(seconds=2)
 def signatures_and_failures(t):
     """Of CRLs and of OCSP answers each by itself, since when the last one did not come."""
     fails = set()
