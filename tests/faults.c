@@ -3,8 +3,9 @@
    FAULTS_CLOCK=PATH       the machine's clock is what the file PATH has: decimal seconds since 1970. The real one where there is none.
    FAULTS_PASSED=PATH      the time that passes, by which waiting ends, is what the file PATH has: milliseconds, in 8 bytes.
    FAULTS_TICK=N           each time that this time is read, N milliseconds more have passed.
-   FAULTS_FAIL=KIND:N ..   the Nth call of KIND fails, parted by commas; `KIND:N+` all from the Nth on, `KIND:N=EIO` by that error, and a
-                           read or write by `=0` moves nothing. Kinds: see `names` below. Allocations count from `main` on.
+   FAULTS_FAIL=KIND:N ..   the Nth call of KIND fails, parted by commas; `KIND:N+` all from the Nth on, `KIND:N-M` those up to the Mth,
+                           `KIND:N=EIO` by that error, and a read or write by `=0` moves nothing. Kinds: see `names` below. Allocations count
+                           from `main` on.
    FAULTS_SHORT=N          reads and writes move N bytes at most.
    FAULTS_STOP=N           the process stops, as by SIGKILL, in place of its Nth write, cut or sync of a file, or of what gives or takes a file's name.
    FAULTS_TORN=1           the write in whose place it stops is done to its half.
@@ -14,6 +15,8 @@
    FAULTS_ONLY=WHAT ..     limits all this, but the clock and allocations, to descriptors and paths: `stdin`, `stdout`, `stderr`, `socket`,
                            `file`, or how the path ends (`ca.db-wal`), parted by commas.
    FAULTS_SLOW_CHMOD=PATH  chmod(2) waits until the file PATH is there, for a minute at most.
+   FAULTS_SLOW_OPEN=PATH   so does open(2) of what FAULTS_ONLY names. It creates the file PATH.waits before.
+   FAULTS_AWAKE=1          the process never sleeps: nanosleep(2) ends at once.
    FAULTS_SAME=1           what the system draws at random is the same at each run, and so are the bytes of files.
    FAULTS_QUICK=1          a sync is told as done without waiting for the disk.
    FAULTS_COUNT=PATH       keeps in PATH how many calls of each kind there were, in the order of `names`, the steps that FAULTS_STOP counts,
@@ -55,10 +58,10 @@ void *__libc_memalign(size_t, size_t);
 
 static int ready, begun;
 static uint64_t counted_here[COUNTS], *counts = counted_here, *passed;
-static struct { uint64_t from; int after, error; } fails[KINDS];
+static struct { uint64_t from, to; int error; } fails[KINDS];
 static uint64_t stop_at, most, lose, tick, ticks;
-static int torn, lose_files, same, quick;
-static const char *only, *slow_chmod;
+static int torn, lose_files, same, quick, awake;
+static const char *only, *slow_chmod, *slow_open;
 
 /* What is told. */
 
@@ -89,9 +92,11 @@ static void read_fails(const char *text) {
         if (kind == KINDS)
             not_understood(text);
         char *end;
-        fails[kind].from = strtoull(text + strlen(names[kind]) + 1, &end, 10);
-        fails[kind].after = *end == '+';
-        end += *end == '+';
+        fails[kind].from = fails[kind].to = strtoull(text + strlen(names[kind]) + 1, &end, 10);
+        if (*end == '+')
+            fails[kind].to = UINT64_MAX, end++;
+        else if (*end == '-')
+            fails[kind].to = strtoull(end + 1, &end, 10);
         fails[kind].error = *end == '=' ? error_called(end + 1, -1) : usual[kind];
         if (!fails[kind].from || fails[kind].error < 0)
             not_understood(text);
@@ -121,9 +126,9 @@ __attribute__((constructor)) static void at_first(void) {
     const char *path = getenv("FAULTS_COUNT");
     read_fails(getenv("FAULTS_FAIL"));
     stop_at = number("FAULTS_STOP"), most = number("FAULTS_SHORT"), lose = number("FAULTS_LOSE");
-    slow_chmod = getenv("FAULTS_SLOW_CHMOD"), tick = number("FAULTS_TICK");
+    slow_chmod = getenv("FAULTS_SLOW_CHMOD"), slow_open = getenv("FAULTS_SLOW_OPEN"), tick = number("FAULTS_TICK");
     torn = number("FAULTS_TORN") != 0, lose_files = number("FAULTS_LOSE_FILES") != 0, same = number("FAULTS_SAME") != 0;
-    quick = number("FAULTS_QUICK") != 0;
+    quick = number("FAULTS_QUICK") != 0, awake = number("FAULTS_AWAKE") != 0;
     only = getenv("FAULTS_ONLY");
     if (path)
         counts = numbers_of(path, O_CREAT | O_TRUNC, sizeof counted_here);
@@ -178,7 +183,7 @@ static int is_meant(int file, const char *path) {
 /* Counts a call; whether it is to fail, by what `errno` is then. */
 static int fails_now(enum kind kind) {
     uint64_t now = __atomic_add_fetch(&counts[kind], 1, __ATOMIC_RELAXED);
-    if (!fails[kind].from || now < fails[kind].from || (now > fails[kind].from && !fails[kind].after))
+    if (!fails[kind].from || now < fails[kind].from || now > fails[kind].to)
         return 0;
     __atomic_add_fetch(&counts[MET], 1, __ATOMIC_RELAXED);
     errno = fails[kind].error;
@@ -446,6 +451,12 @@ int fdatasync(int file) { return synced(file, SYS_fdatasync); }
 
 /* Paths. */
 
+/* Waits until a file is there, for a minute at most. */
+static void wait_for(const char *path) {
+    for (int at = 0; path && at < 6000 && syscall(SYS_faccessat, AT_FDCWD, path, F_OK); at++)
+        syscall(SYS_nanosleep, &(struct timespec){0, 10000000}, NULL);
+}
+
 int open(const char *path, int how, ...) {
     mode_t mode = 0;
     if (how & (O_CREAT | O_TMPFILE)) {
@@ -456,6 +467,12 @@ int open(const char *path, int how, ...) {
     }
     if (is_meant(-1, path) && fails_now(OPEN))
         return -1;
+    if (slow_open && only && is_meant(-1, path)) {
+        char waits[4096];
+        snprintf(waits, sizeof waits, "%s.waits", slow_open);
+        syscall(SYS_close, syscall(SYS_openat, AT_FDCWD, waits, O_CREAT | O_WRONLY | O_CLOEXEC, 0600));
+        wait_for(slow_open);
+    }
     int is_new = ready && lose_files && (how & O_CREAT) && syscall(SYS_faccessat, AT_FDCWD, path, F_OK);
     int file = syscall(SYS_openat, AT_FDCWD, path, how, mode);
     if (file >= 0 && is_new && made_count < sizeof made / sizeof *made) {
@@ -478,8 +495,7 @@ static int stays(enum kind kind, const char *path) {
 }
 
 int chmod(const char *path, mode_t mode) {
-    for (int at = 0; slow_chmod && at < 6000 && syscall(SYS_faccessat, AT_FDCWD, slow_chmod, F_OK); at++)
-        usleep(10000);
+    wait_for(slow_chmod);
     return syscall(SYS_fchmodat, AT_FDCWD, path, mode);
 }
 
@@ -530,6 +546,8 @@ int epoll_wait(int file, struct epoll_event *events, int many, int milliseconds)
 }
 
 /* The clock. */
+
+int nanosleep(const struct timespec *wanted, struct timespec *left) { return awake ? 0 : syscall(SYS_nanosleep, wanted, left); }
 
 /* The seconds that the file of the clock has. Who writes it empties it first: then it is what it was before. */
 static int seconds_told(time_t *seconds) {
