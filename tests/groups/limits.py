@@ -306,6 +306,50 @@ def is_idle(t, desk):
     t.true(ticks() - before < 20, f"{ticks() - before} clock ticks in two seconds")
 
 
+def eight_control_connections(t, desk):
+    for _ in range(8):
+        t.same(t.control().ask("counts"), "good 0 revoked 0 expired 0")
+
+
+def a_silent_client(t, desk):
+    client = t.enter_context(desk.connect())
+    client.sendall(COUNTS[:9])
+    authority.until(lambda: program.is_read(client), "that it is read")
+
+
+def a_client_that_closed_its_side(t, desk):
+    """And waits for a signature."""
+    signers = t.enter_context(Signers(t.room / "ca.sign", lambda message: t.ends.wait(60) and ANY_SIGNATURE))
+    client, request = t.enter_context(desk.connect()), asks(1)
+    client.sendall(b"POST /ocsp HTTP/1.1\r\nContent-Length: %d\r\n\r\n" % len(request))
+    authority.until(lambda: program.is_read(client), "that the head is read")
+    client.sendall(request)
+    t.true(signers.until(1), "its signature is requested")
+    client.shutdown(socket.SHUT_WR)
+
+
+# How often the desk may wake up in a second.
+IDLE = {"nobody": (lambda t, desk: None, 1), "eight control connections": (eight_control_connections, 1), "a silent client": (a_silent_client, 8),
+        "a client that closed its side": (a_client_that_closed_its_side, 8)}
+
+
+@each(IDLE, seconds=3)
+def a_desk_that_waits_seldom_wakes_up(t, begin, most):
+    t.ends = threading.Event()
+    t.callback(t.ends.set)
+    t.register(key=P256_KEY)
+    desk = t.open("ca.db", *SIGNING, faults=faults.environment(count=t.room / "count"))
+    begin(t, desk)
+    polls = lambda: faults.counted(t.room / "count")["poll"]
+    found = []
+    # On a slow machine it may still have something to do in the first of these seconds.
+    while len(found) < 4 and min(found, default=most + 1) > most:
+        before = polls()
+        time.sleep(1)
+        found.append(polls() - before)
+    t.true(min(found) <= most, f"so often in each second: {found}")
+
+
 @test(seconds=5)
 def an_idle_desk_uses_no_processor_time(t):
     t.register()
