@@ -388,6 +388,17 @@ def a_lost_connection_is_logged_although_nothing_else_happens(t):
     t.same([why for _, why in desk.lost], ["late"], "why it was lost")
 
 
+@test
+def a_connection_ends_with_its_answer(t):
+    """The desk waits for no more of a client whose request had nothing behind it. No time passes."""
+    t.register()
+    desk = Passing(t)
+    with desk.desk.connect() as client:
+        client.sendall(COUNTS)
+        t.same(parted(read_all(client))[0], 200, "its answer")
+        authority.until(lambda: desk.files == desk.before, "that its descriptor is free", seconds=10)
+
+
 @test(seconds=3)
 def a_client_whose_request_took_29_seconds_gets_its_signature(t):
     ends = threading.Event()
