@@ -399,6 +399,21 @@ def a_connection_ends_with_its_answer(t):
         authority.until(lambda: desk.files == desk.before, "that its descriptor is free", seconds=10)
 
 
+@test
+def who_did_not_take_an_answer_is_lost_at_the_end(t):
+    """`desk serve` has answered its last request, and waits for a client of a long answer."""
+    t.register(lines=f"{DAY} crl\n{DAY} crl\n")
+    t.sql("ca.db", "UPDATE crl SET der = zeroblob(12000000) WHERE number = 1")
+    desk = Passing(t, "--requests", 2, command="serve")
+    with desk.desk.connect() as slow:
+        slow.sendall(b"GET /crl/1 HTTP/1.1\r\n\r\n")
+        t.same(slow.recv(1), b"H", "its answer has begun")
+        t.same(parted(desk.desk.send(COUNTS))[0], 200, "the last request")
+        desk.set_forward(30_000)
+        t.same(desk.desk.wait().status, 0, "its status")
+        t.same(desk.lost, [(str(slow.getsockname()[1]), "late")], "lost connections")
+
+
 @test(seconds=3)
 def a_client_whose_request_took_29_seconds_gets_its_signature(t):
     ends = threading.Event()

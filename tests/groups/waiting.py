@@ -262,14 +262,15 @@ def a_revocation_is_in_each_answer_requested_after_it(t):
 def serve_waits_for_the_signatures_of_its_last_requests(t):
     held = Held(t)
     t.register(key=P256_KEY)
-    desk = t.open("ca.db", "--requests", 3, *SIGNING, command="serve")
-    with ThreadPoolExecutor(3) as pool:
-        waits = [pool.submit(ocsp_answer, desk, 0x1100 + at) for at in range(3)]
-        t.true(held.signers.until(3), "they are asked for")
+    count = AT_ONCE + 8
+    desk = t.open("ca.db", "--requests", count, *SIGNING, command="serve")
+    with ThreadPoolExecutor(count) as pool:
+        waits = [pool.submit(ocsp_answer, desk, 0x1100 + at) for at in range(count)]
+        t.true(held.signers.until(AT_ONCE), "as many as may be are asked for")
         time.sleep(0.2)
         t.same(desk.process.poll(), None, "it has not ended")
         held.release.set()
-        t.same([is_signed(it.result()) for it in waits], [True] * 3)
+        t.same([is_signed(it.result()) for it in waits], [True] * count)
     t.same(desk.wait().status, 0)
 
 

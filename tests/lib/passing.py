@@ -13,10 +13,10 @@ ASKED = b"GET /counts HTTP/1.1\r\nHost: localhost\r\n\r\n"
 class Passing:
     """An open desk with a log, whose time stands still until `advance`."""
 
-    def __init__(self, t, *words, file="ca.db"):
+    def __init__(self, t, *words, file="ca.db", **how):
         self.t, self.file, self.millis = t, t.room / "passed", 1_000_000
         self.file.write_bytes(struct.pack("=Q", self.millis))
-        self.desk = t.open(file, "--log", *words, faults=faults.environment(passed=self.file))
+        self.desk = t.open(file, "--log", *words, faults=faults.environment(passed=self.file), **how)
         self.before = self.files
 
     @property
