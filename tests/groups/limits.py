@@ -415,6 +415,34 @@ def who_did_not_take_an_answer_is_lost_at_the_end(t):
 
 
 @test(seconds=3)
+def a_client_that_sends_on_while_it_waits_holds_up_nobody(t):
+    """The desk takes a byte with each read, and the client always has sent more."""
+    ends = threading.Event()
+    t.callback(ends.set)
+    t.register(key=P256_KEY)
+    signers = t.enter_context(Signers(t.room / "ca.sign", lambda message: ends.wait(60) and ANY_SIGNATURE))
+    desk, request = t.open("ca.db", *SIGNING, faults=faults.environment(short=1, only="socket")), asks(1)
+    client = t.enter_context(desk.connect())
+
+    def sends():
+        with contextlib.suppress(OSError):
+            client.sendall(b"POST /ocsp HTTP/1.1\r\nContent-Length: %d\r\n\r\n" % len(request) + request)
+            while not ends.is_set():
+                client.sendall(bytes(65_536))
+
+    with ThreadPoolExecutor(1) as pool:
+        pool.submit(sends)
+        try:
+            t.true(signers.until(1), "its signature is requested")
+            with t.at_once("GET /counts"):
+                t.same(parted(desk.send(COUNTS, timeout=20))[0], 200, "GET /counts")
+        finally:
+            ends.set()
+            with contextlib.suppress(OSError):
+                client.shutdown(socket.SHUT_RDWR)
+
+
+@test(seconds=3)
 def a_client_whose_request_took_29_seconds_gets_its_signature(t):
     ends = threading.Event()
     t.callback(ends.set)
