@@ -259,6 +259,23 @@ def a_thousand_clients_have_connections_at_once(t):
         it.sendall(COUNTS)
         t.same(parted(read_all(it))[0], 200, "GET /counts")
 
+
+@test(seconds=4)
+def a_thousand_clients_are_late_together(t):
+    _, hard = resource.getrlimit(resource.RLIMIT_NOFILE)
+    if hard < 2_000 and hard != resource.RLIM_INFINITY:
+        raise Skipped("the system has no descriptors for 1,000 connections: ulimit -n 2000")
+    resource.setrlimit(resource.RLIMIT_NOFILE, (2_000, hard))
+    t.register()
+    desk = Passing(t)
+    for _ in range(1_000):
+        t.enter_context(desk.desk.connect()).sendall(COUNTS[:9])
+    authority.until(lambda: desk.files == desk.before + 1_000, "that all are accepted")
+    desk.set_forward(30_000)
+    authority.until(lambda: desk.files == desk.before, "that all are closed", seconds=10)
+    t.same({why for _, why in desk.lost}, {"late"}, "why they were lost")
+
+
 @each({"the process has no descriptor left": "EMFILE", "the machine has none": "ENFILE"}, seconds=3)
 def a_signature_is_requested_again_once_there_is_a_descriptor(t, error):
     t.register(key=P256_KEY)
