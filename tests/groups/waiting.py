@@ -123,10 +123,11 @@ def an_answer_whose_turn_comes_too_late_is_not_signed(t):
     held = Held(t)
     t.register(key=P256_KEY)
     desk, body = Passing(t, *SIGNING), asked_for(0x1100)
-    clients = [desk.comes(b"POST /ocsp HTTP/1.1\r\nContent-Length: %d\r\n\r\n" % len(body) + body) for _ in range(AT_ONCE + 8)]
+    clients = [desk.comes(b"POST /ocsp HTTP/1.1\r\nContent-Length: %d\r\n\r\n" % len(body) + body) for _ in range(AT_ONCE + 40)]
     t.true(held.signers.until(AT_ONCE), "all that may be asked for are")
     desk.advance(10_000)
-    t.same([is_signed(program.parted(program.read_all(it))[2]) for it in clients], [False] * len(clients), "which answers are signed")
+    with t.at_once("the answers of all"):
+        t.same([is_signed(program.parted(program.read_all(it))[2]) for it in clients], [False] * len(clients), "which answers are signed")
     held.release.set()
     t.true(is_signed(ocsp_answer(desk.desk, 0x2200)), "an answer behind them")
     t.same(held.signers.connected, AT_ONCE + 1, "connections to the signer")
