@@ -706,6 +706,63 @@ def a_script_waits_for_a_signer_whose_queue_is_full(t):
         t.same((ran.status, ran.lines, ran.err), (0, ["crl 1 entries 0"], b""), "the CRL")
 
 
+@contextlib.contextmanager
+def full_queue(t):
+    """A signer's socket whose queue is full until a connection is accepted (`signs`)."""
+    with socket.socket(socket.AF_UNIX) as server, socket.socket(socket.AF_UNIX) as filled:
+        server.bind(str(t.room / "ca.sign"))
+        server.listen(0)
+        filled.connect(str(t.room / "ca.sign"))
+        yield server
+
+
+def signs(server):
+    """Makes room, and answers the client that comes."""
+    server.accept()[0].close()
+    peer, _ = server.accept()
+    with peer:
+        read_all(peer)
+        peer.sendall(ANY_SIGNATURE)
+
+
+def have_passed(t, millis):
+    """Sets the elapsed time of a program that reads it in the file `passed`."""
+    # It is shared with the program, so it is never empty.
+    with open(t.room / "passed", "r+b" if (t.room / "passed").exists() else "wb") as it:
+        it.write(millis.to_bytes(8, "little"))
+
+
+@test(seconds=2)
+def a_script_waits_for_a_signer_through_thousands_of_attempts(t):
+    """The desk does not sleep between them, and no time passes."""
+    t.register(key=P256_KEY)
+    have_passed(t, 0)
+    tried = lambda: (t.room / "count").exists() and faults.counted(t.room / "count")["connect"]
+    with ThreadPoolExecutor(1) as pool, full_queue(t) as server:
+        told = faults.environment(passed=t.room / "passed", awake=1, count=t.room / "count")
+        ran = pool.submit(t.desk, "script", "ca.db", *SIGNING, given=f"{DAY} crl\n", faults=told)
+        authority.until(lambda: tried() > 2_000 or ran.done(), "2,000 attempts", seconds=20)
+        t.true(not ran.done(), "it has ended")
+        signs(server)
+        t.same((ran.result().status, ran.result().lines), (0, ["crl 1 entries 0"]), "the CRL")
+
+
+@test(seconds=2)
+def the_time_in_a_signer_s_queue_counts(t):
+    """A script has ten seconds in all, of which half a second is left once the signer has room."""
+    t.register(key=P256_KEY)
+    have_passed(t, 0)
+    tried = lambda: (t.room / "count").exists() and faults.counted(t.room / "count")["connect"]
+    with ThreadPoolExecutor(1) as pool, full_queue(t) as server:
+        told = faults.environment(passed=t.room / "passed", count=t.room / "count")
+        ran = pool.submit(t.desk, "script", "ca.db", *SIGNING, given=f"{DAY} crl\n", faults=told)
+        authority.until(lambda: tried() > 2, "attempts", seconds=20)
+        have_passed(t, 9_500)
+        server.accept()[0].close()
+        with server.accept()[0], t.at_once("the end of its ten seconds"):
+            t.same((ran.result().status, ran.result().lines), (0, ["F3 signer"]), "the CRL")
+
+
 # Files
 
 
