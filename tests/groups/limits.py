@@ -763,6 +763,27 @@ def the_time_in_a_signer_s_queue_counts(t):
             t.same((ran.result().status, ran.result().lines), (0, ["F3 signer"]), "the CRL")
 
 
+@test(seconds=2)
+def a_signer_that_reads_slowly_has_ten_seconds_for_a_whole_message(t):
+    """It reads a part of a CRL that is longer than a socket's buffers, and another one in the tenth second."""
+    registers.make_revoked(t.room / "ca.db", 20_000, P256_KEY)
+    have_passed(t, 0)
+    with ThreadPoolExecutor(1) as pool, socket.socket(socket.AF_UNIX) as slow:
+        slow.bind(str(t.room / "ca.sign"))
+        slow.listen(8)
+        ran = pool.submit(t.desk, "script", "ca.db", *SIGNING, given="2026-01-02T00:00:00Z crl\n", faults=faults.environment(passed=t.room / "passed"))
+        peer, _ = slow.accept()
+        with peer:
+            peer.recv(65_536)
+            # Time in which the desk fills the buffers.
+            time.sleep(0.5)
+            have_passed(t, 9_500)
+            for _ in range(4):
+                peer.recv(65_536)
+            with t.at_once("the end of its ten seconds"):
+                t.same((ran.result().status, ran.result().lines), (0, ["F3 signer"]), "the CRL")
+
+
 # Files
 
 
