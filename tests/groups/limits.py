@@ -276,8 +276,8 @@ def a_thousand_clients_are_late_together(t):
     t.same({why for _, why in desk.lost}, {"late"}, "why they were lost")
 
 
-@each({"the process has no descriptor left": "EMFILE", "the machine has none": "ENFILE"}, seconds=3)
-def a_signature_is_requested_again_once_there_is_a_descriptor(t, error):
+@each({f"{it}, {what}": (error, what) for it, error in (("the process has no descriptor left", "EMFILE"), ("the machine has none", "ENFILE")) for what in ("an answer", "a CRL")}, seconds=3)
+def a_signature_is_requested_again_once_there_is_a_descriptor(t, error, what):
     t.register(key=P256_KEY)
     t.enter_context(Signers(t.room / "ca.sign"))
     usual = t.room / "usual"
@@ -285,8 +285,11 @@ def a_signature_is_requested_again_once_there_is_a_descriptor(t, error):
     before = faults.counted(usual)["socket"]
     desk.end()
     desk = t.open("ca.db", *SIGNING, "--control", "second", faults=faults.environment(count=t.room / "count", fail=f"socket:{before + 1}={error}"))
-    response = parted(desk.ask("POST", "/ocsp", asks(1)))[2]
-    t.true(ANY_SIGNATURE in response, f"the answer has no signature: {response.hex()}")
+    if what == "a CRL":
+        t.same(t.control("second").ask("crl"), "crl 1 entries 0")
+    else:
+        response = parted(desk.ask("POST", "/ocsp", asks(1)))[2]
+        t.true(ANY_SIGNATURE in response, f"the answer has no signature: {response.hex()}")
     t.same(faults.counted(t.room / "count")["met"], 1, "faults that were met")
 
 
@@ -782,6 +785,20 @@ def a_signer_that_reads_slowly_has_ten_seconds_for_a_whole_message(t):
                 peer.recv(65_536)
             with t.at_once("the end of its ten seconds"):
                 t.same((ran.result().status, ran.result().lines), (0, ["F3 signer"]), "the CRL")
+
+
+@test(seconds=2)
+def a_crl_at_the_control_socket_waits_for_a_signer_whose_queue_is_full(t):
+    t.register(key=P256_KEY)
+    with ThreadPoolExecutor(1) as pool, full_queue(t) as server:
+        desk = t.open("ca.db", *SIGNING)
+        with t.control() as control:
+            crl = pool.submit(control.ask, "crl")
+            # Time in which the desk could give up.
+            time.sleep(0.5)
+            t.same((crl.done(), parted(desk.send(COUNTS))[0]), (False, 200), "whether it is answered, and GET /counts meanwhile")
+            signs(server)
+            t.same(crl.result(), "crl 1 entries 0")
 
 
 # Files

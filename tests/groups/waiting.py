@@ -294,6 +294,26 @@ def a_signer_with_a_full_queue_is_asked_again(t):
         t.same([is_signed(it.result()) for it in waits], [True] * 8)
 
 
+@test
+def the_first_answer_stays_first_though_the_signer_has_no_room(t):
+    t.register(key=P256_KEY)
+    server, filled = t.enter_context(socket.socket(socket.AF_UNIX)), t.enter_context(socket.socket(socket.AF_UNIX))
+    server.bind(str(t.room / "ca.sign"))
+    server.listen(0)
+    filled.connect(str(t.room / "ca.sign"))
+    desk = Passing(t, *SIGNING)
+    for serial in (0x1100, 0x2200):
+        body = asked_for(serial)
+        desk.comes(b"POST /ocsp HTTP/1.1\r\nContent-Length: %d\r\n\r\n" % len(body) + body)
+    # The desk tries the first one again, in vain.
+    desk.advance(10)
+    server.accept()[0].close()
+    desk.advance(10)
+    peer, _ = server.accept()
+    with peer:
+        t.true(names(program.read_all(peer), 0x1100), "the first signature is requested for another answer")
+
+
 @test(seconds=2)
 def a_signature_is_requested_again_once_a_descriptor_is_free(t):
     """A signature that can't be requested because too many files are open is requested again."""
