@@ -787,6 +787,33 @@ def a_signer_that_reads_slowly_has_ten_seconds_for_a_whole_message(t):
                 t.same((ran.result().status, ran.result().lines), (0, ["F3 signer"]), "the CRL")
 
 
+@test
+def a_script_does_not_ask_a_signer_again_for_ten_seconds(t):
+    """After a timeout: when ten seconds have passed, the signer sends a byte and nothing more."""
+    t.register(key=P256_KEY)
+    have_passed(t, 0)
+    line, unsigned = f"{DAY} ocsp {asks(1).hex()}", "ocsp 30030a0102"
+    with ThreadPoolExecutor(1) as pool, socket.socket(socket.AF_UNIX) as server, faults.Lines(t, "ca.db", SIGNING, passed=t.room / "passed") as desk:
+        server.bind(str(t.room / "ca.sign"))
+        server.listen(8)
+        late = pool.submit(desk.ask, line)
+        peer, _ = server.accept()
+        with peer:
+            read_all(peer)
+            have_passed(t, 10_000)
+            peer.sendall(b"0")
+            t.same(late.result(), unsigned, "the line that waited")
+        have_passed(t, 19_999)
+        t.same((desk.ask(line), select.select([server], [], [], 0)[0]), (unsigned, []), "a line behind it, and whether the signer was asked")
+        have_passed(t, 20_000)
+        signed = pool.submit(desk.ask, line)
+        peer, _ = server.accept()
+        with peer:
+            read_all(peer)
+            peer.sendall(ANY_SIGNATURE)
+        t.true(signed.result() != unsigned, "a line ten seconds after the timeout is not signed")
+
+
 @test(seconds=2)
 def a_crl_at_the_control_socket_waits_for_a_signer_whose_queue_is_full(t):
     t.register(key=P256_KEY)

@@ -707,6 +707,18 @@ def a_crl_asks_a_signer_during_its_back_off(t):
     t.same(signer.asked, 4, "how often the signer was asked")
 
 
+@test(seconds=3)
+def a_crl_that_fails_at_once_ends_the_back_off(t):
+    """The signer was ended. Another one, at the same socket, is asked for the next `ocsp` line."""
+    _, _, control = hung(t)
+    at_once(t, lambda: is_signed(control), False, "a line behind it")
+    (t.room / "ca.sign").unlink()
+    at_once(t, lambda: control.ask("crl"), "F3 signer", "a CRL that no signer signs")
+    signer = t.signer()
+    at_once(t, lambda: is_signed(control), True, "a line once another signer is there")
+    t.same(len(signer.asked), 1, "how often that was asked")
+
+
 # The native signer
 
 
