@@ -828,6 +828,24 @@ def a_crl_at_the_control_socket_waits_for_a_signer_whose_queue_is_full(t):
             t.same(crl.result(), "crl 1 entries 0")
 
 
+@each({"an answer": "answer", "a line": "line"}, seconds=2)
+def a_signature_that_comes_in_pieces(t, what):
+    t.register(key=P256_KEY)
+
+    def sign(peer, it):
+        read_all(peer)
+        for octet in ANY_SIGNATURE:
+            peer.sendall(bytes([octet]))
+            time.sleep(0.05)
+
+    t.enter_context(authority.Peer(t.room / "ca.sign", sign))
+    desk = t.open("ca.db", *SIGNING)
+    if what == "answer":
+        t.true(ANY_SIGNATURE in desk.ask("POST", "/ocsp", asks(1)), "the answer has no signature")
+    else:
+        t.same(t.control().ask("crl"), "crl 1 entries 0")
+
+
 # Files
 
 
