@@ -147,6 +147,14 @@ def a_signal_at_the_signer_s_socket_changes_nothing(t, kind):
     t.true(at > 4, f"only {at} rounds")
 
 
+@each({"reads": "read", "writes": "write"})
+def thousands_of_signals_at_the_signer_s_socket_change_nothing(t, kind):
+    t.register(key=program.P256_KEY)
+    signer = t.signer()
+    ran, count = faults.run(t, ["script", "ca.db", *SIGNING], f"{DAY_1} crl\n", only="socket", fail=f"{kind}:1-5000=EINTR")
+    t.same((ran.status, ran.out, ran.err, count["met"], len(signer.asked)), (0, b"crl 1 entries 0\n", b"", 5_000, 1))
+
+
 AT = {
     "a read of standard input": ("stdin", "read:1", b"F4 read\n"),
     "a read behind the first": ("stdin", "read:2", b"F4 read\n"),
