@@ -1,6 +1,7 @@
 """The control socket of an open desk: lines in pieces, beside HTTP clients and other control connections; its slots; the end of a connection with a line
 that is too long."""
 
+import signal
 import socket
 import subprocess
 import time
@@ -110,6 +111,23 @@ def waiting_control_connections_are_answered_as_others_close(t):
         closed(first[number])
         t.same(it.file.readline(), f"subscriber {number + 3}\n".encode(), "its first line, once one has gone")
         t.same(it.file.readline(), b"good\n", "and the next")
+
+
+@test
+def a_waiting_control_connection_is_accepted_once_another_had_its_last_reply(t):
+    """Nothing else happens: the client whose slot it gets sent a line and its end at once."""
+    desk = opened(t)
+    first = [t.control() for _ in range(PLACES)]
+    t.same([it.ask("counts") for it in first], ["good 1 revoked 0 expired 0"] * PLACES)
+    waiting = t.control()
+    waiting.peer.sendall(b"status 05\n")
+    desk.process.send_signal(signal.SIGSTOP)
+    first[0].peer.sendall(b"status 06\n")
+    first[0].peer.shutdown(socket.SHUT_WR)
+    desk.process.send_signal(signal.SIGCONT)
+    t.same(first[0].file.read(), b"unknown\n", "the last reply")
+    waiting.peer.settimeout(20)
+    t.same(waiting.file.readline(), b"good\n", "the reply to the one that waited")
 
 
 @test(seconds=3)
