@@ -4,15 +4,17 @@ import contextlib
 import fcntl
 import os
 import re
+import select
 import socket
 import stat
+import subprocess
 import time
 from concurrent.futures import ThreadPoolExecutor
 from pathlib import Path
 
 from lib.authority import until
-from lib.program import Control, Opened, free_port, moment_of, parted, read_all, seconds_of
-from lib.trial import Skipped, test
+from lib.program import LONGEST, Control, Opened, environment, free_port, moment_of, parted, program, read_all, seconds_of
+from lib.trial import Skipped, each, test
 
 DAY = "2026-01-01T00:00:00Z"
 ENTERED = f"{DAY} subscriber acme\n{DAY} order 1 398\n{DAY} register 1 05 {DAY} 2026-12-31T00:00:00Z\n"
@@ -186,6 +188,40 @@ def at_prints_each_reply_in_order(t):
     t.same((ran.status, ran.out, ran.err), (0, b"", b""), "no line")
     ran = t.desk("at", "nobody", given="counts\n")
     t.same((ran.status, ran.out, ran.err), (1, b"", b"F4 read\n"), "a socket that is not there")
+
+
+REGISTERS = f"register 1 05 {DAY} 2026-12-31T00:00:00Z"
+# The words of a job, its lines or rows, the first of two lines that it sends, and the reply to that.
+JOBS_OF_AT = {
+    "at": (["at", "counter"], "counts\nstatus 05\n", "counts", "good 0 revoked 0 expired 0"),
+    "at --import": (["at", "counter", "--import", "rows"], f"1,05,{DAY},2026-12-31T00:00:00Z\n" * 2, REGISTERS, "E08 no-order"),
+    "at --revoke": (["at", "counter", "--revoke", "rows"], "05,superseded\n06,asked\n", f"request {5:040} superseded", "E14 unknown-serial"),
+    "replay": (["replay", "counter", "rows"], f'{DAY} control "crl" "crl 1 entries 0" 16 9\n' * 2, "crl", "crl 1 entries 0"),
+}
+
+
+@each(JOBS_OF_AT)
+def a_reply_is_printed_before_the_next_one_comes(t, words, given, line, reply):
+    """Standard input stays open."""
+    (t.room / "rows").write_text(given)
+    with socket.socket(socket.AF_UNIX) as server:
+        server.bind(str(t.room / "counter"))
+        server.listen(1)
+        it = subprocess.Popen([program(), *words], cwd=t.room, stdin=subprocess.PIPE, stdout=subprocess.PIPE, stderr=subprocess.DEVNULL, env=environment())
+        t.callback(it.wait, LONGEST)
+        t.callback(it.kill)
+        it.stdin.write(given.encode())
+        it.stdin.flush()
+        peer, _ = server.accept()
+        with peer, peer.makefile("rb") as lines:
+            peer.settimeout(20)
+            t.same(lines.readline().decode(), f"{line}\n", "the first line that it sends")
+            peer.sendall(f"{reply}\n".encode())
+            t.true(lines.readline(), "it sends the second line")
+            t.true(select.select([it.stdout], [], [], 20)[0], "it prints nothing")
+            t.same(it.stdout.readline().decode(), f"{reply}\n", "what it prints")
+        it.stdin.close()
+        it.stdout.close()
 
 
 @test
