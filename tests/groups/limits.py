@@ -521,12 +521,13 @@ def the_log_has_the_time_until_a_signature_came(t):
     t.same({asked: micros.get(asked) for asked in ("POST /ocsp HTTP/1.1", "crl")}, {"POST /ocsp HTTP/1.1": "1500000", "crl": "1500000"})
 
 
-def on_a_terminal(t, *words, given=b"", **told):
-    """The lines that a run shows on standard error, which is a terminal."""
+def on_a_terminal(t, *words, given=b"", replies=None, **told):
+    """The lines that a run shows on standard error, which is a terminal, and on standard output if `replies` is `pty`."""
     ours, theirs = pty.openpty()
-    with open(t.room / "replies", "wb") as replies:
+    with open(t.room / "replies", "wb") as file:
         it = subprocess.Popen(
-            [program.program(), *words], cwd=t.room, stdin=subprocess.PIPE, stdout=replies, stderr=theirs, env=program.environment(faults=faults.environment(**told))
+            [program.program(), *words], cwd=t.room, stdin=subprocess.PIPE, stdout=theirs if replies is pty else file, stderr=theirs,
+            env=program.environment(faults=faults.environment(**told)),
         )
     os.close(theirs)
     it.stdin.write(given)
@@ -544,8 +545,35 @@ def on_a_terminal(t, *words, given=b"", **told):
 @test
 def a_terminal_shows_the_lines_and_how_many_a_second(t):
     t.register()
-    given = b"".join(b"%s subscriber %d\n" % (DAY.encode(), at) for at in range(3))
+    given = f"{DAY} counts\n".encode() * 3
     t.same(on_a_terminal(t, "script", "ca.db", given=given, tick=1_000), [f"{at} lines done, 1 a second" for at in (1, 2, 3)])
+    replies = ["good 0 revoked 0 expired 0"] * 3
+    t.same(on_a_terminal(t, "script", "ca.db", given=given, replies=pty, tick=1_000), replies, "where the replies are shown, too")
+    (t.room / "passed").write_bytes(bytes(8))
+    t.same(on_a_terminal(t, "script", "ca.db", given=given, passed=t.room / "passed"), [], "what it shows in less than a second")
+
+
+# The words of each job, and the lines or rows that it reads.
+LONG_JOBS = {
+    "script": (["script"], f"{DAY} counts\n"),
+    "script --clock": (["script", "ca.db", "--clock"], "counts\n"),
+    "import": (["import", "ca.db", "--now", DAY], "1,2\n"),
+    "at --import": (["at", "counter", "--import", "rows"], "1,2\n"),
+    "at --revoke": (["at", "counter", "--revoke", "rows"], "1,2\n"),
+    "replay": (["replay", "counter", "rows"], f'{DAY} control "crl" "crl {{}} entries 0" 16 9\n'),
+}
+
+
+@each(LONG_JOBS)
+def a_terminal_shows_the_lines_of_each_long_job(t, words, line):
+    given = "".join(line.format(at) for at in (1, 2, 3))
+    t.register()
+    t.clock(DAY)
+    if "counter" in words:
+        t.open()
+    (t.room / "rows").write_text(given)
+    shown = on_a_terminal(t, *words, given=b"" if "rows" in words else given.encode(), tick=1_000)
+    t.same([it for it in shown if "lines done" in it], [f"{at} lines done, 1 a second" for at in (1, 2, 3)])
 
 
 @test
@@ -569,6 +597,12 @@ def a_terminal_shows_that_a_large_file_is_opened(t):
         (t.room / "large.db").write_bytes(b"")
         os.truncate(t.room / "large.db", size)
         t.same([it for it in on_a_terminal(t, "crl", "large.db") if it.startswith("opening")], shown, f"a file of {size} bytes")
+    os.truncate(t.room / "large.db", 67_108_864)
+    opens = ("--port", free_port(), "--control", "counter", "--unsigned")
+    for words in (["script"], ["script", "--clock"], ["import", "--now", DAY], ["serve", *opens[:2], "--requests", 1], ["open", *opens], ["schedule", f"{DAY}=90"],
+                  ["key-id", "0102"], ["list", "orders"], ["audit"]):
+        shown = on_a_terminal(t, words[0], "large.db", *map(str, words[1:]))
+        t.same([it for it in shown if it.startswith("opening")], ["opening large.db, 67 MB"], words[0])
 
 
 @test(seconds=3)
