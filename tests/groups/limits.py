@@ -494,7 +494,10 @@ def the_log_has_the_time_between_two_readings(t):
     desk.send(COUNTS)
     with t.control() as control:
         control.ask("subscriber acme")
-    t.same([it.rsplit(" ", 1)[1] for it in desk.end().err_lines], [f"{1_000 * TICK}"] * 2, "microseconds in the log")
+    found = dict(re.findall(r"^(desk_exchange_seconds_\w+|desk_http_response_seconds_sum\S+) ([\d.]+)$", desk.ask("GET", "/metrics").decode(), re.MULTILINE))
+    t.same((float(found["desk_exchange_seconds_sum"]), found["desk_exchange_seconds_count"]), (2 * TICK / 1_000, "2"), "seconds in the metrics")
+    t.same(float(found['desk_http_response_seconds_sum{route="/counts"}']), TICK / 1_000, "those of the route")
+    t.same([it.rsplit(" ", 1)[1] for it in desk.end().err_lines[:2]], [f"{1_000 * TICK}"] * 2, "microseconds in the log")
 
 
 @test
