@@ -512,16 +512,19 @@ def the_log_has_the_time_until_a_signature_came(t):
     t.callback(ends.set)
     t.register(key=P256_KEY)
     signers = t.enter_context(Signers(t.room / "ca.sign", lambda message: ends.wait(60) and ANY_SIGNATURE))
+    t.clock(DAY)
     desk = Passing(t, *SIGNING)
     with ThreadPoolExecutor(2) as pool, t.control() as control:
         waits = [pool.submit(desk.desk.ask, "POST", "/ocsp", asks(1)), pool.submit(control.ask, "crl")]
         t.true(signers.until(2), "both signatures are requested")
         desk.advance(1_500)
+        t.clock("2026-01-01T00:00:02Z")
         ends.set()
         for it in waits:
             it.result()
-    micros = {it.split('"')[1]: it.rsplit(" ", 1)[1] for it in desk.desk.end().err_lines}
-    t.same({asked: micros.get(asked) for asked in ("POST /ocsp HTTP/1.1", "crl")}, {"POST /ocsp HTTP/1.1": "1500000", "crl": "1500000"})
+    told = {it.split('"')[1]: it for it in desk.desk.end().err_lines}
+    for asked in ("POST /ocsp HTTP/1.1", "crl"):
+        t.same((told[asked].split()[0], told[asked].rsplit(" ", 1)[1]), (DAY, "1500000"), f"the moment at which {asked} came, and the microseconds until it was answered")
 
 
 def on_a_terminal(t, *words, given=b"", replies=None, **told):
