@@ -991,3 +991,16 @@ def a_job_leaves_nothing_in_the_log(t):
     t.register(lines=f"{DAY} subscriber acme\n{DAY} crl\n")
     size = (t.room / "ca.db-wal").stat().st_size
     t.true(size < 4_096, f"the log has {size} bytes, which are a page and more")
+
+
+@test
+def a_large_file_is_read_once(t):
+    """The page cache has room for all of it."""
+    t.register(lines=f"{DAY} crl\n{DAY} crl\n")
+    t.sql("ca.db", "UPDATE crl SET der = zeroblob(12000000) WHERE number = 1")
+    desk = t.open(faults=faults.environment(count=t.room / "count", only="ca.db"))
+    reads = []
+    for _ in range(2):
+        t.true(len(desk.ask("GET", "/crl/1")) > 12_000_000, "its answer")
+        reads.append(faults.counted(t.room / "count")["read"])
+    t.true(reads[1] - reads[0] < reads[0] / 100, f"reads after each answer: {reads}")
