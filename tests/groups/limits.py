@@ -10,6 +10,7 @@ import resource
 import select
 import shutil
 import socket
+import sqlite3
 import subprocess
 import threading
 import time
@@ -1004,3 +1005,38 @@ def a_large_file_is_read_once(t):
         t.true(len(desk.ask("GET", "/crl/1")) > 12_000_000, "its answer")
         reads.append(faults.counted(t.room / "count")["read"])
     t.true(reads[1] - reads[0] < reads[0] / 100, f"reads after each answer: {reads}")
+
+
+@test
+def a_register_to_which_sqlite_writes_is_not_read(t):
+    """It has a reserved lock, in the mode without a log."""
+    t.register()
+    with contextlib.closing(sqlite3.connect(t.room / "ca.db", isolation_level=None)) as other:
+        t.same(other.execute("PRAGMA journal_mode = delete").fetchall(), [("delete",)])
+        other.execute("BEGIN IMMEDIATE")
+        for words in (["audit", "ca.db"], ["copy", "ca.db", "copy.db"], ["crl", "ca.db"]):
+            ran = t.desk(*words, "--why")
+            t.same((ran.status, ran.out, ran.err), (1, b"", b"F2 store\n  in use by another program\n"), program.shown(words))
+
+
+@each({"an audit": ["audit", "ca.db"], "a copy": ["copy", "ca.db", "copy.db"]})
+def a_file_that_a_link_replaces_is_not_read(t, words):
+    """It does so after the desk has looked at the file, and before it opens it."""
+    t.register()
+    t.register("other.db", lines=f"{DAY} subscriber other\n")
+    with ThreadPoolExecutor(1) as pool:
+        ran = pool.submit(t.desk, *words, faults=faults.environment(slow_open=t.room / "replaced", only="ca.db"))
+        authority.until(lambda: (t.room / "replaced.waits").exists(), "that the desk opens it")
+        os.rename(t.room / "ca.db", t.room / "moved.db")
+        (t.room / "ca.db").symlink_to("other.db")
+        (t.room / "replaced").touch()
+        t.same((ran.result().status, ran.result().out, ran.result().err), (1, b"", b"F2 store\n"))
+
+
+@test
+def init_beside_a_log_makes_no_register(t):
+    """Whether a register lies there can't be seen."""
+    (t.room / "ca.db-wal").write_bytes(b"all that is left of a register")
+    ran = t.desk("init", "ca.db", "--name", program.NAME, "--key", program.KEY, faults=faults.environment(fail="stat:1+", only="ca.db"))
+    t.same((ran.status, ran.out, ran.err), (1, b"", b"F2 store\n"))
+    t.same(sorted(it.name for it in t.room.iterdir()), ["ca.db-wal"], "what lies there")
