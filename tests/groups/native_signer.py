@@ -6,6 +6,7 @@ import fcntl
 import os
 import pwd
 import random
+import select
 import shutil
 import signal
 import socket
@@ -550,6 +551,57 @@ def a_rate(t):
     t.same(len(ended(process)[1]), 1, "lines that are told")
 
 
+@test(seconds=4)
+def the_oldest_client_is_signed_for_first(t):
+    """Five a second: all clients have sent their messages before the second signature."""
+    it = Authority(t)
+    started(t, "--rate", 5, it.key)
+    clients = [connected(t.room / "ca.sign") for _ in range(6)]
+    for client in clients:
+        client.sendall(b"a message")
+        client.shutdown(socket.SHUT_WR)
+    came, waiting = [], list(clients)
+    while waiting:
+        for client in select.select(waiting, [], [])[0]:
+            t.true(program.read_all(client), "a signature")
+            came.append(clients.index(client))
+            waiting.remove(client)
+    t.same(came, list(range(6)), "the order in which they got signatures")
+
+
+@test(seconds=4)
+def what_long_messages_take_is_given_back(t):
+    """Forty of 4 MiB and more: for each the signer makes room for 16 MiB, of which it has 512 MiB in all."""
+    it = Authority(t)
+    process = started(t, it.key)
+    size = lambda: int(status_of(process.pid)["VmSize"].split()[0])
+    before, message = size(), bytes((4 << 20) + 1)
+    for at in range(40):
+        t.true(signature(t.room / "ca.sign", message) != b"", f"message {at} is signed")
+    t.true(size() - before < 64 << 10, f"its memory has grown from {before} kB to {size()} kB")
+
+
+@test(seconds=3)
+def clients_beyond_its_descriptors(t):
+    """A connection that it can't accept waits until another one has ended, and meanwhile the signer says so ten times a second."""
+    it = Authority(t)
+    process = started(t, it.key)
+    files = len(os.listdir(f"/proc/{process.pid}/fd"))
+    t.tool("prlimit", "--pid", process.pid, f"--nofile={files + 1}:{files + 1}")
+    clients = [connected(t.room / "ca.sign") for _ in range(2)]
+    t.true(select.select([process.stderr], [], [], program.LONGEST)[0], "it says nothing")
+    # Time in which it says so again.
+    time.sleep(1)
+    for client in clients:
+        client.settimeout(20)
+        client.sendall(b"a message")
+        client.shutdown(socket.SHUT_WR)
+        t.true(program.read_all(client) != b"", "a signature")
+    status, told = ended(process)
+    t.same((status, {*told}), (0, {f"{NAME}a connection failed: Too many open files"}), "status, and its different lines")
+    t.true(len(told) < 100, f"{len(told)} lines")
+
+
 # Processes and sockets
 
 
@@ -748,6 +800,13 @@ def its_memory_is_locked_and_never_dumped(t):
         t.same(core[4:6], ["0", "0"], "the limits of a core dump")
         if os.geteuid():
             t.same(Path(f"/proc/{number}/mem").stat().st_uid, 0, "the owner of /proc/NUMBER/mem, which is root if dumps are forbidden (proc(5))")
+
+
+@test(seconds=2)
+def its_key_file_does_not_stay_in_its_memory(t):
+    it = Authority(t)
+    process = started(t, it.key)
+    t.same(occurrences(process, it.key.read_bytes().splitlines()[1]), 0, "a line of the file")
 
 
 @test(seconds=3)
