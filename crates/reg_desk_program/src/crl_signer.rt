@@ -85,8 +85,8 @@ fn silent_after<C: Alter>(
     }
 }
 
-/// A holder with the algorithm of the latest CRL and an empty path, at which no socket can be. `None` if there is no CRL, if the latest one has a
-/// placeholder digest, or if its algorithm is unknown here.
+/// A signer's address with the algorithm of the latest CRL and an empty path, at which no socket can be. `None` if there is no CRL, if the latest
+/// one has a placeholder digest, or if its algorithm is unknown here.
 fn holder_of(latest: &Option<Vec<u8>>) -> Option<SignerAddress<'static>> {
     let identifier = crl_algorithm(latest.as_ref()?)?;
     let algorithm = Algorithm::from_identifier(identifier)?;
@@ -128,7 +128,7 @@ fn signer_after<C: Alter>(
     }
 }
 
-/// The signer of a holder of the issuer's key, or the placeholder digest for `None`. If the key does not fit the algorithm, keeps that cause.
+/// The signer at this address, which has the issuer's key; the placeholder digest for `None`. If the key does not fit the algorithm, keeps that cause.
 fn open_signer(
     host: &Host<'_>,
     told: Option<&SignerAddress<'_>>,

@@ -44,8 +44,8 @@ pub fn perform<M: Machine, R: Read, W: Write, E: Write>(
     status_of(&ending)
 }
 
-/// Calls [`perform`], and has no contract. Without it, the prover would write out the contract of `perform` over the caller's files and sockets,
-/// and take minutes.
+/// Calls [`perform`], but has no contract. If `run_desk` called `perform` itself, the prover would write out the contract over the program's files
+/// and sockets, which takes minutes.
 pub(crate) fn perform_unreported<M: Machine, R: Read, W: Write, E: Write>(
     rt: &HostRuntime,
     machine: &mut M,
@@ -140,7 +140,7 @@ fn keep_terms_cause<M: Machine>(machine: &M, job: &Job<'_>, ending: &Result<(), 
     }
 }
 
-/// Which of the job's terms make no policy.
+/// Why the options of the job make no policy.
 fn wrong_terms(job: &Job<'_>) -> Option<Cause> {
     match job {
         Job::Init(new) => policy_cause_of(new.days, new.crl_life, new.ocsp_life, new.cap),

@@ -13,23 +13,23 @@ use sqlite_disk::Disk;
 ///
 /// If [`Machine::audit_in`](reg_desk_jobs::Machine::audit_in) of the [`Host`](crate::Host) returned `Sound`, the file's tables show sound records,
 /// and the derived tables agree with them. If an office then opens the file with these tables, the records stand in it (`Stands`), so the clauses
-/// and laws of [`reg_office`] hold for them. The law assumes (`IsPresumed`) what no audit can check: that each row of `listed` has its last column.
-/// It also assumes the signatures of the stored CRLs, which an audit does not verify; a disk that returned what was written; and what the crate
-/// `sqlite` keeps for a connection without stating it.
+/// and laws of [`reg_office`] hold for them. The law assumes (`IsPresumed`) what no audit can check: that each row of `listed` stores its last column
+/// (a row without it reads as if it had NULL there), and that no call left the connection's transaction broken, which the crate `sqlite` does not
+/// state. It also assumes the signatures of the stored CRLs, which an audit does not verify, and a disk that returned what was written.
 pub fn a_register_that_was_found_sound_stands<A: Disk, D: Disk, S: Signer>()
     ensures { (found : FoundSound A.Disk) → StandsOnceAudited D.Disk S.signs found }
 {}
 
-/// If no signer has the key of a register in a file, the only signer is the placeholder digest. So a key may follow it, by
-/// [`reg_office::laws::a_key_follows_the_digest`].
+/// The signer of a register in a file that is opened without a key makes the placeholder digest, and nothing else. So the register may switch from
+/// it to a key, by [`reg_office::laws::a_key_follows_the_digest`].
 pub fn the_digest_is_a_seal<D: Device>()
     ensures { IsDigestSigner (SignsBoth D.answers) digest }
 {}
 
 /// A stop at any moment of a job leaves the records that its replies reported, or these after one more change.
 ///
-/// [`perform`](crate::perform) leads the register that a job opens and closes (`UsesRegister` in `Ends`) from records that stand, through all that
-/// was replied, to others that stand. A register of this program's version that is opened has the sound records that its file showed (`begins`).
+/// Between its opening and its closing by a job, [`perform`](crate::perform) changes the records that stand in a register only as the replies report
+/// (`UsesRegister` in `Ends`). A register of this program's version that is opened has the sound records that its file showed (`begins`).
 /// After a stop at any moment (`leaves`), a register that is opened again from what the disk kept has the records that stood, or these after one
 /// more change, for which no acceptance was replied. So no accepted command is lost. Which change that is, among commands run one after another,
 /// is stated by [`reg_office::laws::a_register_opened_after_a_stop_stands_after_a_prefix`].
