@@ -94,3 +94,11 @@ def a_register_that_can_not_be_synced_is_not_left(t, how):
             t.same((ran.out, ran.err), (b"created\n", b""), where)
             faults.audited(t, "ca.db", (0, 0, 0), where)
     t.true(told, "no sync was told")
+
+
+@test
+def a_log_that_is_a_link_to_nowhere_is_left_alone(t):
+    (t.room / "ca.db-wal").symlink_to("nowhere")
+    ran = t.desk("init", "ca.db", *WORDS)
+    t.same((ran.status, ran.out, ran.err), (1, b"", b"F2 store\n"))
+    t.same([(it.name, os.readlink(it)) for it in t.room.iterdir()], [("ca.db-wal", "nowhere")], "what is left")

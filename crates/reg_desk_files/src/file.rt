@@ -93,14 +93,14 @@ pub enum ClaimFault {
 }
 
 /// Creates an empty file at a path with mode 0600. It fails if there is a file, so that of two programs at once only one succeeds. A dangling symbolic
-/// link counts as a file, and so does a log without a register: it may be all that is left of one.
+/// link counts as a file, also in the log's place, and so does a log without a register: it may be all that is left of one.
 pub fn claim_file(rt: &HostRuntime, path: &str) -> Result<(), ClaimFault> {
     let Ok(log) = log_of(rt, path) else {
         return Err(ClaimFault::Memory);
     };
-    match fs::exists(rt, log.as_str()) {
-        Ok(false) => create_file(rt, path),
-        Ok(true) => Err(ClaimFault::Taken(None)),
+    match fs::symlink_metadata(rt, log.as_str()) {
+        Ok(_) => Err(ClaimFault::Taken(None)),
+        Err(error) if error.kind() == ErrorKind::NotFound => create_file(rt, path),
         Err(error) => Err(claim_fault_of(error.kind())),
     }
 }
