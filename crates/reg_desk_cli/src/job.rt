@@ -29,7 +29,7 @@ pub enum ResponderChoice<'a> {
     },
 }
 
-/// How a script runs that runs line by line.
+/// The options of a script that runs line by line.
 #[derive(Clone, Copy, PartialEq, Eq)]
 pub struct ScriptOptions {
     /// The lines have no moments: they run at the moments of the machine's clock.
@@ -46,7 +46,7 @@ pub struct NewRegister<'a> {
     pub file: Word<'a>,
     /// The DER of the issuer's Name, in hexadecimal.
     pub name: Word<'a>,
-    /// The bytes of the issuer's public key, in hexadecimal.
+    /// The bits of the issuer's subjectPublicKey, in hexadecimal.
     pub key: Word<'a>,
     /// The key identifier of the issuer's certificate, in hexadecimal, if it is given.
     pub key_id: Option<Word<'a>>,
@@ -117,7 +117,7 @@ pub struct OpenJob<'a> {
     pub control: Word<'a>,
     pub signer: Option<SignerAddress<'a>>,
     pub answerer: ResponderChoice<'a>,
-    /// As in [`Serving`].
+    /// As in [`ServeJob`].
     pub published: Option<Word<'a>>,
 }
 
@@ -212,7 +212,7 @@ pub enum Job<'a> {
 #[derive(Drop)]
 pub struct Invocation<'a> {
     pub job: Job<'a>,
-    /// Whether the cause of a fault is reported, if it is known.
+    /// Whether the cause of a failure is reported, if it is known.
     pub is_explained: bool,
     /// Whether a job that serves logs each exchange on standard error.
     pub has_log: bool,

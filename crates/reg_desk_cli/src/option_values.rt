@@ -243,7 +243,7 @@ fn choose<'a>(
     }
 }
 
-/// How a script runs.
+/// The options of a script.
 pub(crate) fn script_options_of(matches: &ArgMatches<'_>) -> ScriptOptions
     ensures { result ≡ way_in (rows_of (found_of matches.now)) }
 {

@@ -20,7 +20,7 @@ const TEXT_WANTED: &str = "a word is not UTF-8 text: the name of a FILE must be 
 
 /// Reads the words of a command line, of which the first is the program's name. Options that are not given have the values of the
 /// default policy. `Help` and `Version` if clap answers with them; `Bad` if clap finds an error, a value has another form or
-/// is out of range, or `open` has neither a signer nor `--unsigned`, or has both.
+/// is out of range, or an option excludes or lacks another one, such as `open` with `--unsigned` and a signer.
 pub fn read_words<'a, S: AsStr>(alloc: Global, words: &'a [S]) -> Result<Invocation<'a>, Usage>
     ensures invocation { IfOk result (IsInvocationOf (map S.text words.entry.now)) }
     ensures usage { IfErr result (IsUsageOf (map S.text words.entry.now)) }

@@ -198,7 +198,7 @@ fn wrong_filter<'a>(given: &ArgMatches<'a>) -> Option<Wrong<'a>> {
     None
 }
 
-/// The option of a signer that is given without the other.
+/// The option of a signer that is given without the other, or names no algorithm.
 fn wrong_holder<'a>(given: &ArgMatches<'a>) -> Option<Wrong<'a>> {
     if key_holder(given).is_some() {
         return None;
@@ -210,7 +210,7 @@ fn wrong_holder<'a>(given: &ArgMatches<'a>) -> Option<Wrong<'a>> {
     Some(Wrong::of(option, value, KEY_HOLDER_WANTED))
 }
 
-/// An option of a responder that is given without the others, or with `--embed`.
+/// An option of a responder, if one is missing, `--embed` is given too, or no algorithm has the name.
 fn wrong_responder<'a>(given: &ArgMatches<'a>) -> Option<Wrong<'a>> {
     if answerer(given).is_some() {
         return None;

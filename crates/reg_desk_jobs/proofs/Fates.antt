@@ -1,5 +1,5 @@
 -- A text that is told in two writes, a port that is told whole or not, and one that is not bound.
-use Rattle.std.proofs.Common.{◌≡◌, ◌⊎◌, ℕ, List, [], ◌∷◌, ◌++◌, Option, Result, Ok, Err, refl, sym, subst, ap, inl, inr}
+use Rattle.std.proofs.Common.{◌≡◌, ◌⊎◌, ℕ, List, [], ◌∷◌, ◌++◌, Option, Result, Ok, Err, OnErr, OnOk, refl, sym, subst, ap, inl, inr}
 use Rattle.std.specs.Io.KnownBytes.{Appends}
 use Rattle.std.proofs.KnownBytes.{Appends-trans}
 use Rattle.reg_io.proofs.PublicLaws.{front_of_first, front_of_second}
@@ -28,13 +28,18 @@ pub says_not : (head body : List ℕ) (old new : Option (List ℕ)) (why : Failu
 says_not head body old new why first = (first.0, front_of_first old new head body first.1)
 
 -- a port that is not told whole
-pub memory_answer : (port requests : ℕ) (old new : Option (List ℕ)) (why : Failure) → PrintsText (listening port) old new (Err why)
-    → Served port requests [] old new (Err why)
-memory_answer port requests old new why said =
-    let P : Failure → Type 0 = λ w. Served port requests [] old new (Err w) in
+pub memory_answer : (port requests : ℕ) (Early : Type 0) (old new : Option (List ℕ)) (why : Failure) → PrintsText (listening port) old new (Err why)
+    → Served port requests Early [] old new (Err why)
+memory_answer port requests Early old new why said =
+    let P : Failure → Type 0 = λ w. Served port requests Early [] old new (Err w) in
     subst P (sym said.0) (refl, said.1)
 
 -- a port that is not bound
 pub unbound : (why : Failure) → (why ≡ failure.Fault fault.Read) ⊎ (why ≡ failure.Fault fault.Memory) → Unbound [] (Err why)
 unbound why (inl read) = (refl, inl (ap (λ (w : Failure). Err w) read))
 unbound why (inr memory) = (refl, inr (ap (λ (w : Failure). Err w) memory))
+
+-- a loop that did not complete ended early
+pub ended_early : {T E : Type 0} {Complete Early : Type 0} (result : Result T E) → OnOk result Complete → OnErr result Early → (Complete → ⊥) → Early
+ended_early (Ok done) complete early not = absurd (not complete)
+ended_early (Err why) complete early not = early

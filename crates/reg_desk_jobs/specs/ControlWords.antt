@@ -28,7 +28,7 @@ use Rattle.reg_desk_jobs.specs.SerialDecisions.{DecidesAt}
 use Rattle.reg_desk_jobs.specs.RowLookUps.{AnswersShown, help_text}
 use Rattle.reg_desk_jobs.specs.declared.control_reply.ControlReply.{ControlReply}
 use Rattle.reg_desk_jobs.specs.declared.words.ControlWord.{ControlWord}
-use Rattle.reg_desk_jobs.specs.declared.words.ControlWord.TheVariants.{Help, Why, Copy, Show, Settle, AcceptClock, Schedule, Line}
+use Rattle.reg_desk_jobs.specs.declared.words.ControlWord.TheVariants.{Help, Why, Copy, Show, Decide, AcceptClock, Schedule, Line}
 use Rattle.reg_desk_jobs.specs.declared.words.SerialDecision.{SerialDecision}
 use Rattle.reg_desk_jobs.specs.declared.words.Shown.{Shown}
 use Rattle.reg_desk_jobs.specs.declared.words.Shown.TheVariants.{Request, Certificate, Subscriber}
@@ -112,7 +112,7 @@ IsWord line Help = meaning_in line ≡ helps
 IsWord line Why = meaning_in line ≡ why
 IsWord line (Copy path) = meaning_in line ≡ copies
 IsWord line (Show shown) = meaning_in line ≡ shows shown
-IsWord line (Settle serial_decision) = meaning_in line ≡ settles serial_decision
+IsWord line (Decide serial_decision) = meaning_in line ≡ settles serial_decision
 IsWord line (AcceptClock clock) = meaning_in line ≡ accepts clock.moment
 IsWord line (Schedule steps) = meaning_in line ≡ schedules steps
 IsWord line (Line command) = (meaning_in line ≡ commands)

@@ -13,6 +13,7 @@ use Rattle.reg_lines.specs.ByCalls.{Lines}
 use Rattle.reg_office_api.specs.CallSteps.{Crls}
 use Rattle.reg_office_api.specs.declared.office.Office.{Ghosts as Office}
 use Rattle.reg_desk_server.specs.Exchange.{Input, Outcome}
+use Rattle.reg_desk_server.specs.Failures.{EndsEarly}
 use Rattle.reg_desk_cli.specs.Checks.{WritesIdentified, WritesIdentifier, IsNoIdentifier, IsNoOffice, IsNoSchedule, terms_of_days}
 use Rattle.reg_desk_cli.specs.ExitStatus.{exit_status}
 use Rattle.reg_desk_cli.specs.declared.failure.Failure.{Failure}
@@ -330,7 +331,7 @@ module _ {M O D S R E W : Type 0} (machines : Machine M O D S R) (offices : Offi
       (λ identity before after. (IsTrue (is_some published) → HasAll before (remaining reader))
       × ServesOn machines offices signer answerer (is_some control) inputs outcomes identity before after)
       × ServedAt contents writer writer' (IsBoundOn machines endpoint control)
-      endpoint.port requests inputs result))
+      (EndsEarly machines.failed machines.waited) endpoint.port requests inputs result))
 
   -- that many requests
   abbrev pub ServeAt : ServeJob → Result (Unit {0}) Failure → Type 0

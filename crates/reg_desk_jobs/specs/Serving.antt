@@ -69,25 +69,25 @@ abbrev pub Unbound : List Input → Result (Unit {0}) Failure → Type 0
 Unbound inputs result =
     (inputs ≡ []) × ((result ≡ Err (failure.Fault fault.Read)) ⊎ (result ≡ Err (failure.Fault fault.Memory)))
 
--- Serving ended after these inputs were answered: it is done after all requests. `Read` means that the clock could not be read, or that
--- the sockets failed; `Write`, that the line with the port was not written whole.
+-- Serving ended after these inputs were answered: it is done after all requests. `Read` means that it ended early; `Write`, that the line
+-- with the port was not written whole.
 abbrev pub Served
-    : ℕ → ℕ → List Input → Option (List ℕ) → Option (List ℕ) → Result (Unit {0}) Failure → Type 0
-Served port requests inputs out out' (Ok done) =
+    : ℕ → ℕ → Type 0 → List Input → Option (List ℕ) → Option (List ℕ) → Result (Unit {0}) Failure → Type 0
+Served port requests Early inputs out out' (Ok done) =
     (requests_in inputs ≡ requests) × Appends out out' (listening port)
-Served port requests inputs out out' (Err (failure.Fault fault.Read)) =
-    (requests_in inputs ≢ requests) × Appends out out' (listening port)
-Served port requests inputs out out' (Err (failure.Fault fault.Write)) =
+Served port requests Early inputs out out' (Err (failure.Fault fault.Read)) =
+    (requests_in inputs ≢ requests) × Early × Appends out out' (listening port)
+Served port requests Early inputs out out' (Err (failure.Fault fault.Write)) =
     (inputs ≡ []) × AppendsPrefix out out' (listening port)
-Served port requests inputs out out' (Err other) = ⊥
+Served port requests Early inputs out out' (Err other) = ⊥
 
 -- nothing was bound and nothing was written; or this was bound, and these inputs were served
 abbrev pub ServedAt
-    : {W : Type 0} → (W → Option (List ℕ)) → W → W → Type 0 → ℕ → ℕ → List Input → Result (Unit {0}) Failure
-    → Type 0
-ServedAt contents writer writer' Bound port requests inputs result =
+    : {W : Type 0} → (W → Option (List ℕ)) → W → W → Type 0 → Type 0 → ℕ → ℕ → List Input
+    → Result (Unit {0}) Failure → Type 0
+ServedAt contents writer writer' Bound Early port requests inputs result =
     (Unbound inputs result × (writer' ≡ writer))
-    ⊎ (Bound × Served port requests inputs (contents writer) (contents writer') result)
+    ⊎ (Bound × Served port requests Early inputs (contents writer) (contents writer') result)
 
 -- a control socket was created at a path: a socket with the mode 0600
 abbrev pub IsControlSocket : (List ℕ → Type 0) → (List ℕ → ℕ → Type 0) → List ℕ → Type 0

@@ -29,7 +29,7 @@ pub(crate) enum Next {
 /// The result of the next line of a conversation with a control socket.
 #[derive(Clone, Copy)]
 enum Step {
-    /// It was sent. Has whether its reply was accepted.
+    /// It was sent; `true` if its reply was no refusal and no fault.
     Replied(bool),
     /// It has no line end, and was not sent.
     Cut,

@@ -104,8 +104,8 @@ fn answer_word<M: Machine>(
         Ok(ControlWord::Why) => reason_reply(alloc, last_reason),
         Ok(ControlWord::Copy(path)) => answer_copy(alloc, machine, file, path, last_reason),
         Ok(ControlWord::Show(shown)) => answer_show::<M>(alloc, office, now, shown, last_reason),
-        Ok(ControlWord::Settle(serial_decision)) => {
-            settle_by_clock::<M>(alloc, office, *accepted, now, serial_decision, last_reason)
+        Ok(ControlWord::Decide(serial_decision)) => {
+            decide_by_clock::<M>(alloc, office, *accepted, now, serial_decision, last_reason)
         }
         Ok(ControlWord::AcceptClock(clock)) => accept_clock(alloc, clock, accepted),
         Ok(ControlWord::Schedule(steps)) => answer_schedule::<M>(
@@ -162,7 +162,7 @@ fn clock_refused(alloc: Global) -> ControlReply
     ControlReply::line(alloc, b"bad-clock", LineOutcome::Failed(Failure::BadClock))
 }
 
-fn settle_by_clock<M: Machine>(
+fn decide_by_clock<M: Machine>(
     alloc: Global,
     office: &mut M::Office,
     accepted: Option<Moment>,
@@ -239,7 +239,7 @@ fn answer_command_line<M: Machine>(
     reply
 }
 
-/// Writes the reply to a command line that ran into `room`, which is empty. If it was refused, keeps the reason for `why`.
+/// Writes the reply to a command line, which has run; `room` is the empty buffer for it. If the line was refused, keeps the reason for `why`.
 pub(crate) fn answer_command<M: Machine>(
     alloc: Global,
     office: &mut M::Office,

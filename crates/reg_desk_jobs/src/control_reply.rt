@@ -16,7 +16,7 @@ use std::alloc::{AllocError, Global};
 pub(crate) enum LineOutcome {
     /// A command line: its kind, and its outcome.
     Completed(LineKind, Outcome),
-    /// An OCSP request that got a response. Has whether that has only a status (RFC 6960 4.2.1).
+    /// An OCSP request that got a response; `true` if the response has only a status (RFC 6960 4.2.1).
     Response(bool),
     /// Another word, which succeeded.
     Done,

@@ -1,4 +1,4 @@
-//! Revokes and declines requests by number and serial number, and finds what the log names of requests.
+//! Revokes and declines requests by number and serial number, and finds these two for the lines of the log.
 
 ghost use Rattle.std.specs.Prelude.{◌≡◌, IfSome};
 ghost use Rattle.reg_core.specs.Records.{request_in};
@@ -107,7 +107,7 @@ fn request_of_row(found: Option<Row>) -> Option<RequestRow>
     }
 }
 
-/// What the log will name of the request that a line is to decide; `None` if there is no log.
+/// The number and the serial number, for the log, of the request that a line is to decide; `None` if there is no log.
 pub(crate) fn named_before<M: Machine>(
     alloc: Global,
     office: &mut M::Office,
@@ -147,7 +147,7 @@ fn decided_by(line: &[u8]) -> Option<u64>
     }
 }
 
-/// What the log names of the request that a line entered or decided. `before` is what was looked up before a decision.
+/// The request that a line entered or decided, as the log names it. `before` was looked up before a decision.
 pub(crate) fn named_by(
     line_outcome: &LineOutcome,
     before: Option<NamedRequest>,

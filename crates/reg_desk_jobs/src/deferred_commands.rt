@@ -145,6 +145,7 @@ pub(crate) fn known_of<M: Machine>(
         IfSome found (IsKnown (AnsweredBySigner M.signer_answered signer.now answerer.now looked.wanted)
         M.clock_reached)) }
     ensures err { OnErr result (office.new ≡ office.old) }
+    ensures fails { OnErr result M.failed }
 {
     let Some(link) = link else {
         let Ok(moment) = machine.moment() else {

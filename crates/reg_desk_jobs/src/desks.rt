@@ -9,6 +9,8 @@ use crate::exchange_log::log_lost;
 use crate::http_exchanges::answer_http;
 use crate::machine::Machine;
 use crate::unsigned_responses::{Unsigned, finish_http};
+use mio::net::{TcpListener, TcpStream};
+use mio::{Events, Poll};
 use reg_crl_signer::{Backoff, SignatureRequest};
 use reg_desk_cli::{ResponderChoice, SignerAddress};
 use reg_desk_metrics::{ConnectionTotals, Tally};
@@ -21,6 +23,7 @@ use std::cell::Cell;
 use std::io;
 use std::io::ErrorKind;
 use std::net::SocketAddr;
+use std::time::Duration;
 
 /// A desk that answers HTTP requests, each at a moment of the clock. An open desk also answers `/health`, `/metrics`, lists, and lines at the
 /// control socket.
@@ -71,6 +74,41 @@ impl<'a, 'w, M: Machine> Handler for Desk<'a, 'w, M> {
         × KeepsIn M.Office.Office s.office t.office };
 
     ghost finishes = { λ s. FinishesUnsigned (AnsweredByOcspSigner M.signer_answered s.signer.now s.answerer.now) };
+
+    ghost has_control = { λ desk. IsTrue desk.is_open };
+
+    ghost failed = { M.failed };
+
+    ghost waited = { M.waited };
+
+    ghost not_waited = { M.not_waited };
+
+    fn has_control_socket(&self) -> bool {
+        self.is_open
+    }
+
+    fn millis(&self) -> Result<u64, EventLoopFault> {
+        match self.machine.millis() {
+            Ok(millis) => Ok(millis),
+            Err(_) => Err(EventLoopFault),
+        }
+    }
+
+    fn wait(
+        &self,
+        poll: &mut Poll,
+        events: &mut Events,
+        longest: Duration,
+    ) -> Result<(), EventLoopFault> {
+        match self.machine.wait(poll, events, longest) {
+            Ok(()) => Ok(()),
+            Err(_) => Err(EventLoopFault),
+        }
+    }
+
+    fn accept(&self, listener: &TcpListener) -> io::Result<(TcpStream, SocketAddr)> {
+        self.machine.accept(listener)
+    }
 
     fn answer(
         &mut self,
@@ -131,9 +169,6 @@ impl<'a, 'w, M: Machine> Handler for Desk<'a, 'w, M> {
         line: &[u8],
         last_reason: &mut Vec<u8>,
     ) -> Result<Vec<u8>, EventLoopFault> {
-        if !self.is_open {
-            return Err(EventLoopFault);
-        }
         let Ok(now) = self.machine.moment() else {
             return Err(EventLoopFault);
         };
@@ -180,6 +215,7 @@ impl<'a, 'w, M: Machine> Handler for Desk<'a, 'w, M> {
         deferred: Deferred<LineTicket>,
         link: Option<SignatureRequest>,
     ) -> Result<Option<Vec<u8>>, EventLoopFault>
+        requires { IsTrue self.old.is_open }
         ensures ok { IfOk result (λ answered. MatchOption answered
             ((self.new.is_open ≡ self.old.is_open)
             × KeepsIn M.Office.Office self.old.office self.new.office)
@@ -188,10 +224,8 @@ impl<'a, 'w, M: Machine> Handler for Desk<'a, 'w, M> {
             Word M.Office.signs M.clock_reached identity before line.now text.items after) self.old.office
             self.new.office)) }
         ensures err { OnErr result ((self.new ≡ self.old) × (last_reason.new ≡ last_reason.old)) }
+        ensures fails { OnErr result M.failed }
     {
-        if !self.is_open {
-            return Err(EventLoopFault);
-        }
         let Deferred { message, ticket } = deferred;
         let looked = ticket;
         let asked = ticket;

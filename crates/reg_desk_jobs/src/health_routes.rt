@@ -177,7 +177,7 @@ fn due_behind(read: ReadCrl, due: Option<Moment>) -> Option<Moment>
     if read.is_unsigned { None } else { due }
 }
 
-/// What was read in the latest CRL. `None` if there is no CRL, or if no signer has the key for the next one.
+/// The number of the latest CRL, and whether it has a placeholder digest. `None` if there is no CRL, or if no signer has the key for the next one.
 fn latest_read<M: Machine>(
     alloc: Global,
     office: &mut M::Office,
@@ -274,7 +274,7 @@ fn why_at_once<M: Machine>(
     }
 }
 
-/// How CRLs are signed, as the tally has it.
+/// Whether CRLs get a signature, a placeholder digest or neither, for the tally.
 pub(crate) fn signing_of(crls: &CrlSigner<'_>) -> CrlSigning
     ensures { result ≡ signing_by crls.now }
 {

@@ -1,4 +1,4 @@
-//! Answers the bytes that came on an HTTP connection: the register does, or an open desk itself.
+//! Answers the bytes that came on an HTTP connection, by the register or, for some routes, by the open desk itself.
 
 ghost use Rattle.std.specs.Prelude.{◌≡◌};
 ghost use Rattle.reg_office_api.specs.Calls.{LeadsIn};

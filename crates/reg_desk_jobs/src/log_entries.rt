@@ -100,7 +100,7 @@ pub(crate) fn logged_of(logged_exchange: &ExchangeText<'_>) -> Logged
     }
 }
 
-/// What follows from the request that the log names after the size and the time of the answer; `None` if it names none.
+/// The entry for `replay` of a log line that names a request, after the size and the time of the answer; `None` if it names none.
 #[tactic(auto, unfolding(crate::specs::LogEntries::named_in))]
 fn named_in(behind: &[u8]) -> Option<Logged>
     ensures { result ≡ named_in (fields_of behind.now) }
@@ -150,7 +150,7 @@ fn request_by(id: &[u8], serial: &[u8], word: &[u8]) -> Option<Entry>
     Some(Entry::Request { id, serial, ground })
 }
 
-/// What follows from a line of the log that names no request: a command only if it was accepted at the control socket and changes the register.
+/// The entry for `replay` of a log line that names no request: a command only if it was accepted at the control socket and changes the register.
 #[tactic(auto, unfolding(crate::specs::LogEntries::unnamed))]
 fn unnamed(logged_exchange: &ExchangeText<'_>) -> Logged
     ensures { result ≡ unnamed (exchange_of logged_exchange.now) }

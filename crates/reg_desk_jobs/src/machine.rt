@@ -4,7 +4,8 @@ use crate::clock::moment_at;
 use crate::copy_job::CopyFault;
 use crate::crl_signer::CrlSigner;
 use crate::deferred_commands::SignatureKind;
-use mio::net::{TcpListener, UnixListener};
+use mio::net::{TcpListener, TcpStream, UnixListener};
+use mio::{Events, Poll};
 use reg_audit_rows::AuditResult;
 use reg_core::{Cause, Fault, Memory, Moment, Policy};
 use reg_crl_signer::{PresetSignature, SignatureRequest};
@@ -14,15 +15,17 @@ use reg_office_api::Office;
 use std::alloc::Global;
 use std::fs::File;
 use std::io;
+use std::net::SocketAddr;
 use std::os::unix::net::UnixStream;
+use std::time::Duration;
 
-/// The machine that a job runs on. A job is handed nothing else of the system, so only a call of it can say that a file was opened, a port bound or
-/// the clock read; a clause that relates two machines by such calls says that no other file was touched. Each method stands for one action
-/// of the system. Its relation, such as `claimed`, names the action; that the system performs it is assumed. What takes several actions is
-/// written over any machine ([`registers`](crate::registers), [`control_socket`](crate::control_socket)). Where no errors are named, they are
-/// the system's.
+/// The machine that a job runs on. A job reaches the system only by these methods. So a clause that relates the machine before a job
+/// to that after it, by the methods that were called, excludes that another file was touched. Each method is one action of the system. Its relation,
+/// such as `claimed`, states that the action was performed; no proof covers what the system does. A function that takes several actions is written
+/// over any machine ([`registers`](crate::registers), [`control_socket`](crate::control_socket)). If the comment of a method names no errors, they
+/// are the system's.
 pub trait Machine {
-    ghost use Rattle.std.specs.Prelude.{◌≡◌, ◌≤◌, ◌⊎◌, ℕ, List, [], IsTrue, IsFalse, MatchBool, OnOk, OnErr, IfOk, IfErr, IfSome, length};
+    ghost use Rattle.std.specs.Prelude.{◌≡◌, ◌≤◌, ◌+◌, ◌⊎◌, ℕ, List, [], IsTrue, IsFalse, MatchBool, OnOk, OnErr, IfOk, IfErr, IfSome, length};
     ghost use Rattle.reg_office_api.specs.Calls.{KeepsIn};
     ghost use Rattle.reg_office_api.specs.LookUps.{IsOfStore};
     ghost use Rattle.reg_office_api.specs.Signatories.{Signatory};
@@ -39,8 +42,9 @@ pub trait Machine {
     ghost use Rattle.reg_crl_signer.specs.Forms.{HasForm};
     ghost use Rattle.reg_desk_cli.specs.declared.job.ResponderChoice.{ResponderChoice as Answering};
     ghost use Rattle.std.specs.declared.fs.File.{File as OpenFile};
+    ghost use Rattle.reg_desk_server.specs.Failures.{AcceptFails};
 
-    /// What is opened: an office that keeps the records of a register.
+    /// The office over an open register: it runs commands, and answers queries and OCSP requests.
     type Office: Office + Drop;
 
     /// A file that is open as a database.
@@ -52,51 +56,57 @@ pub trait Machine {
     /// The responder to OCSP requests, with the certificate that its answers contain.
     type Responder: Drop;
 
-    // ---- files
+    // ---- files; a relation with two machines has those before and after the action
 
     /// Something lies at the path, or may.
     ghost lies: { Self → List ℕ → Type 0 };
     /// Nothing is found at the path.
     ghost absent: { Self → List ℕ → Type 0 };
-    /// Nothing lay at the path, an empty file was created there, and the machine after it.
+    /// Nothing lay at the path, and an empty file was created there.
     ghost claimed: { Self → List ℕ → Self → Type 0 };
-    /// The file at the path was removed, and the machine after it.
+    /// The file at the path was removed.
     ghost removed: { Self → List ℕ → Self → Type 0 };
-    /// A database was begun in the files at the path.
+    /// The files at the path have the beginning of a database.
     ghost begun: { Self → List ℕ → Type 0 };
     /// For this reason the files at the path could not be read.
     ghost unread: { Self → List ℕ → Failing → Type 0 };
-    /// The file at the path was opened as this database, and the machine after it.
+    /// The file at the path was opened as this database.
     ghost connected: { Self → List ℕ → Self.Database → Self → Type 0 };
-    /// For this reason the file at the path could not be opened as a database, and the machine after it.
+    /// For this reason the file at the path could not be opened as a database.
     ghost unconnected: { Self → List ℕ → Failing → Self → Type 0 };
     /// No statement ran over the database yet.
     ghost fresh: { Self.Database → Type 0 };
-    /// This responder answers, by the options, once the certificates are read.
+    /// This is the responder that the options choose, with the certificate that they name, if any.
     ghost certified: { Answering → Self.Responder → Type 0 };
     /// The register of the database was opened as this office, with this signer of CRLs and this responder.
     ghost opened: { Self.Database → SignsCrls → Self.Responder → Self.Office → Type 0 };
     /// A register was made in the database, and is this office.
     ghost made: { Self.Database → Self.Office → Type 0 };
-    /// The office whose file lies at the path was closed, and the machine after it.
+    /// The office whose file lies at the path was closed.
     ghost closed: { Self → List ℕ → Self.Office → Self → Type 0 };
     /// The files at the path were opened for reading alone.
     ghost read: { Self → List ℕ → Self.Sources → Type 0 };
     /// An audit of the register in the files said this.
     ghost audited: { Self.Sources → AuditResults → Type 0 };
-    /// A copy of so many bytes of the register at the path was created at another path, at which nothing lay, and the machine after it.
+    /// A copy of so many bytes of the register at the path was created at another path, at which nothing lay.
     ghost copied: { Self → List ℕ → List ℕ → ℕ → Self → Type 0 };
-    /// For this reason no copy of the register at the path was created at another path, and the machine after it.
+    /// For this reason no copy of the register at the path was created at another path.
     ghost uncopied: { Self → List ℕ → List ℕ → Failing → Self → Type 0 };
     /// A copy of so many bytes of the open register whose file lies at a path was created.
     ghost copied_open: { List ℕ → ℕ → Type 0 };
 
     // ---- clock, ports and sockets
 
-    /// The clock stood at so many whole seconds since 1970 began; at 0 also before that.
+    /// The clock was read: so many whole seconds since the start of 1970, or 0 if it showed an earlier time.
     ghost clock_read: { ℕ → Type 0 };
     /// The clock has reached this moment.
     ghost clock_reached: { ℕ → Type 0 };
+    /// The system failed: the clock could not be read, or the sockets could not be used.
+    ghost failed: { Type 0 };
+    /// The program waited for its sockets this number of times.
+    ghost waited: { ℕ → Type 0 };
+    /// At first it has not waited.
+    ghost not_waited: { waited 0 };
     /// This port of this address was bound (four bytes, RFC 791 3.1, or sixteen, RFC 4291 2).
     ghost bound: { List ℕ → ℕ → Type 0 };
     /// A socket was created at this path.
@@ -134,8 +144,8 @@ pub trait Machine {
     fn remove(&mut self, path: &str)
         ensures { removed self.old path.now self.new };
 
-    /// Looks, for reading alone, whether a database was begun in the files at a path; `NotARegister` where none was, `Store` where there is no
-    /// file.
+    /// Checks that the files at a path, which are only read, have the beginning of a database; `NotARegister` if they have none, `Store` if there
+    /// is no file.
     fn check_database(&self, path: &str) -> Result<(), Failure>
         ensures begun { OnOk result (begun self.now path.now) }
         ensures unread { IfErr result (unread self.now path.now) }
@@ -200,16 +210,16 @@ pub trait Machine {
         ensures audited { IfOk result (audited sources) }
         ensures faults { IfErr result IsOpening };
 
-    /// Copies the register at a path, which is not open and is only read, to a path at which nothing lies, and gives the bytes of the copy: a file
-    /// for its owner alone, synced with its folder, that never has the name before it is whole. `Store` also where something lies at the second
-    /// path or beside it.
+    /// Copies the register at a path, which no program has open and which is only read, to a path at which nothing lies, and returns how many bytes
+    /// the copy has. The copy is for its owner alone, and is synced with its folder. It gets its name once it is whole. `Store` also if something
+    /// lies at the second path or beside it.
     fn copy(&mut self, path: &str, to: &str) -> Result<u64, Failure>
         ensures ok { IfOk result (λ bytes. copied self.old path.now to.now bytes self.new) }
         ensures err { IfErr result (λ why. uncopied self.old path.now to.now why self.new) }
         ensures faults { IfErr result IsFileFailure };
 
-    /// Copies the register that this program has open in the same way, as it is between two calls of it; a fault of the store also where the file
-    /// at the path is not the one that is open.
+    /// Copies the register that this program has open in the same way, between two transactions. A fault of the store also if the file at the path
+    /// is not the open one.
     fn copy_open(&self, path: &str, to: &str) -> Result<u64, CopyFault>
         ensures ok { IfOk result (copied_open path.now) }
         ensures err { IfErr result (λ why. IsOfStore why.fault) };
@@ -217,10 +227,24 @@ pub trait Machine {
     /// The whole seconds of the clock since 1970 began; 0 where it stands before that.
     fn seconds(&self) -> io::Result<u64>
         ensures stood { IfOk result clock_read }
-        ensures told { IfOk result (λ seconds. (now : ℕ) → now ≤ seconds → clock_reached now) };
+        ensures told { IfOk result (λ seconds. (now : ℕ) → now ≤ seconds → clock_reached now) }
+        ensures fails { OnErr result failed };
 
     /// The microseconds of a clock that never goes back; 0 where it can't be read.
     fn micros(&self) -> u64;
+
+    /// The milliseconds of a monotonic clock.
+    fn millis(&self) -> io::Result<u64>
+        ensures { OnErr result failed };
+
+    /// Blocks until a socket is ready, at most for `longest`.
+    fn wait(&self, poll: &mut Poll, events: &mut Events, longest: Duration) -> io::Result<()>
+        ensures ok { OnOk result ((count : ℕ) → waited count → waited (count + 1)) }
+        ensures fails { OnErr result failed };
+
+    /// Accepts a connection. Errors are those of accept(2): no connection waits, a signal came, the client is gone, or the system failed.
+    fn accept(&self, listener: &TcpListener) -> io::Result<(TcpStream, SocketAddr)>
+        ensures { IfErr result (AcceptFails failed) };
 
     /// Listens at a port of an address, and never waits for a client.
     fn listen(&self, address: [u8; 4], port: u16) -> io::Result<TcpListener>
@@ -260,8 +284,8 @@ pub trait Machine {
     fn connect_to_socket(&self, path: &str) -> io::Result<UnixStream>
         ensures { OnOk result (socket_connected path.now) };
 
-    /// Asks the signer at the socket at a path to sign a message, without waiting. Gives the connection on which the answer will come, up to its end;
-    /// `WouldBlock` where the socket has no room for one more.
+    /// Asks the signer at the socket at a path to sign a message, without waiting. Returns the connection: the bytes that will arrive on it, up to
+    /// its end, are the answer. `WouldBlock` if the socket has no room for one more connection.
     fn request_signature(&self, path: &str, message: &[u8]) -> io::Result<SignatureRequest>
         ensures asked { OnOk result (signature_requested path.now message.now) }
         ensures kept { IfOk result (IsSignatureRequest path.now message.now) };
@@ -271,7 +295,7 @@ pub trait Machine {
         ensures reached { OnOk result (reached path.now) }
         ensures kept { IfOk result (IsSignatureRequest path.now []) };
 
-    /// The answer on a connection to a signer, once it is whole. `None` where it is not, is longer than 4,096 bytes, or memory is refused.
+    /// The signer's answer on a connection. `None` if it is not complete, is longer than 4,096 bytes, or there is no memory for it.
     fn receive_answer(alloc: Global, link: &mut SignatureRequest) -> Option<Vec<u8>>
         ensures given { IfSome result (λ answer.
             (path message : List ℕ) → IsSignatureRequest path message link.old
@@ -311,6 +335,7 @@ pub trait Machine {
         ensures told { IfOk result clock_reached }
         ensures exact { IfOk result (IsClockMoment clock_read) }
         ensures err { IfErr result (λ fault. fault ≡ Fault.Read) }
+        ensures fails { OnErr result failed }
     {
         match self.seconds() {
             Ok(seconds) => Ok(moment_at(seconds)),

@@ -54,8 +54,8 @@ fn why_reply(alloc: Global, last_reason: &[u8]) -> Result<Vec<u8>, AllocError>
     Ok(text)
 }
 
-/// Keeps why a line was refused with this reply. That is the reply itself if no command was refused, if the register gives no reason, or if there
-/// is no memory for it.
+/// Keeps the reason, as the register gives it, for which a command was refused with this reply. If the refused line was no command, if the register
+/// gives no reason, or if there is no memory for it, keeps the reply.
 pub(crate) fn keep_refusal_reason<M: Machine>(
     alloc: Global,
     office: &mut M::Office,

@@ -3,6 +3,7 @@
 ghost use Rattle.std.specs.Prelude.{◌≡◌, ◌⊎◌, ◌++◌, ◌∷◌, [], List, None, Err, OnOk, IfErr, IsTrue, IsFalse, decimal, is_some, option_copied};
 ghost use Rattle.reg_office_api.specs.Calls.{LeadsIn, LooksIn};
 ghost use Rattle.reg_desk_server.specs.Exchange.{Input, Outcome, Handles};
+ghost use Rattle.reg_desk_server.specs.Failures.{EndsEarly};
 ghost use Rattle.reg_desk_jobs.specs.Ends.{PrintsText, ServeAt};
 ghost use Rattle.reg_desk_cli.specs.declared.failure.Failure.{Failure as Failing};
 ghost use Rattle.reg_desk_jobs.specs.Published.{Compares, HasAll};
@@ -93,7 +94,7 @@ pub(crate) fn serve_checked<'a, 'w, M: Machine, R: Read, W: Write>(
         office result.0
         × ServedAt W.contents writer.old writer.new
         (IsBoundOn M.Machine endpoint (option_copied control_path.entry))
-        endpoint.port requests inputs result.1) }
+        (EndsEarly M.failed M.waited) endpoint.port requests inputs result.1) }
 {
     if is_published {
         match check_published(rt.alloc(), &mut office, reader, writer) {
@@ -134,7 +135,7 @@ fn serve_desk<'a, 'w, M: Machine, W: Write>(
         office result.0
         × ServedAt W.contents writer.old writer.new
         (IsBoundOn M.Machine endpoint (option_copied control_path.entry))
-        endpoint.port requests inputs result.1 }
+        (EndsEarly M.failed M.waited) endpoint.port requests inputs result.1 }
 {
     let event_loop: EventLoop<Desk<'_, '_, M>> = match event_loop_at(
         rt,
@@ -162,7 +163,7 @@ fn serve_desk<'a, 'w, M: Machine, W: Write>(
         connection_totals: &connection_totals,
         admission: Admission::new(),
     };
-    let ending = run_event_loop(rt, event_loop, &mut desk, endpoint.port, requests, writer);
+    let ending = run_event_loop(event_loop, &mut desk, endpoint.port, requests, writer);
     (desk.office, ending)
 }
 
@@ -215,7 +216,6 @@ fn event_loop_over<H: Handler>(
 
 /// Prints the port, answers the requests, and sends the answers that are left.
 fn run_event_loop<H: Handler, W: Write>(
-    rt: &HostRuntime,
     mut event_loop: EventLoop<H>,
     handler: &mut H,
     port: u16,
@@ -224,7 +224,8 @@ fn run_event_loop<H: Handler, W: Write>(
 ) -> Result<(), Failure>
     ensures { (inputs : List Input) × (outcomes : List (Outcome H.Ticket))
         × Answered (Handles H.answers H.answers_line H.defers) handler.old inputs outcomes handler.new
-        × Served port requests inputs (W.contents writer.old) (W.contents writer.new) result }
+        × Served port requests (EndsEarly H.failed H.waited) inputs
+        (W.contents writer.old) (W.contents writer.new) result }
 {
     match print_port(writer, port) {
         Ok(()) => {}
@@ -232,12 +233,12 @@ fn run_event_loop<H: Handler, W: Write>(
     }
     let mut made = 0;
     // It stops early if the clock or the sockets fail.
-    let _ = event_loop.serve_all(rt, handler, &mut made, requests);
+    let _ = event_loop.serve_all(handler, &mut made, requests);
     if made != requests {
         return Err(Failure::Fault(Fault::Read));
     }
     // Connections whose clients don't read their answers in time are closed.
-    let _ = event_loop.finish(rt, handler);
+    let _ = event_loop.finish(handler);
     Ok(())
 }
 

@@ -59,11 +59,11 @@ pub(crate) fn wrong_field(line: &[u8]) -> Option<WrongField>
 {
     let mut fields = Fields::of(line);
     let word = fields.next()?;
-    first_wrong(signature_kind_by(word)?, fields)
+    first_wrong(fields_by_word(word)?, fields)
 }
 
 /// The fields of a command, by its word.
-fn signature_kind_by(word: &[u8]) -> Option<&'static [Field]>
+fn fields_by_word(word: &[u8]) -> Option<&'static [Field]>
     ensures { option_map (λ wanted. wanted.now) result ≡ fields_wanted word.now }
 {
     if word == b"subscriber".as_slice() {

@@ -22,7 +22,7 @@ pub(crate) fn not_after(certificate: &[u8]) -> Option<Moment>
     }
 }
 
-/// notAfter, as the text of a moment in lines.
+/// notAfter, in the form `2026-01-01T00:00:00Z`.
 #[tactic(auto, unfolding(crate::specs::Validities::not_after_at))]
 fn not_after_text(certificate: &[u8]) -> Option<[u8; 20]>
     ensures { result ≡ not_after_at certificate.now }

@@ -24,7 +24,7 @@ pub(crate) enum ControlWord<'a> {
     /// `show`: it shows a row.
     Show(Shown),
     /// It revokes or declines a request, given by number and serial number.
-    Settle(SerialDecision),
+    Decide(SerialDecision),
     /// `accept-clock`: the operator accepts the clock.
     AcceptClock(AcceptedClock),
     /// `schedule`: it sets another schedule, with these steps.
@@ -75,7 +75,7 @@ pub(crate) fn read_word(alloc: Global, line: &[u8]) -> Result<ControlWord<'_>, A
         return Ok(ControlWord::Show(shown));
     }
     if let Some(serial_decision) = serial_decision_in(text) {
-        return Ok(ControlWord::Settle(serial_decision));
+        return Ok(ControlWord::Decide(serial_decision));
     }
     if let Some(moment) = accepted_in(text) {
         return Ok(ControlWord::AcceptClock(AcceptedClock { moment }));

@@ -16,7 +16,8 @@ use crate::ocsp_answerer::{delegate_answerer, issuer_answerer};
 use crate::offices::{
     FileConnection, close, connection_of, create_over, office_over, preset_wanted,
 };
-use mio::net::{TcpListener, UnixListener, UnixStream as UnwaitingStream};
+use mio::net::{TcpListener, TcpStream, UnixListener, UnixStream as UnwaitingStream};
+use mio::{Events, Poll};
 use reg_audit_rows::AuditResult;
 use reg_core::{Cause, Fault, Memory, Policy, io_cause_of, port_cause_of};
 use reg_crl::{DigestSeal, Signer};
@@ -118,7 +119,7 @@ impl<'a> Host<'a> {
 /// program, so those relations of [`Machine`] state nothing here (`Unspecified`).
 impl<'a> Machine for Host<'a> {
     ghost use Rattle.std.specs.Prelude.{false};
-    ghost use Rattle.std.proofs.Common.{inr};
+    ghost use Rattle.std.proofs.Common.{inr, refl};
     ghost use Rattle.sqlite.specs.Files.{over_files};
     ghost use Rattle.reg_crl.specs.Signing.{Identity};
     ghost use Rattle.reg_desk_files.specs.Overlaid.{image};
@@ -173,6 +174,12 @@ impl<'a> Machine for Host<'a> {
     ghost clock_read = { λ seconds. Unspecified seconds };
 
     ghost clock_reached = { λ now. Unspecified now };
+
+    ghost failed = { Unspecified {A = ℕ} 0 };
+
+    ghost waited = { λ count. Unspecified count };
+
+    ghost not_waited = { refl };
 
     ghost bound = { λ address port. Unspecified address };
 
@@ -308,6 +315,19 @@ impl<'a> Machine for Host<'a> {
             Ok(passed) => micros_of(passed),
             Err(_) => 0,
         }
+    }
+
+    fn millis(&self) -> io::Result<u64> {
+        let passed = self.rt.monotonic()?;
+        Ok(micros_of(passed) / 1_000)
+    }
+
+    fn wait(&self, poll: &mut Poll, events: &mut Events, longest: Duration) -> io::Result<()> {
+        poll.poll(events, Some(longest))
+    }
+
+    fn accept(&self, listener: &TcpListener) -> io::Result<(TcpStream, SocketAddr)> {
+        listener.accept()
     }
 
     fn listen(&self, address: [u8; 4], port: u16) -> io::Result<TcpListener> {

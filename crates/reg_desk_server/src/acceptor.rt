@@ -1,6 +1,7 @@
 //! The acceptor of HTTP connections.
 
-ghost use Rattle.std.specs.Prelude.{◌≡◌, ◌≤◌, IfOk, false, true};
+ghost use Rattle.std.specs.Prelude.{◌≡◌, ◌≤◌, IfOk, OnErr, false, true};
+ghost use Rattle.reg_desk_server.specs.Failures.{AcceptFails};
 
 use crate::handler::{EventLoopFault, Handler};
 use crate::http_connection::HttpConnection;
@@ -15,7 +16,7 @@ use std::net::SocketAddr;
 
 const MOST_ACCEPTED: usize = 64;
 
-/// A listener, and the connection that it accepted last.
+/// A listener, and a connection that it accepted and that waits for a slot, if there is one.
 #[derive(Drop)]
 pub(crate) struct Acceptor {
     listener: TcpListener,
@@ -57,20 +58,22 @@ impl Acceptor {
         self.next.is_some() || (self.may_have_more && self.accepted < most)
     }
 
-    /// Accepts connections while there are any, up to `most` in all. If there is no descriptor, and no HTTP connection that could be evicted, the
-    /// next call tries again; any other fault of the system is then an [`EventLoopFault`].
+    /// Accepts connections while there are any, up to `most` in all. If a waiting connection can't be accepted, evicts an HTTP connection. If there
+    /// is none, the next call tries again if descriptors ran out; any other error is an [`EventLoopFault`].
     pub(crate) fn accept_all<H: Handler>(
         &mut self,
         most: u64,
         connections: &mut HttpConnections<H>,
         shared: &mut Shared,
+        handler: &H,
         now: u64,
     ) -> Result<(), EventLoopFault>
-        ensures { self.old.accepted ≤ most → self.new.accepted ≤ most }
+        ensures within { self.old.accepted ≤ most → self.new.accepted ≤ most }
+        ensures fails { OnErr result H.failed }
     {
         self.try_again();
         for _ in 0..MOST_ACCEPTED {
-            if !self.accept(most, connections, shared, now)? {
+            if !self.accept(most, connections, shared, handler, now)? {
                 return Ok(());
             }
         }
@@ -92,11 +95,13 @@ impl Acceptor {
         most: u64,
         connections: &mut HttpConnections<H>,
         shared: &mut Shared,
+        handler: &H,
         now: u64,
     ) -> Result<bool, EventLoopFault>
-        ensures { self.old.accepted ≤ most → self.new.accepted ≤ most }
+        ensures within { self.old.accepted ≤ most → self.new.accepted ≤ most }
+        ensures fails { OnErr result H.failed }
     {
-        self.accept_next(most, connections, shared)?;
+        self.accept_next(most, connections, shared, handler)?;
         if self.next.is_some() && !connections.slots.has_free() {
             connections.evict(shared);
             return Ok(false);
@@ -124,14 +129,16 @@ impl Acceptor {
         most: u64,
         connections: &mut HttpConnections<H>,
         shared: &mut Shared,
+        handler: &H,
     ) -> Result<(), EventLoopFault>
         ensures within { self.old.accepted ≤ most → self.new.accepted ≤ most }
         ensures kept { self.old.has_more ≡ false → connections.new ≡ connections.old }
+        ensures fails { OnErr result H.failed }
     {
         if self.next.is_some() || !self.may_have_more || self.accepted >= most {
             return Ok(());
         }
-        match self.listener.accept() {
+        match handler.accept(&self.listener) {
             Ok((link, client)) => {
                 self.accepted += 1;
                 self.has_more = false;
@@ -148,8 +155,10 @@ impl Acceptor {
         connections: &mut HttpConnections<H>,
         shared: &mut Shared,
     ) -> Result<(), EventLoopFault>
+        requires { AcceptFails H.failed why.now }
         ensures same { self.new.accepted ≡ self.old.accepted }
         ensures kept { self.old.has_more ≡ false → connections.new ≡ connections.old }
+        ensures fails { OnErr result H.failed }
     {
         match why.kind() {
             ErrorKind::WouldBlock => {

@@ -20,7 +20,7 @@ const LONGEST_LINE: usize = 8_194;
 const MOST_READS: usize = 4;
 
 /// How often a line's signature is requested in the background, at most. After that the line is answered at once, and the loop waits for its signer.
-const MOST_LOOKS: u32 = 3;
+const MOST_DEFERRALS: u32 = 3;
 
 #[derive(Drop)]
 pub struct ControlConnection<S: Link> {
@@ -30,7 +30,7 @@ pub struct ControlConnection<S: Link> {
     pub(crate) has_ended: bool,
     pub(crate) is_registered: bool,
     /// How often the first line was passed to `Handler::defer` since the last reply.
-    pub(crate) polls: u32,
+    pub(crate) deferrals: u32,
     pub(crate) last_reason: Vec<u8>,
 }
 
@@ -52,7 +52,7 @@ impl<S: Link> ControlConnection<S> {
             unsent: Unsent::new(Vec::new(alloc)),
             has_ended: false,
             is_registered: false,
-            polls: 0,
+            deferrals: 0,
             last_reason: Vec::new(alloc),
         }
     }
@@ -132,9 +132,11 @@ impl<S: Link> ControlConnection<S> {
 
     /// Answers the first line, if one is whole and the reply before it was sent.
     pub fn answer_line<H: Handler>(&mut self, handler: &mut H) -> Result<(), EventLoopFault>
+        requires { H.has_control handler.old }
         ensures ok { OnOk result (AnswersFirstLine H.answers_line handler.old handler.new self.old self.new) }
         ensures kept { SameLinkAndEnd self.old self.new }
         ensures err { OnErr result ((self.new ≡ self.old) × (handler.new ≡ handler.old)) }
+        ensures fails { OnErr result H.failed }
     {
         match self.due_line() {
             None => Ok(()),
@@ -154,24 +156,24 @@ impl<S: Link> ControlConnection<S> {
     {
         self.unsent = Unsent::new(text);
         drop_prefix(&mut self.arrived, end);
-        self.polls = 0;
+        self.deferrals = 0;
     }
 
     /// Gives what must be signed before the first line is answered, once the previous reply is sent. `None` if no line is whole, if the handler
-    /// signs nothing for it, and after `MOST_LOOKS` calls.
+    /// signs nothing for it, and after `MOST_DEFERRALS` calls.
     pub fn defer<H: Handler>(&mut self, handler: &mut H) -> Option<Deferred<H::Line>>
         ensures looked { DefersFirstLine H.defers handler.old handler.new self.old }
         ensures arrived { self.new.arrived ≡ self.old.arrived }
         ensures unsent { self.new.unsent ≡ self.old.unsent }
         ensures kept { SameLinkAndEnd self.old self.new }
     {
-        if self.polls >= MOST_LOOKS {
+        if self.deferrals >= MOST_DEFERRALS {
             return None;
         }
         match self.due_line() {
             None => None,
             Some(end) => {
-                self.polls += 1;
+                self.deferrals += 1;
                 handler.defer(&self.arrived[..end])
             }
         }
@@ -185,10 +187,12 @@ impl<S: Link> ControlConnection<S> {
         deferred: Deferred<H::Line>,
         link: Option<SignatureRequest>,
     ) -> Result<(), EventLoopFault>
+        requires { H.has_control handler.old }
         ensures ok { OnOk result
             (AnswersDeferred H.answers_line H.defers handler.old handler.new self.old self.new) }
         ensures kept { SameLinkAndEnd self.old self.new }
         ensures err { OnErr result ((self.new ≡ self.old) × (handler.new ≡ handler.old)) }
+        ensures fails { OnErr result H.failed }
     {
         match self.due_line() {
             None => Ok(()),

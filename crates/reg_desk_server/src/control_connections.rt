@@ -1,6 +1,6 @@
 //! The control connections: their listener, and each connection in its slot.
 
-ghost use Rattle.std.specs.Prelude.{◌≡◌};
+ghost use Rattle.std.specs.Prelude.{◌≡◌, OnErr};
 ghost use Rattle.reg_desk_server.specs.Handling.{AnsweredLines};
 
 use crate::control_connection::ControlConnection;
@@ -170,7 +170,8 @@ impl<H: Handler> ControlConnections<H> {
         handler: &mut H,
         now: u64,
     ) -> Result<(), EventLoopFault>
-        ensures { AnsweredLines H.Handler handler.old handler.new }
+        ensures lines { AnsweredLines H.Handler handler.old handler.new }
+        ensures fails { OnErr result H.failed }
     {
         if let Some(waiting) = self.waiting.take() {
             return self.go_on(waiting, shared, handler, now);
@@ -194,10 +195,15 @@ impl<H: Handler> ControlConnections<H> {
         handler: &mut H,
         now: u64,
     ) -> Result<(), EventLoopFault>
-        ensures { AnsweredLines H.Handler handler.old handler.new }
+        ensures lines { AnsweredLines H.Handler handler.old handler.new }
+        ensures fails { OnErr result H.failed }
     {
         if waiting.is_due(now) {
             let (slot, mut connection, deferred, link) = waiting.into_parts();
+            if !handler.has_control_socket() {
+                self.close(slot, connection);
+                return Ok(());
+            }
             let line_answered = connection.answer_deferred(handler, deferred, link);
             self.drive(slot, connection, shared);
             return line_answered;
@@ -216,7 +222,8 @@ impl<H: Handler> ControlConnections<H> {
         handler: &mut H,
         now: u64,
     ) -> Result<(), EventLoopFault>
-        ensures { AnsweredLines H.Handler handler.old handler.new }
+        ensures lines { AnsweredLines H.Handler handler.old handler.new }
+        ensures fails { OnErr result H.failed }
     {
         if self.waiting.is_some() {
             self.has_lines = true;
@@ -233,6 +240,10 @@ impl<H: Handler> ControlConnections<H> {
                 Ok(())
             }
             None => {
+                if !handler.has_control_socket() {
+                    self.close(slot, connection);
+                    return Ok(());
+                }
                 let line_answered = connection.answer_line(handler);
                 self.drive(slot, connection, shared);
                 line_answered

@@ -1,6 +1,7 @@
 //! The event loop: it polls the listeners and connections, and has the handler answer requests and lines.
 
-ghost use Rattle.std.specs.Prelude.{◌≡◌, ◌≤◌, ◌+◌, OnOk};
+ghost use Rattle.std.specs.Prelude.{◌≡◌, ◌≤◌, ◌<◌, ◌+◌, ℕ, OnErr, OnOk};
+ghost use Rattle.reg_desk_server.specs.Failures.{EndsEarly};
 ghost use Rattle.reg_desk_server.specs.Handling.{Handled};
 
 use crate::acceptor::Acceptor;
@@ -19,7 +20,7 @@ use std::alloc::AllocGlobal;
 use std::io;
 use std::io::ErrorKind;
 use std::net::Net;
-use std::time::{Clock, Duration};
+use std::time::Duration;
 
 const IDLE: u64 = 3_600;
 
@@ -31,18 +32,6 @@ pub struct EventLoop<H: Handler> {
     http: HttpConnections<H>,
     control: ControlConnections<H>,
     signatures: SignatureRequests,
-}
-
-fn now_of<C: Clock>(clock: &C) -> Result<u64, EventLoopFault> {
-    match clock.monotonic() {
-        Ok(passed) => Ok(
-            passed
-                .as_secs()
-                .saturating_mul(1_000)
-                .saturating_add(u64::from(passed.subsec_millis())),
-        ),
-        Err(_) => Err(EventLoopFault),
-    }
 }
 
 impl<H: Handler> EventLoop<H> {
@@ -71,14 +60,13 @@ impl<H: Handler> EventLoop<H> {
     /// Answers HTTP requests until `made` is `most`, and control lines meanwhile. Each accepted HTTP connection counts as one request, and
     /// is answered once: when its request is whole, when nothing more of it comes, when its time is over, or when it is evicted. If an
     /// answer needs a signature, the loop requests it, and only that client waits. [`EventLoop::finish`] finishes the answers that still
-    /// wait at the end.
+    /// wait at the end. The loop ends early only because the system failed, or after 2^64 - 1 iterations.
     ///
     /// An iteration reads and writes what each ready connection allows, finishes each answer whose signature came, answers at most one line
     /// of each control connection, and answers each whole request.
     #[tactic(auto, using(crate::proofs::Exchanges::exchanged_none))]
-    pub fn serve_all<C: Clock>(
+    pub fn serve_all(
         &mut self,
-        clock: &C,
         handler: &mut H,
         made: &mut u64,
         most: u64,
@@ -86,12 +74,13 @@ impl<H: Handler> EventLoop<H> {
         requires { made.old ≤ most }
         ensures exchanged { Handled H.Handler handler.old handler.new made.old made.new }
         ensures all { OnOk result (made.new ≡ most) }
+        ensures early { OnErr result (EndsEarly H.failed H.waited) }
     {
         for _ in 0..u64::MAX {
             if *made == most {
                 return Ok(());
             }
-            let now = self.poll(clock, most)?;
+            let now = self.poll(handler, most)?;
             self.shared.lost.report(handler);
             handler.keep_counts(self.connections());
             self.finish_all(handler, now);
@@ -106,7 +95,7 @@ impl<H: Handler> EventLoop<H> {
 
     /// Closes the HTTP connections: sends the answers that are made, and finishes those that wait for a signature, until no connection is
     /// left. Reports the connections that end by a fault to the handler.
-    pub fn finish<C: Clock>(&mut self, clock: &C, handler: &H) -> Result<(), EventLoopFault> {
+    pub fn finish(&mut self, handler: &H) -> Result<(), EventLoopFault> {
         let most = self.acceptor.accepted;
         self.http.close_all(&mut self.shared);
         for _ in 0..u64::MAX {
@@ -114,7 +103,7 @@ impl<H: Handler> EventLoop<H> {
             if self.http.slots.reserved() == 0 {
                 return Ok(());
             }
-            let now = self.poll(clock, most)?;
+            let now = self.poll(handler, most)?;
             self.finish_all(handler, now);
             self.request_all(handler, now);
             self.http.close_due(&mut self.shared);
@@ -132,10 +121,13 @@ impl<H: Handler> EventLoop<H> {
     }
 
     /// Waits for events, then reads, writes and accepts, and finds the connections whose time is over.
-    fn poll<C: Clock>(&mut self, clock: &C, most: u64) -> Result<u64, EventLoopFault> {
+    fn poll(&mut self, handler: &H, most: u64) -> Result<u64, EventLoopFault>
+        ensures ok { OnOk result ((count : ℕ) → H.waited count → H.waited (count + 1)) }
+        ensures fails { OnErr result H.failed }
+    {
         let longest = self.longest_wait(most);
-        self.shared.poller.poll(longest)?;
-        let now = now_of(clock)?;
+        self.shared.poller.poll(handler, longest)?;
+        let now = handler.millis()?;
         for index in 0..self.shared.poller.tokens.len() {
             if let Some(token) = self.shared.poller.tokens.get(index).copied() {
                 self.advance(token, now);
@@ -143,7 +135,7 @@ impl<H: Handler> EventLoop<H> {
         }
         self.control.accept_all(&mut self.shared);
         self.acceptor
-            .accept_all(most, &mut self.http, &mut self.shared, now)?;
+            .accept_all(most, &mut self.http, &mut self.shared, handler, now)?;
         self.http.sweep(&mut self.shared, now);
         Ok(now)
     }
@@ -206,6 +198,7 @@ impl<H: Handler> EventLoop<H> {
         requires { made.old ≤ most }
         ensures exchanged { Handled H.Handler handler.old handler.new made.old made.new }
         ensures within { made.new ≤ most }
+        ensures fails { OnErr result H.failed }
     {
         for index in 0..self.http.due.len() {
             if *made == most {
@@ -227,8 +220,10 @@ impl<H: Handler> EventLoop<H> {
         made: &mut u64,
         now: u64,
     ) -> Result<(), EventLoopFault>
+        requires { made.old < 18446744073709551615 }
         ensures exchanged { Handled H.Handler handler.old handler.new made.old made.new }
         ensures one { made.new ≤ made.old + 1 }
+        ensures fails { OnErr result H.failed }
     {
         let Some(slot) = self.http.due.get(index).copied() else {
             return Ok(());

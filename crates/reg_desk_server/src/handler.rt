@@ -1,10 +1,13 @@
 //! The trait of the handler, which answers requests and lines.
 
+use mio::net::{TcpListener, TcpStream};
+use mio::{Events, Poll};
 use reg_crl_signer::SignatureRequest;
 use reg_http_head::Collected;
 use reg_io::ReadyOrUnsigned;
 use std::io;
 use std::net::SocketAddr;
+use std::time::Duration;
 
 /// The loop can't go on: the clock can't be read, or the sockets fail.
 #[derive(Clone, Copy, Debug, PartialEq, Eq)]
@@ -41,10 +44,11 @@ pub struct Deferred<T> {
 /// Answers requests and lines, one after the other. While a signature is requested for one of them, others are answered.
 /// Only one type, in another crate, implements it. It is a trait because the clauses of the event loop quantify over its relations.
 pub trait Handler {
-    ghost use Rattle.std.specs.Prelude.{◌≡◌, ℕ, List, IfOk, OnErr, MatchOption};
+    ghost use Rattle.std.specs.Prelude.{◌≡◌, ◌+◌, ℕ, List, IsTrue, IfErr, IfOk, OnErr, OnOk, MatchOption};
     ghost use Rattle.reg_http_head.specs.Bytes.{collected_bytes};
     ghost use Rattle.reg_desk_server.specs.Exchange.{Outcome};
     ghost use Rattle.reg_desk_server.specs.Outcomes.{outcome_of};
+    ghost use Rattle.reg_desk_server.specs.Failures.{AcceptFails};
 
     /// What is kept of a request until its response is signed.
     type Ticket: Drop;
@@ -64,6 +68,40 @@ pub trait Handler {
     // This text finishes the answer that was left to be signed.
     ghost finishes: { Self → Self.Ticket → List ℕ → Type 0 };
 
+    // This handler has a control socket.
+    ghost has_control: { Self → Type 0 };
+
+    // The system failed: the clock can't be read, or the sockets can't be used.
+    ghost failed: { Type 0 };
+
+    // The handler waited for its sockets this number of times.
+    ghost waited: { ℕ → Type 0 };
+
+    // At first it has not waited.
+    ghost not_waited: { waited 0 };
+
+    /// Whether this handler has a control socket, and so answers lines.
+    fn has_control_socket(&self) -> bool
+        ensures { IsTrue result → has_control self.now };
+
+    /// The milliseconds of a monotonic clock.
+    fn millis(&self) -> Result<u64, EventLoopFault>
+        ensures { OnErr result failed };
+
+    /// Blocks until something is ready, at most for `longest`.
+    fn wait(
+        &self,
+        poll: &mut Poll,
+        events: &mut Events,
+        longest: Duration,
+    ) -> Result<(), EventLoopFault>
+        ensures ok { OnOk result ((count : ℕ) → waited count → waited (count + 1)) }
+        ensures err { OnErr result failed };
+
+    /// Accepts a connection. Errors are those of accept(2): no connection waits, a signal came, the client is gone, or the system failed.
+    fn accept(&self, listener: &TcpListener) -> io::Result<(TcpStream, SocketAddr)>
+        ensures { IfErr result (AcceptFails failed) };
+
     /// Answers the bytes that came from a client, or leaves an answer to be signed. Bytes that are no whole request may get an empty text.
     fn answer(
         &mut self,
@@ -72,14 +110,15 @@ pub trait Handler {
     ) -> Result<ReadyOrUnsigned<Vec<u8>, Self::Ticket>, EventLoopFault>
         ensures ok { IfOk result (λ begun.
             answers self.old (collected_bytes request.now) (outcome_of begun) self.new) }
-        ensures err { OnErr result (self.new ≡ self.old) };
+        ensures err { OnErr result (self.new ≡ self.old) }
+        ensures fails { OnErr result failed };
 
     /// Requests the signature of such an answer, without blocking. Returns the connection on which the signature will come, up to its end. The error
     /// is `WouldBlock` if the signer has no room for one more connection.
     fn request_signature(&self, ticket: &Self::Ticket) -> io::Result<SignatureRequest>;
 
-    /// The text that finishes such an answer: with what came on the connection on which its signature was requested, which is at its
-    /// end; or without a signature.
+    /// The text that finishes such an answer. `link` is the connection on which its signature was requested, once it is at its end; `None` if there
+    /// is no signature.
     fn finish(&self, ticket: Self::Ticket, link: Option<SignatureRequest>) -> Vec<u8>
         ensures { finishes self.now ticket result.items };
 
@@ -89,8 +128,10 @@ pub trait Handler {
         line: &[u8],
         last_reason: &mut Vec<u8>,
     ) -> Result<Vec<u8>, EventLoopFault>
+        requires { has_control self.old }
         ensures ok { IfOk result (λ text. answers_line self.old line.now text.items self.new) }
-        ensures err { OnErr result ((self.new ≡ self.old) × (last_reason.new ≡ last_reason.old)) };
+        ensures err { OnErr result ((self.new ≡ self.old) × (last_reason.new ≡ last_reason.old)) }
+        ensures fails { OnErr result failed };
 
     /// Makes the message that is to be signed before a line is answered. `None` if there is none, or no signer to wait for.
     fn defer(&mut self, line: &[u8]) -> Option<Deferred<Self::Line>>
@@ -99,8 +140,8 @@ pub trait Handler {
     /// Connects to the signer for a line, without blocking. The error is `WouldBlock` if the signer has no room for one more connection.
     fn connect_to_signer(&self, ticket: &Self::Line) -> io::Result<SignatureRequest>;
 
-    /// Answers a line whose message was made: with what came on the connection on which that was sent, which is at its end; or without a
-    /// signature. `None` if another message is to be signed by now: then `defer` is to be called again.
+    /// Answers a line whose message was made. `link` is the connection on which the message was sent, once it is at its end; `None` if there is no
+    /// signature. Returns `None` if another message is to be signed by now: then `defer` is to be called again.
     fn answer_deferred(
         &mut self,
         line: &[u8],
@@ -108,9 +149,11 @@ pub trait Handler {
         deferred: Deferred<Self::Line>,
         link: Option<SignatureRequest>,
     ) -> Result<Option<Vec<u8>>, EventLoopFault>
+        requires { has_control self.old }
         ensures ok { IfOk result (λ answered. MatchOption answered (defers self.old line.now self.new)
             (λ text. answers_line self.old line.now text.items self.new)) }
-        ensures err { OnErr result ((self.new ≡ self.old) × (last_reason.new ≡ last_reason.old)) };
+        ensures err { OnErr result ((self.new ≡ self.old) × (last_reason.new ≡ last_reason.old)) }
+        ensures fails { OnErr result failed };
 
     /// Reports that the connection from an address ended by a fault; a control connection has no address.
     fn report_lost(&self, client: Option<SocketAddr>, why: ConnectionFault);

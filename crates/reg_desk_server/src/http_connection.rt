@@ -1,6 +1,6 @@
 //! One HTTP connection, on which one request is answered.
 
-ghost use Rattle.std.specs.Prelude.{◌≡◌, ◌≤◌, ◌+◌, [], OnOk, OnErr, is_some, IsSome, IfNone, false};
+ghost use Rattle.std.specs.Prelude.{◌≡◌, ◌≤◌, ◌+◌, ◌⊎◌, [], OnOk, OnErr, is_some, IsSome, IfNone, false};
 ghost use Rattle.reg_desk_server.specs.Handling.{Handled};
 ghost use Rattle.reg_desk_server.specs.Stages.{Answering, Drops, Finishing, HasReceived, HasUnsentText, IsDropped, KeepsSigning, ReceivesMore, SameLinkAndFault, Sends};
 
@@ -268,6 +268,7 @@ impl<S: Link, H: Handler> HttpConnection<S, H> {
             Answering H.answers handler.old handler.new self.old.stage self.new.stage) }
         ensures kept { SameLinkAndFault self.old self.new }
         ensures err { OnErr result ((self.new ≡ self.old) × (handler.new ≡ handler.old)) }
+        ensures fails { OnErr result (H.failed ⊎ (made.old ≡ 18446744073709551615)) }
     {
         let (begun, is_exact) = match &self.stage {
             Stage::Receiving(collected) => {
@@ -300,7 +301,7 @@ impl<S: Link, H: Handler> HttpConnection<S, H> {
         ensures holds { HasUnsentText self.new.stage text.items }
         ensures kept { SameLinkAndFault self.old self.new }
     {
-        // Without an answer, unread bytes can't cost the client one.
+        // It can close at once if nothing is unread, or if there is no answer to lose.
         let is_last = is_exact || text.is_empty();
         self.stage = Stage::Sending(Unsent::new(text), is_last);
         self.deadline = now.saturating_add(TIMEOUT_MILLIS);
@@ -330,8 +331,8 @@ impl<S: Link, H: Handler> HttpConnection<S, H> {
         }
     }
 
-    /// Finishes the answer that is to be signed: if `has_come`, with what came on the connection on which its signature was requested; else without
-    /// a signature. Any other connection does not change.
+    /// Finishes the answer that is to be signed: if `has_come`, with the signature from the connection on which it was requested; else without a
+    /// signature. In any other stage nothing changes.
     pub fn complete(&mut self, handler: &H, has_come: bool, now: u64)
         ensures finished { Finishing (H.finishes handler.now) self.old.stage self.new.stage }
         ensures kept { SameLinkAndFault self.old self.new }

@@ -114,7 +114,7 @@ impl<H: Handler> HttpConnections<H> {
         ensures { AppendsIfMemory slot self.old.due.items self.new.due.items }
     {
         self.slots.put(slot, connection);
-        // Without memory for it, the next sweep finds it again.
+        // Without memory for it, a sweep after its deadline finds it again.
         let _ = self.due.push(slot);
     }
 

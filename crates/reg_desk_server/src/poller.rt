@@ -1,8 +1,9 @@
 //! The poller, which reports the connections that are ready.
 
-ghost use Rattle.std.specs.Prelude.{◌≡◌, [], IfOk, true};
+ghost use Rattle.std.specs.Prelude.{◌≡◌, ◌+◌, ℕ, [], IfOk, MatchBool, OnErr, OnOk, true};
+ghost use Rattle.reg_desk_server.specs.Failures.{IsOutOfDescriptors};
 
-use crate::handler::EventLoopFault;
+use crate::handler::{EventLoopFault, Handler};
 use mio::event::Source;
 use mio::{Events, Interest, Poll, Token};
 use std::alloc::AllocGlobal;
@@ -94,10 +95,15 @@ impl Poller {
     }
 
     /// Blocks until something is ready, at most for `longest`. Then `tokens` has what is ready; a signature is ready once its connection is at its end.
-    pub(crate) fn poll(&mut self, longest: Duration) -> Result<(), EventLoopFault> {
-        if self.poll.poll(&mut self.events, Some(longest)).is_err() {
-            return Err(EventLoopFault);
-        }
+    pub(crate) fn poll<H: Handler>(
+        &mut self,
+        handler: &H,
+        longest: Duration,
+    ) -> Result<(), EventLoopFault>
+        ensures ok { OnOk result ((count : ℕ) → H.waited count → H.waited (count + 1)) }
+        ensures err { OnErr result H.failed }
+    {
+        handler.wait(&mut self.poll, &mut self.events, longest)?;
         self.tokens.clear();
         for event in &self.events {
             let Token(token) = event.token();
@@ -121,7 +127,9 @@ fn ready_token(token: usize, is_ended: bool) -> Option<usize> {
     Some(token)
 }
 
-pub(crate) fn is_out_of_descriptors(error: &io::Error) -> bool {
+pub(crate) fn is_out_of_descriptors(error: &io::Error) -> bool
+    ensures { MatchBool result (IsOutOfDescriptors error.now) (IsOutOfDescriptors error.now → ⊥) }
+{
     match error.raw_os_error() {
         Some(TOO_MANY_HERE | TOO_MANY) => true,
         _ => false,

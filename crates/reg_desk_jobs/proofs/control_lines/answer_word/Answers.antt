@@ -9,10 +9,10 @@ returns-in-Ok-Copy-clause-moves g c =
     copied g.M.Office.Office.is_clean g.M.Office.Office.stands c.args.accepted.now g.M.Office.Office.signs c.args.now _ _ c.args.line.now _
     (rw c.in-Ok-Copy.field-0-is at c.in-Ok-Copy.ensures) refl c.answer_copy.ensures.told
 
-pub returns-in-Ok-Settle-clause-moves : goal.returns-in-Ok-Settle-clause-moves
-returns-in-Ok-Settle-clause-moves g c =
-    told_word g.M.Office.Office.is_clean g.M.Office.Office.stands c.args.accepted.now g.M.Office.Office.signs c.args.now _ _ c.args.line.now _ (settles c.in-Ok-Settle.serial_decision)
-    (rw c.in-Ok-Settle.field-0-is at c.in-Ok-Settle.ensures) c.settle_by_clock.ensures.moves
+pub returns-in-Ok-Decide-clause-moves : goal.returns-in-Ok-Decide-clause-moves
+returns-in-Ok-Decide-clause-moves g c =
+    told_word g.M.Office.Office.is_clean g.M.Office.Office.stands c.args.accepted.now g.M.Office.Office.signs c.args.now _ _ c.args.line.now _ (settles c.in-Ok-Decide.serial_decision)
+    (rw c.in-Ok-Decide.field-0-is at c.in-Ok-Decide.ensures) c.decide_by_clock.ensures.moves
 
 pub returns-in-Ok-Line-Some-clause-moves : goal.returns-in-Ok-Line-Some-clause-moves
 returns-in-Ok-Line-Some-clause-moves g c =

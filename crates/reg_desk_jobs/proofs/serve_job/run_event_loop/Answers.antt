@@ -1,6 +1,19 @@
-use Rattle.std.proofs.Common.{[], refl}
-use Rattle.reg_desk_jobs.proofs.Fates.{memory_answer}
+use Rattle.std.proofs.Common.{◌∙◌, [], refl}
+use Rattle.std.proofs.Math.Nat.{zero-add}
+use Rattle.reg_desk_jobs.proofs.Fates.{ended_early, memory_answer}
 use Rattle.reg_desk_jobs.proofs.serve_job.run_event_loop.Goals as goal
 
 pub returns-in-Err : goal.returns-in-Err
-returns-in-Err g c = ([], [], refl, memory_answer c.args.port c.args.requests _ _ c.in-Err.why c.in-Err.ensures)
+returns-in-Err g c = ([], [], refl, memory_answer c.args.port c.args.requests _ _ _ c.in-Err.why c.in-Err.ensures)
+
+pub returns-then-made-requests : goal.returns-then-made-requests
+returns-then-made-requests g c = (
+  c.serve_all.ensures.exchanged.inputs,
+  c.serve_all.ensures.exchanged.outcomes,
+  c.serve_all.ensures.exchanged.run,
+  (
+    λ same. c.if-made-requests.true (c.serve_all.ensures.exchanged.counted ∙ zero-add _ ∙ same),
+    ended_early c.serve_all.result c.serve_all.ensures.all c.serve_all.ensures.early c.if-made-requests.true,
+    c.in-Ok.ensures,
+  ),
+)

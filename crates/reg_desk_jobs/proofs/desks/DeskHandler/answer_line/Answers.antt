@@ -6,7 +6,7 @@ use Rattle.reg_desk_jobs.proofs.desks.DeskHandler.answer_line.Goals as goal
 pub returns-clause-ok : goal.returns-clause-ok
 returns-clause-ok g c =
     let accepted = c.args.self.now.admission.accepted in
-    let is = c.if-not-self.false in (
+    let is = c.requires in (
       search rules,
       search rules,
       follows g.M.Office.Office.is_clean g.M.Office.Office.stands
