@@ -11,9 +11,10 @@ use Rattle.reg_core.specs.Calendar.{clock_end}
 use Rattle.reg_core.specs.Crls.{row_of, cert_list}
 use Rattle.reg_core.specs.Policy.{IsPolicy}
 use Rattle.reg_core.specs.Records.{Records, Crl, crl_in}
+use Rattle.reg_core.specs.Reached.{ReachedRows}
 use Rattle.reg_core.specs.Sound.{NumberedFrom, KeysDiffer, CrlsSigned, SoundRows}
 use Rattle.reg_core.specs.declared.rows.CrlRow.{CrlRow}
-use Rattle.reg_core_laws.proofs.PublicLaws.{revocations_within, all_map, all_weaker, each_found}
+use Rattle.reg_core_laws.proofs.PublicLaws.{reached_sound, revocations_within, all_map, all_weaker, each_found}
 use Rattle.reg_store_tables.specs.DerivedRows as column
 use Rattle.reg_store_tables.specs.DerivedRows.{DerivedRows}
 use Rattle.reg_store_tables.specs.Kept.{Kept, listed_of}
@@ -122,13 +123,13 @@ updates_before records sound =
 -- ---- what is denied
 
 module _ (records : Records) (columns : DerivedRows) where
-  -- where the rows are no sound records
-  pub rows_denied : (fault : AuditFault) → (EndsAtBrokenRow fault → ¬ (HasValues records × SoundRows records × Kept columns records)) → IsDenied fault records columns
+  -- where the rows are no reached records
+  pub rows_denied : (fault : AuditFault) → (EndsAtBrokenRow fault → ¬ (HasValues records × ReachedRows records × Kept columns records)) → IsDenied fault records columns
   rows_denied Memory never = tt
   rows_denied Store never = tt
   rows_denied (Broken row) never = record {
-    whole = λ values sound kept days. never tt (values, sound.rows, kept);
-    rows = λ other values sound kept days. never tt (values, sound, kept);
+    whole = λ values reached kept days. never tt (values, reached.rows, kept);
+    rows = λ other values reached kept days. never tt (values, reached, kept);
   }
 
   -- where the bytes of a CRL are others
@@ -137,8 +138,8 @@ module _ (records : Records) (columns : DerivedRows) where
   bytes_denied Memory never others = tt
   bytes_denied Store never others = tt
   bytes_denied (Broken row) never others = record {
-    whole = λ values sound kept days. others values sound.rows kept tt sound.signatures;
-    rows = λ other values sound kept days. never values sound kept other;
+    whole = λ values reached kept days. others values (reached_sound records reached.rows) kept tt reached.signatures;
+    rows = λ other values reached kept days. never values (reached_sound records reached) kept other;
   }
 
   -- where the office was made with other days
@@ -146,6 +147,6 @@ module _ (records : Records) (columns : DerivedRows) where
   days_denied Memory never = tt
   days_denied Store never = tt
   days_denied (Broken row) never = record {
-    whole = λ values sound kept days. never tt days;
-    rows = λ other values sound kept days. never tt days;
+    whole = λ values reached kept days. never tt days;
+    rows = λ other values reached kept days. never tt days;
   }

@@ -1,4 +1,4 @@
--- What rows that were read say of a table's rows.
+-- Properties of the rows that were read of a table.
 use Rattle.std.specs.Prelude.{◌≡◌, ℕ, ◌+◌, List, [], ◌∷◌}
 use Rattle.sqlite_value.specs.Order.{Row, column}
 use Rattle.reg_store_tables.specs.Rows.{number}

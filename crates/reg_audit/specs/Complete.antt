@@ -8,7 +8,8 @@ use Rattle.reg_core.specs.Issuer.{Issuer}
 use Rattle.reg_core.specs.Policy.{Terms, IsPolicy}
 use Rattle.reg_core.specs.Records.{Records, Crl}
 use Rattle.reg_core.specs.Serial.{IsSerial}
-use Rattle.reg_core.specs.Sound.{NumberedFrom, Sound}
+use Rattle.reg_core.specs.Reached.{Reached}
+use Rattle.reg_core.specs.Sound.{NumberedFrom}
 use Rattle.reg_core.specs.declared.command.Counts.{Counts}
 use Rattle.reg_core.specs.declared.rows.CertRow.{CertRow}
 use Rattle.reg_core.specs.declared.rows.OrderRow.{OrderRow}
@@ -24,9 +25,9 @@ use Rattle.reg_audit.specs.Cells.{HasCells}
 use Rattle.reg_audit.specs.Stored.{IsSomeCrl}
 use Rattle.reg_audit.specs.declared.complete.Terms.{Terms as Found}
 
--- What holds of a register's tables whatever rows stand in them: they have its schema and obey it, and the rowids of each table
--- rise. Beside that each row of listed has all its columns: one may lack the last, which can be NULL, and no query tells that
--- from NULL. No statement of a register writes a row so.
+-- What holds of a register's tables, whatever rows they have: they have its schema and obey it, and the rowids of each table
+-- rise. Each row of `listed` has all its columns. In SQLite a row may lack the last one, which a query returns as NULL. No
+-- statement of a register writes such a row.
 pub record AreTables (db : Database) : Type 0 where
   pub schema : db.schema ≡ register_schema
   pub obeyed : IsDatabase db
@@ -41,7 +42,7 @@ pub record AreKeyed {A : Type 0} (well : A → Type 0) (stored : A → Row) (num
   pub numbered : NumberedFrom number 1 these
   pub each : AllByRecursion well these
 
--- the rows of a table are those of some records behind the rowids 1, 2, 3 and so on
+-- the rows of a table are the rowids 1, 2, 3 and so on, each before the columns of some record
 pub record AreCounted {A : Type 0} (well : A → Type 0) (stored : A → Row) (rows : List Row) : Type 0 where
   pub these : List A
   pub are : rows ≡ counted_rows (map stored these)
@@ -57,7 +58,7 @@ pub record AreOffice (trees : Trees) : Type 0 where
   pub schedule : trees 17 ≡ map stored_step policy.schedule
   pub in_range : IsPolicy policy
 
--- the rows of each table are those of some records, or of what is kept beside them
+-- the rows of each table are those of some records, or some derived rows
 abbrev pub SubscribersAgree : Trees → Type 0
 SubscribersAgree trees =
     AreKeyed {A = SubscriberRow} (λ _. Unit {0}) stored_subscriber (λ row. row.id) (trees 1)
@@ -97,17 +98,17 @@ pub record IsTermsOf (rows : List Row) (found : Found) : Type 0 where
   pub cells : HasCells 0 row (number 1 ∷ number version ∷ number found.crl_life ∷ number found.ocsp_life
       ∷ number found.cap ∷ number found.last ∷ [])
 
--- there are records that the tables show, and columns beside them
+-- the tables show some records and some derived rows
 pub record ShowSome (db : Database) : Type 0 where
   pub records : Records
   pub columns : DerivedRows
   pub both : AreRecordsAndDerived db records columns
 
--- there are records that the tables show, sound, with each CRL's bytes those of what it lists, and columns beside them that
--- follow from them
+-- the tables show some reached records, in which each CRL has the bytes of its entries, and the derived rows that follow from
+-- them
 pub record ShowsSound (db : Database) : Type 0 where
   pub records : Records
   pub columns : DerivedRows
   pub both : AreRecordsAndDerived db records columns
-  pub sound : Sound IsSomeCrl records
+  pub reached : Reached IsSomeCrl records
   pub kept : Kept columns records

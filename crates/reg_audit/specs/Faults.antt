@@ -1,7 +1,7 @@
--- How an audit ends that finds nothing well.
+-- How an audit ends that does not find all rows sound.
 use Rattle.std.specs.Prelude.{◌≢◌, Result, IfErr}
 use Rattle.reg_core.specs.Records.{Records}
-use Rattle.reg_core.specs.Sound.{Sound, SoundRows}
+use Rattle.reg_core.specs.Reached.{Reached, ReachedRows}
 use Rattle.reg_audit_rows.specs.declared.broken_row.BrokenRow.{BrokenRow as Row}
 use Rattle.reg_audit_rows.specs.declared.fault.CheckFault.{CheckFault}
 use Rattle.reg_audit_rows.specs.declared.fault.CheckFault.TheVariants as found
@@ -15,45 +15,45 @@ use Rattle.reg_audit.specs.ReadableValues.{HasAllowedDays, HasValues}
 use Rattle.reg_audit.specs.declared.fault.AuditFault.{AuditFault}
 use Rattle.reg_audit.specs.declared.fault.AuditFault.TheVariants.{Memory, Store, Broken}
 
--- what the fault of a call on the register is to its audit
+-- the audit's fault for a fault of the database
 abbrev pub fault_of_call : DatabaseFault → AuditFault
 fault_of_call fault.Memory = Memory
 fault_of_call fault.Store = Store
 
--- the result of a check of rows
+-- the audit's fault for a fault of a check of rows
 abbrev pub fault_of_check : CheckFault → AuditFault
 fault_of_check found.Memory = Memory
 fault_of_check (found.Broken broken) = Broken broken
 
--- a row breaks a rule: memory was not lacking, and the database did not fail
+-- the fault is a broken row, not a lack of memory or a failure of the database
 abbrev pub EndsAtBrokenRow : AuditFault → Type 0
 EndsAtBrokenRow Memory = ⊥
 EndsAtBrokenRow Store = ⊥
 EndsAtBrokenRow (Broken broken) = Unit {0}
 
--- no audit ends at a broken row
+-- the result is not a broken row
 abbrev pub NoBrokenRow : {T : Type 0} → Result T AuditFault → Type 0
 NoBrokenRow result = IfErr result (λ fault. ¬ EndsAtBrokenRow fault)
 
--- an audit that ends at a broken row refutes this
+-- if the result is a broken row, `Holds` is false
 abbrev pub NoBrokenRowIf : {T : Type 0} → Type 0 → Result T AuditFault → Type 0
 NoBrokenRowIf Holds result = IfErr result (λ fault. EndsAtBrokenRow fault → ¬ Holds)
 
--- the row breaks a rule of the records, or of what is kept beside them: it is not told for its bytes
+-- the fault is a row that breaks a rule of the records or of the derived tables, not a CRL with other bytes
 abbrev pub IsBrokenRow : AuditFault → Type 0
 IsBrokenRow Memory = ⊥
 IsBrokenRow Store = ⊥
 IsBrokenRow (Broken broken) = broken.why ≢ OtherBytes
 
--- What a reported row denies of records that tables show, and of what is kept beside them: that the records have a register's
--- values and are sound with each CRL's bytes those of what it lists, that what is kept follows from them, and that the office was
--- made with days that a schedule can allow. Of a row that is not told for its bytes also whatever the bytes of CRLs are.
+-- What a broken row disproves of the records and derived rows that tables show. `whole`: not all of this holds: the records have
+-- a register's values and are reached, each CRL has the bytes of its entries, the derived rows follow from the records, and
+-- `days` of the office is a number that a schedule can have. `rows`: the same without the bytes of CRLs, unless these are the defect.
 pub record Denies (row : Row) (records : Records) (columns : DerivedRows) : Type 0 where
-  pub whole : HasValues records → Sound IsSomeCrl records → Kept columns records → HasAllowedDays columns → ⊥
-  pub rows : row.why ≢ OtherBytes → HasValues records → SoundRows records → Kept columns records
+  pub whole : HasValues records → Reached IsSomeCrl records → Kept columns records → HasAllowedDays columns → ⊥
+  pub rows : row.why ≢ OtherBytes → HasValues records → ReachedRows records → Kept columns records
       → HasAllowedDays columns → ⊥
 
--- an audit that ends so denies it by the row that it reports
+-- an audit that ends with a broken row disproves this by that row
 abbrev pub IsDenied : AuditFault → Records → DerivedRows → Type 0
 IsDenied Memory records columns = Unit {0}
 IsDenied Store records columns = Unit {0}

@@ -1,4 +1,4 @@
--- What an audit answers over a database, and what it leaves.
+-- What the result of an audit says of a database, and that the audit changes nothing.
 use Rattle.std.specs.Prelude.{◌≡◌, ◌≢◌, ℕ, ◌<◌, false, Result, Err, IfOk, IfErr, IsTrue}
 use Rattle.sqlite_trees.specs.declared.store.Store.{Ghosts}
 use Rattle.sqlite.specs.Held.{Held, state}
@@ -16,8 +16,8 @@ use Rattle.reg_audit.specs.Presumed.{IsPresumed}
 use Rattle.reg_audit.specs.ReadableValues.{IsSoundRegister}
 use Rattle.reg_audit.specs.AuditResults.{CountedBy, DeniedBy, IsSound, ReportsTables}
 
--- What is sound is so whatever records the tables show, and is shown where what is presumed holds; it is counted; what is broken shows no
--- such records; what else is told is what the tables are. A fault is the version's, memory's or the database's. Nothing is changed.
+-- `Sound`: whatever records the tables show are sound; there are some, if the presumed facts hold; their numbers are reported. `Broken`: there
+-- are none. Other results say which tables there are. A fault is one of the version, of memory or of the database. No table changes.
 pub record IsJudged {S : Type 0} (g : Ghosts S) (old new : Held S)
     (result : Result AuditResult StoreFault) : Type 0 where
   pub sound : (records : Records) (columns : DerivedRows) → ShowsBoth g old records columns

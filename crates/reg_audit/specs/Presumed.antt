@@ -14,10 +14,10 @@ pub record IsOverRegister {S : Type 0} (g : Ghosts S) (h : Held S) : Type 0 wher
   pub saved : IsTrue (state g h).is_open → (state g h).now ≡ (state g h).committed
 
 -- What is presumed of an open connection, and of the file that it reads: no clause of the crate `sqlite` says it, and no query
--- tells it.
+-- can find it out.
 pub record IsPresumed {S : Type 0} (g : Ghosts S) (h : Held S) : Type 0 where
   -- No call has left its transaction broken: the crate keeps this of every connection that is open.
   pub unbroken : (g.view h.store).is_broken ≡ false
-  -- Each row of listed has its last column, the seventh with the rowid: a row may lack it, which reads as NULL. No statement of a
-  -- register writes such a row.
+  -- Each row of `listed` has its last column, the seventh if the rowid is counted. If a row lacks it, a query returns NULL for it. No
+  -- statement of a register writes such a row.
   pub whole : AllByRecursion (λ row. length row ≡ 7) ((state g h).now.trees 15)

@@ -1,4 +1,4 @@
--- The texts by which the tables are read, and what is read by them.
+-- The SQL statements that read the tables, and the rows that they return.
 use Rattle.std.specs.Prelude.{ℕ, List, [], ◌∷◌}
 use Rattle.sqlite_value.specs.Order.{Row}
 use Rattle.sqlite.specs.Effect.{Database, Reads}
@@ -12,7 +12,7 @@ use Rattle.reg_audit.specs.declared.sql.What.{What}
 use Rattle.reg_audit.specs.declared.sql.What.TheVariants.{Office, Subscribers, Orders, Certificates, Requests, Revocations, Crls, Standings, Counts, Listings, CertificateRowids, RevocationRowids, StandingRowids, CountsRowid, ListingRowids, Terms, Steps}
 use Rattle.reg_audit.specs.declared.sql.TheConstants.{OFFICE, SUBSCRIBERS, ORDERS, CERTIFICATES, REQUESTS, REVOCATIONS, CRLS, STANDINGS, COUNTS, LISTINGS, CERTIFICATE_ROWIDS, REVOCATION_ROWIDS, STANDING_ROWIDS, COUNTS_ROWID, LISTING_ROWIDS, TERMS, STEPS}
 
--- the text that reads a table whole
+-- the SQL of each statement
 abbrev pub text_of : What → List ℕ
 text_of Office = OFFICE.now
 text_of Subscribers = SUBSCRIBERS.now
@@ -32,17 +32,17 @@ text_of ListingRowids = LISTING_ROWIDS.now
 text_of Terms = TERMS.now
 text_of Steps = STEPS.now
 
--- the rows are what a text reads of these tables
+-- the statement returns these rows from these tables
 abbrev pub IsReadFrom : Database → What → List Row → Type 0
 IsReadFrom db what rows = Reads (command_of (understood register_schema (text_of what))) db [] rows
 
--- the rows are what a text reads of tables that show these records, and beside them these columns
+-- the statement returns these rows from some tables that show these records and derived rows
 pub record IsReadOf (records : Records) (columns : DerivedRows) (what : What) (rows : List Row) : Type 0 where
   pub db : Database
   pub both : AreRecordsAndDerived db records columns
   pub reads : Reads (command_of (understood register_schema (text_of what))) db [] rows
 
--- there are rows for each text, in this order
+-- there are rows for each statement, in this order, and `Is` holds of each pair
 abbrev pub AreEach : {Rows : Type 0} → (What → List Row → Type 0) → List What → List Rows
     → (Rows → List Row) → Type 0
 AreEach Is [] [] items = Unit {0}
@@ -50,21 +50,22 @@ AreEach Is [] (rows ∷ more) items = ⊥
 AreEach Is (what ∷ whats) [] items = ⊥
 AreEach Is (what ∷ whats) (rows ∷ more) items = Is what (items rows) × AreEach Is whats more items
 
--- which are what it reads of tables that show these records
-abbrev pub AreRead : {Rows : Type 0} → Records → DerivedRows → List What → List Rows → (Rows → List Row) → Type 0
+-- the rows of each statement over tables that show these records and derived rows
+abbrev pub AreRead : {Rows : Type 0} → Records → DerivedRows → List What → List Rows → (Rows → List Row)
+    → Type 0
 AreRead records columns = AreEach (IsReadOf records columns)
 
--- or of these tables
+-- the rows of each statement over these tables
 abbrev pub AreReadFrom : {Rows : Type 0} → Database → List What → List Rows → (Rows → List Row) → Type 0
 AreReadFrom db = AreEach (IsReadFrom db)
 
--- what an audit reads, in this order
+-- the statements for the rows of all tables, in the order in which an audit runs them
 abbrev pub whole : List What
 whole =
     Office ∷ Subscribers ∷ Orders ∷ Certificates ∷ Requests ∷ Revocations ∷ Crls ∷ Standings
     ∷ Counts ∷ Listings ∷ []
 
--- and what it reads besides
+-- the statements that it runs after those
 abbrev pub read_besides : List What
 read_besides =
     CertificateRowids ∷ RevocationRowids ∷ StandingRowids ∷ CountsRowid ∷ ListingRowids ∷ Terms ∷ Steps ∷ []

@@ -1,26 +1,26 @@
--- Which values a register's records have: tables could show others.
+-- The values that a register's records can have. Tables could have others.
 use Rattle.std.specs.Prelude.{◌≡◌, ℕ, pos, ◌<◌}
 use Rattle.std.specs.List.{AllByRecursion}
 use Rattle.reg_core.specs.Calendar.{IsMoment, clock_end}
 use Rattle.reg_core.specs.Label.{IsLabel}
 use Rattle.reg_core.specs.Records.{Records}
 use Rattle.reg_core.specs.Schedule.{IsDays}
-use Rattle.reg_core.specs.Sound.{Sound}
+use Rattle.reg_core.specs.Reached.{Reached}
 use Rattle.reg_store_tables.specs.DerivedRows.{DerivedRows}
 use Rattle.reg_store_tables.specs.Kept.{Kept}
 use Rattle.reg_audit.specs.Stored.{IsSomeCrl}
 pub use Rattle.reg_store_tables.specs.RecordValues.{IsValidity, AreMomentAndReason, HasValues}
 
--- the days that the office was made with are some that a schedule can allow
+-- the column `days` of the office is a number that a schedule can have
 abbrev pub HasAllowedDays : DerivedRows → Type 0
 HasAllowedDays columns = (days : ℕ) × (columns.days ≡ pos days) × IsDays days
 
--- sound records with the bytes of their CRLs, derived tables that match them, and days that a schedule can allow
+-- reached records with the bytes of their CRLs, derived tables that match them, and days that a schedule can allow
 abbrev pub IsSoundRegister : Records → DerivedRows → Type 0
-IsSoundRegister records columns = Sound IsSomeCrl records × Kept columns records × HasAllowedDays columns
+IsSoundRegister records columns = Reached IsSomeCrl records × Kept columns records × HasAllowedDays columns
 
--- each value is one that a register's records, or what is kept beside them, can have; this follows where the records have such
--- values and are sound, and what is kept follows from them
+-- each value is one that a register's records and derived rows can have; this is so if the records have a register's values and
+-- are sound, and the derived rows follow from them
 pub record AreReadable (records : Records) (columns : DerivedRows) : Type 0 where
   pub office : records.last < clock_end
   pub subscribers : AllByRecursion (λ row. IsLabel row.name) records.subscribers

@@ -1,4 +1,4 @@
--- What the clauses of an audit begin with: tables that show records and derived columns, and rows that were read of them.
+-- How the clauses of an audit begin: for whatever records and derived rows the tables show, or the rows that were read show.
 use Rattle.std.specs.Prelude.{List, Result, Vec}
 use Rattle.sqlite_trees.specs.declared.store.Store.{Ghosts}
 use Rattle.sqlite_value.specs.Order.{Row}
@@ -13,28 +13,29 @@ use Rattle.reg_audit.specs.ReadableValues.{AreReadable}
 use Rattle.reg_audit.specs.declared.fault.AuditFault.{AuditFault}
 use Rattle.reg_audit.specs.declared.sql.What.{What}
 
--- what holds of the records and derived columns that the tables show before a call, where its disk is clean behind it
+-- `Has` holds of whatever records and derived rows the tables show before a call, if the disk is clean after it
 abbrev pub OnShown : {S : Type 0} → Ghosts S → Held S → Held S → (Records → DerivedRows → Type 0) → Type 0
 OnShown g old new Has =
-    (records : Records) → (columns : DerivedRows) → ShowsBoth g old records columns → HasCleanDisk (state g new)
-    → Has records columns
+    (records : Records) → (columns : DerivedRows) → ShowsBoth g old records columns
+    → HasCleanDisk (state g new) → Has records columns
 
--- what holds of those that the rows of a table were read of
+-- `Has` holds of whatever records and derived rows these rows of one statement were read from
 abbrev pub OnRead : What → List Row → (Records → DerivedRows → Type 0) → Type 0
 OnRead what rows Has =
     (records : Records) → (columns : DerivedRows) → IsReadOf records columns what rows → Has records columns
 
--- what holds of those that the rows of these tables were read of
+-- `Has` holds of whatever records and derived rows the rows of these statements were read from
 abbrev pub OnEachRead : {Rows : Type 0} → List What → List Rows → (Rows → List Row)
     → (Records → DerivedRows → Type 0) → Type 0
 OnEachRead whats all items Has =
-    (records : Records) → (columns : DerivedRows) → AreRead records columns whats all items → Has records columns
+    (records : Records) → (columns : DerivedRows) → AreRead records columns whats all items
+    → Has records columns
 
--- what holds of those that the rows of all tables were read of
+-- the same for the statements of all tables
 abbrev pub OnAllRead : {Z : Type 0} → List (Vec Row Z) → (Records → DerivedRows → Type 0) → Type 0
 OnAllRead all Has = OnEachRead whole all (λ rows. rows.items) Has
 
--- the rows of a table with a register's values are read: none is broken
+-- no row is reported as broken if the records and derived rows have a register's values
 abbrev pub AreReadIfReadable : {T : Type 0} → What → List Row → Result T AuditFault → Type 0
 AreReadIfReadable what rows result =
     OnRead what rows (λ records columns. AreReadable records columns → NoBrokenRow result)

@@ -10,7 +10,7 @@ use Rattle.reg_der.specs.ValueReading.{Parts, value_at}
 use Rattle.reg_audit_rows.specs.Crls.{IsCrlOf}
 use Rattle.reg_audit_rows.specs.declared.derived_rows.Listed.{Listed}
 
--- the bytes are the CRL of what is listed (RFC 5280 5.1), under one AlgorithmIdentifier, whatever its signature is: at most 2^28 bytes
+-- the bytes are this CRL (RFC 5280 5.1), with some AlgorithmIdentifier and any signature: at most 2^28 bytes
 pub record IsSomeCrl (crl : CertList) (bytes : List ℕ) : Type 0 where
   pub algorithm : List ℕ
   pub form : IsAlgorithm algorithm
@@ -22,13 +22,13 @@ pub record CanList (listed : List Listed) : Type 0 where
   pub differ : KeysDiffer (λ row. row.serial) listed
   pub few : length listed ≤ 1000000
 
--- the value behind what is signed in a CRL: its signatureAlgorithm (RFC 5280 5.1.1.2)
+-- the value after the tbsCertList of a CRL: its signatureAlgorithm (RFC 5280 5.1.1.2)
 abbrev pub behind_signed : List ℕ → Option Parts
 behind_signed bytes =
     value_at bytes >>= λ list. value_at list.0.contents >>= λ tbs.
     value_at tbs.1 >>= λ algorithm. Some algorithm.0
 
--- there is a CRL with the number of a row (RFC 5280 5.2.3), and its bytes are those of what the records list in it
+-- there is a CRL with the number of a row (RFC 5280 5.2.3), and its bytes are those of the entries that the records have for it
 abbrev pub IsStored : Records → CrlRow → Type 0
 IsStored records row =
     IsSomeAnd (crl_in records.crls row.number)

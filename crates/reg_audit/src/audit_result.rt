@@ -1,18 +1,11 @@
-//! The audit of a database whose version is looked at first.
+//! The audit of a database: first its version and its schema, then its rows.
 
-ghost use Rattle.std.specs.Prelude.{◌≡◌, ◌≢◌, ◌<◌, ℕ, false, IfErr, IfOk, IsTrue, Err};
+ghost use Rattle.std.specs.Prelude.{◌≡◌, ◌≢◌, false, IfErr, IfOk, IsTrue};
 ghost use Rattle.sqlite.specs.Held.{state};
-ghost use Rattle.sqlite.specs.State.{HasCleanDisk};
-ghost use Rattle.reg_core.specs.Sound.{Sound};
 ghost use Rattle.reg_store_tables.specs.Schema.{register_schema};
-ghost use Rattle.reg_store_tables.specs.Stays.{IsRegister, Stays};
-ghost use Rattle.reg_store_opening.specs.VersionAndOffice.{HasVersion, HasNoRegister};
-ghost use Rattle.reg_audit.specs.Complete.{ShowsSound};
-ghost use Rattle.reg_audit.specs.ReadableValues.{IsSoundRegister};
 ghost use Rattle.reg_audit.specs.Judged.{IsJudged};
-ghost use Rattle.reg_audit.specs.Presumed.{IsOverRegister, IsPresumed};
-ghost use Rattle.reg_audit.specs.AuditResults.{CountedBy, DeniedBy, IsSound, ReportsTables, audit_result_of};
-ghost use Rattle.reg_audit.specs.ShownTables.{OnShown};
+ghost use Rattle.reg_audit.specs.Presumed.{IsOverRegister};
+ghost use Rattle.reg_audit.specs.AuditResults.{audit_result_of};
 
 use crate::{AuditFault, ProgressObserver, audit};
 use reg_audit_rows::{AuditResult, Audited};
@@ -49,50 +42,18 @@ fn is_over_register<S: Alter>(alloc: Global, conn: &Connection<S>) -> Result<boo
     }
 }
 
-/// Looks at the version, the issuer, the policy and the last accepted moment as the opening of a register does; then, where the
-/// version is the program's, whether the schema is a register's ([`reg_store_schema::is_register`]), and where it is, at all rows
-/// ([`crate::audit`]). Nothing is changed; a register of version 1 or 2 is not made newer. The connection is in no
-/// transaction, as one that was just opened. The observer is told how far it is.
+/// Checks the version, the issuer, the policy and the last accepted moment, as the opening of a register does. If the version is
+/// the program's, it checks that the schema is a register's ([`reg_store_schema::is_register`]), and then all rows
+/// ([`crate::audit`]). It changes nothing, and does not migrate a register of version 1 or 2. The connection must be in no
+/// transaction, as one that was just opened. The observer receives the progress.
 ///
-/// Where the answer is `Sound`, there are such records if the connection was open and what is presumed of it holds
-/// (`IsPresumed`). Where it is `Broken`, the tables show none; and, but for the bytes of a CRL, none whatever the bytes of CRLs
-/// are (`Denies`). `Older` and `OtherSchema` tell what the tables are (`ReportsTables`).
+/// `Sound`: there are sound records that the tables show, if the connection was open and the presumed facts hold
+/// (`IsPresumed`). `Broken`: there are none; if the defect is not the bytes of a CRL, there are none even if all CRLs had the
+/// right bytes (`Denies`). `Older` and `OtherSchema` say which tables there are (`ReportsTables`).
 ///
 /// # Errors
-/// `NotARegister` and `NewVersion` as [`reg_store_opening::open`] has them; `Memory`; `Store` where the database fails.
+/// `NotARegister` and `NewVersion`, as from [`reg_store_opening::open`]; `Memory`; `Store` if the database fails.
 pub fn judge<S: Alter, W: ProgressObserver>(
-    alloc: Global,
-    conn: &mut Connection<S>,
-    observer: &mut W,
-) -> Result<AuditResult, StoreFault>
-    requires { conn.old.in_transaction ≡ false }
-    ensures sound { OnShown S.Store conn.old conn.new
-        (λ records columns. IfOk result
-        (λ audit_result. IsSound audit_result → IsSoundRegister records columns)) }
-    ensures shown { (HasCleanDisk (state S.Store conn.old) → IsTrue (state S.Store conn.old).is_open)
-        → IsPresumed S.Store conn.old → HasCleanDisk (state S.Store conn.new)
-        → IfOk result (λ audit_result. IsSound audit_result → ShowsSound (state S.Store conn.old).now) }
-    ensures counted { OnShown S.Store conn.old conn.new
-        (λ records columns. IfOk result (λ audit_result. CountedBy audit_result records)) }
-    ensures broken { OnShown S.Store conn.old conn.new
-        (λ records columns. IfOk result (λ audit_result. DeniedBy audit_result records columns)) }
-    ensures tells { HasCleanDisk (state S.Store conn.new)
-        → IfOk result (λ audit_result. ReportsTables audit_result (state S.Store conn.old).now) }
-    ensures newer { HasCleanDisk (state S.Store conn.new) → result ≡ Err StoreFault.NewVersion
-        → (n : ℕ) × (3 < n) × HasVersion (state S.Store conn.old).now n }
-    ensures none { HasCleanDisk (state S.Store conn.new) → result ≡ Err StoreFault.NotARegister
-        → HasNoRegister (state S.Store conn.old).now }
-    ensures register { IfOk result
-        (λ audit_result. IsSound audit_result → IsRegister (state S.Store conn.new)) }
-    ensures same { Stays (state S.Store conn.old) (state S.Store conn.new) }
-    ensures idle { conn.new.in_transaction ≡ false }
-    ensures faults { IfErr result (λ fault. fault ≢ StoreFault.NotEmpty) }
-{
-    judged(alloc, conn, observer)
-}
-
-/// What [`judge`] says, and leaves.
-fn judged<S: Alter, W: ProgressObserver>(
     alloc: Global,
     conn: &mut Connection<S>,
     observer: &mut W,

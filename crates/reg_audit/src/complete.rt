@@ -1,4 +1,4 @@
-//! Checks that a register's tables have only rows that a register writes: then there are records that they show.
+//! Checks that a register's tables have only rows that a register writes, so that there are records that the tables show.
 
 ghost use Rattle.std.specs.Prelude.{◌≡◌, ℕ, IsTrue, IfOk, IfSome, OnOk};
 ghost use Rattle.std.specs.List.{AllByRecursion, AllZip};
@@ -28,7 +28,7 @@ use reg_store_tables::sql_values::number_at;
 use sqlite::Row;
 use std::alloc::Global;
 
-/// The other columns that an audit reads, in this order.
+/// What an audit reads after the rows of all tables, in this order: rowids, the office and the schedule.
 pub(crate) const BESIDE: [What; 7] = [
     What::CertificateRowids,
     What::RevocationRowids,
@@ -199,8 +199,8 @@ fn check_office(alloc: Global, office: &[Row], steps: &[Row]) -> Result<(), Audi
     }
 }
 
-/// Checks that the rows of all tables are those of records. `all` is what was read in the order of
-/// [`crate::whole_audit::WHOLE`], and `more` what was read in the order of [`BESIDE`].
+/// Checks that the rows of all tables are those of records. `all` has the rows that were read for each item of
+/// [`crate::whole_audit::WHOLE`], and `more` those for each item of [`BESIDE`].
 pub(crate) fn check_complete(
     alloc: Global,
     all: &[Vec<Row>],

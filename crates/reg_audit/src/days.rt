@@ -24,8 +24,8 @@ fn are_allowed(row: &Row) -> bool
     }
 }
 
-/// The days that the office was made with are some that a schedule can allow. The rows are those that were read besides, in the
-/// order of [`crate::complete::BESIDE`].
+/// Checks that the column `days` of `office`, the longest validity at creation, is a number that a schedule can have. `more` has the
+/// rows that were read for each item of [`crate::complete::BESIDE`].
 pub(crate) fn check_days(more: &[Vec<Row>]) -> Result<(), AuditFault>
     ensures allowed { OnEachRead read_besides more.now (λ rows. rows.items)
         (λ records columns. OnOk result (HasAllowedDays columns)) }

@@ -4,7 +4,7 @@ use reg_audit_rows::{BrokenRow, CheckFault, Defect, RegisterTable};
 use reg_store_tables::DatabaseFault;
 use std::alloc::AllocFailed;
 
-/// Why an audit comes to no good end.
+/// Why an audit does not end with `Sound`.
 #[derive(Clone, Copy, PartialEq, Eq)]
 pub enum AuditFault {
     Memory,
@@ -49,7 +49,7 @@ impl<T: Drop> From<AllocFailed<T>> for AuditFault {
     }
 }
 
-/// The row at a place of a table, counted from 0, breaks a rule.
+/// The fault for a row that breaks a rule, by its index in the table, counted from 0.
 pub(crate) fn broken_at(table: RegisterTable, row_index: usize, why: Defect) -> AuditFault {
     let row = (row_index as u64).saturating_add(1);
     AuditFault::Broken(BrokenRow { table, row, why })

@@ -1,13 +1,13 @@
-/// Who is told how far an audit is. Nothing of the audit's answer hangs on it.
+/// Receives the progress of an audit. It does not influence the result.
 pub trait ProgressObserver {
-    /// So many rows more were read.
+    /// `count` more rows were read.
     fn rows_read(&mut self, count: usize);
 
-    /// One CRL more was compared.
+    /// The bytes of one more CRL were compared.
     fn crl_compared(&mut self);
 }
 
-/// Nobody is told.
+/// Ignores the progress.
 #[derive(Clone, Copy)]
 pub struct NoProgress;
 

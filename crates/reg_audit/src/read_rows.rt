@@ -1,9 +1,9 @@
-//! Whether what was read of the tables is a register.
+//! Checks that the rows that were read are those of a register.
 
 ghost use Rattle.std.specs.Prelude.{◌<◌, List, get_or, length, IfOk};
 ghost use Rattle.sqlite.specs.Effect.{Database};
 ghost use Rattle.reg_core.specs.Records.{Records};
-ghost use Rattle.reg_core.specs.Sound.{SoundRows};
+ghost use Rattle.reg_core.specs.Reached.{ReachedRows};
 ghost use Rattle.reg_store_tables.specs.DerivedRows.{DerivedRows};
 ghost use Rattle.reg_store_tables.specs.Kept.{Kept};
 ghost use Rattle.reg_audit.specs.Numbers.{AreNumbersOf};
@@ -36,15 +36,15 @@ pub(crate) fn rows_at(all: &[Vec<Row>], row_index: usize) -> &[Row]
     }
 }
 
-/// Whether the rows are those of a register, in the order of [`crate::whole_audit::WHOLE`].
+/// Checks that the rows, which were read for each item of [`crate::whole_audit::WHOLE`], are those of a register.
 pub(crate) fn check_read(alloc: Global, all: &[Vec<Row>]) -> Result<Audited, AuditFault>
     ensures sound { OnAllRead all.now
-        (λ records columns. IfOk result (λ _. SoundRows records × Kept columns records)) }
+        (λ records columns. IfOk result (λ _. ReachedRows records × Kept columns records)) }
     ensures counted { OnAllRead all.now
         (λ records columns. IfOk result (AreNumbersOf records)) }
     ensures broken { OnAllRead all.now
         (λ records columns. NoBrokenRowIf
-        (HasValues records × SoundRows records × Kept columns records) result) }
+        (HasValues records × ReachedRows records × Kept columns records) result) }
 {
     let office = office(rows_at(all, 0))?;
     let subscribers = subscribers(alloc, rows_at(all, 1))?;

@@ -1,4 +1,4 @@
-//! The texts that read a register's tables whole, each in the order of its rowids, and those that read the rowids alone.
+//! The SQL statements of an audit: they read the rows of each table in the order of its rowids, and the rowids alone.
 
 ghost use Rattle.std.specs.Prelude.{◌≡◌};
 ghost use Rattle.reg_audit.specs.ReadTexts.{text_of};

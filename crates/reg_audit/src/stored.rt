@@ -37,7 +37,7 @@ const SEQUENCE: u8 = 0x30;
 
 const MOST_ALGORITHM: usize = 1_024;
 
-/// The most octets of a CRL. The longest one that a register issues has little more than half as many.
+/// The most octets of a CRL. By the contracts of `reg_crl`, a CRL that a register issues has little more than half as many at most.
 const MOST_CRL: usize = 268_435_456;
 
 fn other_bytes(number: u64) -> AuditFault
@@ -178,7 +178,7 @@ fn check_each<S: Alter, W: ProgressObserver>(
     Ok(())
 }
 
-/// What a CRL has besides its entries: the issuer, and the seconds from its thisUpdate to its nextUpdate.
+/// What all CRLs have in common: the issuer, and the seconds from thisUpdate to nextUpdate.
 fn terms<S: Alter>(conn: &mut Connection<S>) -> Result<(Issuer, u64), DatabaseFault>
     ensures found { (records : Records) → Shows S.Store conn.old records
         → HasCleanDisk (state S.Store conn.new)
@@ -191,8 +191,8 @@ fn terms<S: Alter>(conn: &mut Connection<S>) -> Result<(Issuer, u64), DatabaseFa
     Ok((issuer, policy.crl_life()))
 }
 
-/// Checks that the stored bytes of each CRL are those of its entries, with any one algorithm and any signature. `all` is what
-/// was read of the tables, in the order of [`crate::whole_audit::WHOLE`]. The observer is called after each CRL.
+/// Checks that the stored bytes of each CRL are those of its entries, with any one algorithm and any signature. `all` has the
+/// rows that were read for each item of [`crate::whole_audit::WHOLE`]. The observer is called after each CRL.
 pub(crate) fn check_crls<S: Alter, W: ProgressObserver>(
     alloc: Global,
     conn: &mut Connection<S>,
@@ -202,7 +202,8 @@ pub(crate) fn check_crls<S: Alter, W: ProgressObserver>(
     ensures bytes { (records : Records) → (columns : DerivedRows) → ShowsBoth S.Store conn.old records columns
         → AreRead records columns whole all.now (λ rows. rows.items) → Kept columns records
         → HasCleanDisk (state S.Store conn.new) → OnOk result (CrlsSigned IsSomeCrl records) }
-    ensures others { (records : Records) → (columns : DerivedRows) → ShowsBoth S.Store conn.old records columns
+    ensures others { (records : Records) → (columns : DerivedRows)
+        → ShowsBoth S.Store conn.old records columns
         → AreRead records columns whole all.now (λ rows. rows.items) → HasValues records → SoundRows records
         → Kept columns records → HasCleanDisk (state S.Store conn.new)
         → NoBrokenRowIf (CrlsSigned IsSomeCrl records) result }

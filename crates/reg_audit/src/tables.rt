@@ -1,4 +1,4 @@
-//! The rows of each table, as what the records and what is kept beside them have.
+//! Converts the rows that were read of each table to rows of the records and of the derived tables.
 
 ghost use Rattle.std.specs.Prelude.{◌≡◌, map, IfOk};
 ghost use Rattle.reg_core.specs.Crls.{row_of};

@@ -1,4 +1,4 @@
-//! What the rows of each table show, where a row with a value that no register writes is reported as broken.
+//! Reads typed values from the rows of a table. A row with a value that no register writes is reported as broken.
 
 ghost use Rattle.std.specs.Prelude.{◌≡◌, [], ◌∷◌, List, map, IfOk};
 ghost use Rattle.std.specs.List.{AllByRecursion};
@@ -95,7 +95,7 @@ impl ShownRow for ListedRows {
     }
 }
 
-/// What each row of a table shows.
+/// The typed value of each row of a table.
 pub(crate) fn typed<T: ShownRow>(
     alloc: Global,
     table: RegisterTable,
@@ -114,7 +114,7 @@ pub(crate) fn typed<T: ShownRow>(
     }
 }
 
-/// What the one row of a table shows.
+/// The typed value of the only row of a table.
 pub(crate) fn only<T: ShownRow>(table: RegisterTable, rows: &[Row]) -> Result<T::Record, AuditFault>
     ensures read { (it : T.Record) → T.is_keyed it → rows.now ≡ T.shown it ∷ []
         → IfOk result (λ read. read ≡ it) }

@@ -44,12 +44,12 @@ const WHOLE: [What; 10] = [
 /// any signature ([`reg_audit_rows::check_crl`]). Last, it reads the rowids, the office and the schedule. It verifies no
 /// signature, does not check the schema, changes nothing, and reports its progress to the observer.
 ///
-/// A value that the register's types can't hold is reported as a broken row. `IsDenied` says what a broken row disproves.
+/// A row with a value that the register's types can't hold is reported as broken. `IsDenied` says what a broken row disproves.
 /// If the tables have a register's schema (`AreTables`) and the audit succeeds, they show sound records (`ShowsSound`).
 ///
 /// # Errors
-/// `Broken` with a row that breaks a rule; `Memory`; `Store` if the database fails, or if no register writes the issuer or
-/// the policy that it has.
+/// `Broken` with a row that breaks a rule; `Memory`; `Store` if the database fails, or if its issuer or policy is one that
+/// no register writes.
 pub fn audit<S: Alter, W: ProgressObserver>(
     alloc: Global,
     conn: &mut Connection<S>,

@@ -1,17 +1,18 @@
 -- Numbered rows found by their numbers, and the rows of CRLs without their bytes.
-use Rattle.std.proofs.Common.{◌≡◌, ◌⊎◌, ℕ, zero, suc, ◌+◌, ◌<◌, ◌≤◌, ◌==◌, ◌||◌, true, false, List, [], ◌∷◌, length, map, find, slice_get, Option, None, Bool, IsSome, IsTrue, refl, sym, ap, subst, ◌∙◌, arith}
+use Rattle.std.proofs.Common.{◌≡◌, ◌⊎◌, ℕ, zero, suc, ◌+◌, ◌<◌, ◌≤◌, ◌==◌, ◌||◌, true, false, List, [], ◌∷◌, length, map, find, slice_get, Option, Some, None, Bool, IsSome, IsSomeAnd, IsTrue, refl, sym, ap, subst, ◌∙◌, arith}
 use Rattle.std.specs.List.{AllByRecursion, list_any}
 use Rattle.std.proofs.lemmas.Bool.Decides.{nat_tests}
 use Rattle.std.proofs.lemmas.List.{length-map}
 use Rattle.reg_core.specs.Crls.{row_of}
 use Rattle.reg_core.specs.Records.{Crl, Records, certificate_in, request_in}
 use Rattle.reg_core.specs.Calendar.{clock_end}
-use Rattle.reg_core.specs.Sound.{NumberedFrom, NeverDecreases, SoundRevocation, SoundCrls, SoundRevocations, SoundSubscribers, SoundOrders, SoundCertificates, SoundRequests, SoundRows}
+use Rattle.reg_core.specs.Reached.{LeadsTo, ReachedRevocations, ReachedSubscribers, ReachedOrders, ReachedCertificates, ReachedRequests, ReachedRows}
+use Rattle.reg_core.specs.Sound.{NumberedFrom, NeverDecreases, SoundRevocation, SoundCrls}
 use Rattle.reg_core.specs.declared.rows.CertRow.{CertRow}
 use Rattle.reg_core.specs.declared.rows.CrlRow.{CrlRow}
 use Rattle.reg_core.specs.declared.rows.RequestRow.{RequestRow}
 use Rattle.reg_core.specs.declared.rows.RevocationRow.{RevocationRow}
-use Rattle.reg_core_laws.proofs.PublicLaws.{all_found, all_map, all_weaker, key_found, numbered_above, numbered_below, some_of}
+use Rattle.reg_core_laws.proofs.PublicLaws.{all_found, all_join, all_map, all_weaker, key_found, numbered_above, numbered_below, some_of}
 use Rattle.reg_audit_rows.specs.declared.rows.Rows.{Rows}
 use Rattle.reg_audit_rows.specs.Read.{FitsIn, AreCrls, AreRevocations, AreOf, IsLastSet}
 
@@ -105,10 +106,10 @@ crls_of cap last crls are = record {
 
 -- ---- revocations
 
-pub fits_of : (last : ℕ) (certificates : List CertRow) (requests : List RequestRow) (crls : List Crl) (row : RevocationRow) → SoundRevocation last certificates requests crls row → FitsIn last (certificate_in certificates row.serial) (request_in requests row.request) (map row_of crls) row
-fits_of last certificates requests crls row sound = record {
+pub fits_of : (last : ℕ) (certificates : List CertRow) (requests : List RequestRow) (crls : List Crl) (row : RevocationRow) → SoundRevocation last certificates requests crls row → IsSomeAnd (request_in requests row.request) (LeadsTo row) → FitsIn last (certificate_in certificates row.serial) (request_in requests row.request) (map row_of crls) row
+fits_of last certificates requests crls row sound led = record {
   within_validity = sound.within_validity;
-  by_request = sound.by_request;
+  by_request = led;
   at_by_last = sound.at_by_last;
   first_from_one = sound.first_from_one;
   first_by_next = rw length-map sound.first_by_next;
@@ -121,13 +122,17 @@ fits_of last certificates requests crls row sound = record {
 pub sound_of : (last : ℕ) (certificates : List CertRow) (requests : List RequestRow) (crls : List Crl) (row : RevocationRow) → FitsIn last (certificate_in certificates row.serial) (request_in requests row.request) (map row_of crls) row → SoundRevocation last certificates requests crls row
 sound_of last certificates requests crls row fits = record {
   within_validity = fits.within_validity;
-  by_request = fits.by_request;
+  by_request = same_serial (request_in requests row.request) fits.by_request;
   at_by_last = fits.at_by_last;
   first_from_one = fits.first_from_one;
   first_by_next = rw length-map at fits.first_by_next;
   crls_before = all_unmap (λ (crl : CrlRow). crl.number < row.first → crl.this_update ≤ row.at) row_of crls fits.around.before;
   crls_after = all_unmap (λ (crl : CrlRow). row.first ≤ crl.number → row.at ≤ crl.this_update) row_of crls fits.around.after;
 }
+  where
+    same_serial : (request : Option RequestRow) → IsSomeAnd request (LeadsTo row) → IsSomeAnd request (λ found. found.serial ≡ row.serial)
+    same_serial None led = led
+    same_serial (Some request) led = led.same_serial
 
 -- ---- the rows that were read and the records
 
@@ -139,47 +144,56 @@ module _ (rows : Rows) (records : Records) (are : AreOf rows records) where
   issued : list_any (λ (crl : CrlRow). crl.this_update == records.last) (map row_of records.crls) ≡ list_any (λ (crl : Crl). crl.this_update == records.last) records.crls
   issued = any_row (λ (crl : CrlRow). crl.this_update == records.last) records.crls
 
-  pub last_set_read : SoundRows records → IsLastSet rows
-  last_set_read sound = rw (are.subscribers, are.last, are.crls) (subst IsSetWhere (sym issued) sound.last_set)
+  pub last_set_read : ReachedRows records → IsLastSet rows
+  last_set_read reached = rw (are.subscribers, are.last, are.crls) (subst IsSetWhere (sym issued) reached.last_set)
 
   last_set_of : IsLastSet rows → IsSetWhere (list_any (λ (crl : Crl). crl.this_update == records.last) records.crls)
   last_set_of set = subst IsSetWhere issued (rw (are.subscribers, are.last, are.crls) at set)
 
-  pub crls_read : SoundRows records → AreCrls rows.cap rows.last rows.crls.now
-  crls_read sound = rw (are.cap, are.last, are.crls) (crls_to records.policy.cap records.last records.crls sound.crls)
+  pub crls_read : SoundCrls records.policy.cap records.last records.crls → AreCrls rows.cap rows.last rows.crls.now
+  crls_read sound = rw (are.cap, are.last, are.crls) (crls_to records.policy.cap records.last records.crls sound)
 
   module _ (found : ℕ → Option CertRow) (same : (key : ℕ) → found key ≡ find (λ (row : CertRow). row.serial == key) rows.certificates.now) where
     found_is : (key : ℕ) → found key ≡ certificate_in records.certificates key
     found_is key = same key ∙ ap (λ l. certificate_in l key) are.certificates
 
-    pub revocations_read : SoundRows records → AreRevocations found rows
-    revocations_read sound = record {
-      serials_differ = rw are.revocations sound.revocations.serials_differ;
-      requests_differ = rw are.revocations sound.revocations.requests_differ;
-      each = rw (are.revocations, are.last, are.requests, are.crls)
-          (all_weaker (SoundRevocation records.last records.certificates records.requests records.crls) (λ row. FitsIn records.last (found row.serial) (request_in records.requests row.request) (map row_of records.crls) row)
-          (λ row one. subst (λ o. FitsIn records.last o (request_in records.requests row.request) (map row_of records.crls) row) (sym (found_is row.serial)) (fits_of records.last records.certificates records.requests records.crls row one)) records.revocations sound.revocations.each);
-      moments_never_decrease = rw are.revocations sound.revocations.moments_never_decrease;
-      firsts_never_decrease = rw are.revocations sound.revocations.firsts_never_decrease;
-      none_after = rw (are.revocations, are.requests) sound.revocations.none_after;
-    }
+    pub revocations_read : ReachedRows records → AreRevocations found rows
+    revocations_read reached =
+        let sound = reached.revocations.sound in
+        record {
+          serials_differ = rw are.revocations sound.serials_differ;
+          requests_differ = rw are.revocations sound.requests_differ;
+          each = rw (are.revocations, are.last, are.requests, are.crls)
+              (all_join (SoundRevocation records.last records.certificates records.requests records.crls) (λ row. IsSomeAnd (request_in records.requests row.request) (LeadsTo row))
+              (λ row. FitsIn records.last (found row.serial) (request_in records.requests row.request) (map row_of records.crls) row)
+              (λ row one led. subst (λ o. FitsIn records.last o (request_in records.requests row.request) (map row_of records.crls) row) (sym (found_is row.serial)) (fits_of records.last records.certificates records.requests records.crls row one led))
+              records.revocations sound.each reached.revocations.led);
+          moments_never_decrease = rw are.revocations reached.revocations.moments_never_decrease;
+          firsts_never_decrease = rw are.revocations reached.revocations.firsts_never_decrease;
+          none_after = rw (are.revocations, are.requests) reached.revocations.none_after;
+        }
 
-    revocations_sound : AreRevocations found rows → SoundRevocations records.last records.certificates records.requests records.crls records.revocations
-    revocations_sound read = record {
-      serials_differ = rw are.revocations at read.serials_differ;
-      requests_differ = rw are.revocations at read.requests_differ;
-      each =
-          all_weaker (λ row. FitsIn records.last (found row.serial) (request_in records.requests row.request) (map row_of records.crls) row) (SoundRevocation records.last records.certificates records.requests records.crls)
-          (λ row one. sound_of records.last records.certificates records.requests records.crls row (subst (λ o. FitsIn records.last o (request_in records.requests row.request) (map row_of records.crls) row) (found_is row.serial) one)) records.revocations
-          (rw (are.revocations, are.last, are.requests, are.crls) at read.each);
-      moments_never_decrease = rw are.revocations at read.moments_never_decrease;
-      firsts_never_decrease = rw are.revocations at read.firsts_never_decrease;
-      none_after = rw (are.revocations, are.requests) at read.none_after;
-    }
+    revocations_reached : AreRevocations found rows → ReachedRevocations records.last records.certificates records.requests records.crls records.revocations
+    revocations_reached read =
+        let each : AllByRecursion (λ row. FitsIn records.last (certificate_in records.certificates row.serial) (request_in records.requests row.request) (map row_of records.crls) row) records.revocations =
+        all_weaker (λ row. FitsIn records.last (found row.serial) (request_in records.requests row.request) (map row_of records.crls) row) _
+        (λ row one. subst (λ o. FitsIn records.last o (request_in records.requests row.request) (map row_of records.crls) row) (found_is row.serial) one) records.revocations
+        (rw (are.revocations, are.last, are.requests, are.crls) at read.each) in
+        record {
+          sound = record {
+            serials_differ = rw are.revocations at read.serials_differ;
+            requests_differ = rw are.revocations at read.requests_differ;
+            each = all_weaker _ _ (λ row one. sound_of records.last records.certificates records.requests records.crls row one) records.revocations each;
+          };
+          led = all_weaker _ _ (λ row one. one.by_request) records.revocations each;
+          moments_never_decrease = rw are.revocations at read.moments_never_decrease;
+          firsts_never_decrease = rw are.revocations at read.firsts_never_decrease;
+          none_after = rw (are.revocations, are.requests) at read.none_after;
+        }
 
-    pub rows_sound : rows.last < clock_end → IsLastSet rows → SoundSubscribers rows.cap rows.subscribers.now → SoundOrders rows.cap rows.subscribers.now rows.orders.now → SoundCertificates rows.cap rows.orders.now rows.certificates.now
-        → SoundRequests rows.cap rows.last rows.certificates.now rows.requests.now → AreCrls rows.cap rows.last rows.crls.now → AreRevocations found rows → SoundRows records
-    rows_sound last entered subscribers orders certificates requests crls revocations = record {
+    pub rows_reached : rows.last < clock_end → IsLastSet rows → ReachedSubscribers rows.cap rows.subscribers.now → ReachedOrders rows.cap rows.subscribers.now rows.orders.now → ReachedCertificates rows.cap rows.orders.now rows.certificates.now
+        → ReachedRequests rows.cap rows.last rows.certificates.now rows.requests.now → AreCrls rows.cap rows.last rows.crls.now → AreRevocations found rows → ReachedRows records
+    rows_reached last entered subscribers orders certificates requests crls revocations = record {
       policy = are.policy;
       before_clock_end = rw are.last at last;
       last_set = last_set_of entered;
@@ -187,6 +201,6 @@ module _ (rows : Rows) (records : Records) (are : AreOf rows records) where
       orders = rw (are.cap, are.subscribers, are.orders) at orders;
       certificates = rw (are.cap, are.orders, are.certificates) at certificates;
       requests = rw (are.cap, are.last, are.certificates, are.requests) at requests;
-      revocations = revocations_sound revocations;
+      revocations = revocations_reached revocations;
       crls = crls_of records.policy.cap records.last records.crls (rw (are.cap, are.last, are.crls) at crls);
     }

@@ -49,9 +49,9 @@ why_text why.NoFirst = codes "its first CRL is neither issued nor the next"
 why_text why.WrongFirst = codes "its first CRL is not the first one after it"
 why_text why.EarlierFirst = codes "its first CRL is before that of the row before it"
 why_text why.ThisUpdateDecreases = codes "its thisUpdate is before that of the CRL before it"
-why_text why.DerivedMismatch = codes "not what follows from the records, or a row before it is missing"
+why_text why.DerivedMismatch = codes "differs from the records, or an earlier row is missing"
 why_text why.OtherBytes = codes "its bytes are not those of what the records list"
-why_text why.WrongCounts = codes "not the counts of the letters"
+why_text why.WrongCounts = codes "its counts are not those of the table standing"
 why_text why.NoValue = codes "a value that no register writes, or no such row"
 
 -- all rows are sound: how many certificates, revocations and CRLs there are

@@ -8,7 +8,7 @@ abbrev pub IsBroken : CheckFault → Type 0
 IsBroken Memory = ⊥
 IsBroken (Broken broken) = Unit {0}
 
--- no check ends at a row that breaks a rule
+-- the result is not a row that breaks a rule
 abbrev pub NotBroken : {T : Type 0} → Result T CheckFault → Type 0
 NotBroken result = IfErr result (λ fault. ¬ IsBroken fault)
 

@@ -7,7 +7,8 @@ use Rattle.reg_core.specs.Checks.{validity_seconds}
 use Rattle.reg_core.specs.Crls.{row_of}
 use Rattle.reg_core.specs.Policy.{IsPolicy}
 use Rattle.reg_core.specs.Records.{Records, order_in, request_in, revocation_in, subscriber_in}
-use Rattle.reg_core.specs.Sound.{LeadsTo, NumberedFrom, KeysDiffer, NeverDecreases}
+use Rattle.reg_core.specs.Reached.{LeadsTo}
+use Rattle.reg_core.specs.Sound.{NumberedFrom, KeysDiffer, NeverDecreases}
 use Rattle.reg_core.specs.declared.rows.CertRow.{CertRow}
 use Rattle.reg_core.specs.declared.rows.OrderRow.{OrderRow}
 use Rattle.reg_core.specs.declared.rows.SubscriberRow.{SubscriberRow}

@@ -1,6 +1,6 @@
 use crate::broken_row::BrokenRow;
 
-/// How many certificates, revocations and CRLs a register has whose audit found no broken row.
+/// The numbers of certificates, revocations and CRLs of a register in which an audit found no broken row.
 #[derive(Clone, Copy, PartialEq, Eq)]
 pub struct Audited {
     pub certificates: usize,

@@ -22,7 +22,7 @@ pub enum Defect {
     NeverAccepted,
     /// There are more rows than the policy's cap.
     AboveCap,
-    /// Its id, or its CRL number (RFC 5280 5.2.3), is not one more than that of the previous row (1 in the first row).
+    /// Its id, rowid or CRL number (RFC 5280 5.2.3) is not one more than that of the previous row, or not 1 in the first row.
     OutOfOrder,
     /// Its name has a byte that no command takes.
     BadName,
@@ -65,7 +65,7 @@ pub enum Defect {
     OtherBytes,
     /// The counts are not those of the letters.
     WrongCounts,
-    /// It has a value that no register writes, or a table that must have one row has none or more.
+    /// It has a value that no register writes, or a table that must have one row has none or several.
     NoValue,
 }
 

@@ -161,7 +161,8 @@ pub(crate) fn listings(
     certificates: &BTreeMap<Serial, CertRow>,
     crls: &[CrlRow],
 ) -> Result<Vec<Listed>, CheckFault>
-    ensures made { NumberedFrom (λ crl. crl.number) 1 crls.now → NeverDecreases (λ crl. crl.this_update) crls.now
+    ensures made { NumberedFrom (λ crl. crl.number) 1 crls.now
+        → NeverDecreases (λ crl. crl.this_update) crls.now
         → IfOk result (λ made.
         made.items ≡ map (listed_with crls.now (λ key. get nat_cmp certificates.now key)) revocations.now) }
     ensures memory { NotBroken result }

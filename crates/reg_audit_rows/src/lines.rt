@@ -62,10 +62,9 @@ fn text_of(why: Defect) -> &'static str
         Defect::WrongFirst => "its first CRL is not the first one after it",
         Defect::EarlierFirst => "its first CRL is before that of the row before it",
         Defect::ThisUpdateDecreases => "its thisUpdate is before that of the CRL before it",
-        Defect::DerivedMismatch =>
-            "not what follows from the records, or a row before it is missing",
+        Defect::DerivedMismatch => "differs from the records, or an earlier row is missing",
         Defect::OtherBytes => "its bytes are not those of what the records list",
-        Defect::WrongCounts => "not the counts of the letters",
+        Defect::WrongCounts => "its counts are not those of the table standing",
         Defect::NoValue => "a value that no register writes, or no such row",
     }
 }

@@ -3,7 +3,8 @@
 ghost use Rattle.std.specs.Prelude.{◌≡◌, ◌+◌, ◌<◌, ◌≤◌, ◌==◌, ◌↔◌, find, IsTrue, OnOk};
 ghost use Rattle.std.specs.BTreeMap.{get};
 ghost use Rattle.std.specs.Ordering.{nat_cmp};
-ghost use Rattle.reg_core.specs.Sound.{LeadsTo, NumberedFrom};
+ghost use Rattle.reg_core.specs.Reached.{LeadsTo};
+ghost use Rattle.reg_core.specs.Sound.{NumberedFrom};
 ghost use Rattle.reg_audit_rows.specs.Read.{AreAround, AreAsOrdered, AreBeforeRevocation, AreInTime, FitTogether, FitsIn, HaveSubscribers, IsAsOrdered, IsBefore, IsInTime};
 ghost use Rattle.reg_audit_rows.specs.Faults.{NotBrokenIf, NoDefectIff};
 

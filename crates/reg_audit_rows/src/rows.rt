@@ -6,7 +6,8 @@ ghost use Rattle.std.specs.List.{list_any};
 ghost use Rattle.std.specs.Ordering.{nat_cmp};
 ghost use Rattle.reg_core.specs.Calendar.{clock_end};
 ghost use Rattle.reg_core.specs.Records.{Records};
-ghost use Rattle.reg_core.specs.Sound.{SoundRows, SoundSubscribers, SoundOrders, SoundCertificates, SoundRequests, NumberedFrom};
+ghost use Rattle.reg_core.specs.Reached.{ReachedRows, ReachedSubscribers, ReachedOrders, ReachedCertificates, ReachedRequests};
+ghost use Rattle.reg_core.specs.Sound.{NumberedFrom};
 ghost use Rattle.reg_audit_rows.specs.Read.{AreCrls, AreOf, AreRevocations, Indexes, IsIndexOf, IsLastSet};
 ghost use Rattle.reg_audit_rows.specs.Faults.{NotBrokenIf};
 
@@ -27,7 +28,7 @@ use reg_core::{
 use std::alloc::Global;
 use std::collections::BTreeMap;
 
-/// The rows of the tables of the records, each table's in the order of its rowids, the CRLs without their bytes.
+/// The rows of each table that is not derived, in the order of its rowids. The CRLs are without their bytes.
 #[derive(Clone, Copy)]
 pub struct Rows<'a> {
     pub cap: u64,
@@ -42,8 +43,8 @@ pub struct Rows<'a> {
 
 /// Checks that ids are 1, 2, 3 and so on, names are valid and differ, and there are no more rows than the cap.
 fn check_subscribers(alloc: Global, rows: &[SubscriberRow], cap: u64) -> Result<(), CheckFault>
-    ensures ok { OnOk result (SoundSubscribers cap rows.now) }
-    ensures broken { NotBrokenIf (SoundSubscribers cap rows.now) result }
+    ensures ok { OnOk result (ReachedSubscribers cap rows.now) }
+    ensures broken { NotBrokenIf (ReachedSubscribers cap rows.now) result }
 {
     within_cap(RegisterTable::Subscriber, rows.len(), cap)?;
     in_order(RegisterTable::Subscriber, rows)?;
@@ -58,9 +59,9 @@ fn check_orders(
     cap: u64,
 ) -> Result<(), CheckFault>
     ensures ok { NumberedFrom (λ row. row.id) 1 subscribers.now
-        → OnOk result (SoundOrders cap subscribers.now rows.now) }
+        → OnOk result (ReachedOrders cap subscribers.now rows.now) }
     ensures broken { NumberedFrom (λ row. row.id) 1 subscribers.now
-        → NotBrokenIf (SoundOrders cap subscribers.now rows.now) result }
+        → NotBrokenIf (ReachedOrders cap subscribers.now rows.now) result }
 {
     within_cap(RegisterTable::Orders, rows.len(), cap)?;
     in_order(RegisterTable::Orders, rows)?;
@@ -76,10 +77,10 @@ fn check_certificates(
     cap: u64,
 ) -> Result<BTreeMap<Serial, CertRow>, CheckFault>
     ensures ok { NumberedFrom (λ row. row.id) 1 orders.now
-        → OnOk result (SoundCertificates cap orders.now rows.now) }
+        → OnOk result (ReachedCertificates cap orders.now rows.now) }
     ensures found { IfOk result (λ found. Indexes (λ row. row.serial) rows.now (get nat_cmp found)) }
     ensures broken { NumberedFrom (λ row. row.id) 1 orders.now
-        → NotBrokenIf (SoundCertificates cap orders.now rows.now) result }
+        → NotBrokenIf (ReachedCertificates cap orders.now rows.now) result }
 {
     within_cap(RegisterTable::Cert, rows.len(), cap)?;
     validities_are_forward(rows)?;
@@ -97,10 +98,10 @@ fn check_requests(
 ) -> Result<(), CheckFault>
     ensures ok { (registered : List CertRow)
         → Indexes (λ row. row.serial) registered (get nat_cmp certificates.now)
-        → OnOk result (SoundRequests cap last registered rows.now) }
+        → OnOk result (ReachedRequests cap last registered rows.now) }
     ensures broken { (registered : List CertRow)
         → Indexes (λ row. row.serial) registered (get nat_cmp certificates.now)
-        → NotBrokenIf (SoundRequests cap last registered rows.now) result }
+        → NotBrokenIf (ReachedRequests cap last registered rows.now) result }
 {
     within_cap(RegisterTable::Request, rows.len(), cap)?;
     in_order(RegisterTable::Request, rows)?;
@@ -185,9 +186,9 @@ pub(crate) struct RowsBySerial {
 }
 
 pub(crate) fn check_rows(alloc: Global, rows: &Rows<'_>) -> Result<RowsBySerial, CheckFault>
-    ensures ok { (records : Records) → AreOf rows.now records → OnOk result (SoundRows records) }
+    ensures ok { (records : Records) → AreOf rows.now records → OnOk result (ReachedRows records) }
     ensures found { IfOk result (IsIndexOf rows.now) }
-    ensures broken { (records : Records) → AreOf rows.now records → NotBrokenIf (SoundRows records) result }
+    ensures broken { (records : Records) → AreOf rows.now records → NotBrokenIf (ReachedRows records) result }
 {
     check_last(rows.last)?;
     check_last_set(rows)?;

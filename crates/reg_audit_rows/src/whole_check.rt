@@ -2,6 +2,7 @@
 
 ghost use Rattle.std.specs.Prelude.{◌≡◌, OnOk};
 ghost use Rattle.reg_core.specs.Records.{Records};
+ghost use Rattle.reg_core.specs.Reached.{ReachedRows};
 ghost use Rattle.reg_core.specs.Sound.{SoundRows};
 ghost use Rattle.reg_store_tables.specs.DerivedRows.{DerivedRows};
 ghost use Rattle.reg_store_tables.specs.Kept.{Kept};
@@ -43,12 +44,12 @@ pub fn check(
     rows: &Rows<'_>,
     beside: &StoredDerivedRows<'_>,
 ) -> Result<(), CheckFault>
-    ensures sound { (records : Records) → AreOf rows.now records → OnOk result (SoundRows records) }
+    ensures sound { (records : Records) → AreOf rows.now records → OnOk result (ReachedRows records) }
     ensures kept { (records : Records) → AreOf rows.now records → (columns : DerivedRows)
         → AreColumnsOf beside.now columns → OnOk result (Kept columns records) }
     ensures broken { (records : Records) → AreOf rows.now records → (columns : DerivedRows)
         → AreColumnsOf beside.now columns
-        → NotBrokenIf (SoundRows records × Kept columns records) result }
+        → NotBrokenIf (ReachedRows records × Kept columns records) result }
 {
     let found = check_rows(alloc, rows)?;
     check_derived(alloc, rows, &found, beside)

@@ -14,6 +14,7 @@ pub mod Lines
 pub mod Number
 pub mod Policy
 pub mod Queries
+pub mod Reached
 pub mod Records
 pub mod Schedule
 pub mod Sequence

@@ -50,17 +50,12 @@ pub record SettleAccepted (records : Records) (now id : ℕ) : Type 0 where
   pub not_revoked : revocation_in records.revocations request.serial ≡ None
   pub live : now ≤ certificate.not_after
 
--- the certificate of each request is there
-pub certificates_exist : (records : Records) → SoundRows records
-    → AllByRecursion (λ row. IsSome (certificate_in records.certificates row.serial)) records.requests
-certificates_exist records sound = all_weaker _ _ (λ row. some_and_some _ _) records.requests sound.requests.within_validity
-
 -- the same checks are made of a decline
 pub accepted_revoke : (records : Records) (now id : ℕ) → SoundRows records → refusal records now (Revoke id) ≡ None → SettleAccepted records now id
 accepted_revoke records now id sound none = settled exists
   where
     exists : (request : RequestRow) → request_in records.requests id ≡ Some request → IsSome (certificate_in records.certificates request.serial)
-    exists request found = all_found _ _ records.requests request found (certificates_exist records sound)
+    exists request found = all_found _ _ records.requests request found sound.requests.certificates_exist
 
     settled : ((request : RequestRow) → request_in records.requests id ≡ Some request → IsSome (certificate_in records.certificates request.serial))
         → SettleAccepted records now id

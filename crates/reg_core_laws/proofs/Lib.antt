@@ -6,6 +6,7 @@ pub mod Decided
 pub mod Entries
 pub mod Imported
 pub mod Kept
+pub mod KeptReached
 pub mod ListFacts
 pub mod Listed
 pub mod Listings

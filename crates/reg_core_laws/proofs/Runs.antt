@@ -4,9 +4,8 @@ use Rattle.std.specs.List.{AllByRecursion}
 use Rattle.reg_core.specs.Changes.{with_schedule}
 use Rattle.reg_core.specs.Crls.{CertList, cert_list, next_number}
 use Rattle.reg_core.specs.Issuer.{Issuer}
-use Rattle.reg_core.specs.Policy.{IsPolicy, Terms}
+use Rattle.reg_core.specs.Policy.{Terms}
 use Rattle.reg_core.specs.Records.{Records, Crl, no_records, request_in}
-use Rattle.reg_core.specs.Schedule.{IsSchedule}
 use Rattle.reg_core.specs.Sound.{Sound, SoundRows, CrlsSigned}
 use Rattle.reg_core.specs.Step.{refusal, changed, is_repeat, revocation_row, IsSigned}
 use Rattle.reg_core.specs.declared.rows.CertRow.{CertRow}
@@ -80,7 +79,7 @@ signatures_still signed before after sound grows same =
     (signatures_kept signed before after sound.rows grows sound.signatures)
 
 -- the signatures after an accepted command
-changed_signatures : (signed : CertList → List ℕ → Type 0) (records : Records) (now : ℕ) (command : Command) (bytes : List ℕ) → Sound signed records
+pub changed_signatures : (signed : CertList → List ℕ → Type 0) (records : Records) (now : ℕ) (command : Command) (bytes : List ℕ) → Sound signed records
     → refusal records now command ≡ None → IsSigned signed records now command bytes → CrlsSigned signed (changed records now command bytes)
 changed_signatures signed records now IssueCrl bytes sound none is =
     let grows = changed_grows records now IssueCrl bytes sound.rows none in
@@ -162,10 +161,10 @@ run_more signed records between after commands outcomes now command outcome run 
 -- OF THE RECORDS AS SUCH
 
 -- another schedule keeps the records sound
-pub schedule_keeps_sound : (signed : CertList → List ℕ → Type 0) (records : Records) (schedule : List (ℕ × ℕ)) → IsSchedule schedule
+pub schedule_keeps_sound : (signed : CertList → List ℕ → Type 0) (records : Records) (schedule : List (ℕ × ℕ))
     → Sound signed records → Sound signed (with_schedule records schedule)
-schedule_keeps_sound signed records schedule is sound = record { rows = schedule_kept records schedule is sound.rows; signatures = sound.signatures }
+schedule_keeps_sound signed records schedule sound = record { rows = schedule_kept records schedule sound.rows; signatures = sound.signatures }
 
 -- a register as it is created is sound
-pub created_sound : (signed : CertList → List ℕ → Type 0) (issuer : Issuer) (policy : Terms) → IsPolicy policy → Sound signed (no_records issuer policy)
-created_sound signed issuer policy is = record { rows = no_records_sound issuer policy is; signatures = tt }
+pub created_sound : (signed : CertList → List ℕ → Type 0) (issuer : Issuer) (policy : Terms) → Sound signed (no_records issuer policy)
+created_sound signed issuer policy = record { rows = no_records_sound issuer policy; signatures = tt }

@@ -242,7 +242,7 @@ TheLastListingIsPastTheEnd =
     ∷ queried (january 10 + 1) (Status 5) (StatusIs (RevokedAt (january 2) 4))
     ∷ [])
 
--- so a revocation is listed once even if the first CRL after it is issued long after notAfter
+-- a revocation is listed once if the first CRL after it is issued long after notAfter
 abbrev pub ALateCrlListsOnce : Type 0
 ALateCrlListsOnce =
     Then
@@ -356,7 +356,7 @@ ADeclinedRequestStaysSo =
     ∷ refuse (january 2) (Revoke 1) DeclinedBefore
     ∷ [])
 
--- the refusals that no other example has
+-- the refusals that no other example has, and an order of 0 days
 abbrev pub EachRefusalHasItsCase : Type 0
 EachRefusalHasItsCase =
     Then

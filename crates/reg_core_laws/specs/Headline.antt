@@ -7,7 +7,7 @@ use Rattle.std.specs.List.{AllByRecursion, list_any}
 use Rattle.reg_core.specs.Checks.{clock_end}
 use Rattle.reg_core.specs.Crls.{CertList, entries}
 use Rattle.reg_core.specs.Issuer.{Issuer}
-use Rattle.reg_core.specs.Policy.{IsPolicy, Terms}
+use Rattle.reg_core.specs.Policy.{Terms}
 use Rattle.reg_core.specs.Records.{Records, Crl, no_records, certificate_in, revocation_in}
 use Rattle.reg_core.specs.Sound.{Sound}
 use Rattle.reg_core.specs.Status.{status, is_good, is_revoked, is_expired, counts}
@@ -26,7 +26,7 @@ use Rattle.reg_core_laws.specs.Run.{Happens, Run}
 -- a new register is sound, with any policy
 abbrev pub CreatedSound : (CertList → List ℕ → Type 0) → Type 0
 CreatedSound signed =
-    (issuer : Issuer) (policy : Terms) → IsPolicy policy → Sound signed (no_records issuer policy)
+    (issuer : Issuer) (policy : Terms) → Sound signed (no_records issuer policy)
 
 -- every run keeps the records sound
 abbrev pub KeepsSound : (CertList → List ℕ → Type 0) → Type 0
@@ -134,7 +134,7 @@ CountsMoveExactly signed =
 abbrev pub lists : Records → ℕ → ℕ → Bool
 lists records n serial = list_any (λ entry. entry.serial == serial) (entries records n)
 
--- no CRL with a number from `first` to below `n` was issued past notAfter
+-- no CRL with a number from `first` to `n` - 1 was issued past notAfter
 abbrev pub NonePastBetween : List Crl → ℕ → ℕ → ℕ → Type 0
 NonePastBetween crls first n not_after =
     AllByRecursion (λ crl. first ≤ crl.number → crl.number < n → crl.this_update ≤ not_after) crls

@@ -40,7 +40,7 @@ IsFault (Err Signer) = Unit {0}
 IsFault (Err Read) = Unit {0}
 IsFault (Err Write) = Unit {0}
 
--- a row that was registered the first time, then or before, gets `Same` the second time, or a fault
+-- a row with the outcome `Registered` or `Same` the first time gets `Same` the second time, or a fault
 abbrev pub AnsweredAgain : Result Reply Fault → Result Reply Fault → Type 0
 AnsweredAgain first second = (first ≡ Ok Registered) ⊎ (first ≡ Ok Same) → (second ≡ Ok Same) ⊎ IsFault second
 

@@ -2,5 +2,6 @@ pub mod Examples
 pub mod Headline
 pub mod History
 pub mod Import
+pub mod Reached
 pub mod Revocations
 pub mod Run

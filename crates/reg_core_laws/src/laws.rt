@@ -3,6 +3,7 @@
 ghost use Rattle.reg_core_laws.specs.Headline.{CreatedSound, KeepsSound, RunsInParts, HasExactlyOneStatus, CountsMoveExactly, ListsRevoked, RefusalsChangeNothing};
 ghost use Rattle.reg_core_laws.specs.History.{HistoryIsKept};
 ghost use Rattle.reg_core_laws.specs.Import.{ImportsTwice};
+ghost use Rattle.reg_core_laws.specs.Reached.{ReachedIsSound, CreatedReached, KeepsReached, SchedulesKeepReached};
 ghost use Rattle.reg_core_laws.specs.Revocations.{RevocationsMoveExactly};
 
 use reg_core::SignsCrls;
@@ -19,6 +20,15 @@ pub fn headline<S: SignsCrls>()
     ensures counts { (signer : S) → CountsMoveExactly (S.signed signer) }
     ensures lists { (signer : S) → ListsRevoked (S.signed signer) }
     ensures refused { (signer : S) → RefusalsChangeNothing (S.signed signer) }
+{}
+
+/// Records that are reached are sound, and an audit finds nothing wrong with them. A new register's records are reached, and every list of
+/// commands and every new schedule keeps them so.
+pub fn reached<S: SignsCrls>()
+    ensures is_sound { (signer : S) → ReachedIsSound (S.signed signer) }
+    ensures created { (signer : S) → CreatedReached (S.signed signer) }
+    ensures kept { (signer : S) → KeepsReached (S.signed signer) }
+    ensures scheduled { (signer : S) → SchedulesKeepReached (S.signed signer) }
 {}
 
 /// The CRLs that list a revoked serial number are exactly those from its first to its last, or all from its first on while

@@ -1,4 +1,4 @@
-//! The laws of the register, only over its definitions.
+//! The laws of the register's definitions. No law here is about code.
 #![tactic(auto)]
 
 pub mod examples;

@@ -177,10 +177,6 @@ found_passes P q (y ∷ ys) x all is = elim (cases_Bool (q y)) [
       found_passes P q ys x all.1 rest
 ]
 
-some_and : {A : Type 0} (P : A → Type 0) (found : Option A) → IsSomeAnd found P → (a : A) × (found ≡ Some a)
-some_and P None is = absurd is
-some_and P (Some a) is = (a, refl)
-
 some_is : {A : Type 0} (found : Option A) → IsSome found → (a : A) × (found ≡ Some a)
 some_is None is = absurd (cc)
 some_is (Some a) is = (a, refl)
@@ -189,10 +185,10 @@ module _ (records : Records) (now : ℕ) (sound : SoundRows records) where
   -- a request has its certificate, and that its subscriber
   line_there : (r : RequestRow) (id : ℕ) → request_in records.requests id ≡ Some r → (line : RequestLine) × (request_line records r ≡ Some line)
   line_there r id is =
-      let c = some_and _ (certificate_in records.certificates r.serial)
-      (found_passes _ (λ (it : RequestRow). it.id == id) records.requests r sound.requests.within_validity is) in
-      let o = some_and _ (order_in records.orders c.0.order)
-      (found_passes _ (λ (it : CertRow). it.serial == r.serial) records.certificates c.0 sound.certificates.as_ordered c.1) in
+      let c = some_is (certificate_in records.certificates r.serial)
+      (found_passes _ (λ (it : RequestRow). it.id == id) records.requests r sound.requests.certificates_exist is) in
+      let o = some_is (order_in records.orders c.0.order)
+      (found_passes _ (λ (it : CertRow). it.serial == r.serial) records.certificates c.0 sound.certificates.orders_exist c.1) in
       let s = some_is (subscriber_in records.subscribers o.0.subscriber)
       (found_passes _ (λ (it : OrderRow). it.id == c.0.order) records.orders o.0 sound.orders.subscribers_exist o.1) in
       let owner : subscriber_of_order records c.0.order ≡ Some s.0 = ap (option_and_then (λ (it : OrderRow). subscriber_in records.subscribers it.subscriber)) o.1 ∙ s.1 in

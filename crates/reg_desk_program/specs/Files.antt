@@ -10,7 +10,8 @@ use Rattle.sqlite_disk.specs.declared.Disk as disk
 use Rattle.sqlite_store.specs.declared.store.FileStore.{FileStore}
 use Rattle.sqlite_trees.specs.View.{doubt}
 use Rattle.reg_core.specs.Records.{Records}
-use Rattle.reg_core.specs.Sound.{Sound, SoundRows}
+use Rattle.reg_core.specs.Reached.{Reached}
+use Rattle.reg_core.specs.Sound.{SoundRows}
 use Rattle.reg_store_migration.specs.Older.{ShowsOlder}
 use Rattle.reg_store_migration.specs.declared.version.OlderVersion.{OlderVersion}
 use Rattle.reg_store_tables.specs.DerivedRows.{DerivedRows}
@@ -106,15 +107,15 @@ module _ {D : Type 0} {g : disk.Ghosts D} where
     pub answers : office.responder ≡ responder
 
 -- An audit of a database, with its state before and after: the tables did not change. If the result is `Sound`, they are a register's tables: any
--- records that they showed are sound and as many as the result says, the bytes of each CRL are those of its entries with any signature, the
--- derived tables agree with the records, and the office has days that a schedule can allow. There are such records, if what is presumed of the
--- connection holds. If the result is a broken row, the tables showed no sound records with a register's values; if that row is not the bytes of a
+-- records that they showed are reached and as many as the result says, the bytes of each CRL are those of its entries with any signature, the
+-- derived tables agree with the records, and the office has days that a schedule can allow. There are such records, if the presumptions about the
+-- connection hold. If the result is a broken row, the tables showed no reached records with a register's values; if that row is not the bytes of a
 -- CRL, this is true whatever the bytes of CRLs are. An older version and other tables are reported only if the tables have them.
 pub record Says {D : Type 0} {g : disk.Ghosts D} (connection after : Held (FileStore D g))
     (audit_result : AuditResult) : Type 0 where
   pub sound : (records : Records) (columns : DerivedRows) → ShowsBoth over_files connection records columns
       → HasCleanDisk (file_state after)
-      → IsSound audit_result → Sound IsSomeCrl records × Kept columns records × HasAllowedDays columns
+      → IsSound audit_result → Reached IsSomeCrl records × Kept columns records × HasAllowedDays columns
   pub shown : IsPresumed over_files connection → HasCleanDisk (file_state after) → IsSound audit_result
       → ShowsSound (file_state connection).now
   pub counted : (records : Records) (columns : DerivedRows) → ShowsBoth over_files connection records columns

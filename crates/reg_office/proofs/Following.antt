@@ -4,9 +4,8 @@ use Rattle.sha1.specs.Sha1.{sha1}
 use Rattle.reg_core.specs.Changes.{with_schedule}
 use Rattle.reg_core.specs.Crls.{CertList, cert_list, next_number}
 use Rattle.reg_core.specs.Issuer.{Issuer}
-use Rattle.reg_core.specs.Policy.{IsPolicy, Terms}
+use Rattle.reg_core.specs.Policy.{Terms}
 use Rattle.reg_core.specs.Records.{Records, Crl, no_records}
-use Rattle.reg_core.specs.Schedule.{IsSchedule}
 use Rattle.reg_core.specs.Sound.{Sound, SoundRows}
 use Rattle.reg_core.specs.declared.command.Command.{Command}
 use Rattle.reg_core.specs.declared.command.Reply.{Reply}
@@ -90,15 +89,15 @@ module _ (signs : Identity → List ℕ → List ℕ → Type 0) (identity : Ide
       record { since = sound.since; reached = kept.1; rows = kept.0.rows; signatures = kept.0.signatures }
 
   -- so does another schedule
-  pub schedule_keeps_sound_for : (records : Records) (schedule : List (ℕ × ℕ)) → IsSchedule schedule → SoundFor signs identity records → SoundFor signs identity (with_schedule records schedule)
-  schedule_keeps_sound_for records schedule is sound =
-      let kept = schedule_keeps_sound (signed_since sound.since signs identity) records schedule is (over_stored records sound) in
+  pub schedule_keeps_sound_for : (records : Records) (schedule : List (ℕ × ℕ)) → SoundFor signs identity records → SoundFor signs identity (with_schedule records schedule)
+  schedule_keeps_sound_for records schedule sound =
+      let kept = schedule_keeps_sound (signed_since sound.since signs identity) records schedule (over_stored records sound) in
       record { since = sound.since; reached = sound.reached; rows = kept.rows; signatures = kept.signatures }
 
   -- a register as it is created
-  pub created_sound_for : (issuer : Issuer) (policy : Terms) → IsPolicy policy → SoundFor signs identity (no_records issuer policy)
-  created_sound_for issuer policy is =
-      let made = created_sound (signed_since 1 signs identity) issuer policy is in
+  pub created_sound_for : (issuer : Issuer) (policy : Terms) → SoundFor signs identity (no_records issuer policy)
+  created_sound_for issuer policy =
+      let made = created_sound (signed_since 1 signs identity) issuer policy in
       let next : next_number (no_records issuer policy).crls ≡ 1 = refl in
       record { since = 1; reached = omega (arith, next); rows = made.rows; signatures = made.signatures }
 

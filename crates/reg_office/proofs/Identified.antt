@@ -51,9 +51,7 @@ module _ (signs : Identity → List ℕ → List ℕ → Type 0) (identity : Ide
 
   rows_stay : SoundRows records → SoundRows after
   rows_stay sound = record {
-    policy = sound.policy;
     before_clock_end = sound.before_clock_end;
-    last_set = sound.last_set;
     subscribers = sound.subscribers;
     orders = sound.orders;
     certificates = sound.certificates;

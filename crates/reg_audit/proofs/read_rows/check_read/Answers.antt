@@ -2,7 +2,8 @@ use Rattle.std.proofs.Common.{map, length, sym, ap, ◌∙◌, arith, rules}
 use Rattle.std.proofs.lemmas.List.{length-map}
 use Rattle.reg_core.specs.Crls.{row_of}
 use Rattle.reg_core.specs.Records.{Records}
-use Rattle.reg_core.specs.Sound.{SoundRows}
+use Rattle.reg_core.specs.Reached.{ReachedRows}
+use Rattle.reg_core_laws.proofs.PublicLaws.{reached_sound}
 use Rattle.reg_store_tables.specs.DerivedRows.{DerivedRows}
 use Rattle.reg_store_tables.specs.Kept.{Kept}
 use Rattle.reg_audit_rows.specs.Faults as found
@@ -17,9 +18,9 @@ use Rattle.reg_audit.proofs.read_rows.check_read.Goals as goal
 both : {A B P Q : Type 0} → (A → P) → (A → B → Q) → A → B → P × Q
 both one two a b = (one a, two a b)
 
--- where readable rows have no such end, those of sound records have none
-never : {End : Type 0} (records : Records) (columns : DerivedRows) → (AreReadable records columns → End → ⊥) → End → HasValues records × SoundRows records × Kept columns records → ⊥
-never records columns has is held = has (each_has records columns held.0 held.1 held.2) is
+-- where readable rows have no such end, those of reached records have none
+never : {End : Type 0} (records : Records) (columns : DerivedRows) → (AreReadable records columns → End → ⊥) → End → HasValues records × ReachedRows records × Kept columns records → ⊥
+never records columns has is held = has (each_has records columns held.0 (reached_sound records held.1) held.2) is
 
 pub returns-clause-sound : goal.returns-clause-sound
 returns-clause-sound c records columns are =
@@ -124,7 +125,7 @@ returns-in_err-check-clause-broken c records columns are =
     let letters = c.in_ok-letters.ensures.read records columns (c.rows_at-8.ensures.read records columns whole Office are (omega arith)) in
     let counts = c.in_ok-counts.ensures.read records columns (c.rows_at-9.ensures.read records columns whole Office are (omega arith)) in
     let listed = c.in_ok-listed.ensures.read records columns (c.rows_at-10.ensures.read records columns whole Office are (omega arith)) in
-    let no : found.IsBroken c.in_err-check.field-0.0 → SoundRows records × Kept columns records → ⊥ =
+    let no : found.IsBroken c.in_err-check.field-0.0 → ReachedRows records × Kept columns records → ⊥ =
     c.in_err-check.ensures.broken records
     (record {
       policy = (c.rows_at.ensures.read records columns whole Office are (omega arith)).both.shown.rows.policy;

@@ -37,7 +37,7 @@ returns-clause-shown g c db these are clean =
     let more = subst (λ all. AreReadFrom db read_besides all (λ rows. rows.items)) (sym c.deref-4.ensures.value) (c.in_ok-more.ensures.from db there are.schema clean) in
     let some = c.in_ok-check_complete.ensures.shown db are all more in
     let both = returns-clause-sound g c some.records some.columns (holds_both g.S.Store old db some.records some.columns these some.both) clean in
-    record { records = some.records; columns = some.columns; both = some.both; sound = both.0; kept = both.1 }
+    record { records = some.records; columns = some.columns; both = some.both; reached = both.0; kept = both.1 }
 
 pub returns-clause-counted : goal.returns-clause-counted
 returns-clause-counted g c records columns shows clean =

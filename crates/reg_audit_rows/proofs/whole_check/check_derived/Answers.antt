@@ -32,7 +32,7 @@ pub returns-clause-ok : goal.returns-clause-ok
 returns-clause-ok c index records are sound columns held =
     let revocations = λ (key : ℕ). get nat_cmp c.args.found.now.revocations key in
     let certificates = λ (key : ℕ). get nat_cmp c.args.found.now.certificates key in
-    let crls = crls_read c.args.rows.now records are sound in
+    let crls = crls_read c.args.rows.now records are sound.crls in
     let made = c.in_ok-letters.ensures.made in
     let listed_made = c.in_ok-listed.ensures.made crls.numbered crls.updates_never_decrease in
     let letters = letters_follow c.args.rows.now records are sound revocations index.revocations c.args.beside.now.letters.now columns.letters held.letters (subst (λ l. IsPermutation l c.args.beside.now.letters.now) made c.in_ok-same_rows.ensures.ok) in
@@ -47,7 +47,7 @@ returns-clause-ok c index records are sound columns held =
 pub returns-clause-broken : goal.returns-clause-broken
 returns-clause-broken c index records are sound columns held =
     let certificates = λ (key : ℕ). get nat_cmp c.args.found.now.certificates key in
-    let crls = crls_read c.args.rows.now records are sound in
+    let crls = crls_read c.args.rows.now records are sound.crls in
     let made = c.in_ok-listed.ensures.made crls.numbered crls.updates_never_decrease in
     let differ = subst (Rattle.reg_core.specs.Sound.KeysDiffer (λ (row : Rattle.reg_audit_rows.specs.declared.derived_rows.Listed.Listed). row.serial)) (sym made) (listed_differ c.args.rows.now records are sound certificates index.certificates) in
     if_err c.same_rows-2.result (c.same_rows-2.ensures.broken differ)

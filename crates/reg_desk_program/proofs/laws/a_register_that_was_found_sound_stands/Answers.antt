@@ -3,6 +3,7 @@ use Rattle.std.proofs.Common.{sym, subst}
 use Rattle.sqlite.specs.Files.{over_files}
 use Rattle.sqlite_disk.specs.declared.Disk as disk
 use Rattle.reg_core.specs.Records.{Records}
+use Rattle.reg_core_laws.proofs.PublicLaws.{reached_sound}
 use Rattle.reg_store_tables.specs.DerivedRows.{DerivedRows}
 use Rattle.reg_store_tables.specs.Shows.{AreRecordsAndDerived, ShowsBoth}
 use Rattle.reg_desk_program.specs.Audited.{FoundSound, tables_of}
@@ -26,6 +27,6 @@ returns g c = λ found.
           let there = subst (λ db. AreRecordsAndDerived db records columns) (sym opens.same) shown in
           record {
             shown = opened.opens.kept records (columns, record { saved = λ clean up. (opened.connects.whole clean).0.clean; tables = λ clean up. there }, it.1);
-            sound = record { since = since; reached = reached; rows = it.0.rows; signatures = signed };
+            sound = record { since = since; reached = reached; rows = reached_sound records it.0.rows; signatures = signed };
           };
     }

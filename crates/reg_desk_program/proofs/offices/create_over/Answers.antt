@@ -13,7 +13,7 @@ returns-in-Ok-clause-made g c =
     let records = no_records c.args.issuer c.args.policy in
     let made = c.in-Ok.ensures.creates in
     subst (λ held. MakesOver store c.args.connection signs held signatory records) (sym c.new.ensures.store) (record {
-      stands = record { shown = made.kept; sound = created_sound_for signs signatory c.args.issuer c.args.policy c.promise.ensures };
+      stands = record { shown = made.kept; sound = created_sound_for signs signatory c.args.issuer c.args.policy };
       leaves = λ whole.
           leaves_made store c.args.connection c.in-Ok.store records _ (λ held trees is_open leaves. g.met.C.Store.settled held.store trees is_open leaves)
           whole made.survives signs signatory made.empty (λ trees created. created.1);

@@ -1,6 +1,5 @@
-use Rattle.std.proofs.Common.{Ok, Err, inl, inr, refl, subst}
+use Rattle.std.proofs.Common.{Ok, Err, inl, inr, refl}
 use Rattle.reg_core.specs.Changes.{with_schedule}
-use Rattle.reg_core.specs.Schedule.{IsSchedule}
 use Rattle.reg_office_api.specs.Settings.{Reschedules}
 use Rattle.reg_office.proofs.Following.{schedule_keeps_sound_for}
 use Rattle.reg_office.proofs.Setting.{set_change, set_moves, unset_change}
@@ -9,10 +8,9 @@ use Rattle.reg_office.proofs.office.OfficeOffice.set_schedule.Goals as goal
 pub returns-in-Ok-clause-ok : goal.returns-in-Ok-clause-ok
 returns-in-Ok-clause-ok g c records stands =
     let identity = g.S.Signer.identity c.args.self.now.signer in
-    let is_schedule : IsSchedule c.args.schedule = subst IsSchedule c.steps-steps.ensures.steps c.steps-steps.ensures.schedule in
     record {
       shown = c.in-Ok.ensures.ok records stands.shown;
-      sound = schedule_keeps_sound_for g.S.Signer.signs identity records c.args.schedule is_schedule stands.sound;
+      sound = schedule_keeps_sound_for g.S.Signer.signs identity records c.args.schedule stands.sound;
     }
 
 pub returns-in-Ok-clause-sets : goal.returns-in-Ok-clause-sets

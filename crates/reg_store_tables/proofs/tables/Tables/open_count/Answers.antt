@@ -5,7 +5,6 @@ use Rattle.std.proofs.lemmas.List.{take_all}
 use Rattle.std.proofs.lemmas.List.Elements.{All-from_recursion}
 use Rattle.reg_core.specs.Records.{certificate_in}
 use Rattle.reg_core.specs.declared.rows.RequestRow.{RequestRow}
-use Rattle.reg_core_laws.proofs.PublicLaws.{certificates_exist}
 use Rattle.reg_store_tables.proofs.LookingUp.{finds_next, finds_ok, finds_then, passed_on}
 use Rattle.reg_store_tables.proofs.OverdueLemmas.{good_at, none_open, one_open, open_are, undeclined}
 use Rattle.reg_store_tables.proofs.Queries.{kept_have}
@@ -39,7 +38,7 @@ returns-in_err-is_good_at g c =
     passed_on _ _ (search rules) (λ records written may. may) (finds_then c.loop-request.invariant.finds c.in_err-is_good_at.ensures
     (λ records written it may.
     let P : RequestRow → Type 0 = λ (row : RequestRow). IsSome (certificate_in records.certificates row.serial) in
-    let all = subst (AllByRecursion P) (sym it.0) (kept_have P undeclined records.requests (certificates_exist records written.sound)) in
+    let all = subst (AllByRecursion P) (sym it.0) (kept_have P undeclined records.requests written.sound.requests.certificates_exist) in
     subst P (sym c.request-item.is) (All-from_recursion P c.deref-request-items.result.now all c.loop-request.request-index c.request-item.result c.loop-request-test.true))
     (λ records shows clean it found so. so))
 
