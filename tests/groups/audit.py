@@ -92,14 +92,14 @@ TOLD = [
     ("UPDATE crl SET this_update = 1767312001", "crl 1: its moment is after the last accepted one"),
     ("INSERT INTO crl VALUES (3, 1767312000, x'00')", "crl 2: its number is not one more than that before it"),
     ("INSERT INTO crl VALUES (2, 1767311999, x'00')", "crl 2: its thisUpdate is before that of the CRL before it"),
-    ("UPDATE kept SET n_good = 2", "kept 1: not the counts of the letters"),
-    ("UPDATE standing SET state = 'X'", "standing 1: not what follows from the records, or a row before it is missing"),
-    ("UPDATE standing SET not_after = 1 WHERE state = 'G'", "standing 2: not what follows from the records, or a row before it is missing"),
-    ("DELETE FROM standing WHERE state = 'G'", "standing 2: not what follows from the records, or a row before it is missing"),
-    ("UPDATE listed SET last_listed = 1", "listed 1: not what follows from the records, or a row before it is missing"),
-    ("UPDATE listed SET at = 1767311999", "listed 1: not what follows from the records, or a row before it is missing"),
-    ("UPDATE listed SET first_crl = 2", "listed 1: not what follows from the records, or a row before it is missing"),
-    ("DELETE FROM listed", "listed 1: not what follows from the records, or a row before it is missing"),
+    ("UPDATE kept SET n_good = 2", "kept 1: its counts are not those of the table standing"),
+    ("UPDATE standing SET state = 'X'", "standing 1: differs from the records, or an earlier row is missing"),
+    ("UPDATE standing SET not_after = 1 WHERE state = 'G'", "standing 2: differs from the records, or an earlier row is missing"),
+    ("DELETE FROM standing WHERE state = 'G'", "standing 2: differs from the records, or an earlier row is missing"),
+    ("UPDATE listed SET last_listed = 1", "listed 1: differs from the records, or an earlier row is missing"),
+    ("UPDATE listed SET at = 1767311999", "listed 1: differs from the records, or an earlier row is missing"),
+    ("UPDATE listed SET first_crl = 2", "listed 1: differs from the records, or an earlier row is missing"),
+    ("DELETE FROM listed", "listed 1: differs from the records, or an earlier row is missing"),
     ("DELETE FROM standing WHERE state = 'R'; INSERT INTO standing SELECT serial, 1768003200, 'R' FROM revocation", "standing 1: its number is not one more than that before it"),
 ]  # fmt: skip
 # Rows of each table that fit together: validities as long as ordered to the second, a request that was declined, and two for one serial number. Beside it
@@ -333,7 +333,7 @@ def each_octet_before_the_signature_counts(t):
 def a_broken_reference_or_check_is_damage(t, statements):
     made(t, FIRST_DAY)
     alter(t, statements)
-    t.same(audited(t, "ca.db", "--why"), (1, "", "F2 store\n  damaged\n"))
+    t.same(audited(t, "ca.db", "--why"), (1, "", "F2 store\n  damaged, or not a database: check the path and the disk\n"))
 
 
 @each(NO_OFFICE)

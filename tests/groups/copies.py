@@ -15,7 +15,9 @@ ENTERED = "".join(
     for line in ("subscriber acme", "order 1 398", "order 1 398", f"register 1 05 {DAY} 2026-12-31T00:00:00Z", f"register 2 06 {DAY} 2026-12-31T00:00:00Z", "crl")
 )
 SOUND = "sound, 2 certificates, 0 revoked, 1 CRLs\n"
-TAKEN = "something lies there already"
+TAKEN = "the path already exists: give another one"
+NO_RIGHT = "  permission denied, or the file system is read-only\n"
+DAMAGED = b"F2 store\n  damaged, or not a database: check the path and the disk\n"
 COPY_FILES = "copy.db,copy.db.part"
 
 
@@ -139,7 +141,7 @@ def its_own_register_is_in_the_way(t):
 REFUSED = {
     "no register there": (lambda t: None, "nowhere.db", b"F2 store\n  no such file\n"),
     "nothing begun": (lambda t: (t.room / "nowhere.db").write_bytes(b""), "nowhere.db", b"not-a-register\n"),
-    "no database": (lambda t: (t.room / "nowhere.db").write_bytes(b"x" * 9_000), "nowhere.db", b"F2 store\n  damaged\n"),
+    "no database": (lambda t: (t.room / "nowhere.db").write_bytes(b"x" * 9_000), "nowhere.db", DAMAGED),
     "one that is open": (lambda t: t.open(), "ca.db", b"F2 store\n  in use by another program\n"),
 }
 
@@ -175,7 +177,7 @@ def no_right(t):
     for name in {"ca.db", "ca.db-wal"} & {it.name for it in t.room.iterdir()}:
         os.chmod(t.room / name, 0o644)
     ran = t.as_nobody("copy", "ca.db", "copy.db", "--why")
-    t.same((ran.returncode, ran.stdout, ran.stderr), (1, b"", b"F2 store\n  no right\n"))
+    t.same((ran.returncode, ran.stdout, ran.stderr), (1, b"", b"F2 store\n  permission denied, or the file system is read-only\n"))
 
 
 @each({f"of version {version}": (version,) for version in (1, 2)})
@@ -193,7 +195,7 @@ def left(t):
     return sorted(it.name for it in t.room.iterdir() if it.name.startswith("copy"))
 
 
-FAILURES = {"write": "  disk full\n", "sync": "", "link": "  no right\n", "open": "", "stat": "", "unlink": "  no right\n"}
+FAILURES = {"write": "  disk full\n", "sync": "", "link": NO_RIGHT, "open": "", "stat": "", "unlink": NO_RIGHT}
 
 
 @each({f"each {kind}": (kind, cause) for kind, cause in FAILURES.items()}, seconds=4)

@@ -192,7 +192,7 @@ def a_clock_that_can_not_be_read_ends_an_open_desk(t):
             met = faults.counted(t.room / "count")["met"]
             ended = desk.wait() if met else desk.end()
         t.same(got, replies[: len(got)], f"look {at}: what was answered")
-        t.same((ended.status, ended.err), (1, b"F4 read\n  clock\n") if met else (-15, b""), f"look {at}: its end")
+        t.same((ended.status, ended.err), (1, b"F4 read\n  the machine's clock can't be read\n") if met else (-15, b""), f"look {at}: its end")
         stand = faults.sound_run(t, ["script", "ca.db"], f"{DAY_2} status 05\n").out.decode()
         t.same(stand, f"{replies[3]}\n" if len(got) > 2 else "good\n", f"look {at}: what stands")
         seen.add(len(got))
@@ -210,7 +210,7 @@ def a_clock_that_can_not_be_read_ends_a_clocked_script(t):
         faults.copy(base, t.room / "ca.db")
         given = "".join(f"{it}\n" for it in asked)
         ran, count = faults.run(t, ["script", "ca.db", "--clock", "--why"], given, clock=t.room / "clock", fail=f"clock:{at}+")
-        t.same((ran.status, ran.err), (1, b"F4 read\n  clock\n") if count["met"] else (0, b""), f"look {at}: its end")
+        t.same((ran.status, ran.err), (1, b"F4 read\n  the machine's clock can't be read\n") if count["met"] else (0, b""), f"look {at}: its end")
         t.same(ran.lines, replies[: len(ran.lines)], f"look {at}: what was answered")
         stand = faults.sound_run(t, ["script", "ca.db"], f"{DAY_2} status 05\n").out.decode()
         t.same(stand, f"{replies[4]}\n" if len(ran.lines) > 3 else "good\n", f"look {at}: what stands")

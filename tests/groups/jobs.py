@@ -281,7 +281,7 @@ def no_right_to_read(t):
     t.register()
     os.chmod(t.room / "ca.db", 0)
     for command in ("crl", "script"):
-        for more, told in ((("--why",), b"F2 store\n  no right\n"), ((), b"F2 store\n")):
+        for more, told in ((("--why",), b"F2 store\n  permission denied, or the file system is read-only\n"), ((), b"F2 store\n")):
             ran = t.as_nobody(command, "ca.db", *more, given=A_LINE)
             t.same((ran.returncode, ran.stdout, ran.stderr), (1, b"", told), f"{command} {more}")
 
@@ -291,7 +291,7 @@ def no_right_to_make(t):
     folder = t.room / "closed"
     folder.mkdir(mode=0o555)
     ran = t.as_nobody("init", "closed/ca.db", "--name", program.NAME, "--key", program.KEY, "--why")
-    t.same((ran.returncode, ran.stdout, ran.stderr), (1, b"", b"F2 store\n  no right\n"))
+    t.same((ran.returncode, ran.stdout, ran.stderr), (1, b"", b"F2 store\n  permission denied, or the file system is read-only\n"))
     t.same(list(folder.iterdir()), [])
 
 
@@ -322,7 +322,7 @@ def a_full_disk(t):
 @test
 def a_clock_that_fails(t):
     t.register()
-    for more, told in ((("--why",), b"F4 read\n  clock\n"), ((), b"F4 read\n")):
+    for more, told in ((("--why",), b"F4 read\n  the machine's clock can't be read\n"), ((), b"F4 read\n")):
         opened = t.open("ca.db", "--requests", "1", *more, command="serve", faults={"FAULTS_FAIL": "clock:1+"})
         opened.ask("GET", "/counts")
         ended = opened.wait()

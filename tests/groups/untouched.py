@@ -3,6 +3,7 @@
 from lib import program
 from lib.trial import each
 
+DAMAGED = "  damaged, or not a database: check the path and the disk\n"
 DAY = "2026-01-01T00:00:00Z"
 # A command, and what it is given.
 COMMANDS = {
@@ -21,11 +22,11 @@ COMMANDS = {
 FILES = {
     "no byte": (b"", "not-a-register\n", ""),
     "one byte": (b"x", "not-a-register\n", ""),
-    "three bytes": (b"abc", "F2 store\n", "  damaged\n"),
-    "a page of zeros": (bytes(4096), "F2 store\n", "  damaged\n"),
-    "a text": (b"no database, and longer than the head of one\n" * 100, "F2 store\n", "  damaged\n"),
-    "a text that begins with the letter of SQLite": (b"Serial,notBefore,notAfter\n" * 200, "F2 store\n", "  damaged\n"),
-    "bytes of each value": (bytes(range(256)) * 64, "F2 store\n", "  damaged\n"),
+    "three bytes": (b"abc", "F2 store\n", DAMAGED),
+    "a page of zeros": (bytes(4096), "F2 store\n", DAMAGED),
+    "a text": (b"no database, and longer than the head of one\n" * 100, "F2 store\n", DAMAGED),
+    "a text that begins with the letter of SQLite": (b"Serial,notBefore,notAfter\n" * 200, "F2 store\n", DAMAGED),
+    "bytes of each value": (bytes(range(256)) * 64, "F2 store\n", DAMAGED),
 }
 
 

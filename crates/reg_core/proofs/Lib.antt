@@ -3,6 +3,7 @@ pub mod Dates
 pub mod Decided
 pub mod Digits
 pub mod Integers
+pub mod LabelTexts
 pub mod Labels
 pub mod MomentTexts
 pub mod Moments

@@ -1,6 +1,7 @@
 -- The laws, for proofs above: they cite these alone. Each is stated in specs/, and is what a function of `laws` ensures.
 pub use Rattle.reg_core.proofs.Integers.{bytes_order, is_bytes-append, is_bytes-bytes_high_first, is_bytes-cons, is_bytes-tail, is_bytes-take, value-bytes20}
-pub use Rattle.reg_core.proofs.MomentTexts.{moment_of-some, moment_of-text, reads_moment}
+pub use Rattle.reg_core.proofs.LabelTexts.{label_of-is, label_of-some}
+pub use Rattle.reg_core.proofs.MomentTexts.{moment_of-some, moment_of-text}
 pub use Rattle.reg_core.proofs.Schedules.{before_from_test, greatest_at_most_398, test_from_before}
 use Rattle.std.proofs.Common.{arith}
 use Rattle.reg_core.specs.Integer.{integer}

@@ -7,21 +7,21 @@ use Rattle.reg_core.specs.declared.cause.Cause.TheVariants as cause
 -- the line of standard error for a cause, without its LF
 unfoldable pub cause_line : Cause → List ℕ
 cause_line cause.NoFile = codes "  no such file"
-cause_line cause.NoRight = codes "  no right"
+cause_line cause.NoRight = codes "  permission denied, or the file system is read-only"
 cause_line cause.InUse = codes "  in use by another program"
-cause_line cause.Damaged = codes "  damaged"
+cause_line cause.Damaged = codes "  damaged, or not a database: check the path and the disk"
 cause_line cause.DiskFull = codes "  disk full"
-cause_line cause.Taken = codes "  something lies there already"
+cause_line cause.Taken = codes "  the path already exists: give another one"
 cause_line cause.PortInUse = codes "  port in use"
-cause_line cause.Clock = codes "  clock"
-cause_line cause.OtherAlgorithm = codes "  latest CRL under another algorithm"
-cause_line cause.UnknownAlgorithm = codes "  latest CRL under an unknown algorithm"
-cause_line cause.OtherKey = codes "  issuer's key of another algorithm"
+cause_line cause.Clock = codes "  the machine's clock can't be read"
+cause_line cause.OtherAlgorithm = codes "  the latest CRL has another algorithm: give that --algorithm"
+cause_line cause.UnknownAlgorithm = codes "  the latest CRL has an unknown algorithm: run desk audit"
+cause_line cause.OtherKey = codes "  --algorithm does not fit the issuer's key"
 cause_line cause.Days = codes "  --days: 1 to 398"
 cause_line cause.CrlLife = codes "  --crl-life: 1 to 863999"
 cause_line cause.OcspLife = codes "  --ocsp-life: 28800 to 863999"
 cause_line cause.Cap = codes "  --cap: 1 to 1000000"
-cause_line cause.Steps = codes "  steps: 1 to 16, from 1970 on ascending, days 1 to 398"
+cause_line cause.Steps = codes "  1 to 16 MOMENT=DAYS, ascending from 1970-01-01, DAYS 1 to 398"
 
 -- whether a number is out of a range
 abbrev pub is_out : ℕ → ℕ → ℕ → Bool

@@ -17,7 +17,7 @@ without_zeros [] = []
 without_zeros (zero ∷ octets) = without_zeros octets
 without_zeros (suc octet ∷ octets) = suc octet ∷ octets
 
--- the sign bit is clear: with one more zero in front if the first bit is set, or if there are no octets, as for 0 (X.690 8.3.3)
+-- the octets, with a zero in front if the first bit is set, or if there are no octets, as for 0: so the sign bit is clear (X.690 8.3.3)
 abbrev pub with_clear_bit : List ℕ → List ℕ
 with_clear_bit [] = 0 ∷ []
 with_clear_bit (octet ∷ octets) = cond (nat_lt octet 128) (octet ∷ octets) (0 ∷ octet ∷ octets)

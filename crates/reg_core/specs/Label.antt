@@ -1,4 +1,4 @@
-use Rattle.std.specs.Prelude.{ℕ, ◌≤◌, ◌<◌, Bool, ◌||◌, ◌==◌, IsTrue, List, length}
+use Rattle.std.specs.Prelude.{ℕ, ◌≤◌, ◌<◌, Bool, ◌&&◌, ◌||◌, ◌==◌, cond, nat_le, nat_lt, IsTrue, List, length, Option, Some, None}
 use Rattle.std.specs.List.{list_all, All}
 use Rattle.std.specs.Char.{is_ascii_alphanumeric}
 
@@ -7,6 +7,12 @@ pub record IsLabel (text : List ℕ) : Type 0 where
   pub not_empty : 1 ≤ length text
   pub at_most_64 : length text ≤ 64
   pub bytes : All (λ byte. byte < 256) text
+
+-- the label with this text, if the text is one
+unfoldable pub label_of : List ℕ → Option (List ℕ)
+label_of text =
+    cond (nat_le 1 (length text) && nat_le (length text) 64 && list_all (λ b. nat_lt b 256) text)
+    (Some text) None
 
 -- an ASCII letter, a digit, or one of `.`, `-` and `_`
 abbrev pub is_name_byte : ℕ → Bool

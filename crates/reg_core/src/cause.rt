@@ -39,21 +39,27 @@ impl Cause {
     {
         match *self {
             Cause::NoFile => words(b"  no such file"),
-            Cause::NoRight => words(b"  no right"),
+            Cause::NoRight => words(b"  permission denied, or the file system is read-only"),
             Cause::InUse => words(b"  in use by another program"),
-            Cause::Damaged => words(b"  damaged"),
+            Cause::Damaged => words(b"  damaged, or not a database: check the path and the disk"),
             Cause::DiskFull => words(b"  disk full"),
-            Cause::Taken => words(b"  something lies there already"),
+            Cause::Taken => words(b"  the path already exists: give another one"),
             Cause::PortInUse => words(b"  port in use"),
-            Cause::Clock => words(b"  clock"),
-            Cause::OtherAlgorithm => words(b"  latest CRL under another algorithm"),
-            Cause::UnknownAlgorithm => words(b"  latest CRL under an unknown algorithm"),
-            Cause::OtherKey => words(b"  issuer's key of another algorithm"),
+            Cause::Clock => words(b"  the machine's clock can't be read"),
+            Cause::OtherAlgorithm => words(
+                b"  the latest CRL has another algorithm: give that --algorithm",
+            ),
+            Cause::UnknownAlgorithm => words(
+                b"  the latest CRL has an unknown algorithm: run desk audit",
+            ),
+            Cause::OtherKey => words(b"  --algorithm does not fit the issuer's key"),
             Cause::Days => words(b"  --days: 1 to 398"),
             Cause::CrlLife => words(b"  --crl-life: 1 to 863999"),
             Cause::OcspLife => words(b"  --ocsp-life: 28800 to 863999"),
             Cause::Cap => words(b"  --cap: 1 to 1000000"),
-            Cause::Steps => words(b"  steps: 1 to 16, from 1970 on ascending, days 1 to 398"),
+            Cause::Steps => words(
+                b"  1 to 16 MOMENT=DAYS, ascending from 1970-01-01, DAYS 1 to 398",
+            ),
         }
     }
 }

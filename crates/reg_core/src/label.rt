@@ -2,7 +2,7 @@ ghost use Rattle.std.specs.Prelude.{◌≡◌, ◌+◌, ◌≤◌, ◌++◌, ◌
 ghost use Rattle.std.specs.Str.{bytes_eq};
 ghost use Rattle.std.specs.Cmp.{partial_equiv_from_equiv};
 ghost use Rattle.std.specs.Cmp.Lexicographic.{nat_list_eq_equiv};
-ghost use Rattle.reg_core.specs.Label.{IsLabel, is_name};
+ghost use Rattle.reg_core.specs.Label.{IsLabel, is_name, label_of};
 
 use std::marker::Model;
 
@@ -47,6 +47,7 @@ impl Label {
     pub fn of(text: &[u8]) -> Option<Label>
         ensures some { IsSome result ↔ IsLabel text.now }
         ensures value { IfSome result (λ label. label ≡ text.now) }
+        ensures exact { result ≡ label_of text.now }
     {
         if text.is_empty() || text.len() > MAX_BYTES {
             return None;

@@ -25,7 +25,7 @@ impl Model for Moment {
 const END: u64 = 253_402_300_800;
 
 impl Moment {
-    ghost use Rattle.reg_core.specs.Calendar.{IsMoment, IsCivil, IsCivilAt, civil_of, moment_text};
+    ghost use Rattle.reg_core.specs.Calendar.{IsMoment, IsCivil, IsCivilAt, civil_of, moment_of, moment_text};
 
     /// 1970-01-01T00:00:00Z, where the register's clock begins.
     pub const EPOCH: Moment = Moment { seconds: 0 };
@@ -79,6 +79,7 @@ impl Moment {
         ensures found { IfSome result (λ m. IsMoment m × (bytes.now ≡ moment_text m)) }
         ensures none { IfNone result ((m : ℕ) → IsMoment m → bytes.now ≢ moment_text m) }
         ensures only { (m : ℕ) → IsMoment m → bytes.now ≡ moment_text m → result ≡ Some m }
+        ensures exact { result ≡ moment_of bytes.now }
     {
         Moment::of_secs(Civil::read(bytes)?.seconds()?)
     }

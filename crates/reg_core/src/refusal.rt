@@ -105,16 +105,6 @@ fn words(text: &[u8]) -> Label
     Label::joined(text, b"")
 }
 
-/// A line of a text and a value.
-fn words_with(text: &[u8], value: &[u8]) -> Label
-    requires not_empty { 1 ≤ length text.now }
-    requires short { length text.now ≤ 30 }
-    requires short_value { length value.now ≤ 20 }
-    ensures { result ≡ text.now ++ value.now }
-{
-    Label::joined(text, value)
-}
-
 impl Refusal {
     /// The line of the refusal, without LF.
     #[tactic(auto, unfolding(crate::specs::Lines::refusal_line))]
@@ -122,13 +112,19 @@ impl Refusal {
         ensures { result ≡ refusal_line self.now }
     {
         match *self {
-            Refusal::ClockBack { last } => words_with(b"E01 clock-back ", &last.text()),
+            Refusal::ClockBack { last } => Label::joined(b"E01 clock-back ", &last.text()),
             Refusal::ClockEnd => words(b"E02 clock-end"),
             Refusal::Full => words(b"E03 full"),
             Refusal::BadName => words(b"E04 bad-name"),
-            Refusal::NameTaken { id } => words_with(b"E05 name-taken ", Decimal::of(id).as_bytes()),
+            Refusal::NameTaken { id } => Label::joined(
+                b"E05 name-taken ",
+                Decimal::of(id).as_bytes(),
+            ),
             Refusal::NoSubscriber => words(b"E06 no-subscriber"),
-            Refusal::BadDays { most } => words_with(b"E07 bad-days ", Decimal::of(most).as_bytes()),
+            Refusal::BadDays { most } => Label::joined(
+                b"E07 bad-days ",
+                Decimal::of(most).as_bytes(),
+            ),
             Refusal::NoOrder => words(b"E08 no-order"),
             Refusal::OrderFilled => words(b"E09 order-filled"),
             Refusal::SerialTaken => words(b"E10 serial-taken"),
@@ -140,7 +136,7 @@ impl Refusal {
             Refusal::BadGround => words(b"E16 bad-ground"),
             Refusal::NoRequest => words(b"E17 no-request"),
             Refusal::DeclinedBefore => words(b"E18 declined-before"),
-            Refusal::RevokedBefore { at } => words_with(b"E19 revoked-before ", &at.text()),
+            Refusal::RevokedBefore { at } => Label::joined(b"E19 revoked-before ", &at.text()),
             Refusal::Expired => words(b"E20 expired"),
             Refusal::NoCrl => words(b"E21 no-crl"),
             Refusal::Syntax => words(b"E22 syntax"),

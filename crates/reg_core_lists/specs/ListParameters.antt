@@ -3,6 +3,7 @@ use Rattle.std.specs.Prelude.{ℕ, zero, suc, ◌==◌, ◌&&◌, ◌||◌, List
 use Rattle.std.specs.Char.{is_ascii_hexdigit}
 use Rattle.std.specs.List.{before_first, after_first, list_all, position_or_len}
 use Rattle.reg_core.specs.Calendar.{moment_of}
+use Rattle.reg_core.specs.Label.{label_of}
 use Rattle.reg_core.specs.Number.{number_of}
 use Rattle.reg_core_lists.specs.Cursors.{cursor_named, cursor_past}
 use Rattle.reg_core_lists.specs.Filters.{all_rows, fits}
@@ -10,10 +11,6 @@ use Rattle.reg_core_lists.specs.declared.list_parameters.PageQuery.{PageQuery}
 use Rattle.reg_core_lists.specs.declared.list_parameters.Params.{Params}
 use Rattle.reg_core_lists.specs.declared.cursor.Cursor.{Cursor}
 use Rattle.reg_core_lists.specs.declared.filter.Filter.{Filter}
-
--- a text of 1 to 64 bytes
-abbrev pub label_of : List ℕ → Option (List ℕ)
-label_of text = if nat_le 1 (length text) && nat_le (length text) 64 then Some text else None
 
 -- 1 to 40 hexadecimal digits
 abbrev pub prefix_of : List ℕ → Option (List ℕ)

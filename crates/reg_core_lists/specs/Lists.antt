@@ -22,7 +22,7 @@ use Rattle.reg_core_lists.specs.declared.rows.RevokedLine.{RevokedLine}
 use Rattle.reg_core_lists.specs.declared.rows.Row.{Row}
 use Rattle.reg_core_lists.specs.declared.rows.Row.TheVariants as kind
 
--- ---- the fields of each record; `None` if its order, subscriber or certificate is missing, as never in sound records
+-- ---- the fields of each record; `None` if its order, subscriber or certificate is missing, which sound records rule out
 
 -- the subscriber of an order
 abbrev pub subscriber_of_order : Records → ℕ → Option SubscriberRow
@@ -187,7 +187,7 @@ page_over key row_for at after most rows = record {
   next = next_cursor at most (map key (take most (past key after rows)));
 }
 
--- the key after which a list by serial numbers continues: 0, which no serial number is, for the first row
+-- the key after which a list by serial numbers continues: 0 to begin with the first row, because no serial number is 0
 abbrev pub key_of : Option ℕ → ℕ
 key_of after = unwrap_or after 0
 

@@ -10,6 +10,6 @@ mod texts;
 
 pub use cursor::Cursor;
 pub use filter::Filter;
-pub use list_parameters::{PageQuery, read_label, read_moment, read_page, read_prefix};
+pub use list_parameters::{PageQuery, read_page, read_prefix};
 pub use rows::{CertificateLine, OrderLine, Page, RequestHistory, RequestLine, RevokedLine, Row};
 pub use texts::{Format, header, page_text, put_rows};

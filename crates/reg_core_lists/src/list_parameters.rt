@@ -4,8 +4,7 @@
 ghost use Rattle.std.specs.Prelude.{◌≡◌, ◌≤◌, ◌<◌, ◌+◌, ◌==◌, drop, length};
 ghost use Rattle.std.specs.Char.{is_ascii_hexdigit};
 ghost use Rattle.std.specs.List.{list_all, position, position_or_len};
-ghost use Rattle.reg_core.specs.Calendar.{moment_of};
-ghost use Rattle.reg_core_lists.specs.ListParameters.{at_most, cursor_at, filter_with, label_of, page_query, params_of, prefix_of, with_after, with_before, with_filter, filtered_from, with_limit, with_parameter, filtered_by_serial, filtered_by_name, filtered_to, with_value};
+ghost use Rattle.reg_core_lists.specs.ListParameters.{at_most, cursor_at, filter_with, page_query, params_of, prefix_of, with_after, with_before, with_filter, filtered_from, with_limit, with_parameter, filtered_by_serial, filtered_by_name, filtered_to, with_value};
 
 use crate::cursor::Cursor;
 use crate::filter::Filter;
@@ -157,7 +156,7 @@ fn with_after(params: Params, value: &[u8]) -> Option<Params>
     if params.after.is_some() {
         return None;
     }
-    let after = Some(read_label(value)?);
+    let after = Some(Label::of(value)?);
     Some(Params { after, ..params })
 }
 
@@ -167,7 +166,7 @@ fn with_before(params: Params, value: &[u8]) -> Option<Params>
     if params.before.is_some() {
         return None;
     }
-    let before = Some(read_moment(value)?);
+    let before = Some(Moment::read(value)?);
     Some(Params { before, ..params })
 }
 
@@ -207,7 +206,7 @@ fn filtered_by_name(filter: Filter, value: &[u8]) -> Option<Filter>
     if filter.subscriber.is_some() {
         return None;
     }
-    let subscriber = Some(read_label(value)?);
+    let subscriber = Some(Label::of(value)?);
     Some(Filter {
         subscriber,
         ..filter
@@ -230,7 +229,7 @@ fn filtered_from(filter: Filter, value: &[u8]) -> Option<Filter>
     if filter.from.is_some() {
         return None;
     }
-    let from = Some(read_moment(value)?);
+    let from = Some(Moment::read(value)?);
     Some(Filter { from, ..filter })
 }
 
@@ -240,15 +239,8 @@ fn filtered_to(filter: Filter, value: &[u8]) -> Option<Filter>
     if filter.to.is_some() {
         return None;
     }
-    let to = Some(read_moment(value)?);
+    let to = Some(Moment::read(value)?);
     Some(Filter { to, ..filter })
-}
-
-/// The label with these bytes; `None` if there are no bytes, or more than 64.
-pub fn read_label(text: &[u8]) -> Option<Label>
-    ensures { result ≡ label_of text.now }
-{
-    Label::of(text)
 }
 
 /// Reads the 1 to 40 hexadecimal digits with which a serial number begins; `None` for any other text.
@@ -256,7 +248,7 @@ pub fn read_prefix(text: &[u8]) -> Option<Label>
     ensures { result ≡ prefix_of text.now }
 {
     if are_digits(text) && text.len() <= MOST_DIGITS {
-        read_label(text)
+        Label::of(text)
     } else {
         None
     }
@@ -266,11 +258,4 @@ fn are_digits(text: &[u8]) -> bool
     ensures { result ≡ list_all is_ascii_hexdigit text.now }
 {
     text.iter().all(|digit| digit.is_ascii_hexdigit())
-}
-
-/// The moment with this text, as [`Moment::read`] reads it.
-pub fn read_moment(text: &[u8]) -> Option<Moment>
-    ensures { result ≡ moment_of text.now }
-{
-    Moment::read(text)
 }

@@ -29,7 +29,7 @@ signed_by signs identity crl bytes =
     × signs identity (tbs_of identity.algorithm crl) signature
     × (bytes ≡ certificate_list (tbs_of identity.algorithm crl) identity.algorithm signature)
 
--- the CertificateList of an issuer without a key: it has a placeholder digest, the SHA-1 of the TBSCertList, in place of a signature, and the
+-- the CertificateList of a signer without a key: it has a placeholder digest, the SHA-1 of the TBSCertList, in place of a signature, and the
 -- AlgorithmIdentifier of SHA-1
 abbrev pub with_placeholder_digest : List ℕ → List ℕ
 with_placeholder_digest tbs = certificate_list tbs sha1_algorithm (sha1 tbs)
@@ -42,7 +42,8 @@ has_placeholder_digest crl bytes = bytes ≡ with_placeholder_digest (tbs_of sha
 -- the others are signed by the signer (RFC 5280 5.2.3).
 abbrev pub signed_since : ℕ → (Identity → List ℕ → List ℕ → Type 0) → Identity → CertList → List ℕ → Type 0
 signed_since since signs identity crl bytes =
-    ((crl.number < since) × has_placeholder_digest crl bytes) ⊎ ((since ≤ crl.number) × signed_by signs identity crl bytes)
+    ((crl.number < since) × has_placeholder_digest crl bytes)
+    ⊎ ((since ≤ crl.number) × signed_by signs identity crl bytes)
 
 -- ---- laws
 

@@ -1,4 +1,4 @@
-//! Reads what is compared with a register from a CRL: its number, and the serial numbers of its entries (RFC 5280 5.1).
+//! Reads the number of a CRL and the serial numbers of its entries (RFC 5280 5.1), which are compared with a register.
 
 ghost use Rattle.std.specs.Prelude.{◌≡◌, ◌<◌, ℕ, List, length, IfSome, MatchOption};
 ghost use Rattle.reg_crl.specs.Reading.{IsEntryAt, after_next_update, certificate_list_at, crl_extension_at, header_at, crl_number_at, number_among, crl_number_of, revoked_entry_at, tbs_cert_list_at, time_at};

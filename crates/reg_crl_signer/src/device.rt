@@ -2,7 +2,7 @@
 
 ghost use Rattle.reg_crl_signer.specs.Devices.{Exchanges};
 
-/// A device gave no answer: it can't be reached, failed, timed out, closed early, sent too long an answer, or is backed off.
+/// A device gave no answer: it can't be reached, failed, timed out, closed early, sent too long an answer, or its back-off is active.
 #[derive(Clone, Copy, PartialEq, Eq)]
 pub struct DeviceFault;
 

@@ -76,7 +76,7 @@ name_of issuer = name_in issuer.name
 abbrev pub key_identifiers : core.Issuer → List KeyIdentifier
 key_identifiers issuer = unwrap_or (identifiers_at (after_name issuer.name)) []
 
--- the key identifier of the CRL with this number: the first in the list, and so the latest, whose first CRL is not after it
+-- the key identifier of the CRL with this number: the latest (the first in the list) whose first CRL has this number or a lower one
 abbrev pub identifier_for : List KeyIdentifier → ℕ → Option (List ℕ)
 identifier_for [] number = None
 identifier_for (identifier ∷ rest) number =

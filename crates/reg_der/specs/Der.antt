@@ -31,7 +31,7 @@ NoTwoPrefixes =
     → IsTlv a tag_a contents_a → IsTlv b tag_b contents_b → a ++ rest_a ≡ b ++ rest_b
     → (a ≡ b) × (tag_a ≡ tag_b) × (contents_a ≡ contents_b) × (rest_a ≡ rest_b)
 
--- the octets encode a length in the long form, not only in the fewest octets: 81h to FEh, and as many digits as that counts (X.690 8.1.3.5)
+-- the octets encode a length in the long form, in the fewest octets or in more: 81h to FEh, which counts the digits, and the digits (X.690 8.1.3.5)
 pub record IsLongForm (octets : List ℕ) (size : ℕ) : Type 0 where
   pub digits : List ℕ
   pub each : IsBytes digits
@@ -44,7 +44,7 @@ pub record IsLongForm (octets : List ℕ) (size : ℕ) : Type 0 where
 abbrev pub IsLength : List ℕ → ℕ → Type 0
 IsLength octets size = ((octets ≡ size ∷ []) × (size < 128)) ⊎ IsLongForm octets size
 
--- the length octets encode the size, and all other octets that do are more (X.690 10.1)
+-- the length octets encode the size, and any other octets that encode it are more octets (X.690 10.1)
 pub record HasFewest (size : ℕ) : Type 0 where
   pub spells : IsLength (length_octets size) size
   pub least : (octets : List ℕ) → IsLength octets size

@@ -65,7 +65,7 @@ pub(crate) fn others_than(bytes: &[u8], first: u64) -> &[u8]
     }
 }
 
-/// The key identifier of the CRL with this number: the first one in the list whose first CRL is not after it.
+/// The key identifier of the CRL with this number: the latest one whose first CRL has this number or a lower one.
 pub(crate) fn identifier_for(bytes: &[u8], number: u64) -> Option<Label>
     requires { IsSome (authority.identifiers_at bytes.now) }
     ensures { result ≡ authority.identifier_for (unwrap_or (authority.identifiers_at bytes.now) []) number }

@@ -26,8 +26,8 @@ failure_line failure.Broken = codes "broken"
 failure_line failure.NotACrl = codes "not-a-crl"
 failure_line failure.LacksPublished = codes "behind-crl"
 
--- the exit status: 0 if the job is done; 3 if a reply at a control socket, in a strict script or in a strict import was a refusal or a
--- fault, or if the last line there has no line end; 1 if the job is not done
+-- the exit status: 0 if the job is done; 3 if a reply at a control socket, in a strict script or import was a refusal or a fault, if a replay
+-- stopped at a line of the log, or if the last line there has no line end; else 1
 abbrev pub exit_status : {T : Type 0} → Result T Failure → ℕ
 exit_status (Ok done) = 0
 exit_status (Err failure.Refused) = 3

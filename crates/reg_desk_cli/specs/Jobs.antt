@@ -7,7 +7,8 @@ use Rattle.clap.specs.declared.error.kind.ErrorKind.TheVariants.{DisplayHelp, Di
 use Rattle.reg_core.specs.Calendar.{moment_of}
 use Rattle.reg_core.specs.Number.{number_of}
 use Rattle.reg_core.specs.Sequence.{◌>>=◌}
-use Rattle.reg_core_lists.specs.ListParameters.{label_of, prefix_of}
+use Rattle.reg_core.specs.Label.{label_of}
+use Rattle.reg_core_lists.specs.ListParameters.{prefix_of}
 use Rattle.reg_core_lists.specs.Cursors.{cursor_named}
 use Rattle.reg_core_lists.specs.Filters.{fits}
 use Rattle.reg_core_lists.specs.declared.cursor.Cursor.{Cursor}
@@ -374,15 +375,15 @@ abbrev pub IsInvocationOf : List Text → Invocation → Type 0
 IsInvocationOf words invocation =
     ClapAccepts words × IsInvocationIn (matches_of desk_app words) (subcommand_of desk_app words) invocation
 
--- the usage for an error of a kind: help, the version, or bad words for any other kind; or out of memory
+-- the usage for an error of a kind: help, the version, or a usage error (`Bad`) for any other kind; or out of memory
 abbrev pub PrintsUsage : ErrorKind → Usage → Type 0
 PrintsUsage kind (Help text) = kind ≡ DisplayHelp
 PrintsUsage kind (Version text) = kind ≡ DisplayVersion
 PrintsUsage kind (Bad text) = (kind ≢ DisplayHelp) × (kind ≢ DisplayVersion) × (kind ≢ OutOfMemory)
 PrintsUsage kind Memory = Unit {0}
 
--- help or the version, if clap answers with that; bad words, if clap finds an error, or a value has another form or is out of range;
--- out of memory, for any words
+-- help or the version, if clap answers with that; a usage error, if clap finds an error, or accepts words that make no job; out of memory,
+-- for any words
 abbrev pub IsUsageOf : List Text → Usage → Type 0
 IsUsageOf words (Help text) = IsAmong DisplayHelp (fault_of desk_app words)
 IsUsageOf words (Version text) = IsAmong DisplayVersion (fault_of desk_app words)

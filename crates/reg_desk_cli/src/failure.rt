@@ -20,13 +20,13 @@ pub enum Failure {
     BadPolicy,
     /// The clock is more than 30 days past the last accepted moment.
     BadClock,
-    /// The latest CRL was signed with another algorithm, or the issuer's key does not fit the algorithm.
+    /// The latest CRL has another algorithm, the issuer's key does not fit the algorithm, or the register is in memory and a signer is given.
     BadSigner,
     /// A certificate for OCSP responses can't be read, or has another key than that for which it is given.
     BadResponder,
-    /// A reply at a control socket, in a strict script or in a strict import was a refusal or a fault.
+    /// A reply at a control socket, in a strict script or import was a refusal or a fault, or a replay stopped at a line of the log.
     Refused,
-    /// The last line of standard input has no line end, and did not run.
+    /// The last line of the input has no line end, and did not run.
     NoLineEnd,
     /// Both: a reply was a refusal or a fault, and the last line has no line end.
     RefusedNoLineEnd,
@@ -104,8 +104,8 @@ impl From<DatabaseFault> for Failure {
     }
 }
 
-/// The exit status of a job: 0 if it is done; 3 if a reply at a control socket, in a strict script or in a strict import was a refusal or a
-/// fault, or if the last line there has no line end; 1 if the job is not done.
+/// The exit status of a job: 0 if it is done; 3 if a reply at a control socket, in a strict script or import was a refusal or a fault, if a
+/// replay stopped at a line of the log, or if the last line there has no line end; else 1.
 pub fn status_of(ending: &Result<(), Failure>) -> u8
     ensures { result ≡ exit_status ending.now }
 {

@@ -171,7 +171,7 @@ pub enum Job<'a> {
     /// Keeps a register open until the program ends: answers requests over HTTP at a port, and lines at a control socket. The signer signs; only
     /// with `--unsigned` a placeholder digest replaces each signature. With a responder and no signer, no CRL is signed.
     Open(OpenJob<'a>),
-    /// Sends the lines of standard input to the control socket at a path; or the rows of a file.
+    /// Sends the lines of standard input to the control socket at a path; or the rows of a CSV file, as `register` lines.
     At {
         control_path: Word<'a>,
         rows: Option<Word<'a>>,

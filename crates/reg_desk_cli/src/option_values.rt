@@ -10,7 +10,7 @@ use crate::job::{Loopback, OrderTerms, ResponderChoice, ScriptOptions, SignerAdd
 use crate::word::{Steps, Word};
 use clap::ArgMatches;
 use reg_core::{Label, Moment, read_number};
-use reg_core_lists::{Filter, read_label, read_moment, read_prefix};
+use reg_core_lists::{Filter, read_prefix};
 use reg_crl_signer::Algorithm;
 use std::alloc::{AllocError, Global};
 
@@ -80,7 +80,7 @@ fn bounded(number: u64, least: u64, most: u64) -> Option<u64>
 pub(crate) fn moment(matches: &ArgMatches<'_>, id: &str) -> Option<Moment>
     ensures { result ≡ option_and_then moment_of (first_of id.now (rows_of (found_of matches.now))) }
 {
-    read_moment(text_of(matches, id)?.as_bytes())
+    Moment::read(text_of(matches, id)?.as_bytes())
 }
 
 /// The moment of an option, if it is given; `None` if its value is no moment.
@@ -88,7 +88,7 @@ pub(crate) fn moment_option(matches: &ArgMatches<'_>, id: &str) -> Option<Option
     ensures { result ≡ moment_given id.now (rows_of (found_of matches.now)) }
 {
     match text_of(matches, id) {
-        Some(text) => Some(Some(read_moment(text.as_bytes())?)),
+        Some(text) => Some(Some(Moment::read(text.as_bytes())?)),
         None => Some(None),
     }
 }
@@ -133,7 +133,7 @@ pub(crate) fn label_option(matches: &ArgMatches<'_>, id: &str) -> Option<Option<
     ensures { result ≡ label_given id.now (rows_of (found_of matches.now)) }
 {
     match text_of(matches, id) {
-        Some(text) => Some(Some(read_label(text.as_bytes())?)),
+        Some(text) => Some(Some(Label::of(text.as_bytes())?)),
         None => Some(None),
     }
 }
@@ -332,5 +332,5 @@ fn step_by(from: &[u8], days: &[u8]) -> Option<(Moment, u64)>
     ensures { result ≡ step_from from.now days.now }
 {
     let days = read_number(days)?;
-    Some((read_moment(from)?, days))
+    Some((Moment::read(from)?, days))
 }

@@ -86,7 +86,7 @@ fn word_behind<'a>(matches: &ArgMatches<'a>, id: &str) -> Option<Word<'a>>
     }
 }
 
-/// The job of the given command; `None` if one of its values has another form or is out of range.
+/// The job of the given command; `None` if one of its values has another form or is out of range, or if its options exclude or lack each other.
 fn read_job<'a>(alloc: Global, matches: &ArgMatches<'a>) -> Result<Option<Job<'a>>, AllocError>
     ensures { IfOk result (λ job. job ≡ job_found (subcommand_rows_of matches.now)) }
 {
@@ -112,7 +112,7 @@ fn text_wanted(alloc: Global, desk: &mut Command<'_>) -> Usage
     clap_error(alloc, desk, ErrorKind::InvalidValue, TEXT_WANTED)
 }
 
-/// The usage error for a value that clap accepted but that has another form or is out of range. It names the option and the value.
+/// The usage error for words that clap accepted but that make no job. It names the wrong value and its option, or the options that do not fit.
 fn bad_value(alloc: Global, desk: &mut Command<'_>, matches: &ArgMatches<'_>) -> Usage
     ensures { PrintsUsage ErrorKind.ValueValidation result }
 {

@@ -90,7 +90,7 @@ impl<'a> Wrong<'a> {
     }
 }
 
-/// The message for the first value that has another form or is out of range; `None` if out of memory.
+/// The message for the first value of another form or out of range, or else for options that exclude or lack each other; `None` if out of memory.
 pub(crate) fn wrong_text(alloc: Global, matches: &ArgMatches<'_>) -> Option<String> {
     let Some(wrong) = first_wrong(matches) else {
         return String::from_str(alloc, combination_wanted(matches)).ok();

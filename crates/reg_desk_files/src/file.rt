@@ -29,8 +29,8 @@ const MOST_PAGES: usize = 131_072;
 
 const OWNER_ONLY: u32 = 0o600;
 
-/// Opens the file at a path as a database, with its checks for damage, or creates it. `start` has what the file and its log hold. The page cache has
-/// room for twice the pages of the file, so that a look-up in a large register seldom waits for the operating system, and a page that changes
+/// Opens the file at a path as a database, with SQLite's checks for damage, or creates it. `start` says what the file and its log hold. The page
+/// cache has room for twice the pages of the file, so that a look-up in a large register seldom waits for the operating system, and a page that changes
 /// often is written to the log once. Errors: `Memory`; `Store` if the file can't be opened or is no database, with its cause.
 pub fn open_file<S: Start>(
     rt: &HostRuntime,
@@ -124,8 +124,8 @@ fn claim_fault_of(kind: ErrorKind) -> ClaimFault
     }
 }
 
-/// Removes a database's file and its log, if no other program has them open: it locks them meanwhile. It writes nothing before, so that a failing
-/// disk does not prevent the removal.
+/// Removes a database's file and its log, if no other program has the file open: it locks the file meanwhile. It writes nothing before, so that a
+/// failing disk does not prevent the removal.
 pub fn remove_file(rt: &HostRuntime, path: &str) {
     let Some(held) = lock_exclusively(rt, path) else {
         return;

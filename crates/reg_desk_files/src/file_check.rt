@@ -1,4 +1,4 @@
-//! Finds out what files hold before a database is opened in them.
+//! Finds out whether files hold a database before it is opened.
 
 ghost use Rattle.std.specs.Prelude.{◌≡◌, ◌≢◌, ◌↔◌, false, IfErr, IsTrue};
 ghost use Rattle.sqlite.specs.Files.{HoldsDatabase, IsBlankAs, IsNothing};
@@ -28,7 +28,7 @@ pub enum FileContent {
     ReadyOrUnsigned,
 }
 
-/// What opening would find in files, which are only read. Errors: `Memory`; `Store` if a call failed, or the log is not that of a database.
+/// Finds out, by reads only, what opening would find in files. Errors: `Memory`; `Store` if a call failed, or the log is not that of a database.
 pub fn look<D: Disk>(alloc: Global, files: &mut Files<D>) -> Result<FileContent, FileFault>
     requires log { IsTrue (D.Disk.is_usable files.old.log) }
     requires db { IsTrue (D.Disk.is_usable files.old.db) }
@@ -71,14 +71,8 @@ fn is_blank<D: Disk>(alloc: Global, files: &mut Files<D>, has_sums: bool) -> Res
     ensures log { OnlyReads D.Disk files.old.log files.new.log }
     ensures db { OnlyReads D.Disk files.old.db files.new.db }
 {
-    let size = new_page();
+    let size = PageSize::new(NEW_PAGE).unwrap();
     probe_blank(alloc, files, size, has_sums)
-}
-
-fn new_page() -> PageSize
-    ensures { bytes_of result ≡ 4096 }
-{
-    PageSize::new(NEW_PAGE).unwrap()
 }
 
 fn begins<D: Disk>(alloc: Global, files: &mut Files<D>) -> Result<bool, Error>

@@ -23,7 +23,7 @@ use sqlite_wal::{PageSize, probe_page_size};
 use std::alloc::Global;
 use std::io::Write;
 
-/// Copies a database that no program has open to a path that has no file, and returns how many bytes the copy has. The copy, with mode 0600, gets
+/// Copies a database that no program has open to write, to a path without a file, and returns how many bytes the copy has. The copy, with mode 0600, gets
 /// that name once it is complete and synced. Errors: `Nothing` if there is no database yet; `Memory`; `Store` if the files can't be read, if there
 /// is a file at the other path or beside it, or if the copy can't be written. Then no copy is left.
 pub fn copy_closed(rt: &HostRuntime, path: &str, to: &str) -> Result<u64, UnreadFile>

@@ -34,10 +34,10 @@ impl Source for ReadFile {
     }
 }
 
-/// Who has the database open whose files are read.
+/// Which program has the database open while its files are read.
 #[derive(Clone, Copy)]
 pub(crate) enum OpenedBy {
-    /// No program that writes: the file is locked until it was read.
+    /// No program that writes: a shared lock keeps writers out until the files are closed.
     Nobody,
     /// This program, which does not write meanwhile.
     Us,
@@ -49,9 +49,9 @@ pub(crate) struct LockedFiles {
     pub(crate) db: ReadFile,
 }
 
-/// Opens the files of a database read-only, also through a symbolic link, and locks them until they are dropped. Errors: `Memory`; `Store`, also
-/// if another program has the file open for writing, if `holder` is this program and it has not, or if SQLite left a rollback journal beside it,
-/// which only SQLite can play back.
+/// Opens the files of a database read-only, also through a symbolic link. With `Nobody`, the database's file is locked until it is dropped. Errors:
+/// `Memory`; `Store`, also if a program has the file open to write and `holder` is `Nobody`, if none has and `holder` is `Us`, or if SQLite left a
+/// rollback journal beside it, which only SQLite can play back.
 pub(crate) fn lock_files(
     rt: &HostRuntime,
     path: &str,
@@ -107,9 +107,9 @@ fn begins_hot(journal: &ReadFile) -> io::Result<bool> {
     Ok(first[0] != 0)
 }
 
-/// Opens a regular file read-only. It must have only this name, since another log could be beside a second one, and be no symbolic link.
+/// Opens a regular file read-only. It must be no symbolic link, and have no second name (hard link): another log could be beside that.
 fn open_regular(rt: &HostRuntime, path: &str) -> io::Result<ReadFile> {
-    // Not opened: a file like a pipe, where opening would wait for a writer.
+    // A pipe is not opened: that would wait for a writer.
     if !fs::symlink_metadata(rt, path)?.is_file() {
         return Err(ErrorKind::Unsupported.into());
     }

@@ -21,7 +21,7 @@ use sqlite_disk::{Disk, Files};
 use std::alloc::{AllocError, Global};
 use std::hash::{BuildHasher, RandomState};
 
-/// More bytes than opening appends to a log.
+/// Opening appends fewer bytes than this to a log.
 const ROOM: usize = 64;
 
 /// Why files can't be read.

@@ -89,7 +89,7 @@ ocsp_fate is_unsigned (Response true) = failed_if is_unsigned
 ocsp_fate is_unsigned (Response false) = cond is_unsigned fate.Failed fate.Made
 ocsp_fate is_unsigned other = fate.NotRequested
 
--- what the line shows about the store: an accepted command was written
+-- the effect of a line on the store: an accepted command was written
 abbrev pub store_effect : LineOutcome → StoreEffect
 store_effect (Completed (Command command) (Ok reply)) = effect.Written
 store_effect (Completed what (Err fault.Store)) = effect.Failed

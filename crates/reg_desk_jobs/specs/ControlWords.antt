@@ -7,7 +7,7 @@ use Rattle.reg_core.specs.Sequence.{◌>>=◌}
 use Rattle.reg_core.specs.Serial.{serial_of}
 use Rattle.reg_core.specs.declared.command.Command.{Command}
 use Rattle.reg_core.specs.declared.command.Command.TheVariants.{Decline, Revoke}
-use Rattle.reg_core_lists.specs.ListParameters.{label_of}
+use Rattle.reg_core.specs.Label.{label_of}
 use Rattle.reg_core.specs.Records.{Records}
 use Rattle.reg_core.specs.declared.refusal.Fault.{Fault}
 use Rattle.reg_core.specs.declared.refusal.Fault.TheVariants as fault
@@ -163,8 +163,8 @@ EntryAt accepted signs now identity before line text after =
     (IsShortCommand line × LineAt accepted signs now identity before (line_of line) text after)
     ⊎ ((¬ IsShortCommand line) × ReportsFault fault.Read text × (after ≡ before))
 
--- the reply to each word: for `help`, `why`, `copy`, `show` and `accept-clock`, and no record changes; to a decision; to a schedule
--- that is set; and to a command line
+-- the reply to each word, and the records after it: `help`, `why`, `copy`, `show` and `accept-clock` change no record; a decision, a schedule and
+-- a command line may
 abbrev pub AnswersWord
     : Option ℕ → Signs → ℕ → Signatory → Records → List ℕ → WordMeaning → List ℕ → Records → Type 0
 AnswersWord accepted signs now identity before line helps text after =

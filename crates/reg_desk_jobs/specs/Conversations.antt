@@ -33,7 +33,7 @@ IsConversationFault why =
     (why ≡ failure.Fault fault.Read)
     ⊎ ((why ≡ failure.Fault fault.Write) ⊎ (why ≡ failure.Fault fault.Memory))
 
--- what bytes are that were read up to and including the first LF, or to the end
+-- bytes that were read up to and including the first LF, or to the end of the input: a line, a last line without its line end, or nothing
 abbrev pub IsReadAs : List ℕ → Next → Type 0
 IsReadAs bytes (next.Line line) = (line.items ≡ bytes) × IsWholeLine bytes
 IsReadAs bytes next.Cut = IsCutOff bytes
@@ -54,7 +54,7 @@ pub record Talked (sent sent' incoming incoming' out out' : Option (List ℕ))
   pub said : Appends out out' (concat replies)
   pub each : length replies ≡ length lines
 
--- why a conversation fails at its end, by its replies and what is left of the input: a reply is not good, a last line has no line end and was not
+-- why a conversation fails at its end, by its replies and the rest of the input: a reply is not good, a last line has no line end and was not
 -- sent, or both
 abbrev pub IsWhyBy : (List ℕ → Type 0) → List (List ℕ) → List ℕ → Failure → Type 0
 IsWhyBy IsGood replies left why =

@@ -15,7 +15,8 @@ socket_for signer answerer Answer = answer_socket signer answerer
 
 -- the signer of the CRL or the OCSP response gave this answer for this message
 abbrev pub AnsweredBySigner
-    : (List ℕ → List ℕ → List ℕ → Type 0) → Option SignerAddress → ResponderChoice → SignatureKind → List ℕ → List ℕ → Type 0
+    : (List ℕ → List ℕ → List ℕ → Type 0) → Option SignerAddress → ResponderChoice → SignatureKind → List ℕ
+    → List ℕ → Type 0
 AnsweredBySigner signer_answered signer answerer wanted =
     AnsweredAtPath signer_answered (socket_for signer answerer wanted)
 

@@ -119,7 +119,7 @@ IsMomentOf clock None now = clock now
 abbrev pub terms_of_new : NewRegister → Terms
 terms_of_new new = terms_of_days new.days new.crl_life new.ocsp_life new.cap
 
--- A job over a machine that writes: the machine before the job and after it, and the writer.
+-- A job that writes: the machine and the writer, before the job and after it.
 module _ {M O D S R W : Type 0} (machines : Machine M O D S R) (offices : Office O)
     (contents : W → Option (List ℕ))
     (machine machine' : M) (writer writer' : W) where
@@ -234,7 +234,7 @@ IsClockRefused way clock_reached records =
     IsTrue way.is_clocked × IsFalse way.accepts_clock
     × ((now : ℕ) × clock_reached now × IsTrue (is_ahead now records.last None))
 
--- A job over a machine that reads and writes.
+-- A job that reads and writes: the machine, the reader and the writer, before the job and after it.
 module _ {M O D S R E W : Type 0} (machines : Machine M O D S R) (offices : Office O)
     (remaining : E → Option (List ℕ)) (contents : W → Option (List ℕ))
     (machine machine' : M) (reader reader' : E) (writer writer' : W) where
@@ -313,9 +313,9 @@ module _ {M O D S R E W : Type 0} (machines : Machine M O D S R) (offices : Offi
   ImportByClock it = ImportAtMoment it.moment it.accepts_clock it.is_strict it.file
 
   -- HTTP requests over the register at a path (RFC 9112), which is opened before the port is bound, and lines if there is a control socket. If a
-  -- published CRL is given and can't be compared, or the register lacks any of it, nothing is served. Else the register has all of it, and `inputs`
-  -- and their outcomes are in this order. A signature that was awaited came from the signer at the responder's path. Without a published CRL, no
-  -- input is read.
+  -- published CRL is given and can't be compared, or the register lacks any of it, nothing is served. Else the register has all of it, and answers
+  -- `inputs` in their order, with `outcomes`. An OCSP signature that was awaited came from the signer of OCSP responses. Without a published CRL,
+  -- no input is read.
   abbrev pub AtPort
       : List ℕ → Option SignerAddress → ResponderChoice → Option (List ℕ) → Endpoint → Option (List ℕ) → ℕ
       → Result (Unit {0}) Failure → Type 0

@@ -1,4 +1,4 @@
--- What clients ask a register: HTTP requests, and lines at the control socket.
+-- HTTP requests to a desk: which part of it answers each, and what the answer is.
 use Rattle.std.specs.Prelude.{◌≡◌, ◌⊎◌, ℕ, Bool, true, false, List}
 use Rattle.reg_core.specs.Records.{Records}
 use Rattle.reg_office_api.specs.Signatories.{Signatory}
@@ -71,7 +71,7 @@ IsExchange is_open signs now signatory before request exchange after =
     ⊎ (HasNoEffects exchange × ((∥ IsUnfinished request ∥₁ × IsEmpty exchange) ⊎ IsMemoryAnswer exchange)
     × (after ≡ before))
 
--- the same for the text alone; the records gain at most one request for revocation, and no count changes
+-- the same for the text alone; the records gain at most one request for revocation, and no count of certificates changes
 pub record AnswersAt (is_open : Bool) (signs : Signs) (now : ℕ) (signatory : Signatory) (before : Records)
     (request text : List ℕ) (after : Records) : Type 0 where
   pub exchange : HttpExchange

@@ -35,7 +35,7 @@ quoted_text text = 34 ∷ flat_map quoted_byte (take 256 (first_line text)) ++ (
 abbrev pub unsigned_end : Bool → List ℕ
 unsigned_end is_unsigned = cond is_unsigned (codes " signer") []
 
--- what the line of an exchange names of a request that was entered or decided: its number and serial number; and its ground, if it was entered
+-- how the line of an exchange names a request that was entered or decided: by its number and serial number, and its ground if it was entered
 abbrev pub named_end : Option NamedRequest → List ℕ
 named_end None = []
 named_end (Some named) =

@@ -5,7 +5,7 @@ use Rattle.std.specs.Option.{option_map_or}
 use Rattle.reg_core.specs.Number.{number_of}
 use Rattle.reg_core.specs.Sequence.{◌>>=◌}
 use Rattle.reg_core.specs.Serial.{serial_of}
-use Rattle.reg_core_lists.specs.ListParameters.{label_of}
+use Rattle.reg_core.specs.Label.{label_of}
 use Rattle.reg_lines.specs.Fields.{fields_of}
 use Rattle.reg_lines.specs.Script.{line_of}
 use Rattle.reg_desk_jobs.specs.declared.log_entries.Entry.{Entry}
@@ -79,7 +79,7 @@ request_named (number ∷ digits ∷ []) = decision_by number digits
 request_named (number ∷ digits ∷ word ∷ []) = request_by number digits word
 request_named (number ∷ digits ∷ word ∷ more ∷ rest) = None
 
--- what follows from the request that is named after the bytes of the answer and the microseconds
+-- the entry for the fields after the answer: its bytes, the microseconds, and the request that they name; `None` if they name none
 unfoldable pub named_in : List (List ℕ) → Option Logged
 named_in [] = None
 named_in (front ∷ []) = None
@@ -118,7 +118,7 @@ abbrev pub was_accepted : LoggedExchange → Bool
 was_accepted logged_exchange =
     is_control (second_word logged_exchange.client) && accepted logged_exchange.answered
 
--- what follows from an exchange that names no request: it counts only at the control socket
+-- the entry for an exchange that names no request: it has a command only if it was at the control socket
 unfoldable pub unnamed : LoggedExchange → Logged
 unnamed logged_exchange =
     if not (was_accepted logged_exchange) then Nothing
@@ -133,7 +133,7 @@ logged_of logged_exchange =
     if has_mark logged_exchange.behind then Unknown
     else unwrap_or (named_in (fields_of logged_exchange.behind)) (unnamed logged_exchange)
 
--- what a line of the log has: no accepted command; or one of which it has only a part; or one, with its exchange
+-- a line of the log has no accepted command; or only a part of one; or one, with its exchange
 abbrev pub LogsNothing : List ℕ → Type 0
 LogsNothing line = ((exchange_in (line_of line) ≡ None) × IsFalse (has_mark (line_of line)))
     ⊎ ((logged_exchange : LoggedExchange) × (exchange_in (line_of line) ≡ Some logged_exchange)

@@ -1,4 +1,4 @@
--- What the log names of the request that a line enters or decides.
+-- How the log names the request that a line enters or decides.
 use Rattle.std.specs.Prelude.{◌≡◌, ◌⊎◌, ℕ, List, Option, Some, None, Ok, IsSomeAnd}
 use Rattle.reg_core.specs.Records.{Records, request_in}
 use Rattle.reg_core.specs.declared.command.Command.{Command}
@@ -22,15 +22,15 @@ Decides line id =
     ⊎ (LineMeans (line_of line) (means_command (Revoke id))
     ⊎ LineMeans (line_of line) (means_command (Decline id)))
 
--- what is named of the request that a line decides: its number, and its serial number in the records
+-- a request that a line decides is named by its number, and by its serial number in the records
 abbrev pub NamesDecided : Records → List ℕ → NamedRequest → Type 0
 NamesDecided records line named =
     Decides line named.id
     × IsSomeAnd (request_in records.requests named.id) (λ request. request.serial ≡ named.serial)
     × (named.ground ≡ None)
 
--- what is named of an accepted command: of a request that was entered, its number, serial number and ground; of one that was decided, what was
--- looked up before; of other commands, nothing
+-- the request of an accepted command is named: one that was entered by its number, serial number and ground; one that was decided as it was
+-- looked up before; other commands have none
 abbrev pub NamesAccepted : Command → Reply → Option NamedRequest → Option NamedRequest → Type 0
 NamesAccepted (Request serial word) (replied.Request id due) before named =
     IsSomeAnd named (λ it. (it.id ≡ id) × (it.serial ≡ serial) × (it.ground ≡ Some word))
@@ -38,7 +38,7 @@ NamesAccepted (Revoke request) reply before named = named ≡ before
 NamesAccepted (Decline request) reply before named = named ≡ before
 NamesAccepted other reply before named = named ≡ None
 
--- what is named by the result of a line
+-- the request that is named for the result of a line
 abbrev pub NamesRequest : LineOutcome → Option NamedRequest → Option NamedRequest → Type 0
 NamesRequest (Completed (asked.Command command) (Ok reply)) before named =
     NamesAccepted command reply before named

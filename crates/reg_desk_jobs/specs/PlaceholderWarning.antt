@@ -7,7 +7,8 @@ use Rattle.reg_lines.specs.declared.answered.LineKind.{LineKind}
 
 -- a line issued the first CRL of its register: CRLs are numbered from 1 on
 abbrev pub IsFirstCrl : Answered → Type 0
-IsFirstCrl answered = (what : LineKind) × (entries : ℕ) × (answered ≡ Completed what (Ok (reply.Crl 1 entries)))
+IsFirstCrl answered =
+    (what : LineKind) × (entries : ℕ) × (answered ≡ Completed what (Ok (reply.Crl 1 entries)))
 
 -- the warning that CRL 1 has no signature, with its LF
 unfoldable pub placeholder_warning : List ℕ

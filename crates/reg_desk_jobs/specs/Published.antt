@@ -33,7 +33,7 @@ missing_revocation is_revoked serial =
 abbrev pub missing_at : Records → ℕ → ℕ → List ℕ
 missing_at records moment serial = missing_revocation (is_revoked (status records serial moment)) serial
 
--- what a published CRL has and the records lack at their last moment, a line each
+-- a line for each item of a published CRL that the records lack at their last moment
 abbrev pub missing_text : Records → ℕ → List ℕ → List ℕ
 missing_text records number serials =
     missing_crl (option_map row_of (latest records.crls)) number
@@ -53,7 +53,7 @@ AppendsMissing records moment entries old new (Ok done) =
 AppendsMissing records moment entries old new (Err why) =
     FindsNothing ((serials : List ℕ) → ¬ AreEntries entries serials []) why
 
--- the lines of what the CRL in these bytes has and the records lack
+-- the lines for the items of the CRL in these bytes that the records lack
 abbrev pub FindsMissing : Records → List ℕ → Result (List ℕ) Failure → Type 0
 FindsMissing records bytes (Ok lines) =
     (number : ℕ) × (serials : List ℕ) × IsPublished bytes number serials

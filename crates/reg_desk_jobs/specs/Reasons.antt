@@ -34,7 +34,7 @@ other_text request serial = codes "request " ++ decimal request ++ codes " is fo
 -- the text of a reason
 abbrev pub reason_text : Reason → List ℕ
 reason_text (NoOrder order) = order_text (codes "no order ") order []
-reason_text (Filled order) = order_text (codes "order ") order (codes " has its certificate")
+reason_text (Filled order) = order_text (codes "order ") order (codes " already has a certificate")
 reason_text (Latest at) = latest_text at
 reason_text (OtherSerial request serial) = other_text request serial
 reason_text (ClockAhead last) = ahead_text last

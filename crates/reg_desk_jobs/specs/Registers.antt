@@ -19,7 +19,7 @@ module _ {M O D S R : Type 0} (machines : Machine M O D S R) (machine : M) (path
     pub connects : Connects database machine'
     pub opened : machines.opened database signing.0 responder office
 
-  -- It was not opened, for this reason: a certificate, which is read first, could not be read; the files at the path could not be read, or not
+  -- It was not opened, for this reason: a certificate, which is read first, could not be used; the files at the path could not be read, or not
   -- be opened as a database; or the database has no register for which these signers may sign.
   abbrev pub Unopened : Signing → Failure → M → Type 0
   Unopened signing why machine' =

@@ -15,14 +15,14 @@ use Rattle.reg_desk_jobs.specs.declared.log_entries.Entry.{Entry}
 use Rattle.reg_desk_jobs.specs.declared.log_entries.Entry.TheVariants.{Line, Request, Decision}
 use Rattle.reg_desk_jobs.specs.declared.replay_job.Renumbered.{Renumbered}
 
--- ---- what is sent for an entry, and which reply agrees
+-- ---- the line that is sent for an entry, and whether its reply agrees
 
 -- the number that a request has now: the last one that a reply gave it, or that of the log
 abbrev pub number_now : List Renumbered → ℕ → ℕ
 number_now numbers logged =
     fold (λ number one. if one.logged == logged then one.given else number) logged numbers
 
--- what is sent: the logged line; a request with its serial number and ground; a decision with its word, the number that the request has now, and
+-- the text that is sent: the logged line; a request with its serial number and ground; a decision with its word, the number that the request has now, and
 -- its serial number
 abbrev pub text_to_send : List Renumbered → LoggedExchange → Entry → List ℕ
 text_to_send numbers logged_exchange Line = logged_exchange.asked
@@ -56,7 +56,8 @@ renumbered (Decision id serial) reply = []
 -- the line of the log at which a replay stops is written
 abbrev pub StopsWith : Option (List ℕ) → List ℕ → Option (List ℕ) → Result (Unit {0}) Failure → Type 0
 StopsWith out line out' (Ok done) = ⊥
-StopsWith out line out' (Err why) = IsConversationFault why ⊎ ((why ≡ failure.Refused) × Appends out out' line)
+StopsWith out line out' (Err why) =
+    IsConversationFault why ⊎ ((why ≡ failure.Refused) × Appends out out' line)
 
 -- the state of a replay: what was sent, the replies that are left, what was written, and the numbers that requests were given
 pub record ReplayState : Type 0 where

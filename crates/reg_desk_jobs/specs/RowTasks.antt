@@ -6,7 +6,7 @@ use Rattle.reg_core.specs.Calendar.{moment_of, moment_text}
 use Rattle.reg_core.specs.Sequence.{◌>>=◌}
 use Rattle.reg_core.specs.Serial.{serial_of, serial_text}
 use Rattle.reg_core.specs.declared.refusal.Fault.TheVariants as fault
-use Rattle.reg_core_lists.specs.ListParameters.{label_of}
+use Rattle.reg_core.specs.Label.{label_of}
 use Rattle.reg_desk_cli.specs.declared.failure.Failure.{Failure}
 use Rattle.reg_desk_cli.specs.declared.failure.Failure.TheVariants as failure
 use Rattle.reg_desk_cli.specs.declared.job.OrderTerms.{OrderTerms}
@@ -53,7 +53,7 @@ registration_row_in text = do
   not_after ← moment_of moments.1
   Some (record { serial = serial; not_before = not_before; not_after = not_after })
 
--- ---- what is sent for a row
+-- ---- the lines that are sent for a row
 
 -- the request of a row, and its revocation with the request's number from the reply
 abbrev pub row_request : RevocationRow → List ℕ
@@ -84,7 +84,7 @@ pub record Link : Type 0 where
 abbrev pub link_of : Option (List ℕ) → Option (List ℕ) → Link
 link_of sent incoming = record { sent = sent; incoming = incoming }
 
--- what is sent between two states of the connection, and the last reply
+-- an exchange: the connection before it and after it, and its last reply
 abbrev pub Exchange : Type 1
 Exchange = Link → Link → List ℕ → Type 0
 

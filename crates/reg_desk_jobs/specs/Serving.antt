@@ -24,7 +24,7 @@ use Rattle.reg_io.specs.Put.{AppendsPrefix}
 use Rattle.reg_io.specs.RunsOfAnswers.{Answered}
 
 -- The outcome of a request at a desk that is open or not: the text of an exchange; or a response to be signed, such that any text that finishes it is
--- that of an exchange. In both cases the exchange is over the records at its place among the other inputs. So each answer tells the state at a time
+-- that of an exchange. In both cases the exchange is over the records at its place among the other inputs. So each answer shows the state at a time
 -- between its request and its sending, and includes each revocation that was answered before. A signature that finishes it was given by the signer
 -- (`signer_answered`) for exactly the message that is signed.
 abbrev pub Exchanging
@@ -64,7 +64,7 @@ loopback V6 = 0 ∷ 0 ∷ 0 ∷ 0 ∷ 0 ∷ 0 ∷ 0 ∷ 0 ∷ 0 ∷ 0 ∷ 0 ∷ 
 abbrev pub listening : ℕ → List ℕ
 listening port = codes "listening " ++ (decimal port ++ 10 ∷ [])
 
--- nothing was answered: the port could not be bound, its connections could not be polled, or there was no memory for them
+-- nothing was answered: the port could not be bound, the control socket could not be created, they could not be polled, or out of memory
 abbrev pub Unbound : List Input → Result (Unit {0}) Failure → Type 0
 Unbound inputs result =
     (inputs ≡ []) × ((result ≡ Err (failure.Fault fault.Read)) ⊎ (result ≡ Err (failure.Fault fault.Memory)))
@@ -81,7 +81,7 @@ Served port requests Early inputs out out' (Err (failure.Fault fault.Write)) =
     (inputs ≡ []) × AppendsPrefix out out' (listening port)
 Served port requests Early inputs out out' (Err other) = ⊥
 
--- nothing was bound and nothing was written; or this was bound, and these inputs were served
+-- nothing was answered and nothing was written; or this was bound, and these inputs were served
 abbrev pub ServedAt
     : {W : Type 0} → (W → Option (List ℕ)) → W → W → Type 0 → Type 0 → ℕ → ℕ → List Input
     → Result (Unit {0}) Failure → Type 0

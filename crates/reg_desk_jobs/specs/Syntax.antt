@@ -3,7 +3,7 @@ use Rattle.std.specs.Prelude.{Bool, ◌||◌, List, [], ◌∷◌, ◌++◌, ℕ
 use Rattle.reg_core.specs.Calendar.{moment_of}
 use Rattle.reg_core.specs.Number.{number_of}
 use Rattle.reg_core.specs.Serial.{serial_of}
-use Rattle.reg_core_lists.specs.ListParameters.{label_of}
+use Rattle.reg_core.specs.Label.{label_of}
 use Rattle.reg_desk_jobs.specs.declared.syntax.Field.{Field}
 use Rattle.reg_desk_jobs.specs.declared.syntax.Field.TheVariants.{Name, Subscriber, Days, Order, Serial, NotBefore, NotAfter, Ground, Request}
 use Rattle.reg_desk_jobs.specs.declared.syntax.WrongField.{WrongField}
@@ -64,11 +64,11 @@ form_text Subscriber = codes " is not 1 to 18 digits"
 form_text Days = codes " is not 1 to 18 digits"
 form_text Order = codes " is not 1 to 18 digits"
 form_text Request = codes " is not 1 to 18 digits"
-form_text Serial = codes " is not 1 to 40 hexadecimal digits"
+form_text Serial = codes " is not 1 to 40 hexadecimal digits, from 1 to 2^159 - 1"
 form_text NotBefore = codes " is not a moment as 2026-01-01T00:00:00Z"
 form_text NotAfter = codes " is not a moment as 2026-01-01T00:00:00Z"
 
 abbrev pub wrong_text : WrongField → List ℕ
 wrong_text (Form field) = name_text field ++ form_text field
 wrong_text (Missing field) = name_text field ++ codes " is missing"
-wrong_text TooMany = codes "one field too many"
+wrong_text TooMany = codes "more fields than the command takes"

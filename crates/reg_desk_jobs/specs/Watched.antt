@@ -34,7 +34,7 @@ use Rattle.reg_desk_jobs.specs.declared.reasons.Reason.{Reason}
 use Rattle.reg_desk_jobs.specs.declared.reasons.Reason.TheVariants.{Unsigned}
 use Rattle.reg_desk_metrics.specs.declared.tally.Tally.{Tally}
 
--- ---- what is read from a register
+-- ---- the numbers that are read from a register
 
 -- a query is answered with a reply of this kind, or refused; or there was a fault, also for a reply of another kind, which no office gives
 abbrev pub Has : {A : Type 0} → Query → (A → Reply) → Records → ℕ → Result A Fault → Type 0
@@ -64,16 +64,16 @@ abbrev pub IsUnsigned : List ℕ → Bool → Type 0
 IsUnsigned crl is_unsigned =
     (algorithm : List ℕ) → IsCrlUnder crl algorithm → (IsTrue is_unsigned ↔ (algorithm ≡ sha1_algorithm))
 
--- what is read in a CRL
+-- the number of a CRL, and whether it is unsigned, as they are read in it
 abbrev pub IsReadIn : Crl → ReadCrl → Type 0
 IsReadIn crl read = (read.number ≡ crl.number) × IsUnsigned crl.bytes read.is_unsigned
 
--- what is read in the latest CRL, which has this number
+-- the same for the latest CRL, which has this number
 abbrev pub IsReadAt : Records → ℕ → ReadCrl → Type 0
 IsReadAt records number read =
     (crl : Crl) → latest records.crls ≡ Some crl → number ≡ crl.number → IsReadIn crl read
 
--- what was read in the latest CRL, now or before in the CRL with its number; nothing if no signer has the key for the next one, or there is no CRL
+-- the same for the latest CRL as it was read, now or earlier; `None` if no signer has the key for the next one, or there is no CRL
 abbrev pub IsLatestRead : Tally → Records → Option ReadCrl → Type 0
 IsLatestRead tally records (Some read) = (has_crl_key tally ≡ true)
     × ((crl : Crl) × (latest records.crls ≡ Some crl)
@@ -96,7 +96,7 @@ HasDue tally records now (Ok due) = (asked : Option ℕ) × (read : Option ReadC
 HasDue tally records now (Err (Refused refusal)) = answer records now AskNextCrl ≡ Err refusal
 HasDue tally records now (Err other) = Unit {0}
 
--- what was read in the latest CRL is kept, or the tally does not change
+-- the tally keeps the number and signing of the latest CRL, or does not change
 abbrev pub KeepsRead : Tally → Records → Tally → Type 0
 KeepsRead tally records tally' =
     (tally' ≡ tally)

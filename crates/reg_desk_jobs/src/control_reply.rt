@@ -14,7 +14,7 @@ use std::alloc::{AllocError, Global};
 /// The result of a line at the control socket.
 #[derive(Clone, Copy)]
 pub(crate) enum LineOutcome {
-    /// A command line: its kind, and its outcome.
+    /// A command, a query, or an `ocsp` line that failed: its kind, and its outcome.
     Completed(LineKind, Outcome),
     /// An OCSP request that got a response; `true` if the response has only a status (RFC 6960 4.2.1).
     Response(bool),
@@ -22,7 +22,7 @@ pub(crate) enum LineOutcome {
     Done,
     /// Another word, which failed.
     Failed(Failure),
-    /// No copy was created, because of this fault. The fault tells nothing about the register's own file.
+    /// No copy was created, because of this fault. It says nothing about the register's own file.
     CopyFault(Fault),
     /// There was no memory for the reply.
     Silent,

@@ -48,7 +48,7 @@ pub(crate) struct Known {
     pub(crate) preset_signature: PresetSignature,
 }
 
-/// After how many milliseconds since the desk began the signer counts as timed out. Its own timeout of ten seconds begins a little later.
+/// After how many milliseconds since the desk began a line its signer counts as timed out. The line's ten seconds begin a little before that.
 const TIMEOUT: u64 = 9_500;
 
 fn signature_kind_by(said: &CommandLine<'_>) -> Option<SignatureKind> {
@@ -127,9 +127,9 @@ fn crls_at<'w>(signer: &Option<SignerAddress<'w>>) -> Option<&'w str>
     Some(signer.as_ref()?.socket.as_str())
 }
 
-/// The signature for a line, and the moment at which the line is to run. If the signer answered, that is the moment for which the message was
-/// made; else it is that of the clock, or [`EventLoopFault`] if the clock can't be read. `None` if a later command was accepted meanwhile, so
-/// that the message would be another one, or if the clock is now behind that moment.
+/// The signature for a line, and the moment at which the line is to run: with a link, the one for which the message was made. Without a link there
+/// is no signature, and the moment is that of the clock, or [`EventLoopFault`] if the clock can't be read. `None` if a later command was accepted
+/// meanwhile, so that the message would be another one, or if the clock is now behind the moment of the message.
 pub(crate) fn known_of<M: Machine>(
     alloc: Global,
     office: &mut M::Office,

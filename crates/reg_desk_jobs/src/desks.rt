@@ -73,7 +73,8 @@ impl<'a, 'w, M: Machine> Handler for Desk<'a, 'w, M> {
     ghost defers = { λ s line t. (t.is_open ≡ s.is_open)
         × KeepsIn M.Office.Office s.office t.office };
 
-    ghost finishes = { λ s. FinishesUnsigned (AnsweredByOcspSigner M.signer_answered s.signer.now s.answerer.now) };
+    ghost finishes = { λ s. FinishesUnsigned
+        (AnsweredByOcspSigner M.signer_answered s.signer.now s.answerer.now) };
 
     ghost has_control = { λ desk. IsTrue desk.is_open };
 

@@ -141,7 +141,7 @@ fn found_at<M: Machine>(
     }
 }
 
-/// When the next CRL is due, after the latest one; `None`: at once.
+/// When the next CRL is due; `None` if at once. `latest` is the latest CRL.
 fn due_at<M: Machine>(
     alloc: Global,
     office: &mut M::Office,

@@ -56,15 +56,15 @@ pub trait Machine {
     /// The responder to OCSP requests, with the certificate that its answers contain.
     type Responder: Drop;
 
-    // ---- files; a relation with two machines has those before and after the action
+    // ---- files; a relation over two machines relates the one before the action to the one after it
 
-    /// Something lies at the path, or may.
+    /// Something lies at the path, or no file can be created there.
     ghost lies: { Self → List ℕ → Type 0 };
     /// Nothing is found at the path.
     ghost absent: { Self → List ℕ → Type 0 };
     /// Nothing lay at the path, and an empty file was created there.
     ghost claimed: { Self → List ℕ → Self → Type 0 };
-    /// The file at the path was removed.
+    /// The program tried to remove the file at the path, and its WAL.
     ghost removed: { Self → List ℕ → Self → Type 0 };
     /// The files at the path have the beginning of a database.
     ghost begun: { Self → List ℕ → Type 0 };
@@ -86,18 +86,18 @@ pub trait Machine {
     ghost closed: { Self → List ℕ → Self.Office → Self → Type 0 };
     /// The files at the path were opened for reading alone.
     ghost read: { Self → List ℕ → Self.Sources → Type 0 };
-    /// An audit of the register in the files said this.
+    /// An audit of the register in the files had this result.
     ghost audited: { Self.Sources → AuditResults → Type 0 };
-    /// A copy of so many bytes of the register at the path was created at another path, at which nothing lay.
+    /// A copy of the register at the path, with this number of bytes, was created at another path, where there was nothing.
     ghost copied: { Self → List ℕ → List ℕ → ℕ → Self → Type 0 };
     /// For this reason no copy of the register at the path was created at another path.
     ghost uncopied: { Self → List ℕ → List ℕ → Failing → Self → Type 0 };
-    /// A copy of so many bytes of the open register whose file lies at a path was created.
+    /// A copy of the open register whose file is at the path, with this number of bytes, was created.
     ghost copied_open: { List ℕ → ℕ → Type 0 };
 
     // ---- clock, ports and sockets
 
-    /// The clock was read: so many whole seconds since the start of 1970, or 0 if it showed an earlier time.
+    /// The clock was read, and showed this number of whole seconds since the start of 1970, or 0 for an earlier time.
     ghost clock_read: { ℕ → Type 0 };
     /// The clock has reached this moment.
     ghost clock_reached: { ℕ → Type 0 };
@@ -113,7 +113,7 @@ pub trait Machine {
     ghost socket_created: { List ℕ → Type 0 };
     /// What lies at this path was given this mode.
     ghost has_mode: { List ℕ → ℕ → Type 0 };
-    /// This file, as long as it is open, holds the lock of the folder of this path: no other desk and no native signer holds it meanwhile.
+    /// This file, as long as it is open, holds the lock of the folder of this path: no other desk, `desk-signer` or `signer.py` holds it meanwhile.
     ghost locked: { OpenFile → List ℕ → Type 0 };
     /// While this file held the lock, the socket at this path was stale: no program listened at it.
     ghost stale: { OpenFile → List ℕ → Type 0 };
@@ -125,11 +125,11 @@ pub trait Machine {
     ghost reached: { List ℕ → Type 0 };
     /// The signer at this path gave this answer to this message.
     ghost signer_answered: { List ℕ → List ℕ → List ℕ → Type 0 };
-    /// This line was written to standard error.
+    /// The program tried to write this line to standard error.
     ghost warned: { List ℕ → Type 0 };
 
     /// Creates an empty file, for its owner alone, at a path where there is neither a file nor its WAL, in one step: if two programs try at once,
-    /// one succeeds. `false` if something is there, even a dangling link, or if the path can't be examined.
+    /// one succeeds. `false` if something is there, even a dangling link, or if no file can be created there.
     fn claim(&mut self, path: &str) -> Result<bool, Memory>
         ensures ours { IfOk result (λ is_ours. IsTrue is_ours → claimed self.old path.now self.new) }
         ensures lies { IfOk result (λ is_ours. IsFalse is_ours → lies self.old path.now) }
@@ -151,7 +151,7 @@ pub trait Machine {
         ensures unread { IfErr result (unread self.now path.now) }
         ensures faults { IfErr result IsFileFailure };
 
-    /// Opens the file at a path as a database, and creates one where none is; `Store` where that can't be done.
+    /// Opens the file at a path as a database, and creates one if there is none; `Store` if that can't be done.
     fn connect(&mut self, path: &str) -> Result<Self::Database, Failure>
         ensures connected { IfOk result (λ database. connected self.old path.now database self.new) }
         ensures fresh { IfOk result fresh }
@@ -159,17 +159,17 @@ pub trait Machine {
         ensures faults { IfErr result (λ why.
             (why ≡ Failure.Fault Fault.Memory) ⊎ (why ≡ Failure.Fault Fault.Store)) };
 
-    /// The bytes of the file at a path; `None` where it can't be read.
+    /// The bytes of the file at a path; `None` if it can't be read.
     fn file(&self, path: &str) -> Option<Vec<u8>>;
 
-    /// Reads the certificates of the responder to OCSP requests; `BadResponder` where one can't be read, is not a certificate, or has a key of another algorithm.
+    /// Reads the certificates of the responder to OCSP requests; `BadResponder` if one can't be read, is not a certificate, or has a key of another algorithm.
     fn certify(&self, answerer: &ResponderChoice<'_>) -> Result<Self::Responder, Failure>
         ensures certified { IfOk result (certified answerer.now) }
         ensures told { OnErr result (HasCertificate answerer.now) }
         ensures faults { IfErr result IsOpening };
 
-    /// Opens the register of a database, which is closed where that fails: `NotARegister` and `NewVersion` for other tables; `BadSigner` where the
-    /// latest CRL's algorithm can't be followed by this signer's, or the issuer's key isn't of the signer's algorithm; `BadResponder` where the
+    /// Opens the register of a database, which is closed if that fails: `NotARegister` and `NewVersion` for other tables; `BadSigner` if the
+    /// latest CRL's algorithm can't be followed by this signer's, or the issuer's key isn't of the signer's algorithm; `BadResponder` if the
     /// issuer's certificate has another key.
     fn open_in(
         &self,
@@ -181,7 +181,7 @@ pub trait Machine {
         ensures opened { IfOk result (opened database crls.now responder) }
         ensures faults { IfErr result IsOpening };
 
-    /// Makes a register with no records in a database, which is closed where that fails: `NotEmpty` where there are tables already.
+    /// Makes a register with no records in a database, which is closed if that fails: `NotEmpty` if there are tables already.
     fn create_in(
         &self,
         database: Self::Database,
@@ -211,8 +211,8 @@ pub trait Machine {
         ensures faults { IfErr result IsOpening };
 
     /// Copies the register at a path, which no program has open and which is only read, to a path at which nothing lies, and returns how many bytes
-    /// the copy has. The copy is for its owner alone, and is synced with its folder. It gets its name once it is whole. `Store` also if something
-    /// lies at the second path or beside it.
+    /// the copy has. The copy is for its owner alone, and is synced with its folder. It gets its name once it is whole. `Store` also if there is
+    /// something at the second path, or at that path with `-wal`, `-journal` or `.part`.
     fn copy(&mut self, path: &str, to: &str) -> Result<u64, Failure>
         ensures ok { IfOk result (λ bytes. copied self.old path.now to.now bytes self.new) }
         ensures err { IfErr result (λ why. uncopied self.old path.now to.now why self.new) }
@@ -224,16 +224,16 @@ pub trait Machine {
         ensures ok { IfOk result (copied_open path.now) }
         ensures err { IfErr result (λ why. IsOfStore why.fault) };
 
-    /// The whole seconds of the clock since 1970 began; 0 where it stands before that.
+    /// The whole seconds of the clock since the start of 1970; 0 if it shows an earlier time.
     fn seconds(&self) -> io::Result<u64>
         ensures stood { IfOk result clock_read }
         ensures told { IfOk result (λ seconds. (now : ℕ) → now ≤ seconds → clock_reached now) }
         ensures fails { OnErr result failed };
 
-    /// The microseconds of a clock that never goes back; 0 where it can't be read.
+    /// The microseconds of the monotonic clock; 0 if it can't be read.
     fn micros(&self) -> u64;
 
-    /// The milliseconds of a monotonic clock.
+    /// The milliseconds of the monotonic clock.
     fn millis(&self) -> io::Result<u64>
         ensures { OnErr result failed };
 
@@ -246,7 +246,7 @@ pub trait Machine {
     fn accept(&self, listener: &TcpListener) -> io::Result<(TcpStream, SocketAddr)>
         ensures { IfErr result (AcceptFails failed) };
 
-    /// Listens at a port of an address, and never waits for a client.
+    /// Listens at a port of an address, without blocking.
     fn listen(&self, address: [u8; 4], port: u16) -> io::Result<TcpListener>
         ensures { OnOk result (bound address port) };
 
@@ -254,12 +254,12 @@ pub trait Machine {
     fn listen_v6(&self, address: [u8; 16], port: u16) -> io::Result<TcpListener>
         ensures { OnOk result (bound address port) };
 
-    /// Locks the folder of a path. No other desk and no native signer creates or removes a socket there before the caller drops the file.
+    /// Locks the folder of a path. No other desk, `desk-signer` or `signer.py` creates or removes a socket there before the caller drops the file.
     /// Error: `AddrInUse` if another program holds the lock for ten seconds.
     fn lock_folder(&self, path: &str) -> io::Result<File>
         ensures { IfOk result (λ lock. locked lock path.now) };
 
-    /// Creates a socket at a path, and listens there without waiting; `AddrInUse` where something lies there.
+    /// Creates a socket at a path, and listens there without blocking; `AddrInUse` if something lies there.
     fn create_socket(&self, lock: &File, path: &str) -> io::Result<UnixListener>
         requires { locked lock.now path.now }
         ensures { OnOk result (socket_created path.now) };
@@ -271,7 +271,7 @@ pub trait Machine {
     /// Whether the file at a path is a socket.
     fn is_socket(&self, path: &str) -> io::Result<bool>;
 
-    /// Whether no program listens any more at the socket at a path: it refuses connections.
+    /// Whether the socket at a path is stale: it refuses connections, because no program listens there.
     fn is_stale(&self, lock: &File, path: &str) -> bool
         requires { locked lock.now path.now }
         ensures { IsTrue result → stale lock.now path.now };
@@ -284,7 +284,7 @@ pub trait Machine {
     fn connect_to_socket(&self, path: &str) -> io::Result<UnixStream>
         ensures { OnOk result (socket_connected path.now) };
 
-    /// Asks the signer at the socket at a path to sign a message, without waiting. Returns the connection: the bytes that will arrive on it, up to
+    /// Asks the signer at the socket at a path to sign a message, without blocking. Returns the connection: the bytes that will arrive on it, up to
     /// its end, are the answer. `WouldBlock` if the socket has no room for one more connection.
     fn request_signature(&self, path: &str, message: &[u8]) -> io::Result<SignatureRequest>
         ensures asked { OnOk result (signature_requested path.now message.now) }
@@ -302,7 +302,7 @@ pub trait Machine {
             → signer_answered path message answer.items) }
         ensures short { IfSome result (λ answer. length answer.items ≤ 4096) };
 
-    /// Presets the next signature of an office: what a signer gave for a message, or that it gave nothing. The office then doesn't ask the signer.
+    /// Presets the next signature of an office: a signer's answer to a message, or that there is none. The office then doesn't ask the signer.
     /// `None` removes the preset.
     fn set_preset(
         office: &mut Self::Office,
@@ -330,7 +330,7 @@ pub trait Machine {
     /// The cause of the last failed call, if it is known.
     fn last_cause(&self) -> Option<Cause>;
 
-    /// The moment of the clock, or the last possible moment if the clock is past it; `Read` where it can't be read.
+    /// The moment of the clock, or the last possible moment if the clock is past it; `Read` if it can't be read.
     final fn moment(&self) -> Result<Moment, Fault>
         ensures told { IfOk result clock_reached }
         ensures exact { IfOk result (IsClockMoment clock_read) }
@@ -346,7 +346,7 @@ pub trait Machine {
         }
     }
 
-    /// An earlier moment of the clock. `None` where the clock is behind it now.
+    /// Returns this moment, which the clock showed before. `None` if the clock is behind it now, or can't be read.
     final fn recall(&self, moment: Moment) -> Option<Moment>
         ensures { IfSome result (λ recalled. clock_reached recalled × (recalled ≡ moment)) }
     {
@@ -356,7 +356,8 @@ pub trait Machine {
         }
     }
 
-    /// An answer that a signer gave is a signature, where it has the form of one.
-    ghost answer_in_form_signs: { (identity : Identity) (path message answer : List ℕ) → signer_answered path message answer → HasForm identity answer
+    /// An answer that a signer gave is a signature, if it has the form of one.
+    ghost answer_in_form_signs: { (identity : Identity) (path message answer : List ℕ)
+        → signer_answered path message answer → HasForm identity answer
         → Self.Office.signs identity message answer };
 }

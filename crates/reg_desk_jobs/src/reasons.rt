@@ -185,7 +185,12 @@ fn reason_words(alloc: Global, reason: Reason) -> Result<Vec<u8>, AllocError>
 {
     match reason {
         Reason::NoOrder(order) => order_text_of(alloc, b"no order ", order, b""),
-        Reason::Filled(order) => order_text_of(alloc, b"order ", order, b" has its certificate"),
+        Reason::Filled(order) => order_text_of(
+            alloc,
+            b"order ",
+            order,
+            b" already has a certificate",
+        ),
         Reason::Latest(at) => latest_text_of(alloc, at),
         Reason::OtherSerial(request, serial) => other_text_of(alloc, request, serial),
         Reason::ClockAhead(last) => ahead_text_of(alloc, last),

@@ -11,7 +11,6 @@ use crate::log_lines::{put_number, put_word};
 use crate::machine::Machine;
 use crate::output_lines::print_text;
 use reg_core::{Fault, Label, Moment, Serial};
-use reg_core_lists::{read_label, read_moment};
 use reg_desk_cli::{Failure, OrderTerms, RowTask};
 use reg_lines::{is_accepted, without_end};
 use std::alloc::{AllocError, Global};
@@ -248,7 +247,7 @@ fn revocation_row_in(text: &[u8]) -> Option<RevocationRow>
 {
     let (serial, word) = parted_by_comma(text)?;
     let serial = Serial::read(serial)?;
-    let word = read_label(word)?;
+    let word = Label::of(word)?;
     Some(RevocationRow { serial, word })
 }
 
@@ -261,8 +260,8 @@ fn registration_row_in(text: &[u8]) -> Option<RegistrationRow>
     let (not_before, not_after) = parted_by_comma(moments)?;
     Some(RegistrationRow {
         serial: Serial::read(serial)?,
-        not_before: read_moment(not_before)?,
-        not_after: read_moment(not_after)?,
+        not_before: Moment::read(not_before)?,
+        not_after: Moment::read(not_after)?,
     })
 }
 

@@ -2,12 +2,11 @@
 
 ghost use Rattle.std.specs.Prelude.{◌≡◌, ◌++◌, [], IfOk, is_some, option_map};
 ghost use Rattle.reg_core.specs.Calendar.{moment_of};
-ghost use Rattle.reg_core_lists.specs.ListParameters.{label_of};
+ghost use Rattle.reg_core.specs.Label.{label_of};
 ghost use Rattle.reg_desk_jobs.specs.Syntax.{fields_wanted, first_wrong, form_text, is_written, name_text, wrong_in, wrong_text};
 ghost use Rattle.reg_lines.specs.Fields.{fields_of};
 
-use reg_core::{Label, Serial, read_number};
-use reg_core_lists::read_moment;
+use reg_core::{Label, Moment, Serial, read_number};
 use reg_lines::Fields;
 use std::alloc::{AllocError, Global};
 
@@ -125,7 +124,7 @@ fn is_label(text: &[u8]) -> bool
 fn is_moment(text: &[u8]) -> bool
     ensures { result ≡ is_some (moment_of text.now) }
 {
-    read_moment(text).is_some()
+    Moment::read(text).is_some()
 }
 
 pub(crate) fn wrong_words(alloc: Global, wrong: WrongField) -> Result<Vec<u8>, AllocError>
@@ -134,7 +133,7 @@ pub(crate) fn wrong_words(alloc: Global, wrong: WrongField) -> Result<Vec<u8>, A
     match wrong {
         WrongField::Form(field) => field_words(alloc, field, form_of(field)),
         WrongField::Missing(field) => field_words(alloc, field, b" is missing"),
-        WrongField::TooMany => Vec::from_slice(alloc, b"one field too many"),
+        WrongField::TooMany => Vec::from_slice(alloc, b"more fields than the command takes"),
     }
 }
 
@@ -170,7 +169,7 @@ fn form_of(field: Field) -> &'static [u8]
         Field::Subscriber | Field::Days | Field::Order | Field::Request => {
             b" is not 1 to 18 digits"
         }
-        Field::Serial => b" is not 1 to 40 hexadecimal digits",
+        Field::Serial => b" is not 1 to 40 hexadecimal digits, from 1 to 2^159 - 1",
         Field::NotBefore | Field::NotAfter => b" is not a moment as 2026-01-01T00:00:00Z",
     }
 }

@@ -7,7 +7,6 @@ ghost use Rattle.reg_lines.specs.Fields.{fields_of};
 
 use crate::copy_job::{is_copy_line, path_in};
 use reg_core::{Command, Label, Moment, Serial, read_number};
-use reg_core_lists::{read_label, read_moment};
 use reg_desk_cli::{Steps, read_step};
 use reg_lines::{Fields, command_in, without_end};
 use std::alloc::{AllocError, Global};
@@ -17,7 +16,7 @@ use std::alloc::{AllocError, Global};
 pub(crate) enum ControlWord<'a> {
     /// `help`: it lists the words.
     Help,
-    /// `why`: it tells why the last refused line of its connection was refused.
+    /// `why`: its reply is the reason of the connection's last refused line.
     Why,
     /// `copy`: it copies the register to this path; `None` if that is not UTF-8.
     Copy(Option<&'a str>),
@@ -112,7 +111,7 @@ fn read_shown(mut fields: Fields<'_>) -> Option<Shown>
     if first == b"request".as_slice() {
         Some(Shown::Request(read_number(second)?))
     } else if first == b"subscriber".as_slice() {
-        Some(Shown::Subscriber(read_label(second)?))
+        Some(Shown::Subscriber(Label::of(second)?))
     } else {
         None
     }
@@ -167,7 +166,7 @@ fn read_accepted(word: &[u8], moment: &[u8]) -> Option<Moment>
     ensures { result ≡ accepted_by_word word.now moment.now }
 {
     if word == b"accept-clock".as_slice() {
-        read_moment(moment)
+        Moment::read(moment)
     } else {
         None
     }

@@ -53,7 +53,7 @@ abbrev pub rows_since : ℕ → Result Numbers Fault → Option ℕ
 rows_since now (Ok numbers) = cond (is_filling numbers.standing) (Some now) None
 rows_since now (Err fault) = None
 
--- since when the store fails, as was counted; or else now, if the register can't be read
+-- since when the store fails: by the tally, or else now if the register can't be read
 abbrev pub store_since_at : ℕ → Result Numbers Fault → Option ℕ → Option ℕ
 store_since_at now (Ok numbers) since = since
 store_since_at now (Err (Refused why)) since = since

@@ -63,7 +63,7 @@ numbers_text now numbers =
     ++ crl_text now numbers.standing.latest numbers.standing.crl_life
     ++ sample CRL_DUE.now (moment_or_none numbers.due)
 
--- the same, or that the register refuses or can't be read
+-- the numbers of a register; or only that it is not readable, if it refuses or fails
 unfoldable pub register_text : ℕ → Result Numbers Fault → List ℕ
 register_text now (Ok numbers) = numbers_text now numbers
 register_text now (Err fault) = sample READABLE.now 0
@@ -111,7 +111,7 @@ answer_text index count =
     else ANSWER.now ++ route_name (index / 12) ++ ANSWER_CODE.now ++ code_name (index % 12)
     ++ sample LABEL_END.now count
 
--- the same for the first indexes, in order
+-- the same for the first indexes, in ascending order
 unfoldable pub answers_prefix : List ℕ → ℕ → List ℕ
 answers_prefix answers zero = []
 answers_prefix answers (suc index) =
@@ -174,7 +174,7 @@ bucket_name index =
     else if index == 10 then codes "10"
     else codes "+Inf"
 
--- how many exchanges took no longer than a bucket's upper bound
+-- how many exchanges and lines took no longer than a bucket's upper bound
 abbrev pub bucket_text : List ℕ → ℕ → List ℕ
 bucket_text name count = SECONDS_TO.now ++ name ++ sample LABEL_END.now count
 
@@ -189,7 +189,7 @@ buckets_text buckets zero = []
 buckets_text buckets (suc index) =
     buckets_text buckets index ++ bucket_text (bucket_name index) (sum_of buckets (suc index))
 
--- how long exchanges took, as a histogram in seconds
+-- how long exchanges and lines took, as a histogram in seconds
 unfoldable pub seconds_text : Tally → List ℕ
 seconds_text tally =
     SECONDS.now ++ buckets_text tally.buckets 12 ++ sample_of_seconds SECONDS_SUM.now tally.micros

@@ -1,4 +1,4 @@
--- The tally: it counts each exchange once, and its sums stop at the greatest number of 64 bits.
+-- The tally: it counts each HTTP exchange and each line once, and its sums stop at the greatest number of 64 bits.
 use Rattle.std.specs.Prelude.{◌≡◌, ℕ, Bool, true, false, cond, ◌&&◌, ◌||◌, ◌==◌, ◌+◌, ◌-◌, ◌*◌, ◌^◌, min, nat_lt, nat_le, List, replicate, slice_set, slice_index_or, if◌then◌else◌, Some, None}
 use Rattle.std.specs.Option.{option_or}
 use Rattle.std.specs.declared.option.Option.{Option}
@@ -98,7 +98,7 @@ signing_after signature.Failed now before = record before {
   failing_since = option_or before.failing_since (Some now);
 }
 
--- since when the store fails, after an exchange at a moment; not any more after an accepted command
+-- since when the store fails, after an exchange or a line at a moment; an accepted command ends the failure
 abbrev pub store_after : StoreEffect → ℕ → Option ℕ → Option ℕ
 store_after store.Unwritten now since = since
 store_after store.Written now since = None
@@ -115,7 +115,7 @@ is_new signing ends tally =
     × (tally.requests ≡ None)
     × (tally.crl_signing ≡ signing) × (tally.responder_ends ≡ ends) × (tally.read ≡ None)
 
--- one more exchange, in the bucket of its time
+-- one more exchange or line, in the bucket of its time
 abbrev pub with_seconds : ℕ → Tally → Tally
 with_seconds micros tally = record tally {
   buckets = bumped tally.buckets (bucket_of micros);
@@ -159,7 +159,7 @@ abbrev pub with_failure : Exchange → Tally → Tally
 with_failure exchange tally =
     cond (has_response exchange) (with_cause exchange.signature exchange.store tally) tally
 
--- what became of the signature of a CRL: it was not requested if the desk has no signer for CRLs
+-- the outcome of the signature of a CRL: not requested if the desk has no signer for CRLs
 abbrev pub fate_by : CrlSigning → SignatureOutcome → SignatureOutcome
 fate_by Nobody fate = signature.NotRequested
 fate_by other fate = fate

@@ -28,7 +28,7 @@ const ROOM: usize = 12_288;
 ///
 /// # Errors
 ///
-/// [`AllocError`], where memory is refused.
+/// [`AllocError`] if out of memory.
 pub fn metrics(
     alloc: Global,
     version: &str,

@@ -58,11 +58,11 @@ impl Health {
             && is_none(self.store)
     }
 
-    /// The answer to `GET /health`, as JSON (RFC 8259): each member but `status` is null, or since when it is not well.
+    /// The answer to `GET /health`, as JSON (RFC 8259): each member but `status` is null, or since when it fails; `crl` can be `"at-once"`.
     ///
     /// # Errors
     ///
-    /// [`AllocError`], if there is no memory.
+    /// [`AllocError`] if out of memory.
     #[tactic(auto, unfolding(crate::specs::Healths::health_text))]
     pub fn text(&self, alloc: Global) -> Result<Vec<u8>, AllocError>
         ensures { IfOk result (λ text. text.items ≡ health_text self.now) }
@@ -108,7 +108,7 @@ fn has_no_crl(found: &Found) -> bool
     }
 }
 
-/// Since when the next CRL is due, where that moment is past.
+/// Since when the next CRL is due, if that moment is past.
 fn crl_since(now: Moment, found: &Found) -> Option<Moment>
     ensures { result ≡ crl_since_spec now found.now }
 {
@@ -154,7 +154,7 @@ fn is_filling(standing: &RegisterSummary) -> bool
     standing.cap.saturating_sub(most) < standing.cap / 5
 }
 
-/// Since when the store fails, as was counted; or else now, if the register can't be read.
+/// Since when the store fails: by the tally, or else now if the register can't be read.
 fn store_of(now: Moment, found: &Found, since: Option<Moment>) -> Option<Moment>
     ensures { result ≡ store_spec now found.now since }
 {

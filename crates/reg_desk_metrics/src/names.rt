@@ -1,4 +1,4 @@
-//! The names of the series, each with a space after it. Before the first series of a family are the HELP and TYPE lines of the family.
+//! The names of series, and parts of names with labels. A whole name has a space after it. The first of a family begins with its HELP and TYPE lines.
 
 pub(crate) const BUILD: &str =
     "# HELP desk_build_info 1, with the version of the program.\n# TYPE desk_build_info gauge\ndesk_build_info{version=\"";

@@ -15,7 +15,7 @@ pub struct Numbers {
 /// The register's numbers, or why they can't be read.
 pub type Found = Result<Numbers, Fault>;
 
-/// Its requests for revocation at a moment. To count them takes a walk, so they are reported with that moment.
+/// The register's requests for revocation at a moment. Counting walks all of them, so it is done at most once a minute.
 #[derive(Clone, Copy, PartialEq, Eq)]
 pub struct Requests {
     /// When they were counted.
@@ -26,7 +26,7 @@ pub struct Requests {
     pub overdue: u64,
 }
 
-/// Who signs the CRLs of an open desk.
+/// The signer of the CRLs of an open desk.
 #[derive(Clone, Copy, PartialEq, Eq)]
 pub enum CrlSigning {
     /// The signer with the issuer's key.

@@ -1,4 +1,4 @@
-//! What became of signatures.
+//! Counts the outcomes of signature requests.
 
 ghost use Rattle.std.specs.Prelude.{◌≡◌};
 ghost use Rattle.reg_desk_metrics.specs.Tallies.{nothing_signed, signing_after, store_after as kept_after};
@@ -6,7 +6,7 @@ ghost use Rattle.reg_desk_metrics.specs.Tallies.{nothing_signed, signing_after, 
 use reg_core::Moment;
 use reg_office_api::{SignatureOutcome, StoreEffect};
 
-/// What became of the signatures of one kind.
+/// How many signatures of one kind were received, how many failed, and when.
 #[derive(Clone, Copy, PartialEq, Eq)]
 pub(crate) struct Signing {
     pub(crate) received: u64,

@@ -1,4 +1,4 @@
-//! What a desk counts while it is open: each exchange once. Sums stop at the greatest number.
+//! What a desk counts while it is open: each HTTP exchange and each line once. Sums stop at `u64::MAX`.
 
 ghost use Rattle.std.specs.Prelude.{◌≡◌, ◌<◌};
 ghost use Rattle.reg_desk_metrics.specs.Tallies.{is_new, bumped, bucket_of as bucket_spec, route_number as number_of_route, code_number as number_of_code, with_seconds as timed, with_exchange, with_line, outcomes_counted, with_reply_to_line, with_counted, wants_requests as wants_counted, has_crl_key as has_key, read_of, with_read, with_amount, is_ocsp_line, has_response, with_route, with_failure, fate_by};
@@ -9,7 +9,7 @@ use reg_core::Moment;
 use reg_http::{Exchange, Route};
 use reg_office_api::{LineEffects, LineReply, SignatureOutcome, StoreEffect};
 
-/// The numbers of HTTP statuses, of pairs of a route and a status, of buckets of the histogram, and of routes.
+/// How many statuses are counted apart (the last is for any other, and for no answer), pairs with a route, buckets, and routes.
 pub(crate) const CODES: usize = 12;
 
 pub(crate) const ANSWERS: usize = 132;
@@ -27,7 +27,7 @@ pub struct Tally {
     pub(crate) accepted: u64,
     pub(crate) refused: u64,
     pub(crate) faults: u64,
-    /// Exchanges by how long they took.
+    /// HTTP exchanges and lines by how long they took.
     pub(crate) buckets: [u64; BUCKETS],
     /// How long all of them took, in microseconds.
     pub(crate) micros: u64,
@@ -148,7 +148,7 @@ fn bucket_of(micros: u64) -> usize
     }
 }
 
-/// What became of the signature of a CRL: it was not requested if the desk has no signer for CRLs.
+/// The outcome of the signature of a CRL: not requested if the desk has no signer for CRLs.
 fn fate_at(signing: CrlSigning, fate: SignatureOutcome) -> SignatureOutcome
     ensures { result ≡ fate_by signing fate }
 {

@@ -21,8 +21,8 @@ use Rattle.reg_audit_rows.specs.declared.audit_result.AuditResult.{AuditResult}
 use Rattle.reg_desk_program.specs.Files.{IsAudited, IsOpenedFrom}
 use Rattle.reg_desk_jobs.specs.declared.crl_signer.CrlSigner.{CrlSigner}
 
--- an audit of a file with the result `Sound`, over a disk that returned what was written, where what is presumed of the connection and the file
--- holds
+-- an audit of a file with the result `Sound`, over a disk that returned what was written, with the presumptions about the connection and
+-- the file
 pub record FoundSound {D : Type 0} (g : disk.Ghosts D) : Type 0 where
   pub audit_result : AuditResult
   pub audited : IsAudited g audit_result
@@ -48,7 +48,8 @@ pub record StandsOnceAudited {A D : Type 0} {a : disk.Ghosts A} (g : disk.Ghosts
     (signs : Identity → List ℕ → List ℕ → Type 0) (found : FoundSound a) : Type 0 where
   pub shown : ShowsSound (tables_of found)
   pub counted : CountedBy found.audit_result shown.records
-  pub stand : (records : Records) (columns : DerivedRows) → AreRecordsAndDerived (tables_of found) records columns
+  pub stand : (records : Records) (columns : DerivedRows)
+      → AreRecordsAndDerived (tables_of found) records columns
       → (register : Held (FileStore D g)) (signatory : Signatory) → OpensSame found register signatory
       → (since : ℕ) → since ≤ next_number records.crls
       → CrlsSigned (signed_since since signs signatory.crls) records

@@ -13,7 +13,7 @@ use std::cell::Cell;
 use std::io::{Read, Write};
 
 /// Does a job on a machine, over standard input and output, and returns its exit status: 0 if it is done; 3 if a reply at the control socket, or in
-/// a strict script or import, was a refusal or a fault, or if the last line there has no line end; else 1. It reports a failure on standard error.
+/// a strict script or import, was a refusal or a fault, a replay stopped, or the last line has no line end; else 1. Reports a failure on standard error.
 /// If `is_explained`, one more line has the cause of a fault, if the machine knows it, or the reason of the refused registration that ended a
 /// strict script or import.
 pub fn perform<M: Machine, R: Read, W: Write, E: Write>(

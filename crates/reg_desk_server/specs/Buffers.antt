@@ -39,7 +39,7 @@ pub record SendsOn (old new : Option (List ℕ)) (before after : List ℕ) (rest
   pub parted : before ≡ went ++ after
   pub all : rests ≡ sent.All → after ≡ []
 
--- what is left of a text on its way to a client
+-- the part of a text that is not sent yet
 abbrev pub unsent_of : Unsent → List ℕ
 unsent_of unsent = drop unsent.sent unsent.text.items
 

@@ -14,5 +14,6 @@ IsOutOfDescriptors error = (raw_os_error error ≡ Some (pos 24)) ⊎ (raw_os_er
 
 -- accept(2) gave this error: the system failed, unless no connection waits, a signal came, the client is gone, or no descriptor is left
 abbrev pub AcceptFails : Type 0 → Error → Type 0
-AcceptFails failed error = error_kind error ≢ WouldBlock → error_kind error ≢ Interrupted → error_kind error ≢ ConnectionAborted
+AcceptFails failed error =
+    error_kind error ≢ WouldBlock → error_kind error ≢ Interrupted → error_kind error ≢ ConnectionAborted
     → (IsOutOfDescriptors error → ⊥) → failed

@@ -15,7 +15,7 @@ abbrev pub HasReceived : {T : Type 0} → Stage T → List ℕ → Type 0
 HasReceived (stage.Receiving collected) bytes = bytes ≡ collected_bytes collected
 HasReceived other bytes = ⊥
 
--- an answer of which this is unsent
+-- an answer whose unsent part is this
 abbrev pub HasUnsentText : {T : Type 0} → Stage T → List ℕ → Type 0
 HasUnsentText (stage.Sending unsent exact) text = text ≡ unsent_of unsent
 HasUnsentText other text = ⊥
@@ -54,7 +54,7 @@ abbrev pub IsDraining : {T : Type 0} → Stage T → Type 0
 IsDraining stage.Draining = Unit {0}
 IsDraining other = ⊥
 
--- an answer of which this is unsent; if nothing is, the whole answer may have been sent
+-- an answer whose unsent part is this; if that is empty, the whole answer may have been sent
 abbrev pub HasUnsentRest : {T : Type 0} → Stage T → List ℕ → Type 0
 HasUnsentRest (stage.Sending unsent exact) rest = rest ≡ unsent_of unsent
 HasUnsentRest stage.Draining rest = rest ≡ []

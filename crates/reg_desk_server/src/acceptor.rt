@@ -58,8 +58,8 @@ impl Acceptor {
         self.next.is_some() || (self.may_have_more && self.accepted < most)
     }
 
-    /// Accepts connections while there are any, up to `most` in all. If a waiting connection can't be accepted, evicts an HTTP connection. If there
-    /// is none, the next call tries again if descriptors ran out; any other error is an [`EventLoopFault`].
+    /// Accepts connections while there are any, up to `most` in all. If a waiting connection can't be accepted, or there is no slot for it, evicts
+    /// an HTTP connection. If there is none, the next call tries again if descriptors ran out; any other error is an [`EventLoopFault`].
     pub(crate) fn accept_all<H: Handler>(
         &mut self,
         most: u64,

@@ -113,11 +113,11 @@ pub trait Handler {
         ensures err { OnErr result (self.new ≡ self.old) }
         ensures fails { OnErr result failed };
 
-    /// Requests the signature of such an answer, without blocking. Returns the connection on which the signature will come, up to its end. The error
+    /// Requests the signature of an answer that is to be signed, without blocking. Returns the connection on which the signature will come, up to its end. The error
     /// is `WouldBlock` if the signer has no room for one more connection.
     fn request_signature(&self, ticket: &Self::Ticket) -> io::Result<SignatureRequest>;
 
-    /// The text that finishes such an answer. `link` is the connection on which its signature was requested, once it is at its end; `None` if there
+    /// The text that finishes an answer that is to be signed. `link` is the connection on which its signature was requested, once it is at its end; `None` if there
     /// is no signature.
     fn finish(&self, ticket: Self::Ticket, link: Option<SignatureRequest>) -> Vec<u8>
         ensures { finishes self.now ticket result.items };

@@ -14,7 +14,7 @@ use std::alloc::{AllocError, Global};
 use std::io;
 use std::io::ErrorKind;
 
-/// How many HTTP connections can be open at once. With the other files of the program, they fit the usual limit of 1,024 descriptors.
+/// How many HTTP connections can be open at once. Without signature requests, all descriptors of the program stay within the usual limit of 1,024.
 pub const MOST_HTTP_CONNECTIONS: usize = 1_000;
 
 const MOST_UNSENT: usize = 67_108_864;

@@ -69,7 +69,7 @@ impl SignatureRequests {
             .is_ok()
     }
 
-    /// The longest time that the loop may block, with a signature to poll for, or a signer to be asked again.
+    /// The longest time that the loop may block: not at all while it polls for a signature, and `PAUSE` if the signer is to be asked again.
     pub(crate) fn longest_wait(&mut self) -> Duration {
         if self.polls > 0 {
             self.polls = self.polls.saturating_sub(1);

@@ -1,4 +1,4 @@
-//! A text that is being sent to a client.
+//! A text that is being sent on a connection.
 
 ghost use Rattle.std.specs.Prelude.{◌≤◌, length};
 
@@ -9,7 +9,7 @@ const LONGEST_PIECE: usize = 65_536;
 
 const MOST_WRITES: usize = 4;
 
-/// How sending ended: all is sent; the client accepts no more yet; it may accept more; or the connection is broken.
+/// How sending ended: all is sent; the connection accepts no more yet; it may accept more; or it is broken.
 #[derive(Clone, Copy)]
 pub(crate) enum Sent {
     All,

@@ -9,7 +9,7 @@ use mio::net::UnixStream;
 use reg_crl_signer::{DeviceConnection, SignatureRequest};
 use std::io::ErrorKind;
 
-/// How many milliseconds a signature may take, from when its message was made.
+/// How many milliseconds a signature may take, from the iteration in which its message was made.
 const TIMEOUT_MILLIS: u64 = 10_000;
 
 /// The progress of a signature: its message is being sent; the signer's answer is awaited; it has arrived; or none will come.

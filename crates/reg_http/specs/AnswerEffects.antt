@@ -1,4 +1,4 @@
--- The response of an answer, with what became of its signature, what it shows about the store, and the request for revocation that it
+-- The response of an answer, with the outcome of its signature, its effect on the store, and the request for revocation that it
 -- entered.
 use Rattle.std.specs.Prelude.{ℕ, List, codes, Option, Some, Some as ground, None, Result, Ok, Err}
 use Rattle.reg_office_api.specs.Responses.{signature_of, store_of, store_of_fault}
@@ -32,12 +32,12 @@ answer_effects answered = record {
   named = answered.named;
 }
 
--- a response without a signature, which shows this about the store and entered no request
+-- a response without a signature, with this effect on the store, which entered no request
 abbrev pub unsigned_answer : Response → StoreEffect → AnswerEffects
 unsigned_answer response effect =
     record { response = response; signature = NotRequested; store = effect; named = None }
 
--- a response that shows nothing about the store either
+-- a response that has no effect on the store either
 abbrev pub plain : Response → AnswerEffects
 plain response = unsigned_answer response Unwritten
 

@@ -50,13 +50,15 @@ module _ {S : Type 0} (runs : S → ℕ → Command → Result Reply Fault → S
 
   -- the answer to a request; or the draft of a response to be signed, if it is an OCSP request
   abbrev pub BeginsTo
-      : (S → ℕ → List ℕ → Drafted → S → Type 0) → ℕ → S → RoutedRequest → ReadyOrUnsigned Answered Drafted → S → Type 0
+      : (S → ℕ → List ℕ → Drafted → S → Type 0) → ℕ → S → RoutedRequest → ReadyOrUnsigned Answered Drafted → S
+      → Type 0
   BeginsTo drafts now s what (Ready answered) t = Answers now s what (answer_effects answered) t
   BeginsTo drafts now s what (Unsigned draft) t =
       (request : List ℕ) × (what ≡ ocsp_of request) × drafts s now request draft t
 
 -- an OCSP response is the answer, or is to be signed, as the office begins it
-abbrev pub BeginsOcsp : Result (ReadyOrUnsigned OcspResponse Drafted) Memory → ReadyOrUnsigned Answered Drafted → Type 0
+abbrev pub BeginsOcsp
+    : Result (ReadyOrUnsigned OcspResponse Drafted) Memory → ReadyOrUnsigned Answered Drafted → Type 0
 BeginsOcsp (Ok (Ready response)) (Ready answered) =
     answer_effects answered ≡ ocsp_effects (Ok (response.kind, response.bytes.items))
 BeginsOcsp (Ok (Ready response)) (Unsigned draft) = ⊥
@@ -90,8 +92,9 @@ RespondsTo runs asks ocsps crls now s what response t =
 abbrev pub AnswersIn : {O : Type 0} → Office O → ℕ → O → RoutedRequest → AnswerEffects → O → Type 0
 AnswersIn office = Answers (RunsIn office) (AsksIn office) (RepliesIn office) (CrlsIn office)
 
--- the same with what is left to be signed
-abbrev pub BeginsIn : {O : Type 0} → Office O → ℕ → O → RoutedRequest → ReadyOrUnsigned Answered Drafted → O → Type 0
+-- the same, or the draft of a response to be signed
+abbrev pub BeginsIn
+    : {O : Type 0} → Office O → ℕ → O → RoutedRequest → ReadyOrUnsigned Answered Drafted → O → Type 0
 BeginsIn office =
     BeginsTo (RunsIn office) (AsksIn office) (RepliesIn office) (CrlsIn office) (DraftsIn office)
 

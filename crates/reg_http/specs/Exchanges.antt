@@ -1,4 +1,4 @@
--- One exchange whose text is made.
+-- A finished HTTP exchange, with the text of its response.
 use Rattle.std.specs.Prelude.{◌≡◌, ◌⊎◌, ℕ, List, [], Some, None, Result, Ok, Err}
 use Rattle.reg_office_api.specs.declared.effects.SignatureOutcome.{SignatureOutcome}
 use Rattle.reg_office_api.specs.declared.effects.SignatureOutcome.TheVariants.{NotRequested}
@@ -34,13 +34,13 @@ AnswersText now response exchange =
     ((exchange.status ≡ Some response.status) × IsText response now exchange.text.items)
     ⊎ IsMemoryAnswer exchange
 
--- the same, with what became of the signature, what it shows about the store, and the request for revocation that it entered
+-- the same, with the outcome of the signature, the effect on the store, and the request for revocation that it entered
 abbrev pub HasEffects : ℕ → AnswerEffects → Exchange → Type 0
 HasEffects now it exchange =
     (exchange.signature ≡ it.signature) × (exchange.store ≡ it.store) × (exchange.named ≡ it.named)
     × AnswersText now it.response exchange
 
--- this became of the signature; nothing is shown about the store, and no request was entered
+-- the signature has this outcome; there was no effect on the store, and no request was entered
 abbrev pub HasOnlySignature : SignatureOutcome → Exchange → Type 0
 HasOnlySignature signature exchange =
     (exchange.signature ≡ signature) × (exchange.store ≡ Unwritten) × (exchange.named ≡ None)
@@ -51,7 +51,8 @@ HasNoEffects exchange = HasOnlySignature NotRequested exchange
 
 -- the outcome of a request, as an exchange at this route: the answer; or the response that is to be signed; or there was no memory
 abbrev pub BeginsExchange
-    : ℕ → Route → Result (ReadyOrUnsigned Answered Drafted) NoMemory → ReadyOrUnsigned Exchange UnsignedResponse → Type 0
+    : ℕ → Route → Result (ReadyOrUnsigned Answered Drafted) NoMemory
+    → ReadyOrUnsigned Exchange UnsignedResponse → Type 0
 BeginsExchange now route (Ok (Ready answered)) (Ready exchange) =
     (exchange.route ≡ route) × HasEffects now (answer_effects answered) exchange
 BeginsExchange now route (Ok (Ready answered)) (Unsigned left) = ⊥

@@ -17,7 +17,7 @@ use Rattle.reg_http.specs.AnswerEffects.{AnswerEffects, plain, fault_effects}
 use Rattle.reg_http.specs.declared.lists.ListRequest.{ListRequest}
 use Rattle.reg_http.specs.declared.lists.ListRequest.TheVariants.{OnlyGet, UnreadFile, Page}
 
--- the page that is wanted, or that it can't be read
+-- the page that is wanted; `UnreadFile` if the list or its query can't be read
 abbrev pub or_unread : Option PageQuery → ListRequest
 or_unread (Some wanted) = Page wanted
 or_unread None = UnreadFile
@@ -41,7 +41,7 @@ list_request method target = if bytes_eq method (codes "GET") then page_in targe
 abbrev pub wanted_body : PageQuery → PageOf → List ℕ
 wanted_body wanted given = page_body wanted.from given.next (filtered_rows wanted.filter given.rows.items)
 
--- the answer with them, or with the fault because of which there are none
+-- the answer with them, or with the fault that the office returned
 abbrev pub given_page : PageQuery → Result PageOf Fault → AnswerEffects
 given_page wanted (Ok given) = plain (json 200 (wanted_body wanted given))
 given_page wanted (Err why) = fault_effects why

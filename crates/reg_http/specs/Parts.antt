@@ -1,4 +1,4 @@
--- The meaning of the parts that a request was read as.
+-- The meaning of a request, from the values of Rust types that it was read as.
 use Rattle.std.specs.Prelude.{ℕ, List, codes}
 use Rattle.reg_http.specs.RoutedRequests.{RoutedRequest, refused, only, unread, malformed, ocsp_of, crl_of, status_of, counts_of, request_of}
 use Rattle.reg_http.specs.declared.parts.Call.{Call}
@@ -6,7 +6,7 @@ use Rattle.reg_http.specs.declared.parts.Call.TheVariants.{Refused, OnlyGet, Onl
 use Rattle.reg_http.specs.declared.parts.Meaning.{Meaning}
 use Rattle.reg_http.specs.declared.parts.Meaning.TheVariants.{Posted, Decoded, Other}
 
--- of any request but OCSP
+-- the meaning of any request but an OCSP request
 abbrev pub request_of_call : Call → RoutedRequest
 request_of_call (Refused status) = refused status
 request_of_call OnlyGet = only (codes "GET")
@@ -18,7 +18,7 @@ request_of_call (Status serial) = status_of serial
 request_of_call Counts = counts_of
 request_of_call (Request serial word) = request_of serial word
 
--- the same, with the body of a POST
+-- the meaning of any request, with its body
 abbrev pub request_of_part : List ℕ → Meaning → RoutedRequest
 request_of_part body Posted = ocsp_of body
 request_of_part body (Decoded request) = ocsp_of request.items

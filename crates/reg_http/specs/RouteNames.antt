@@ -42,10 +42,10 @@ behind None text = []
 abbrev pub prefix_to : List ℕ → List ℕ
 prefix_to text = before (position ends_path text) text
 
--- the path in the first line of a request (RFC 9112 3): after the first space, up to a `?`, the next space, or the end of the line
+-- the path after the first space, up to a `?`, the next space, or the end of that line; in a valid head that of the first line (RFC 9112 3)
 abbrev pub named_path : List ℕ → List ℕ
 named_path request = prefix_to (behind (position is_space request) request)
 
--- its route
+-- the route of that path
 abbrev pub named_route : List ℕ → Route
 named_route request = route_at (named_path request)

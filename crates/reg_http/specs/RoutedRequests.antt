@@ -12,7 +12,7 @@ use Rattle.serde_json.specs.Read.{read}
 use Rattle.reg_core.specs.Grounds.{ground_named}
 use Rattle.reg_core.specs.Number.{number_of}
 use Rattle.reg_core.specs.Serial.{serial_of}
-use Rattle.reg_core_lists.specs.ListParameters.{label_of}
+use Rattle.reg_core.specs.Label.{label_of}
 use Rattle.reg_http.specs.Routes.{route}
 use Rattle.reg_http.specs.declared.route.Route.{Route}
 use Rattle.reg_http.specs.declared.route.Route.TheVariants.{Ocsp, OcspRest, Crl, CrlNumber, Status, Counts, Requests}
@@ -68,16 +68,16 @@ wanted_in value =
 abbrev pub wanted : List ℕ → Option (ℕ × List ℕ)
 wanted body = option_and_then wanted_in (json_of body)
 
--- the request with a value that was read, or that it can't be read
+-- the request with a value that was read; `unread` if it can't be read
 abbrev pub or_unread : {A : Type 0} → (A → RoutedRequest) → Option A → RoutedRequest
 or_unread asks (Some value) = asks value
 or_unread asks None = unread
 
--- a request for revocation, with its serial number and the word of its ground, or that it can't be read
+-- a request for revocation, with its serial number and the word of its ground; `unread` if it can't be read
 abbrev pub revocation_request : Option (ℕ × List ℕ) → RoutedRequest
 revocation_request wanted = or_unread (λ (it : ℕ × List ℕ). request_of it.0 it.1) wanted
 
--- an OCSP request that was decoded, or that it can't be decoded
+-- an OCSP request that was decoded; `malformed` if it can't be decoded
 abbrev pub or_malformed : Option (List ℕ) → RoutedRequest
 or_malformed (Some request) = ocsp_of request
 or_malformed None = malformed

@@ -25,7 +25,7 @@ pub struct NamedRequest {
     pub ground: Option<Label>,
 }
 
-/// An answer, with what became of its signature and what it shows about the store.
+/// An answer, with the outcome of its signature and its effect on the store.
 #[derive(Drop)]
 pub struct Answered {
     pub answer: Answer,
@@ -36,7 +36,7 @@ pub struct Answered {
 }
 
 impl Answered {
-    /// An answer without a signature that shows nothing about the store.
+    /// An answer without a signature and without an effect on the store.
     pub fn plain(answer: Answer) -> Answered
         ensures { answer_effects result ≡ plainly (shown answer) }
     {

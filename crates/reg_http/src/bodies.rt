@@ -1,4 +1,4 @@
-//! The JSON bodies, each written into memory that was reserved for it, and the answers with these bodies.
+//! The JSON bodies other than those of lists, each written into memory that was reserved for it, and the answers with these bodies.
 
 ghost use Rattle.std.specs.Prelude.{◌≡◌, ◌≤◌, [], IfOk, length, vec_capacity};
 ghost use Rattle.reg_http_head.specs.Response.{shown};
@@ -15,7 +15,7 @@ pub(crate) const OCSP_RESPONSE: &str = "application/ocsp-response";
 
 pub(crate) const PKIX_CRL: &str = "application/pkix-crl";
 
-/// Reserves memory for the longest JSON body.
+/// Reserves memory for the longest JSON body other than that of a list.
 pub(crate) fn json_buffer(alloc: Global) -> Result<Vec<u8>, Memory>
     ensures empty { IfOk result (λ buffer. buffer.items ≡ []) }
     ensures buffer { IfOk result (λ buffer. 256 ≤ vec_capacity buffer) }

@@ -1,4 +1,4 @@
-//! One exchange whose text is made: what is sent, counted and logged.
+//! A finished HTTP exchange: the text of the response, with what is counted and logged.
 
 ghost use Rattle.std.specs.Prelude.{◌≡◌, ◌≤◌, [], IfOk, vec_capacity};
 ghost use Rattle.reg_office_api.specs.Items.{items_of};
@@ -30,7 +30,7 @@ pub fn text_buffer(alloc: Global) -> Result<Vec<u8>, Memory>
     Vec::with_capacity(alloc, TEXT_ROOM).map_err(|_| Memory)
 }
 
-/// One exchange whose text is made.
+/// A finished HTTP exchange, with the text of its response.
 #[derive(Drop)]
 pub struct Exchange {
     pub route: Route,
@@ -44,7 +44,7 @@ pub struct Exchange {
 }
 
 impl Exchange {
-    /// An exchange with an empty text, and this fate of its signature.
+    /// An exchange with an empty text, and this outcome of its signature.
     pub fn empty(alloc: Global, route: Route, signature: SignatureOutcome) -> Exchange
         ensures empty { IsEmpty result }
         ensures effects { HasOnlySignature signature result }
@@ -60,7 +60,7 @@ impl Exchange {
         }
     }
 
-    /// An exchange whose answer lacked memory: the constant text of status 500, written into `buffer`.
+    /// An exchange for whose answer there was no memory: the constant text of status 500, written into `buffer`.
     pub fn out_of_memory(route: Route, mut buffer: Vec<u8>) -> Exchange
         requires empty { buffer.items ≡ [] }
         requires buffer { 512 ≤ vec_capacity buffer }

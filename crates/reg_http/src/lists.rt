@@ -91,7 +91,7 @@ fn page_behind(path: &[u8], plain_query: &[u8]) -> ListRequest
     }
 }
 
-/// The answer with the wanted rows of a page, or with the fault because of which there are none.
+/// The answer with the wanted rows of a page, or with the fault that the office returned.
 fn answer_page(
     alloc: Global,
     wanted: &PageQuery,

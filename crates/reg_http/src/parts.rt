@@ -3,7 +3,7 @@
 ghost use Rattle.std.specs.Prelude.{◌≡◌, ℕ, List, IfOk, Some, codes, option_map, option_and_then};
 ghost use Rattle.reg_core.specs.Number.{number_of};
 ghost use Rattle.reg_core.specs.Serial.{serial_of};
-ghost use Rattle.reg_core_lists.specs.ListParameters.{label_of as label_in};
+ghost use Rattle.reg_core.specs.Label.{label_of as label_in};
 ghost use Rattle.serde_json.specs.Errors.{IsMemory};
 ghost use Rattle.serde_json.specs.View.{view};
 ghost use Rattle.reg_http.specs.RoutedRequests.{crl_of, status_of, asked as query_by, asked_at, revocation_request, decoded as decoded_in, is_rooted as is_rooted_text, json_of, or_malformed, or_unread, string_at as text_at, wanted as wanted_by, wanted_in as wanted_of};
@@ -16,7 +16,6 @@ use base64::engine::general_purpose::STANDARD;
 use http::Method;
 use percent_encoding::percent_decode;
 use reg_core::{Label, Memory, Serial, read_number};
-use reg_core_lists::read_label;
 use reg_http_head::status;
 use serde_json::{Category, Error, Value};
 use std::alloc::Global;
@@ -107,7 +106,7 @@ fn serial_in(value: &Value) -> Option<Serial>
 fn word_in(value: &Value) -> Option<Label>
     ensures { result ≡ option_and_then label_in (text_at (codes "ground") (view value.now)) }
 {
-    read_label(string_at(value, "ground")?.as_bytes())
+    Label::of(string_at(value, "ground")?.as_bytes())
 }
 
 #[tactic(auto, unfolding(crate::specs::RoutedRequests::wanted_in))]

@@ -36,7 +36,7 @@ impl Route {
         route_at(path_of(target).as_bytes())
     }
 
-    /// The route that the first line of some bytes names, even if they are no valid head.
+    /// The route of the path after the first space of some bytes, even if they are no valid head.
     pub fn named_in(request: &[u8]) -> Route
         ensures { result ≡ named_route request.now }
     {
@@ -54,7 +54,7 @@ pub(crate) fn path_of(target: &str) -> &str
     }
 }
 
-/// The path in a first line: after the first space, up to a `?`, the next space, or the end of the line.
+/// The path after the first space, up to a `?`, the next space, or the end of that line. In a valid head it is that of the first line.
 fn path_in(request: &[u8]) -> &[u8]
     ensures { result.now ≡ named_path request.now }
 {

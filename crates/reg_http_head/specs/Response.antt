@@ -20,7 +20,7 @@ shown answer = record {
   body = answer.body.items;
 }
 
--- the phrase of a status code (RFC 9110 15, RFC 6585 5; for 413 the older one, RFC 7231 6.5.11); none for a code with which the desk
+-- the phrase of a status code (RFC 9110 15, RFC 6585 4 and 5; for 413 the older one, RFC 7231 6.5.11); none for a code with which the desk
 -- never answers
 abbrev pub phrase : ℕ → List ℕ
 phrase status =

@@ -47,7 +47,8 @@ pub record FillsShort (delimiter : List ℕ) (input left : Option (List ℕ)) (b
 -- after a read, the buffer has the bytes that it had before, and then those that were taken
 abbrev pub KeepsWhatWasTaken : Type 0
 KeepsWhatWasTaken =
-    (delimiter : List ℕ) (input left : Option (List ℕ)) (before after : List ℕ) (buffered : ℕ) (reached : Reached)
+    (delimiter : List ℕ) (input left : Option (List ℕ)) (before after : List ℕ) (buffered : ℕ)
+    (reached : Reached)
     → (to : FillsTo delimiter input left before after buffered reached)
     → take (kept_of_reading (length after) reached) after ≡ take buffered before ++ to.took
 

@@ -20,12 +20,15 @@ pub record FirstDelimiter (delimiter bytes : List ℕ) (end : ℕ) : Type 0 wher
 
 -- bytes have at most one first mark
 abbrev pub OneFirstMark : Type 0
-OneFirstMark = (delimiter bytes : List ℕ) (m n : ℕ) → FirstDelimiter delimiter bytes m → FirstDelimiter delimiter bytes n → m ≡ n
+OneFirstMark =
+    (delimiter bytes : List ℕ) (m n : ℕ) → FirstDelimiter delimiter bytes m
+    → FirstDelimiter delimiter bytes n → m ≡ n
 
 -- the first mark stays the first if more bytes follow
 abbrev pub FirstMarkGoesOn : Type 0
 FirstMarkGoesOn =
-    (delimiter bytes more : List ℕ) (end : ℕ) → FirstDelimiter delimiter bytes end → FirstDelimiter delimiter (bytes ++ more) end
+    (delimiter bytes more : List ℕ) (end : ℕ) → FirstDelimiter delimiter bytes end
+    → FirstDelimiter delimiter (bytes ++ more) end
 
 -- the first mark is also the first in each prefix that contains it
 abbrev pub FirstMarkInPrefix : Type 0

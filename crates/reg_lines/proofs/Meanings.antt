@@ -3,18 +3,19 @@ use Rattle.std.proofs.Common.{◌≡◌, ℕ, Bool, true, false, cond, List, [],
 use Rattle.std.specs.Prelude.{bytes_eq, codes, IfNone, IfSome, option_and_then}
 use Rattle.std.proofs.lemmas.Slice.Eq.{bytes_eq-Decides}
 use Rattle.reg_core.specs.Calendar.{moment_of, moment_text}
+use Rattle.reg_core.specs.Label.{label_of}
 use Rattle.reg_core.specs.Number.{IsNumberText, number_of}
 use Rattle.reg_core.specs.Serial.{IsSerialText, serial_of}
-use Rattle.reg_core.proofs.PublicLaws.{numbers_are_read, serials_are_read, moment_of-some, moment_of-text}
+use Rattle.reg_core.proofs.PublicLaws.{label_of-is, label_of-some, numbers_are_read, serials_are_read, moment_of-some, moment_of-text}
 use Rattle.reg_core.specs.declared.command.Command.{Command}
 use Rattle.reg_core.specs.declared.command.Command.TheVariants.{Subscriber, Order, Register, Request, Decline, Revoke, Crl}
 use Rattle.reg_core.specs.declared.command.Query.{Query}
 use Rattle.reg_core.specs.declared.command.Query.TheVariants.{Status, Counts, Listing, Overdue, NextCrl}
 use Rattle.reg_lines.specs.Fields.{fields_of}
 use Rattle.reg_lines.specs.Meaning.{Meaning, means_command, means_query, is_ocsp_line, IsUnreadable, LineMeans, OneMeaning, SpellsCommand, SpellsOcsp, SpellsQuery, SpellsRegister, meaning_of}
-use Rattle.reg_lines.specs.LineReading.{alone, query_by, four, hex_of, label_field, number_alone, ocsp_of, one, order_of, register_by, register_of, request_of, revoking_by, meaning_by, meaning_in_fields, serial_alone, subscriber_of, two}
+use Rattle.reg_lines.specs.LineReading.{alone, query_by, four, hex_of, number_alone, ocsp_of, one, order_of, register_by, register_of, request_of, revoking_by, meaning_by, meaning_in_fields, serial_alone, subscriber_of, two}
 use Rattle.reg_lines.specs.declared.line.CommandLine.{CommandLine}
-use Rattle.reg_lines.proofs.Readings.{hex_of-is, hex_of-some, label_of-is, label_of-some}
+use Rattle.reg_lines.proofs.Readings.{hex_of-is, hex_of-some}
 
 -- ---- steps that may fail
 
@@ -71,7 +72,7 @@ subscriber_spelled : (fields : List (List ℕ)) (c : Command) → subscriber_of 
 unfolding subscriber_of
 subscriber_spelled fields c e =
     let (a, is_one, e1) = and_then_some _ (one fields) c e in
-    let (name, is_label, e2) = and_then_some _ (label_field a) c e1 in
+    let (name, is_label, e2) = and_then_some _ (label_of a) c e1 in
     let found = label_of-some a name is_label in
     let made : Subscriber name ≡ c = cc in
     subst (λ v. SpellsCommand v (codes "subscriber" ∷ fields)) made
@@ -108,7 +109,7 @@ unfolding request_of
 request_spelled fields c e =
     let (p, is_two, e1) = and_then_some _ (two fields) c e in
     let (serial, first, e2) = and_then_some _ (serial_of p.0) c e1 in
-    let (named, second, e3) = and_then_some _ (label_field p.1) c e2 in
+    let (named, second, e3) = and_then_some _ (label_of p.1) c e2 in
     let found = label_of-some p.1 named second in
     let made : Request serial named ≡ c = cc in
     subst (λ v. SpellsCommand v (codes "request" ∷ fields)) made

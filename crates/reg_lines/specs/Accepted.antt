@@ -33,16 +33,19 @@ GivesReason refused reply = IfSome refused (λ command. reply ≡ with_lf (refus
 -- whether a run goes on after a reply: a strict one, only after an accepted one
 abbrev pub RunContinues : Bool → List ℕ → Continuation → Type 0
 RunContinues is_strict reply On = IsTrue is_strict → IsAccepted reply
-RunContinues is_strict reply (Refused refused) = IsTrue is_strict × (¬ IsAccepted reply) × GivesReason refused reply
+RunContinues is_strict reply (Refused refused) =
+    IsTrue is_strict × (¬ IsAccepted reply) × GivesReason refused reply
 
 -- the bytes were written; or, after a fault, a prefix of them
 abbrev pub Wrote : Option (List ℕ) → Option (List ℕ) → List ℕ → Result (Unit {0}) WriteFault → Type 0
 Wrote out out' bytes (Ok done) = Appends out out' bytes
 Wrote out out' bytes (Err fault) = AppendsPrefix out out' bytes
 
--- a reply was written, with whether the run goes on after it; or a prefix of it was
-abbrev pub WritesReply : Bool → Option (List ℕ) → Option (List ℕ) → List ℕ → Result Continuation WriteFault → Type 0
-WritesReply is_strict out out' reply (Ok passed) = Appends out out' reply × RunContinues is_strict reply passed
+-- a reply was written, and the result says whether the run goes on; or, after a fault, a prefix of the reply was written
+abbrev pub WritesReply
+    : Bool → Option (List ℕ) → Option (List ℕ) → List ℕ → Result Continuation WriteFault → Type 0
+WritesReply is_strict out out' reply (Ok passed) =
+    Appends out out' reply × RunContinues is_strict reply passed
 WritesReply is_strict out out' reply (Err fault) = AppendsPrefix out out' reply
 
 -- the result of a run, without where it ended

@@ -36,7 +36,7 @@ FailsToSign (responded request given) = ⊥
 abbrev pub CountsFailure : ℕ → Call → ℕ → Type 0
 CountsFailure before call after = FailsToSign call → before < after
 
--- a call for a line, made of an office: a step of the records that stand in it, in which its signer counts its failures
+-- an office gets a call for a line: its records make one step, and if the signer fails, the signer counts the failure
 abbrev pub LineCalls : {O : Type 0} → Office O → O → ℕ → Call → O → Type 0
 LineCalls office s now call t =
     Leads office.is_clean office.stands

@@ -159,7 +159,8 @@ abbrev pub ImportRan
     : {S : Type 0} → (S → ℕ → Call → S → Type 0) → ℕ → S → S → Option (List ℕ) → Option (List ℕ) → List ℕ
     → Result (Unit {0}) Fault → Type 0
 ImportRan answers now s t out out' text result =
-    (ran : Result Continuation Fault) × RowsEnd answers false now s t out out' text ran × (result ≡ done_of ran)
+    (ran : Result Continuation Fault) × RowsEnd answers false now s t out out' text ran
+    × (result ≡ done_of ran)
 
 -- an import at a moment: the office, the reader and the writer before and after
 abbrev pub ImportEnds
@@ -179,7 +180,7 @@ TextRead input input' (Err Read) = TookSome input input'
 TextRead input input' (Err Memory) = TookSome input input'
 TextRead input input' (Err other) = ⊥
 
--- a CSV reader that has read no row yet, takes the first one for no header, and does not trim fields
+-- a CSV reader that has read no row yet, does not take the first one for a header, and does not trim fields
 pub record IsAtStart (rows : Reader (Bor (List ℕ))) : Type 0 where
   pub untrimmed : reader_trim rows ≡ trim.None
   pub ready : Ready rows
@@ -200,7 +201,8 @@ module _ {S : Type 0} (answers : S → ℕ → Call → S → Type 0) (is_strict
     pub said : WritesReply is_strict out out' reply result
 
   -- a row ran; or it is the first one and a header, and was skipped
-  abbrev pub TookRow : Bool → Row → Option (List ℕ) → Option (List ℕ) → Result Continuation WriteFault → Type 0
+  abbrev pub TookRow
+      : Bool → Row → Option (List ℕ) → Option (List ℕ) → Result Continuation WriteFault → Type 0
   TookRow first row out out' result =
       (((first && is_header row) ≡ true) × (t ≡ s) × (result ≡ Ok On) × Appends out out' [])
       ⊎ (((first && is_header row) ≡ false) × RanRow row out out' result)

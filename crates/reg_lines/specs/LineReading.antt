@@ -1,9 +1,9 @@
--- The same grammar as a function: what is read from the fields of a line, in order.
-use Rattle.std.specs.Prelude.{ℕ, Bool, ◌&&◌, List, [], ◌∷◌, length, codes, bytes_eq, nat_le, nat_lt, if◌then◌else◌, cond, Option, Some, None, option_map, option_and_then}
-use Rattle.std.specs.List.{list_all}
+-- The grammar of `Meaning.antt` as a function on the fields of a line.
+use Rattle.std.specs.Prelude.{ℕ, Bool, List, [], ◌∷◌, length, codes, bytes_eq, nat_lt, if◌then◌else◌, cond, Option, Some, None, option_map, option_and_then}
 use Rattle.std.specs.Result.{result_ok}
 use Rattle.hex.specs.Hex.{decode_of}
 use Rattle.reg_core.specs.Calendar.{moment_of}
+use Rattle.reg_core.specs.Label.{label_of}
 use Rattle.reg_core.specs.Number.{number_of}
 use Rattle.reg_core.specs.Sequence.{◌>>=◌}
 use Rattle.reg_core.specs.Serial.{serial_of}
@@ -11,12 +11,6 @@ use Rattle.reg_core.specs.declared.command.Command.{Command}
 use Rattle.reg_core.specs.declared.command.Command.TheVariants.{Subscriber, Order, Register, Request, Decline, Revoke, Crl}
 use Rattle.reg_core.specs.declared.command.Query.TheVariants.{Status, Counts, Listing, Overdue, NextCrl}
 use Rattle.reg_lines.specs.Meaning.{Meaning, means_command, means_query, is_ocsp_line}
-
--- a text of 1 to 64 bytes
-unfoldable pub label_field : List ℕ → Option (List ℕ)
-label_field text =
-    cond (nat_le 1 (length text) && nat_le (length text) 64 && list_all (λ b. nat_lt b 256) text)
-    (Some text) None
 
 -- exactly one field
 abbrev pub one : List (List ℕ) → Option (List ℕ)
@@ -67,7 +61,7 @@ serial_alone fields = option_and_then serial_of (one fields)
 unfoldable pub subscriber_of : List (List ℕ) → Option Command
 subscriber_of fields = do
   field ← one fields
-  name ← label_field field
+  name ← label_of field
   Some (Subscriber name)
 
 -- `order SUBSCRIBER DAYS`
@@ -96,7 +90,7 @@ unfoldable pub request_of : List (List ℕ) → Option Command
 request_of fields = do
   both ← two fields
   serial ← serial_of both.0
-  named ← label_field both.1
+  named ← label_of both.1
   Some (Request serial named)
 
 -- the bytes of a field of hexadecimal digits, at least one
@@ -130,7 +124,7 @@ revoking_by word fields =
     else if bytes_eq word (codes "crl") then option_map means_command (alone Crl fields)
     else query_by word fields
 
--- the meaning of a word and the fields after it: a registration, or one of those above
+-- the meaning of a word and the fields after it: `subscriber`, `order`, `register`, or one of those above
 unfoldable pub meaning_by : List ℕ → List (List ℕ) → Option Meaning
 meaning_by word fields =
     if bytes_eq word (codes "subscriber") then option_map means_command (subscriber_of fields)

@@ -65,7 +65,7 @@ LineMeans line (means_command command) = SpellsCommand command (fields_of line)
 LineMeans line (means_query query) = SpellsQuery query (fields_of line)
 LineMeans line (is_ocsp_line bytes) = SpellsOcsp bytes (fields_of line)
 
--- it is no spelling of any meaning
+-- the command line spells no meaning
 abbrev pub IsUnreadable : List ℕ → Type 0
 IsUnreadable line = (meaning : Meaning) → ¬ LineMeans line meaning
 

@@ -29,7 +29,7 @@ unfoldable pub listing_by : ℕ → Option ℕ → List ℕ
 listing_by first None = codes "listing first " ++ decimal first
 listing_by first (Some last) = codes "listing first " ++ decimal first ++ codes " last " ++ decimal last
 
--- the line of a listing, or of a serial number that no CRL lists
+-- the line of a listing, or of a serial number that is not revoked
 unfoldable pub listing_line : Option Listing → List ℕ
 listing_line None = codes "listing none"
 listing_line (Some listing) = listing_by listing.first listing.last

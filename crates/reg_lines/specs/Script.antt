@@ -60,8 +60,8 @@ IsWholeLine piece = (prefix : List ℕ) × (piece ≡ prefix ++ 10 ∷ []) × Ha
 abbrev pub IsCut : List ℕ → Type 0
 IsCut line = HasNoLf line × (0 < length line)
 
--- Instead of a next line there is a fault of the input: a line after the most that a run may have; or more bytes than a line may have, without
--- an LF; or, after fewer, a read that failed.
+-- The input failed before the next line ran: there is a line after the 1,000,000th; or more bytes than a line may have, without an LF; or a
+-- read failed after fewer bytes.
 abbrev pub InputFails : ℕ → List (List ℕ) → List ℕ → Type 0
 InputFails longest done left =
     ((length done ≡ most_lines) × (0 < length left) × (length left ≤ longest))
@@ -116,7 +116,7 @@ module _ (longest : ℕ) (input input' out out' : Option (List ℕ)) where
     pub partly : part < length reply
     pub wrote : Appends out out' (concat replies ++ take part reply)
 
-  -- How a run of lines ends that run at the moments of a clock or at their own. `runs s line reply t` is a line, without its line end, with its
+  -- How a run of lines ends, at the moments of a clock or at their own. `runs s line reply t` is a line, without its line end, with its
   -- reply, where the office is `s` before and `t` after. A strict run ends after the first reply that is a refusal or a fault, and does not run a
   -- last line without its LF. `Read` means that the input failed, or the clock.
   module _ {S : Type 0} (runs : S → List ℕ → List ℕ → S → Type 0) (s t : S)

@@ -21,7 +21,7 @@ skip_within (byte ∷ rest) = if is_within byte then skip_within rest else byte 
 abbrev pub ended_part : List ℕ → List ℕ
 ended_part text = reverse (skip_within (reverse text))
 
--- how the run of a text ends, of which only the part up to its last line end runs: nothing is left after that, or something is
+-- how the run of a text ends: only the part up to its last line end runs, and the text ends there, or has more bytes (`NoLineEnd`)
 abbrev pub StrictRan
     : {S : Type 0} → (S → ℕ → Call → S → Type 0) → ℕ → S → S → Option (List ℕ) → Option (List ℕ) → List ℕ
     → Result Ended Fault → Type 0

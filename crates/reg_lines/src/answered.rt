@@ -31,7 +31,7 @@ pub struct OcspReply {
 #[derive(Drop)]
 pub enum Answered {
     /// What the line was, and its outcome: [`Refusal::Syntax`] if it can't be read, and [`Fault::Memory`] for an OCSP request
-    /// if there is no memory for the response.
+    /// if there is no memory for its bytes, for the response or for the reply.
     Completed(LineKind, Outcome),
     Response(OcspReply),
 }

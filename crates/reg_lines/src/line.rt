@@ -3,10 +3,9 @@
 ghost use Rattle.std.specs.Prelude.{◌≡◌, ◌<◌, IfNone, IfSome, IsTrue, ◌↔◌, Some, None, option_map, length, cond};
 ghost use Rattle.std.specs.List.{AllPass};
 ghost use Rattle.hex.specs.Hex.{is_hex_digit};
-ghost use Rattle.reg_core.specs.Calendar.{moment_of};
 ghost use Rattle.reg_lines.specs.Fields.{fields_of};
 ghost use Rattle.reg_lines.specs.Meaning.{Meaning, IsUnreadable, LineMeans, OneMeaning, meaning_of, decoded_bytes, means_command, means_query, is_ocsp_line};
-ghost use Rattle.reg_lines.specs.LineReading.{label_field, subscriber_of, order_of, register_by, register_of, request_of, number_alone, serial_alone, hex_of, ocsp_of, alone, query_by, revoking_by, meaning_in_fields};
+ghost use Rattle.reg_lines.specs.LineReading.{subscriber_of, order_of, register_by, register_of, request_of, number_alone, serial_alone, hex_of, ocsp_of, alone, query_by, revoking_by, meaning_in_fields};
 
 use crate::fields::{Fields, four, one, two};
 use reg_core::{Command, Label, Moment, Query, Serial, read_number};
@@ -118,23 +117,11 @@ fn alone<T: Copy>(value: T, fields: Fields<'_>) -> Option<T>
     if fields.is_empty() { Some(value) } else { None }
 }
 
-fn read_moment(text: &[u8]) -> Option<Moment>
-    ensures { result ≡ moment_of text.now }
-{
-    Moment::read(text)
-}
-
-fn read_label(text: &[u8]) -> Option<Label>
-    ensures { result ≡ label_field text.now }
-{
-    Label::of(text)
-}
-
 #[tactic(auto, unfolding(crate::specs::LineReading::subscriber_of))]
 fn read_subscriber(fields: Fields<'_>) -> Option<Command>
     ensures { result ≡ subscriber_of fields.entry }
 {
-    let name = read_label(one(fields)?)?;
+    let name = Label::of(one(fields)?)?;
     Some(Command::Subscriber { name })
 }
 
@@ -168,8 +155,8 @@ pub(crate) fn read_registration(
 {
     let order = read_number(order)?;
     let serial = Serial::read(serial)?;
-    let not_before = read_moment(not_before)?;
-    let not_after = read_moment(not_after)?;
+    let not_before = Moment::read(not_before)?;
+    let not_after = Moment::read(not_after)?;
     Some(Command::Register {
         order,
         serial,
@@ -184,7 +171,7 @@ fn read_request(fields: Fields<'_>) -> Option<Command>
 {
     let (serial, named) = two(fields)?;
     let serial = Serial::read(serial)?;
-    let ground = read_label(named)?;
+    let ground = Label::of(named)?;
     Some(Command::Request { serial, ground })
 }
 

@@ -27,7 +27,7 @@ pub const MOST_LINES: u64 = 1_000_000;
 
 #[derive(Clone, Copy)]
 enum Next {
-    /// More lines follow: so many of their bytes are at the front of the buffer.
+    /// More lines may follow: this many of their bytes are at the front of the buffer.
     Held(usize),
     End(Ended),
 }
@@ -202,7 +202,7 @@ fn run_timed<O: Office>(alloc: Global, office: &mut O, line: &[u8]) -> Answered
     }
 }
 
-/// Whether the input is at its end: reads one byte, and fails where there is one.
+/// Checks that the input is at its end: reads one byte, and fails if there is one.
 fn end_of_input<R: Read>(reader: &mut R, room: &mut [u8]) -> Result<Ended, Fault>
     requires { length room.old ≡ 1 }
     ensures { EndOrMore (R.remaining reader.old) (R.remaining reader.new) result }

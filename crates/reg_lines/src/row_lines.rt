@@ -59,7 +59,7 @@ fn put_each(
                 Err(fault) => return Err(fault),
             },
             Ok(false) => return Ok(()),
-            // Over bytes in memory, with rows of any length, a read fails only for lack of memory.
+            // The text is in memory, and rows may have any number of fields: so a read fails only if out of memory.
             Err(_) => return Err(AllocError),
         }
     }

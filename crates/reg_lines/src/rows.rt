@@ -123,7 +123,7 @@ fn run_each<W: Write, O: Office>(
                 Err(_) => return Err(Fault::Write),
             },
             Ok(false) => return Ok(Continuation::On),
-            // Over bytes in memory, with rows of any length, a read fails only for lack of memory.
+            // The text is in memory, and rows may have any number of fields: so a read fails only if out of memory.
             Err(_) => return Err(Fault::Memory),
         }
     }

@@ -60,7 +60,7 @@ last_nonce_at tag bytes = last_at tag bytes >>= written_nonce
 
 -- ---- requests
 
--- the bytes are the one value that was read from them, or there are none
+-- the bytes are one value and nothing else, or there are no bytes
 abbrev pub read_all : List ℕ → Option (Parts × List ℕ) → Bool
 read_all bytes None = length bytes == 0
 read_all bytes (Some x) = length x.1 == 0
@@ -80,7 +80,7 @@ is_shortest (first ∷ []) = true
 is_shortest (first ∷ second ∷ rest) =
     not ((first == 0) && nat_lt second 128) && not ((first == 255) && nat_le 128 second)
 
--- the contents octets of an INTEGER in the fewest, which nothing follows
+-- the contents octets of an INTEGER, if they are the fewest and nothing follows the INTEGER
 unfoldable pub serial_at : List ℕ → Option (List ℕ)
 serial_at bytes = whole_at 0x02 bytes >>= λ serial. if is_shortest serial then Some serial else None
 

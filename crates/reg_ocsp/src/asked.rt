@@ -3,7 +3,7 @@
 pub struct Asked<'a> {
     /// The CertIDs, in the order of the request: at least one.
     pub ids: Vec<CertId<'a>>,
-    /// The value of the first nonce extension, which the response repeats: 1 to 131 bytes.
+    /// The value of the first nonce in requestExtensions, if it has 1 to 131 bytes. The response repeats it.
     pub nonce: Option<&'a [u8]>,
 }
 

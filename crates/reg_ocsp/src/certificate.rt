@@ -31,7 +31,7 @@ impl From<AllocError> for CertificateFault {
     }
 }
 
-/// The responder's certificate, for `certs` of responses. Its model is its bytes, its public key and the algorithm of that key.
+/// The certificate in `certs` of responses: the responder's, or the issuer's. Its model is its bytes, its public key and the algorithm of that key.
 #[derive(Drop)]
 pub struct Certificate {
     der: Vec<u8>,

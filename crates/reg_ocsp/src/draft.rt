@@ -8,8 +8,8 @@ use reg_der::copy_of;
 use std::alloc::Global;
 use std::marker::Model;
 
-/// The fields of a BasicOCSPResponse but for the signature (RFC 6960 4.2.1). The response needs only these and the signature, so
-/// the register may change until that comes.
+/// The fields of a BasicOCSPResponse except the signature (RFC 6960 4.2.1), and the signer's public key. No part is read from the register
+/// later, so the register may change before the signature comes.
 #[derive(Drop)]
 pub struct Draft {
     message: Vec<u8>,

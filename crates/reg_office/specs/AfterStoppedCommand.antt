@@ -36,7 +36,8 @@ Does g signs old identity now command trees =
 -- the rows after the issuer was given a key identifier of its own, which CRLs have from the next one on
 abbrev pub IsIdentified : {C : Type 0} → Ghosts C → Held C → List ℕ → Trees → Type 0
 IsIdentified g old octets trees =
-    (records : Records) → ShowsKept g old records → ShowsDerivedAfterStop (with_key_identifier records octets) trees
+    (records : Records) → ShowsKept g old records
+    → ShowsDerivedAfterStop (with_key_identifier records octets) trees
 
 -- ---- over a run
 
@@ -51,8 +52,8 @@ abbrev pub IsNext : (Records → ℕ → Command → Type 0) → Records → Lis
 IsNext Done records [] = ⊥
 IsNext Done records (timed ∷ commands) = Done records timed.0 timed.1
 
--- What is left are the records after a prefix of the commands: after those of `done`, whose outcomes are `came`, or after these and the next
--- command. The outcomes of the commands past `done` are refusals or faults.
+-- The records that are left are those after a prefix of the commands: after `done`, whose outcomes are `came`, or after `done` and the next
+-- command. The outcomes of the commands after `done` are refusals or faults.
 pub record PartlyRun (signs : Signs) (identity : Identity) (Rests : Records → Type 0)
     (Done : Records → ℕ → Command → Type 0)
     (records : Records) (commands : List (ℕ × Command)) (outcomes : List (Result Reply Fault)) : Type 0 where
@@ -98,9 +99,10 @@ AreRunByOne {C = C} g signs identity old (timed ∷ commands) (outcome ∷ outco
 -- a stop after a call, or in the middle of it, leaves rows that show these records, with derived tables that match them
 abbrev pub LeavesThese : {C : Type 0} → Ghosts C → Held C → Records → Type 0
 LeavesThese g held records =
-    HasCleanDisk (state g held) → (trees : Trees) → (state g held).may_leave trees → ShowsDerivedAfterStop records trees
+    HasCleanDisk (state g held) → (trees : Trees) → (state g held).may_leave trees
+    → ShowsDerivedAfterStop records trees
 
--- the rows show the records after one more change, whose acceptance was not replied: a command, or another schedule or key identifier
+-- the rows show the records after one more change, which was not reported as accepted: a command, or another schedule or key identifier
 abbrev pub IsOneMore : Signs → Identity → Records → Trees → Type 0
 IsOneMore signs identity records trees =
     ((now : ℕ) × (command : Command) × IsDone signs identity records now command trees)

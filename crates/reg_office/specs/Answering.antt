@@ -7,7 +7,7 @@ use Rattle.reg_office.specs.declared.responder.ResponderFields.{ResponderFields}
 use Rattle.reg_office.specs.declared.responder.Responder.{Responder as Held}
 use Rattle.reg_office.specs.declared.responder.Responder.TheVariants.{Issuer, Delegate}
 
--- the responder with this identity, and with the key and certificate of a naming
+-- the responder with this identity, and with the key and certificate of these fields
 abbrev pub responder_named : Identity → ResponderFields → Responder
 responder_named identity naming = record {
   identity = identity;

@@ -20,9 +20,10 @@ Signed {S = S} signer Law = (it : S) → Law (signed_by signer.signs (signer.ide
 
 -- a law about signed CRLs, for any signer, and for CRLs with the placeholder digest below any number
 abbrev pub SignedOrDigest : {S : Type 0} → Signer S → ((CertList → List ℕ → Type 0) → Type 0) → Type 0
-SignedOrDigest {S = S} signer Law = (it : S) (since : ℕ) → Law (signed_since since signer.signs (signer.identity it))
+SignedOrDigest {S = S} signer Law =
+    (it : S) (since : ℕ) → Law (signed_since since signer.signs (signer.identity it))
 
--- a run whose new CRLs the signer signs is also one whose CRLs have the placeholder digest below a number that was reached before it
+-- a run in which the signer signs each new CRL is also one over `signed_since`: CRLs below `since` have the digest, and were issued before it
 abbrev pub RunsSince : Signs → Identity → Type 0
 RunsSince signs identity =
     (records after : Records) (commands : List (ℕ × Command)) (outcomes : List (Result Reply Fault))

@@ -42,7 +42,7 @@ StandsPartlyRun g signs held identity records commands outcomes =
     records commands outcomes
 
 -- if the machine stops after such a run, or in the middle of it, and the register is opened again, it shows the records after a prefix of the
--- commands, which includes each command whose acceptance was replied; the disk may lose what was not synced
+-- commands, which includes each command that was reported as accepted; the disk may lose what was not synced
 abbrev pub OpensAfterAPrefix : {C : Type 0} → Ghosts C → Signs → Type 0
 OpensAfterAPrefix {C = C} g signs =
     (old new again : Held C) (identity : Identity) (records : Records) (commands : List (ℕ × Command))
@@ -53,7 +53,7 @@ OpensAfterAPrefix {C = C} g signs =
 
 -- ---- over any calls
 
--- the store shows the records after one more change, whose acceptance was not replied: a command, or another schedule or key identifier
+-- the store shows the records after one more change, which was not reported as accepted: a command, or another schedule or key identifier
 abbrev pub StandsOneMore : {C : Type 0} → Ghosts C → Signs → Held C → Identity → Records → Type 0
 StandsOneMore g signs held identity records =
     ((now : ℕ) × (command : Command) × ShowsAccepted g signs held identity records now command)

@@ -15,7 +15,7 @@ use sqlite::Alter;
 /// The reply to a command that is accepted, and the one change that it makes.
 pub(crate) type Decided = (Reply, Change<'static>);
 
-/// The head of a decision, with the policy and the number of rows of the table to which a row would be added.
+/// What a decision needs besides rows: the moments, the policy, and the number of rows of the table to which it would add one.
 pub(crate) fn head_at<C: Alter>(
     tables: &mut Tables<C>,
     now: Moment,
@@ -35,8 +35,8 @@ pub(crate) fn head_at<C: Alter>(
     })
 }
 
-/// The head of a decision that adds no row to a table with a cap. Such a decision uses only the moments of its head, so neither the
-/// policy nor the size of a table is read.
+/// The same for a decision that adds no row to a table with a cap. Such a decision uses only the moments, so the policy and the size
+/// here are placeholders: neither is read from the tables.
 pub(crate) fn clock_head<C: Alter>(
     tables: &mut Tables<C>,
     now: Moment,

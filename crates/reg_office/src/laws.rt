@@ -12,7 +12,7 @@ ghost use Rattle.reg_office.specs.Shown.{SoundRun, AcceptedRevocation, IsShownEv
 use reg_crl::{CrlSigner, Signer};
 use sqlite::Alter;
 
-/// The headline: what holds for every list of commands that an office runs from sound records, with any signer (RFC 5280 3.3, RFC 6960 2.2).
+/// The main theorem: what holds for every list of commands that an office runs from sound records, with any signer (RFC 5280 3.3, RFC 6960 2.2).
 /// CRLs below any one number may have the placeholder digest: they were issued before the register had a key.
 pub fn headline<S: Signer>()
     ensures created { SignedOrDigest S.Signer CreatedSound }
@@ -61,7 +61,7 @@ pub fn a_revoked_certificate_is_shown_as_revoked_everywhere<S: Signer>()
     headline::<S>();
 }
 
-/// Nothing else is shown as revoked, by any of the three.
+/// No other serial number is shown as revoked by a status, an OCSP response or a CRL.
 pub fn nothing_else_is_shown_as_revoked<S: Signer>()
     ensures { (signer : S) (run : SoundRun S.signs (S.identity signer)) (serial : ℕ)
         → ¬ (WasRevoked run serial) → IsNowhereShown run serial }
@@ -76,7 +76,7 @@ pub fn a_register_opened_after_a_stop_stands_before_or_after<C: Alter, S: Signer
 {}
 
 /// A register that is opened after a stop in a run shows the records after a prefix of the commands. The prefix includes
-/// each command whose acceptance was replied.
+/// each command that was reported as accepted.
 pub fn a_register_opened_after_a_stop_stands_after_a_prefix<C: Alter, S: Signer>()
     ensures { OpensAfterAPrefix C.Store S.signs }
 {}

@@ -17,7 +17,7 @@ use reg_core_lists::{CertificateLine, OrderLine, RequestHistory, RequestLine, Re
 use reg_store::{DatabaseFault, Tables};
 use sqlite::Alter;
 
-// ---- records to which others refer; `Store` if one is missing, as none is in a register
+// ---- records to which others refer: a register has them all, so a missing one is the fault `Store`
 
 pub(crate) fn subscriber_at<C: Alter>(
     tables: &mut Tables<C>,
@@ -251,7 +251,7 @@ fn request_line<C: Alter>(
     })
 }
 
-/// The deadline of a request. `Store` if it was received at or past the clock's end, as no request of a register is.
+/// The deadline of a request. `Store` if it was received at or past the clock's end: a register has no such request.
 fn due_of(request: &RequestRow) -> Result<Moment, DatabaseFault>
     ensures due { IfOk result (λ due. due ≡ deadline request.now) }
 {

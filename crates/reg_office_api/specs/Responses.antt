@@ -1,4 +1,4 @@
--- OCSP responses by their kind (RFC 6960 4.2.1), and what a kind says of the signature and of the store.
+-- OCSP responses by their kind (RFC 6960 4.2.1), and what a kind says about the signature and the store.
 use Rattle.std.specs.Prelude.{◌≡◌, ◌⊎◌, ℕ, List, Option, Some, None, Result, Ok, Err}
 use Rattle.reg_core.specs.Checks.{clock_checks, first_of_all}
 use Rattle.reg_core.specs.Records.{Records}

@@ -1,4 +1,4 @@
-//! The effects of an HTTP exchange or a line on the signers and the store, as the metrics count them.
+//! The effects of an HTTP exchange, or of a line at the control socket, on the signers and the store, as the metrics count them.
 
 ghost use Rattle.std.specs.Prelude.{◌≡◌};
 ghost use Rattle.reg_office_api.specs.Responses.{store_of_fault};
@@ -14,7 +14,7 @@ pub enum SignatureOutcome {
     Failed,
 }
 
-/// What an exchange or a line shows of the store: an accepted command was written, the store failed, or neither.
+/// The effect of an exchange or a line on the store: an accepted command was written, the store failed, or neither.
 #[derive(Clone, Copy, PartialEq, Eq)]
 pub enum StoreEffect {
     /// It ran no accepted command, and the store did not fail.

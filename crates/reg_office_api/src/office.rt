@@ -23,13 +23,13 @@ pub trait Office {
     ghost use Rattle.reg_core.specs.declared.refusal.Fault.TheVariants.{Signer};
     ghost use Rattle.reg_crl.specs.Signing.{Identity};
 
-    /// The medium has returned all that was written to it.
+    /// Whether the medium has returned all that was written to it.
     ghost is_clean: { Self → Type 0 };
 
-    /// The records that stand in the office, with the signers for it.
+    /// Whether these records stand in an office that has these signers.
     ghost stands: { Signatory → Self → Records → Type 0 };
 
-    /// Which bytes are a signature over which, by whom.
+    /// `signs identity message signature`: the signer with this identity gave the signature for the message.
     ghost signs: { Identity → List ℕ → List ℕ → Type 0 };
 
     /// How many failures the signer of its CRLs has counted.
@@ -38,13 +38,13 @@ pub trait Office {
     /// How many failures the signer of its OCSP answers has counted.
     ghost answer_failures: { Self → ℕ };
 
-    /// Runs a command at its moment. Errors, after which the records stay: its refusals in their order; `Memory`, `Store`;
-    /// `Signer` for a CRL, only where its signer counted a failure.
+    /// Runs a command at its moment. Errors, after which the records stay: the first refusal that applies; `Memory`; `Store`;
+    /// `Signer` for a CRL, only if the signer of CRLs counted a failure.
     fn run_one(&mut self, alloc: Global, now: Moment, command: &Command) -> Outcome
         ensures runs { Leads is_clean stands (CommandStep signs now command.now result) self.old self.new }
         ensures counts { IsErrOf result Signer → failures self.old < failures self.new };
 
-    /// Answers a query at its moment. Errors: its refusals in their order; `Memory`, `Store`.
+    /// Answers a query at its moment. Errors: the first refusal that applies; `Memory`; `Store`.
     fn ask(&mut self, alloc: Global, now: Moment, query: &Query) -> Outcome
         ensures asks { Leads is_clean stands (QueryStep now query.now result) self.old self.new }
         ensures unsigned { ¬ (IsErrOf result Signer) };
@@ -54,8 +54,8 @@ pub trait Office {
         ensures { Leads is_clean stands (OcspStep signs now request.now (items_of result))
             self.old self.new };
 
-    /// Begins the same response: where a signer has a key, the response is left unsigned, and the caller requests its signature. The
-    /// response of a signer without a key is ready, and so is a refusal.
+    /// Begins the response of [`Office::ocsp`]: if the signer has a key, the response is left unsigned, and the caller requests its
+    /// signature. The response of a signer without a key is ready, and so is a refusal.
     fn begin_ocsp(
         &mut self,
         alloc: Global,
@@ -67,7 +67,7 @@ pub trait Office {
             IsSignerFailure begun ↔ (answer_failures self.old < answer_failures self.new)) }
         ensures never_falls { answer_failures self.old ≤ answer_failures self.new };
 
-    /// The bytes of the CRL (RFC 5280 5) with this number, or of the latest. Errors: the refusal where there is none; `Memory`, `Store`.
+    /// The bytes of the CRL (RFC 5280 5) with this number, or of the latest. Errors: `NoCrl` if there is none; `Memory`; `Store`.
     fn crl_bytes(&mut self, alloc: Global, number: Option<u64>) -> Result<Vec<u8>, Fault>
         ensures { Leads is_clean stands (CrlStep number (items_of result)) self.old self.new };
 

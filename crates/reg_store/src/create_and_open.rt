@@ -10,7 +10,7 @@ use reg_store_tables::{StoreFault, Tables};
 use sqlite::{Alter, Connection};
 use std::alloc::Global;
 
-/// A connection over which no store was created or opened, and why. It is in no transaction, and its tables are as they were.
+/// A connection over which no store was created or opened, and why. It is in no transaction. Unless the disk failed, its tables are as they were.
 #[derive(Drop)]
 pub struct Unopened<S: Alter> {
     pub fault: StoreFault,

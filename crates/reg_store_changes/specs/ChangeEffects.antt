@@ -21,7 +21,7 @@ abbrev pub added : Change → ℕ
 added (Certificate row) = 1
 added change = 0
 
--- the serial number that a change revokes, if it does, has one good letter
+-- if the change is a revocation, its serial number has one good letter
 abbrev pub TurnsOne : Change → DerivedRows → Type 0
 TurnsOne (Revocation row not_after) columns = good_at row.serial columns ≡ 1
 TurnsOne change columns = Unit {0}

@@ -27,16 +27,18 @@ Revokes row not_after old new =
 
 -- the rows of a change, and the derived tables except the counts
 pub record Puts (change : Change) (old new : Database) : Type 0 where
-  pub turns : (records : Records) (columns : DerivedRows) (now : ℕ) → SoundRows records → Fits records now change
-      → AreRecordsAndDerived old records columns
+  pub turns : (records : Records) (columns : DerivedRows) (now : ℕ) → SoundRows records
+      → Fits records now change → AreRecordsAndDerived old records columns
       → AreRecordsAndDerived new (changed_by records records.last change) (kept_rows_after change columns)
-  pub one : (records : Records) (columns : DerivedRows) → AreRecordsAndDerived old records columns → TurnsOne change columns
+  pub one : (records : Records) (columns : DerivedRows) → AreRecordsAndDerived old records columns
+      → TurnsOne change columns
 
 -- a whole change at a moment, if these counts are the stored ones
 pub record Enters (now : ℕ) (change : Change) (counts : Counts) (old new : Database) : Type 0 where
   pub turns : (records : Records) (columns : DerivedRows) → counts ≡ columns.counts → SoundRows records
       → Fits records now change → AreRecordsAndDerived old records columns
-      → AreRecordsAndDerived new (changed_by records now change) (columns_after now change columns) × IsDatabase new
+      → AreRecordsAndDerived new (changed_by records now change) (columns_after now change columns)
+      × IsDatabase new
   pub one : (records : Records) (columns : DerivedRows) → AreRecordsAndDerived old records columns
       → TurnsOne change (swept now columns)
 

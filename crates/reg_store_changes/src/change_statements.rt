@@ -121,7 +121,7 @@ fn put<S: Alter>(tx: &mut Transaction<'_, S>, change: &Change<'_>) -> Result<(),
     }
 }
 
-/// Makes a change: sets the letters of certificates that ended before now, writes the change, and sets the counts and the last accepted moment.
+/// Makes a change: sets the letters of good certificates that ended before now to expired, writes the change, and sets the counts and the last accepted moment.
 pub(crate) fn enter<S: Alter>(
     tx: &mut Transaction<'_, S>,
     now: Moment,

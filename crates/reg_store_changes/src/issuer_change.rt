@@ -22,7 +22,7 @@ fn set_name<S: Alter>(tx: &mut Transaction<'_, S>, issuer: &Issuer) -> Result<()
 }
 
 /// Sets the issuer's Name and its own key identifiers. The issuer must have the same key as before; this is not checked. It is no
-/// command: other records, the derived tables and the last accepted moment don't change. An error changes nothing.
+/// command: other records, the derived tables and the last accepted moment don't change. An error changes nothing, unless the disk failed in the commit.
 pub fn set_issuer<S: Alter>(conn: &mut Connection<S>, issuer: &Issuer) -> Result<(), DatabaseFault>
     requires { conn.old.in_transaction ≡ false }
     ensures sets { SetsIssuer S.Store conn.old conn.new issuer.now result }

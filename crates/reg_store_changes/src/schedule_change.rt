@@ -32,7 +32,7 @@ fn write_schedule<S: Alter>(
 }
 
 /// Sets the schedule of longest validities. It is no command: other records, the derived tables, the last accepted moment and
-/// the column `days` of the office don't change. An error changes nothing.
+/// the column `days` of the office don't change. An error changes nothing, unless the disk failed in the commit.
 pub fn set_schedule<S: Alter>(
     conn: &mut Connection<S>,
     schedule: &Schedule,

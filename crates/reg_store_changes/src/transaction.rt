@@ -12,7 +12,7 @@ use reg_store_tables::{DatabaseFault, stored_counts_now, write_statements};
 use sqlite::{Alter, Connection};
 
 /// Makes a change at a moment, in one transaction. Errors: `Memory`; `Store` if the database fails, a count is missing or too
-/// small, or the certificate to revoke is not good. An error changes nothing.
+/// small, or the certificate to revoke is not good. An error changes nothing, unless the disk failed in the commit.
 pub fn apply<S: Alter>(
     conn: &mut Connection<S>,
     now: Moment,

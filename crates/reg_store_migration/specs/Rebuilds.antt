@@ -75,8 +75,8 @@ pub record BeginsTables (version : OlderVersion) (days : ℕ) (old new : Databas
 -- each certificate gets its letter at the last accepted moment
 abbrev pub FillsLetters : ℕ → Database → Database → Type 0
 FillsLetters last old new =
-    (records : Records) (columns : DerivedRows) → SoundRows records → records.last ≡ last → columns.letters ≡ []
-    → AreRecordsAndDerived old records columns
+    (records : Records) (columns : DerivedRows) → SoundRows records → records.last ≡ last
+    → columns.letters ≡ [] → AreRecordsAndDerived old records columns
     → (letters : List Standing) × IsPermutation (map (standing_of records) records.certificates) letters
     × AreRecordsAndDerived new records (with_letters letters columns)
 
@@ -90,7 +90,8 @@ abbrev pub RelistsOne : RevocationRow → List CrlRow → Database → Database 
 RelistsOne row crls old new =
     (records : Records) (columns : DerivedRows) → AreIssued crls → AreRecordsAndDerived old records columns
     → IsSomeAnd (certificate_in records.certificates row.serial)
-    (λ certificate. AreRecordsAndDerived new records (with_listed (listed_by crls row certificate.not_after) columns))
+    (λ certificate.
+    AreRecordsAndDerived new records (with_listed (listed_by crls row certificate.not_after) columns))
 
 -- these revocations get their rows of `listed`, if they are those of the records, and so are the CRLs
 abbrev pub RelistsEach : List RevocationRow → List CrlRow → Database → Database → Type 0

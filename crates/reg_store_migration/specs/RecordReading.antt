@@ -14,11 +14,11 @@ abbrev pub AreAnswer : List ℕ → Row → List Row → Database → Type 0
 AreAnswer text params rows db =
     db.schema ≡ register_schema → Reads (command_of (understood register_schema text)) db params rows
 
--- `Holds` holds of any records that the tables show
+-- `Holds` is true of any records that the tables show
 abbrev pub OfRecords : (Records → Type 0) → Database → Type 0
 OfRecords Holds db = (records : Records) → IsShownBy db records → Holds records
 
--- `Holds` holds of the derived tables, if there are at most as many letters as a register may have
+-- `Holds` is true of the derived tables, if they have at most 1,000,000 letters
 abbrev pub OfColumns : (DerivedRows → Type 0) → Database → Type 0
 OfColumns Holds db =
     (records : Records) (columns : DerivedRows) → length columns.letters ≤ 1000000

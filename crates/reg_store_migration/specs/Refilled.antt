@@ -29,7 +29,7 @@ with_letters letters columns = record columns { letters = letters }
 abbrev pub HasLetters : DerivedRows → Records → Type 0
 HasLetters columns records = IsPermutation (map (standing_of records) records.certificates) columns.letters
 
--- CRLs as they were issued: by their numbers, and no thisUpdate before an earlier one's
+-- CRLs in the order of issue: their numbers are 1, 2, 3 and so on, and no thisUpdate is before an earlier CRL's
 abbrev pub AreIssued : List CrlRow → Type 0
 AreIssued crls = NumberedFrom (λ crl. crl.number) 1 crls × NeverDecreases (λ crl. crl.this_update) crls
 

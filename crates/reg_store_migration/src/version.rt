@@ -5,6 +5,6 @@
 pub enum OlderVersion {
     /// Version 1: the tables of the records alone.
     First,
-    /// Version 2: it also has the derived tables (letters, counts, entries of CRLs).
+    /// Version 2: it also has the derived tables (state letters, counts, entries of CRLs).
     Second,
 }

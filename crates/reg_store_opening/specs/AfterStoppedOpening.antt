@@ -15,7 +15,8 @@ use Rattle.reg_store_opening.specs.VersionAndOffice.{IsOlder}
 
 -- the rows after a register was created: those of one with no records, in a database that had no table, no index and no view
 abbrev pub IsCreated : {S : Type 0} → Held S → Issuer → Terms → Trees → Type 0
-IsCreated old issuer policy trees = (old.schema ≡ no_schema) × ShowsDerivedAfterStop (no_records issuer policy) trees
+IsCreated old issuer policy trees =
+    (old.schema ≡ no_schema) × ShowsDerivedAfterStop (no_records issuer policy) trees
 
 -- the rows after an opening that writes: tables of an older version were migrated to the program's version, and show the same
 -- records, with derived tables that match them

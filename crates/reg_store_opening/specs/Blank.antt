@@ -43,4 +43,5 @@ PutsOffice issuer policy old new =
 -- tables of a schema, which have no rows, become those of a register with no records, and obey their schema
 abbrev pub CreatesRegister : Schema → Issuer → Terms → Database → Database → Type 0
 CreatesRegister tables issuer policy old new =
-    IsBlank tables old → AreRecordsAndDerived new (no_records issuer policy) (no_columns policy.schedule) × IsDatabase new
+    IsBlank tables old
+    → AreRecordsAndDerived new (no_records issuer policy) (no_columns policy.schedule) × IsDatabase new

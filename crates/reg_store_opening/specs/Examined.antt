@@ -18,7 +18,8 @@ use Rattle.reg_store_opening.specs.declared.version_check.OlderOffice.{OlderOffi
 -- the tables have the program's version and an office, or an older version and its office
 abbrev pub HasVersionAndOffice : Database → Option OlderOffice → Type 0
 HasVersionAndOffice db None = IsCurrent db
-HasVersionAndOffice db (Some older) = HasVersion db (version_number older.version) × ReadsOlder db older.days older.last
+HasVersionAndOffice db (Some older) =
+    HasVersion db (version_number older.version) × ReadsOlder db older.days older.last
 
 -- what was found matches the records that tables of a version show: for an older version, their schedule and their last accepted moment
 abbrev pub IsFoundOf : Option OlderVersion → Records → Option OlderOffice → Type 0

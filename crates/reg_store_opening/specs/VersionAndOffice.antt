@@ -248,7 +248,7 @@ abbrev pub HasOfficeRowOf : Option OlderVersion → Database → Type 0
 HasOfficeRowOf None db = HasOfficeRow db
 HasOfficeRowOf (Some version) db = HasOlderOffice db
 
--- if there is no view: any version from 1 on that the tables have is one up to the program's, without its office, or not of this schema
+-- without a view, a version from 1 on that the tables have is at most the program's, and its office is missing or the schema is not its own
 abbrev pub HoldsNoRegister : Database → Type 0
 HoldsNoRegister db =
     db.schema.views ≡ [] → (n : ℕ) → 1 ≤ n → HasVersion db n → (version : Option OlderVersion)
@@ -269,4 +269,5 @@ version_or_current (Some Second) = version.Second
 -- a schema is found to be that of a version exactly if it is
 abbrev pub SchemaHasVersion : Option Version → Schema → Type 0
 SchemaHasVersion tables schema =
-    (version : Option OlderVersion) → (tables ≡ Some (version_or_current version)) ↔ (schema ≡ schema_of version)
+    (version : Option OlderVersion)
+    → (tables ≡ Some (version_or_current version)) ↔ (schema ≡ schema_of version)

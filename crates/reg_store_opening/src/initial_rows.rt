@@ -42,7 +42,8 @@ pub(crate) fn fill<S: Alter>(
     issuer: &Issuer,
     policy: &Policy,
 ) -> Result<(), DatabaseFault>
-    ensures made { Makes S.Store tx.old tx.new result (CreatesRegister register_schema issuer.now policy.now) }
+    ensures made { Makes S.Store tx.old tx.new result
+        (CreatesRegister register_schema issuer.now policy.now) }
     ensures stepped { Stepped S.Store tx.old tx.new }
 {
     put_office(tx, issuer, policy)?;

@@ -6,7 +6,7 @@ pub const PUT_OFFICE: &str =
 
 pub const VERSION: &str = "SELECT version FROM office";
 
-/// The other columns of the office, except `days`, which no command of version 3 uses.
+/// The other columns of the office, except `days`, which in version 3 only an audit reads.
 pub const OFFICE: &str = "SELECT name, pubkey, crl_life, ocsp_life, cap, last_at FROM office";
 
 /// The other columns of an office of an older version. Its schedule is the one step of its `days`.

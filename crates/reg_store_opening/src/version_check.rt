@@ -159,7 +159,7 @@ fn check_schema(tables: Option<Version>, found: Option<OlderOffice>) -> Result<(
 ///
 /// # Errors
 /// Those of [`examine`]; `NotARegister` too if the schema (tables with their columns and keys, indexes, views) is not that of
-/// the version; `Store` too if an older register can't be migrated. An error changes nothing.
+/// the version; `Store` too if an older register can't be migrated. An error changes nothing, unless the disk failed in the commit.
 pub fn open<S: Alter>(alloc: Global, conn: &mut Connection<S>) -> Result<(), StoreFault>
     requires { conn.old.in_transaction ≡ false }
     ensures opens { OnOk result (Opens S.Store conn.old conn.new) }

@@ -13,7 +13,7 @@ use sqlite_resolve::{define_index, define_table};
 use sqlite_schema::schema::{Index, Schema, Table};
 use std::alloc::{AllocError, Global};
 
-// Only memory can fail here: each statement is valid, and each name is UTF-8.
+// Here only an allocation can fail: each statement is valid, and each name is UTF-8.
 
 /// Adds the automatic index of one UNIQUE of a table.
 fn add_key(

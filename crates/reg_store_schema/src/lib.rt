@@ -1,4 +1,4 @@
-//! Finds the version of which a schema is: the program's, an older one, or none.
+//! Finds the version that has a schema: the program's, an older one, or none.
 #![tactic(auto)]
 
 mod expected_schema;

@@ -1,4 +1,4 @@
-//! Finds the version of which a schema is.
+//! Finds the version that has a schema.
 
 ghost use Rattle.std.specs.Prelude.{◌≡◌, ◌↔◌, Some, IfOk, IsTrue};
 ghost use Rattle.reg_store_tables.specs.Schema.{register_schema};
@@ -10,11 +10,11 @@ use crate::versions::Version;
 use sqlite_schema::schema::Schema;
 use std::alloc::{AllocError, Global};
 
-/// The version of which this is the schema: exactly its tables, with their columns, keys, CHECKs and references, its indexes, and no
-/// view. `None` if it is that of no version.
+/// The version that has exactly this schema: the same tables, with their columns, keys, CHECKs and references, the same indexes, and no
+/// view. `None` if no version has it.
 ///
 /// # Errors
-/// There is not enough memory.
+/// Out of memory.
 pub fn version_of(alloc: Global, schema: &Schema) -> Result<Option<Version>, AllocError>
     ensures { IfOk result
         (λ found. (version : Version) → (found ≡ Some version) ↔ (schema.now ≡ version_schema version)) }
@@ -48,7 +48,7 @@ fn is_third(version: Option<Version>) -> bool
 /// Whether a schema is that of a register of the program's version.
 ///
 /// # Errors
-/// There is not enough memory.
+/// Out of memory.
 pub fn is_register(alloc: Global, schema: &Schema) -> Result<bool, AllocError>
     ensures { IfOk result (λ is. IsTrue is ↔ (schema.now ≡ register_schema)) }
 {

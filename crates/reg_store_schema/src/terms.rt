@@ -1,4 +1,4 @@
-//! Compares terms, node by node.
+//! Compares SQL expressions (terms), node by node.
 
 ghost use Rattle.std.specs.Prelude.{◌≡◌, ◌<◌, ◌↔◌, IsTrue, IfSome, MatchOption};
 ghost use Rattle.sqlite_value.specs.declared.value.Value.TheVariants.{Null};

@@ -7,7 +7,7 @@ use Rattle.sqlite.specs.Effect.{Database}
 use Rattle.sqlite.specs.Held.{state}
 use Rattle.sqlite.specs.State.{State, HasCleanDisk, IsUnchanged}
 use Rattle.sqlite.specs.declared.transaction.Transaction.{Transaction}
-use Rattle.reg_store_tables.specs.Stays.{Moves, Stepped, Ran}
+use Rattle.reg_store_tables.specs.Stays.{MayMove, Moves, Stepped, Ran}
 use Rattle.reg_store_tables.specs.Steps.{IsUnderWay}
 
 -- a statement that ran is a step, to tables of which this holds
@@ -46,6 +46,12 @@ under_way moved = (moved.is_open, moved.under_way)
 -- no step is made
 pub here : {a : State} {P : Database → Type 0} → IsUnderWay a → P a.now → Moves a a P
 here under holds = record { was_open = under.0; is_open = under.0; committed = refl; under_way = under.1; tables = holds }
+
+-- steps of which there may be none, in a transaction that is under way
+pub may_move : {T E : Type 0} (a b : State) (P : Database → Type 0) (r : Result T E) → IsUnderWay a → IfOk r (λ _. MayMove a b P) → IfOk r (λ _. Moves a b P)
+may_move a b P (Ok given) under moved =
+    record { was_open = under.0; is_open = moved.is_open.0 under.0; committed = moved.committed; under_way = moved.under_way under.1; tables = moved.tables }
+may_move a b P (Err e) under moved = tt
 
 -- what an answer leaves is a step that changes nothing
 pub stays_here : {a b : State} {P : Database → Type 0} → IsUnderWay a → IsUnchanged a b → P b.now → Moves a b P

@@ -13,7 +13,7 @@ pub use Rattle.reg_store_tables.proofs.Keeping.{deletes_keep, deletes_rows, inse
 pub use Rattle.reg_store_tables.proofs.Letters.{counts_stand, found_each, map_same, same_counts}
 pub use Rattle.reg_store_tables.proofs.LookingUp.{on_err}
 pub use Rattle.reg_store_tables.proofs.Meaning.{IsWriting, deletes, inserts, updates}
-pub use Rattle.reg_store_tables.proofs.Moving.{asked_moves, here, leading, moves, moves_as, moves_on, ok_if, stays_here, stepped_clean, then_moves, unchanged_before, under_way, was_clean as moving-was_clean}
+pub use Rattle.reg_store_tables.proofs.Moving.{asked_moves, here, leading, may_move, moves, moves_as, moves_on, ok_if, stays_here, stepped_clean, then_moves, unchanged_before, under_way, was_clean as moving-was_clean}
 pub use Rattle.reg_store_tables.proofs.OverdueLemmas.{not_good}
 pub use Rattle.reg_store_tables.proofs.PageLemmas.{crl_out}
 pub use Rattle.reg_store_tables.proofs.Params.{moment_is, number_is, ok_then as params-ok_then}

@@ -9,7 +9,8 @@ use Rattle.reg_store_tables.specs.Shows.{AreRecordsAndDerived}
 
 -- as the rows of a register's tables, these show the records, and the derived tables have these rows
 abbrev pub AreRowsOf : Records → DerivedRows → Trees → Type 0
-AreRowsOf records columns trees = AreRecordsAndDerived (record { schema = register_schema; trees = trees }) records columns
+AreRowsOf records columns trees =
+    AreRecordsAndDerived (record { schema = register_schema; trees = trees }) records columns
 
 -- the rows include the list of a register's tables and indexes, and obey that schema: an opening finds it there
 abbrev pub AreARegisters : Trees → Type 0

@@ -19,14 +19,14 @@ pub record Ends {S T E : Type 0} (g : Ghosts S) (entered ended : Held S) (result
   pub survives : Survives (state g entered) (state g ended) (λ trees. trees ≡ (state g entered).now.trees)
   pub idle : ended.in_transaction ≡ false
 
--- the database of an open connection, all of it committed; `Leads` relates the one before to it
+-- the database of an open connection, all of it committed; `Leads` relates the database before to this one
 pub record IsMade (old new : State) (Leads : Database → Database → Type 0) : Type 0 where
   pub was_open : IsTrue old.is_open
   pub is_open : IsTrue new.is_open
   pub saved : new.now ≡ new.committed
   pub led : Leads old.now new.now
 
--- the rows of a database to which `Leads` relates the one before
+-- the rows of a database; `Leads` relates the database before to this one
 abbrev pub AreLed : State → (Database → Database → Type 0) → Trees → Type 0
 AreLed old Leads trees = IsTrue old.is_open × (db : Database) × (trees ≡ db.trees) × Leads old.now db
 

@@ -51,7 +51,7 @@ ground_index Inaccurate = 11
 abbrev pub version : ℕ
 version = 3
 
--- office: one, version, name, pubkey, days, crl_life, ocsp_life, cap, last_at; days is as it was first written (Shows.HasOfficeDays), and no command reads it
+-- office: one, version, name, pubkey, days, crl_life, ocsp_life, cap, last_at; days is as it was first written (Shows.HasOfficeDays), and only an audit reads it
 abbrev pub stored_office : ℤ → Issuer → Terms → ℕ → Row
 stored_office days issuer policy last =
     number 1 ∷ Null ∷ number version ∷ Blob issuer.name ∷ Blob issuer.key ∷ Int days ∷ number policy.crl_life

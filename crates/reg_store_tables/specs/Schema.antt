@@ -1,4 +1,4 @@
--- The tables and indexes of the register: columns, keys, references and the one CHECK.
+-- The tables and indexes of the register: columns, keys, references and CHECKs.
 use Rattle.std.specs.Prelude.{ℕ, pos, Bool, true, false, List, [], ◌∷◌, map, codes, Option, Some, None}
 use Rattle.sqlite_value.specs.declared.value.Value.TheVariants.{Null, Int}
 use Rattle.sqlite_value.specs.declared.keys.Collation.TheVariants.{Binary}

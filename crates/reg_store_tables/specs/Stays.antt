@@ -1,5 +1,5 @@
 -- What look-ups, steps of a transaction and changes leave as it was.
-use Rattle.std.specs.Prelude.{◌≡◌, ◌⊎◌, false, true, IsTrue, Result, OnOk, OnErr, ℕ, List, Ok}
+use Rattle.std.specs.Prelude.{◌≡◌, ◌⊎◌, ◌↔◌, false, true, IsTrue, Result, OnOk, OnErr, ℕ, List, Ok}
 use Rattle.sqlite_trees.specs.Tree.{Trees}
 use Rattle.sqlite_trees.specs.declared.store.Store.{Ghosts}
 use Rattle.sqlite.specs.Held.{Held, state}
@@ -16,7 +16,7 @@ pub record IsRegister (s : State) : Type 0 where
   pub now : HasCleanDisk s → IsTrue s.is_open → s.now.schema ≡ register_schema
   pub committed : HasCleanDisk s → IsTrue s.is_open → s.committed.schema ≡ register_schema
 
--- nothing has changed: the tables are as they were, or as they were last committed
+-- nothing has changed, if the disk returned what was written and the connection is open: the tables are as they were, or as last committed
 pub record Stays (old new : State) : Type 0 where
   pub was_open : HasCleanDisk new → IsTrue new.is_open → IsTrue old.is_open
   pub now : HasCleanDisk new → IsTrue new.is_open → (new.now ≡ old.now) ⊎ (new.now ≡ old.committed)
@@ -27,8 +27,8 @@ pub record Stays (old new : State) : Type 0 where
 abbrev pub LeavesNothing : State → State → Type 0
 LeavesNothing old new = Survives old new (λ _. ⊥)
 
--- A look-up: the tables stay those of the register that they are, nothing is committed, and no transaction is under way
--- afterwards that was not before.
+-- A look-up: it leaves the tables of a register as they are, and commits nothing. If no transaction was under way before, none is
+-- afterwards.
 pub record Looked {S : Type 0} (g : Ghosts S) (old new : Held S) : Type 0 where
   pub same : IsRegister (state g old) → Stays (state g old) (state g new)
   pub survives : LeavesNothing (state g old) (state g new)
@@ -62,6 +62,14 @@ pub record Moves (old new : State) (P : Database → Type 0) : Type 0 where
   pub is_open : IsTrue new.is_open
   pub committed : new.committed ≡ old.committed
   pub under_way : new.in_transaction ≡ true
+  pub tables : P new.now
+
+-- Steps inside a transaction, of which there may be none: an open connection stays open, a transaction that is under way stays so
+-- with a database that has the property, and nothing is committed.
+pub record MayMove (old new : State) (P : Database → Type 0) : Type 0 where
+  pub is_open : IsTrue old.is_open ↔ IsTrue new.is_open
+  pub committed : new.committed ≡ old.committed
+  pub under_way : old.in_transaction ≡ true → new.in_transaction ≡ true
   pub tables : P new.now
 
 -- the faults of the store that a call on an open register can return

@@ -9,7 +9,7 @@ use Rattle.reg_core.specs.Records.{Records}
 use Rattle.reg_store_tables.specs.DerivedRows.{DerivedRows}
 use Rattle.reg_store_tables.specs.Schema.{register_schema}
 use Rattle.reg_store_tables.specs.Shows.{AreRecordsAndDerived}
-use Rattle.reg_store_tables.specs.Stays.{Moves}
+use Rattle.reg_store_tables.specs.Stays.{MayMove, Moves}
 
 -- while the connection is open, its database has the property
 abbrev pub WhileOpen : State → (Database → Type 0) → Type 0
@@ -54,6 +54,14 @@ module _ {S : Type 0} (g : Ghosts S) (old new : Transaction S) where
   abbrev pub ContinuesRows : {T E : Type 0} → Result T E → (Database → Database → Type 0) → Type 0
   ContinuesRows result Leads = Continues result (λ before after. Leads before after × KeepsRows before after)
 
+  -- `MakesRows` for steps of which there may be none
+  abbrev pub MayMakeRows : {T E : Type 0} → Result T E → (Database → Database → Type 0) → Type 0
+  MayMakeRows result Leads =
+      let before = (state g old.conn.now).now in
+      HasCleanDisk (state g new.conn.now)
+      → IfOk result (λ _. MayMove (state g old.conn.now) (state g new.conn.now)
+      (λ after. Leads before after × KeepsRows before after))
+
   -- If the call succeeds, `Told` holds of its result and the database, which was open; nothing has changed.
   abbrev pub Asks : {T E : Type 0} → Result T E → (T → Database → Type 0) → Type 0
   Asks result Told =
@@ -61,7 +69,7 @@ module _ {S : Type 0} (g : Ghosts S) (old new : Transaction S) where
       → IfOk result (λ told. IsUnchanged (state g old.conn.now) (state g new.conn.now)
       × Told told (state g old.conn.now).now)
 
--- if the tables show records that fit, with some derived tables, they then show these records and derived tables
+-- if the tables showed records that fit, with some derived tables, they now show the changed records and derived tables
 abbrev pub TurnsWhere : (Records → Type 0) → (Records → Records) → (DerivedRows → DerivedRows) → Database
     → Database → Type 0
 TurnsWhere Fits records_after columns_after old new =

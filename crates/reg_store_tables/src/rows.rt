@@ -22,7 +22,7 @@ pub trait ShownRow {
     ghost use Rattle.sqlite_value.specs.Order.{Row as Cells};
     ghost use Rattle.reg_store_tables.specs.ShownRows.{HasCells};
 
-    /// The value as which a row is read.
+    /// The type of the value that a row is read as.
     type Record: Copy;
 
     /// The columns of a value, in the order in which the statement names them.

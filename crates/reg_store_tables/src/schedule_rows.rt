@@ -2,7 +2,7 @@
 
 ghost use Rattle.reg_store_tables.specs.Stays.{Stepped};
 ghost use Rattle.reg_store_tables.specs.Staged.{AddsStep, AddsSteps};
-ghost use Rattle.reg_store_tables.specs.Steps.{ContinuesRows, MakesRows};
+ghost use Rattle.reg_store_tables.specs.Steps.{MakesRows, MayMakeRows};
 
 use crate::DatabaseFault;
 use crate::sql::PUT_STEP;
@@ -29,7 +29,7 @@ pub fn put_schedule_steps<S: Alter>(
     tx: &mut Transaction<'_, S>,
     steps: &[(Moment, u64)],
 ) -> Result<(), DatabaseFault>
-    ensures made { ContinuesRows S.Store tx.old tx.new result (AddsSteps steps.now) }
+    ensures made { MayMakeRows S.Store tx.old tx.new result (AddsSteps steps.now) }
     ensures stepped { Stepped S.Store tx.old tx.new }
 {
     for step in steps {

@@ -1,7 +1,7 @@
 //! The SQL statements that create a register's tables and indexes, in this order. All tables are STRICT. A moment is in whole
 //! seconds. A serial number is 20 bytes in big-endian order, so that SQL sorts it by its value.
 
-/// The one row of the office: its issuer, its policy but for the longest validities, and the last accepted moment.
+/// The one row of the office: the version, the issuer, the policy except its schedule, the last accepted moment, and `days`, which in version 3 only an audit reads.
 pub const OFFICE: &str =
     "CREATE TABLE office (one INTEGER PRIMARY KEY CHECK (one = 1), version INTEGER NOT NULL, name BLOB NOT NULL, pubkey BLOB NOT NULL, days INTEGER NOT NULL, crl_life INTEGER NOT NULL, ocsp_life INTEGER NOT NULL, cap INTEGER NOT NULL, last_at INTEGER NOT NULL) STRICT";
 

@@ -1,5 +1,5 @@
-//! Reads SQL values as values of the register. A value that a register writes is read as what it is (`read`). A value that is read
-//! is that of the column (`told`). The result is `None` if the column has another type or an invalid value.
+//! Reads SQL values as values of the register. Clause `read`: a value that a register writes is read back. Clause `told`: a value that is
+//! read is the column's. The result is `None` if the column has another type or an invalid value.
 
 ghost use Rattle.std.specs.Prelude.{◌≡◌, ◌≢◌, ◌<◌, ◌≤◌, ◌^◌, ℕ, Bool, List, Option, cond, length, Some, OnOk, IfOk, IfErr, IfSome, IsSomeAnd, MatchOption};
 ghost use Rattle.sqlite_value.specs.declared.value.Value.TheVariants.{Text, Blob};

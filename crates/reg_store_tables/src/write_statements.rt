@@ -81,7 +81,7 @@ pub fn write<S: Alter>(
     Ok(tx.execute(sql, params)?)
 }
 
-/// Commits the transaction. If that fails, the transaction is rolled back.
+/// Commits the transaction. If that fails, the transaction is rolled back, unless the disk failed.
 pub fn commit<S: Alter>(tx: Transaction<'_, S>) -> Result<(), DatabaseFault>
     ensures { Ends S.Store tx.entry.conn.now tx.exit.0.now result }
 {

@@ -1,6 +1,6 @@
 use Rattle.std.proofs.Common.{refl}
 use Rattle.sqlite.specs.Held.{state}
-use Rattle.reg_store_tables.proofs.PublicLaws.{moves_on, stepped_clean, then_moves, under_way}
+use Rattle.reg_store_tables.proofs.PublicLaws.{may_move, moves_on, stepped_clean, then_moves, under_way}
 use Rattle.reg_store_migration.specs.NumberedRows.{records_alone}
 use Rattle.reg_store_migration.specs.Older.{older_schema}
 use Rattle.reg_store_migration.proofs.Defining.{has_own}
@@ -18,7 +18,7 @@ returns-clause-made g c clean =
     let first = c.in_ok-make_missing.ensures.made (stepped_clean c.set_version.ensures.stepped clean2) in
     let second = c.in_ok-set_version.ensures.made clean2 in
     let third = c.in_ok-put_counts.ensures.made clean3 in
-    then_moves _ _ _ _ _ _ c.put_schedule_steps.result (moves_on (moves_on first second) third) (c.put_schedule_steps.ensures.made (under_way third) clean) (λ _ fourth. record {
+    then_moves _ _ _ _ _ _ c.put_schedule_steps.result (moves_on (moves_on first second) third) (may_move _ _ _ c.put_schedule_steps.result (under_way third) (c.put_schedule_steps.ensures.made clean)) (λ _ fourth. record {
       both = λ records one older.
           let made = first.tables.rows old.trees older.beside (has_own (older_schema version) old older.schema) in
           let set = second.tables.0 (records_alone old.trees) version older.days records.issuer records.policy records.last older.office made in

@@ -8,4 +8,4 @@ pub returns-in-NameTaken : goal.returns-in-NameTaken
 unfolding refusal_line
 returns-in-NameTaken c =
     rw c.in-NameTaken.is
-    (c.words_with-in-NameTaken.ensures ∙ ap (λ text. codes "E05 name-taken " ++ text) (c.as_bytes.ensures.text ∙ c.of.ensures.text))
+    (c.joined-in-NameTaken.ensures ∙ ap (λ text. codes "E05 name-taken " ++ text) (c.as_bytes.ensures.text ∙ c.of.ensures.text))

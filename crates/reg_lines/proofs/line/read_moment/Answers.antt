@@ -1,5 +1,0 @@
-use Rattle.reg_core.proofs.PublicLaws.{reads_moment}
-use Rattle.reg_lines.proofs.line.read_moment.Goals as goal
-
-pub returns : goal.returns
-returns c = reads_moment _ _ c.read.ensures.found c.read.ensures.only
