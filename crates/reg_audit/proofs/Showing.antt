@@ -31,7 +31,7 @@ use Rattle.reg_audit_rows.proofs.PublicLaws.{letter_out, standing_out, listed_ou
 use Rattle.reg_audit.specs.ReadTexts.{IsReadOf}
 use Rattle.reg_store_tables.specs.ShownRows.{shown_counts}
 use Rattle.reg_audit.specs.ShownRows.{shown_office, shown_standing, shown_listed}
-use Rattle.reg_audit.specs.declared.sql.What.TheVariants.{Office, Subscribers, Orders, Certificates, Requests, Revocations, Crls, Standings, Counts, Listings}
+use Rattle.reg_audit.specs.declared.sql.AuditQuery.TheVariants.{Office, Subscribers, Orders, Certificates, Requests, Revocations, Crls, Standings, Counts, Listings}
 use Rattle.reg_audit.specs.declared.sql.TheConstants.{OFFICE, SUBSCRIBERS, ORDERS, CERTIFICATES, REQUESTS, REVOCATIONS, CRLS, STANDINGS, COUNTS, LISTINGS}
 
 abbrev by_first : List (Term × Key)

@@ -32,7 +32,7 @@ use Rattle.reg_audit.specs.Cells.{CountedFrom, IsOfSomeRecord}
 use Rattle.reg_audit.specs.Complete.{AreTables, SubscribersAgree, OrdersAgree, CertificatesAgree, RequestsAgree, RevocationsAgree, CrlsAgree, LettersAgree, ListingsAgree}
 use Rattle.reg_audit.specs.ReadTexts.{IsReadFrom}
 use Rattle.reg_audit.specs.ShownRows.{shown_standing, shown_listed}
-use Rattle.reg_audit.specs.declared.sql.What.TheVariants.{Subscribers, Orders, Certificates, Requests, Revocations, Crls, Standings, Listings, CertificateRowids, RevocationRowids, StandingRowids, ListingRowids}
+use Rattle.reg_audit.specs.declared.sql.AuditQuery.TheVariants.{Subscribers, Orders, Certificates, Requests, Revocations, Crls, Standings, Listings, CertificateRowids, RevocationRowids, StandingRowids, ListingRowids}
 use Rattle.reg_audit.specs.declared.sql.TheConstants.{SUBSCRIBERS, ORDERS, CERTIFICATES, REQUESTS, REVOCATIONS, CRLS, STANDINGS, LISTINGS, CERTIFICATE_ROWIDS, REVOCATION_ROWIDS, STANDING_ROWIDS, LISTING_ROWIDS}
 use Rattle.reg_audit.proofs.Cells.{and_left, and_right, not_false, is_row, is_whole_row, key_null, blob_is, cell_typed, some_below}
 use Rattle.reg_audit.proofs.Gathered.{unseen, counted_unseen, counted_numbers, counted_whole, keyed_whole, IsBehind, IsKeyed}

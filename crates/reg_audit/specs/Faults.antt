@@ -49,7 +49,8 @@ IsBrokenRow (Broken broken) = broken.why ≢ OtherBytes
 -- a register's values and are reached, each CRL has the bytes of its entries, the derived rows follow from the records, and
 -- `days` of the office is a number that a schedule can have. `rows`: the same without the bytes of CRLs, unless these are the defect.
 pub record Denies (row : Row) (records : Records) (columns : DerivedRows) : Type 0 where
-  pub whole : HasValues records → Reached IsSomeCrl records → Kept columns records → HasAllowedDays columns → ⊥
+  pub whole : HasValues records → Reached IsSomeCrl records → Kept columns records → HasAllowedDays columns
+      → ⊥
   pub rows : row.why ≢ OtherBytes → HasValues records → ReachedRows records → Kept columns records
       → HasAllowedDays columns → ⊥
 

@@ -8,12 +8,12 @@ use Rattle.reg_store_tables.specs.DerivedRows.{DerivedRows}
 use Rattle.reg_store_tables.specs.ReadStatements.{command_of}
 use Rattle.reg_store_tables.specs.Schema.{register_schema}
 use Rattle.reg_store_tables.specs.Shows.{AreRecordsAndDerived}
-use Rattle.reg_audit.specs.declared.sql.What.{What}
-use Rattle.reg_audit.specs.declared.sql.What.TheVariants.{Office, Subscribers, Orders, Certificates, Requests, Revocations, Crls, Standings, Counts, Listings, CertificateRowids, RevocationRowids, StandingRowids, CountsRowid, ListingRowids, Terms, Steps}
+use Rattle.reg_audit.specs.declared.sql.AuditQuery.{AuditQuery}
+use Rattle.reg_audit.specs.declared.sql.AuditQuery.TheVariants.{Office, Subscribers, Orders, Certificates, Requests, Revocations, Crls, Standings, Counts, Listings, CertificateRowids, RevocationRowids, StandingRowids, CountsRowid, ListingRowids, Terms, Steps}
 use Rattle.reg_audit.specs.declared.sql.TheConstants.{OFFICE, SUBSCRIBERS, ORDERS, CERTIFICATES, REQUESTS, REVOCATIONS, CRLS, STANDINGS, COUNTS, LISTINGS, CERTIFICATE_ROWIDS, REVOCATION_ROWIDS, STANDING_ROWIDS, COUNTS_ROWID, LISTING_ROWIDS, TERMS, STEPS}
 
 -- the SQL of each statement
-abbrev pub text_of : What → List ℕ
+abbrev pub text_of : AuditQuery → List ℕ
 text_of Office = OFFICE.now
 text_of Subscribers = SUBSCRIBERS.now
 text_of Orders = ORDERS.now
@@ -33,17 +33,18 @@ text_of Terms = TERMS.now
 text_of Steps = STEPS.now
 
 -- the statement returns these rows from these tables
-abbrev pub IsReadFrom : Database → What → List Row → Type 0
+abbrev pub IsReadFrom : Database → AuditQuery → List Row → Type 0
 IsReadFrom db what rows = Reads (command_of (understood register_schema (text_of what))) db [] rows
 
 -- the statement returns these rows from some tables that show these records and derived rows
-pub record IsReadOf (records : Records) (columns : DerivedRows) (what : What) (rows : List Row) : Type 0 where
+pub record IsReadOf (records : Records) (columns : DerivedRows) (what : AuditQuery)
+    (rows : List Row) : Type 0 where
   pub db : Database
   pub both : AreRecordsAndDerived db records columns
   pub reads : Reads (command_of (understood register_schema (text_of what))) db [] rows
 
 -- there are rows for each statement, in this order, and `Is` holds of each pair
-abbrev pub AreEach : {Rows : Type 0} → (What → List Row → Type 0) → List What → List Rows
+abbrev pub AreEach : {Rows : Type 0} → (AuditQuery → List Row → Type 0) → List AuditQuery → List Rows
     → (Rows → List Row) → Type 0
 AreEach Is [] [] items = Unit {0}
 AreEach Is [] (rows ∷ more) items = ⊥
@@ -51,21 +52,21 @@ AreEach Is (what ∷ whats) [] items = ⊥
 AreEach Is (what ∷ whats) (rows ∷ more) items = Is what (items rows) × AreEach Is whats more items
 
 -- the rows of each statement over tables that show these records and derived rows
-abbrev pub AreRead : {Rows : Type 0} → Records → DerivedRows → List What → List Rows → (Rows → List Row)
+abbrev pub AreRead : {Rows : Type 0} → Records → DerivedRows → List AuditQuery → List Rows → (Rows → List Row)
     → Type 0
 AreRead records columns = AreEach (IsReadOf records columns)
 
 -- the rows of each statement over these tables
-abbrev pub AreReadFrom : {Rows : Type 0} → Database → List What → List Rows → (Rows → List Row) → Type 0
+abbrev pub AreReadFrom : {Rows : Type 0} → Database → List AuditQuery → List Rows → (Rows → List Row) → Type 0
 AreReadFrom db = AreEach (IsReadFrom db)
 
 -- the statements for the rows of all tables, in the order in which an audit runs them
-abbrev pub whole : List What
+abbrev pub whole : List AuditQuery
 whole =
     Office ∷ Subscribers ∷ Orders ∷ Certificates ∷ Requests ∷ Revocations ∷ Crls ∷ Standings
     ∷ Counts ∷ Listings ∷ []
 
 -- the statements that it runs after those
-abbrev pub read_besides : List What
+abbrev pub read_besides : List AuditQuery
 read_besides =
     CertificateRowids ∷ RevocationRowids ∷ StandingRowids ∷ CountsRowid ∷ ListingRowids ∷ Terms ∷ Steps ∷ []

@@ -11,7 +11,7 @@ use Rattle.reg_audit.specs.Faults.{NoBrokenRow}
 use Rattle.reg_audit.specs.ReadTexts.{AreRead, IsReadOf, whole}
 use Rattle.reg_audit.specs.ReadableValues.{AreReadable}
 use Rattle.reg_audit.specs.declared.fault.AuditFault.{AuditFault}
-use Rattle.reg_audit.specs.declared.sql.What.{What}
+use Rattle.reg_audit.specs.declared.sql.AuditQuery.{AuditQuery}
 
 -- `Has` holds of whatever records and derived rows the tables show before a call, if the disk is clean after it
 abbrev pub OnShown : {S : Type 0} → Ghosts S → Held S → Held S → (Records → DerivedRows → Type 0) → Type 0
@@ -20,12 +20,12 @@ OnShown g old new Has =
     → HasCleanDisk (state g new) → Has records columns
 
 -- `Has` holds of whatever records and derived rows these rows of one statement were read from
-abbrev pub OnRead : What → List Row → (Records → DerivedRows → Type 0) → Type 0
+abbrev pub OnRead : AuditQuery → List Row → (Records → DerivedRows → Type 0) → Type 0
 OnRead what rows Has =
     (records : Records) → (columns : DerivedRows) → IsReadOf records columns what rows → Has records columns
 
 -- `Has` holds of whatever records and derived rows the rows of these statements were read from
-abbrev pub OnEachRead : {Rows : Type 0} → List What → List Rows → (Rows → List Row)
+abbrev pub OnEachRead : {Rows : Type 0} → List AuditQuery → List Rows → (Rows → List Row)
     → (Records → DerivedRows → Type 0) → Type 0
 OnEachRead whats all items Has =
     (records : Records) → (columns : DerivedRows) → AreRead records columns whats all items
@@ -36,6 +36,6 @@ abbrev pub OnAllRead : {Z : Type 0} → List (Vec Row Z) → (Records → Derive
 OnAllRead all Has = OnEachRead whole all (λ rows. rows.items) Has
 
 -- no row is reported as broken if the records and derived rows have a register's values
-abbrev pub AreReadIfReadable : {T : Type 0} → What → List Row → Result T AuditFault → Type 0
+abbrev pub AreReadIfReadable : {T : Type 0} → AuditQuery → List Row → Result T AuditFault → Type 0
 AreReadIfReadable what rows result =
     OnRead what rows (λ records columns. AreReadable records columns → NoBrokenRow result)

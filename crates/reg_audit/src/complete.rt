@@ -11,12 +11,12 @@ ghost use Rattle.reg_audit.specs.Cells.{CountedFrom, HasCells, IsOfSomeRecord};
 ghost use Rattle.reg_audit.specs.Complete.{AreTables, AreCounts, AreOffice, IsTermsOf, ShowSome};
 ghost use Rattle.reg_audit.specs.ReadTexts.{AreRead, AreReadFrom, IsReadFrom, read_besides, whole};
 ghost use Rattle.reg_audit.specs.Faults.{NoBrokenRow};
-ghost use Rattle.reg_audit.specs.declared.sql.What.TheVariants.{Counts as OfCounts, CountsRowid, Terms as OfTerms, Steps};
+ghost use Rattle.reg_audit.specs.declared.sql.AuditQuery.TheVariants.{Counts as OfCounts, CountsRowid, Terms as OfTerms, Steps};
 ghost use Rattle.reg_audit.specs.ShownTables.{OnAllRead};
 
 use crate::fault::{AuditFault, broken_at};
 use crate::read_rows::rows_at;
-use crate::sql::What;
+use crate::sql::AuditQuery;
 use crate::typed::{ListedRows, StandingRows};
 use reg_audit_rows::{Defect, RegisterTable};
 use reg_core::{
@@ -29,14 +29,14 @@ use sqlite::Row;
 use std::alloc::Global;
 
 /// What an audit reads after the rows of all tables, in this order: rowids, the office and the schedule.
-pub(crate) const BESIDE: [What; 7] = [
-    What::CertificateRowids,
-    What::RevocationRowids,
-    What::StandingRowids,
-    What::CountsRowid,
-    What::ListingRowids,
-    What::Terms,
-    What::Steps,
+pub(crate) const BESIDE: [AuditQuery; 7] = [
+    AuditQuery::CertificateRowids,
+    AuditQuery::RevocationRowids,
+    AuditQuery::StandingRowids,
+    AuditQuery::CountsRowid,
+    AuditQuery::ListingRowids,
+    AuditQuery::Terms,
+    AuditQuery::Steps,
 ];
 
 const VERSION: u64 = 3;

@@ -13,7 +13,7 @@ ghost use Rattle.reg_audit.specs.ReadableValues.{HasValues};
 ghost use Rattle.reg_audit.specs.ShownTables.{OnAllRead};
 
 use crate::fault::AuditFault;
-use crate::sql::What;
+use crate::sql::AuditQuery;
 use crate::tables::{
     certificates, counts, crls, letters, listings, office, orders, requests, revocations,
     subscribers,
@@ -23,10 +23,10 @@ use sqlite::Row;
 use std::alloc::Global;
 
 pub(crate) fn rows_at(all: &[Vec<Row>], row_index: usize) -> &[Row]
-    ensures read { (records : Records) → (columns : DerivedRows) → (whats : List What) → (other : What)
+    ensures read { (records : Records) → (columns : DerivedRows) → (whats : List AuditQuery) → (other : AuditQuery)
         → AreRead records columns whats all.now (λ rows. rows.items) → row_index < length whats
         → IsReadOf records columns (get_or whats row_index other) result.now }
-    ensures from { (db : Database) → (whats : List What) → (other : What)
+    ensures from { (db : Database) → (whats : List AuditQuery) → (other : AuditQuery)
         → AreReadFrom db whats all.now (λ rows. rows.items) → row_index < length whats
         → IsReadFrom db (get_or whats row_index other) result.now }
 {

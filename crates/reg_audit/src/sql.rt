@@ -43,7 +43,7 @@ pub(crate) const TERMS: &str =
 pub(crate) const STEPS: &str = "SELECT from_at, days FROM longest ORDER BY from_at";
 
 #[derive(Clone, Copy)]
-pub(crate) enum What {
+pub(crate) enum AuditQuery {
     Office,
     Subscribers,
     Orders,
@@ -63,26 +63,26 @@ pub(crate) enum What {
     Steps,
 }
 
-pub(crate) fn text(what: What) -> &'static str
+pub(crate) fn text(what: AuditQuery) -> &'static str
     ensures { result.now ≡ text_of what }
 {
     match what {
-        What::Office => OFFICE,
-        What::Subscribers => SUBSCRIBERS,
-        What::Orders => ORDERS,
-        What::Certificates => CERTIFICATES,
-        What::Requests => REQUESTS,
-        What::Revocations => REVOCATIONS,
-        What::Crls => CRLS,
-        What::Standings => STANDINGS,
-        What::Counts => COUNTS,
-        What::Listings => LISTINGS,
-        What::CertificateRowids => CERTIFICATE_ROWIDS,
-        What::RevocationRowids => REVOCATION_ROWIDS,
-        What::StandingRowids => STANDING_ROWIDS,
-        What::CountsRowid => COUNTS_ROWID,
-        What::ListingRowids => LISTING_ROWIDS,
-        What::Terms => TERMS,
-        What::Steps => STEPS,
+        AuditQuery::Office => OFFICE,
+        AuditQuery::Subscribers => SUBSCRIBERS,
+        AuditQuery::Orders => ORDERS,
+        AuditQuery::Certificates => CERTIFICATES,
+        AuditQuery::Requests => REQUESTS,
+        AuditQuery::Revocations => REVOCATIONS,
+        AuditQuery::Crls => CRLS,
+        AuditQuery::Standings => STANDINGS,
+        AuditQuery::Counts => COUNTS,
+        AuditQuery::Listings => LISTINGS,
+        AuditQuery::CertificateRowids => CERTIFICATE_ROWIDS,
+        AuditQuery::RevocationRowids => REVOCATION_ROWIDS,
+        AuditQuery::StandingRowids => STANDING_ROWIDS,
+        AuditQuery::CountsRowid => COUNTS_ROWID,
+        AuditQuery::ListingRowids => LISTING_ROWIDS,
+        AuditQuery::Terms => TERMS,
+        AuditQuery::Steps => STEPS,
     }
 }

@@ -17,7 +17,7 @@ use crate::days::check_days;
 use crate::fault::AuditFault;
 use crate::observer::{NoProgress, ProgressObserver};
 use crate::read_rows::check_read;
-use crate::sql::What;
+use crate::sql::AuditQuery;
 use crate::stored::check_crls;
 use crate::whole_tables::read_each;
 use reg_audit_rows::Audited;
@@ -25,17 +25,17 @@ use sqlite::{Alter, Connection};
 use std::alloc::Global;
 
 /// The tables, in the order in which they are read.
-const WHOLE: [What; 10] = [
-    What::Office,
-    What::Subscribers,
-    What::Orders,
-    What::Certificates,
-    What::Requests,
-    What::Revocations,
-    What::Crls,
-    What::Standings,
-    What::Counts,
-    What::Listings,
+const WHOLE: [AuditQuery; 10] = [
+    AuditQuery::Office,
+    AuditQuery::Subscribers,
+    AuditQuery::Orders,
+    AuditQuery::Certificates,
+    AuditQuery::Requests,
+    AuditQuery::Revocations,
+    AuditQuery::Crls,
+    AuditQuery::Standings,
+    AuditQuery::Counts,
+    AuditQuery::Listings,
 ];
 
 /// Reads all rows of a register's tables, and checks that they show sound records, and that the status letters, counts and

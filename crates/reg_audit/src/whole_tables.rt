@@ -11,7 +11,7 @@ ghost use Rattle.reg_audit.specs.ReadTexts.{IsReadOf, IsReadFrom, AreRead, AreRe
 ghost use Rattle.reg_audit.specs.ShownTables.{OnShown};
 
 use crate::observer::ProgressObserver;
-use crate::sql::{What, text};
+use crate::sql::{AuditQuery, text};
 use reg_store_tables::DatabaseFault;
 use sqlite::{Alter, Connection, Row};
 use std::alloc::Global;
@@ -26,7 +26,10 @@ fn read<S: Alter>(conn: &mut Connection<S>, sql: &str) -> Result<Vec<Row>, Datab
     Ok(conn.query_all(sql, &[])?)
 }
 
-fn read_whole<S: Alter>(conn: &mut Connection<S>, what: What) -> Result<Vec<Row>, DatabaseFault>
+fn read_whole<S: Alter>(
+    conn: &mut Connection<S>,
+    what: AuditQuery,
+) -> Result<Vec<Row>, DatabaseFault>
     ensures found { OnShown S.Store conn.old conn.new
         (λ records columns. IfOk result (λ rows. IsReadOf records columns what rows.items)) }
     ensures from { (db : Database) → Holds S.Store conn.old (λ now. now ≡ db) → db.schema ≡ register_schema
@@ -40,7 +43,7 @@ fn read_whole<S: Alter>(conn: &mut Connection<S>, what: What) -> Result<Vec<Row>
 pub(crate) fn read_each<S: Alter, W: ProgressObserver>(
     alloc: Global,
     conn: &mut Connection<S>,
-    whats: &[What],
+    whats: &[AuditQuery],
     observer: &mut W,
 ) -> Result<Vec<Vec<Row>>, DatabaseFault>
     ensures found { OnShown S.Store conn.old conn.new

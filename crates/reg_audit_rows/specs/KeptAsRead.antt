@@ -36,7 +36,7 @@ listed_in row =
     }
 
 -- the rows are these ones of the derived tables
-pub record AreColumnsOf (kept : StoredDerivedRows) (columns : column.DerivedRows) : Type 0 where
+pub record AreDerivedRowsOf (kept : StoredDerivedRows) (columns : column.DerivedRows) : Type 0 where
   pub letters : map standing_in kept.letters.now ≡ columns.letters
   pub counts : kept.counts ≡ columns.counts
   pub listed : map listed_in kept.listed.now ≡ columns.listed

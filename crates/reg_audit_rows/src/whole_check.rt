@@ -6,7 +6,7 @@ ghost use Rattle.reg_core.specs.Reached.{ReachedRows};
 ghost use Rattle.reg_core.specs.Sound.{SoundRows};
 ghost use Rattle.reg_store_tables.specs.DerivedRows.{DerivedRows};
 ghost use Rattle.reg_store_tables.specs.Kept.{Kept};
-ghost use Rattle.reg_audit_rows.specs.KeptAsRead.{AreColumnsOf};
+ghost use Rattle.reg_audit_rows.specs.KeptAsRead.{AreDerivedRowsOf};
 ghost use Rattle.reg_audit_rows.specs.Read.{AreOf, IsIndexOf};
 ghost use Rattle.reg_audit_rows.specs.Faults.{NotBrokenIf};
 
@@ -23,10 +23,10 @@ fn check_derived(
     beside: &StoredDerivedRows<'_>,
 ) -> Result<(), CheckFault>
     ensures ok { IsIndexOf rows.now found.now → (records : Records) → AreOf rows.now records
-        → SoundRows records → (columns : DerivedRows) → AreColumnsOf beside.now columns
+        → SoundRows records → (columns : DerivedRows) → AreDerivedRowsOf beside.now columns
         → OnOk result (Kept columns records) }
     ensures broken { IsIndexOf rows.now found.now → (records : Records) → AreOf rows.now records
-        → SoundRows records → (columns : DerivedRows) → AreColumnsOf beside.now columns
+        → SoundRows records → (columns : DerivedRows) → AreDerivedRowsOf beside.now columns
         → NotBrokenIf (Kept columns records) result }
 {
     let letters = standings(alloc, rows.certificates, &found.revocations, rows.last)?;
@@ -46,9 +46,9 @@ pub fn check(
 ) -> Result<(), CheckFault>
     ensures sound { (records : Records) → AreOf rows.now records → OnOk result (ReachedRows records) }
     ensures kept { (records : Records) → AreOf rows.now records → (columns : DerivedRows)
-        → AreColumnsOf beside.now columns → OnOk result (Kept columns records) }
+        → AreDerivedRowsOf beside.now columns → OnOk result (Kept columns records) }
     ensures broken { (records : Records) → AreOf rows.now records → (columns : DerivedRows)
-        → AreColumnsOf beside.now columns
+        → AreDerivedRowsOf beside.now columns
         → NotBrokenIf (ReachedRows records × Kept columns records) result }
 {
     let found = check_rows(alloc, rows)?;

@@ -128,7 +128,7 @@ impl Policy {
     }
 
     /// States that the values of a policy are in their ranges. It does nothing: only its contract matters.
-    pub fn promise(self)
+    pub fn values_are_in_range(self)
         ensures { IsPolicy self }
     {}
 

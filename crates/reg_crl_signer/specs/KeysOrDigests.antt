@@ -16,25 +16,25 @@ module _ {D : Type 0} (g : Ghosts D) where
   abbrev pub key_of : KeyOrDigest D g → Option (DeviceSigner D g)
   key_of (by.Key signer) = Some signer
   key_of (by.Digest seal) = None
-  key_of (by.Nobody seal failures) = None
+  key_of (by.NoSigner seal failures) = None
 
   -- the algorithm and the public key of the signer; for nobody, those of the digest
   abbrev pub either_identity : KeyOrDigest D g → Identity
   either_identity (by.Key signer) = device_identity g signer
   either_identity (by.Digest seal) = digest
-  either_identity (by.Nobody seal failures) = digest
+  either_identity (by.NoSigner seal failures) = digest
 
   -- how many failures it has counted; the digest never fails
   abbrev pub either_failures : KeyOrDigest D g → ℕ
   either_failures (by.Key signer) = signer.failures
   either_failures (by.Digest seal) = 0
-  either_failures (by.Nobody seal failures) = failures
+  either_failures (by.NoSigner seal failures) = failures
 
   -- there is no signer
-  abbrev pub IsNobody : KeyOrDigest D g → Type 0
-  IsNobody (by.Key signer) = ⊥
-  IsNobody (by.Digest seal) = ⊥
-  IsNobody (by.Nobody seal failures) = Unit {0}
+  abbrev pub HasNoSigner : KeyOrDigest D g → Type 0
+  HasNoSigner (by.Key signer) = ⊥
+  HasNoSigner (by.Digest seal) = ⊥
+  HasNoSigner (by.NoSigner seal failures) = Unit {0}
 
   -- the path of the device with the key, if there is a key
   abbrev pub either_path : KeyOrDigest D g → Option (List ℕ)

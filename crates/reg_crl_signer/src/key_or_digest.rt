@@ -1,6 +1,6 @@
 ghost use Rattle.std.specs.Prelude.{◌≡◌, None};
 ghost use Rattle.std.specs.Option.{ForSome};
-ghost use Rattle.reg_crl_signer.specs.KeysOrDigests.{IsNobody, SignsAsBefore, either_identity, key_of};
+ghost use Rattle.reg_crl_signer.specs.KeysOrDigests.{HasNoSigner, SignsAsBefore, either_identity, key_of};
 ghost use Rattle.reg_crl_signer.specs.PresetSignature.{IsPreset};
 
 use crate::device::Device;
@@ -17,7 +17,7 @@ pub enum KeyOrDigest<D: Device> {
     /// No key: a placeholder digest instead of a signature.
     Digest(DigestSeal),
     /// No signer: each request is a failure, and counted here.
-    Nobody(DigestSeal, u64),
+    NoSigner(DigestSeal, u64),
 }
 
 impl<D: Device + Drop> KeyOrDigest<D> {
@@ -25,12 +25,12 @@ impl<D: Device + Drop> KeyOrDigest<D> {
     pub fn without_digest(self) -> KeyOrDigest<D>
         ensures key { key_of D.Device result ≡ key_of D.Device self }
         ensures same_identity { either_identity D.Device result ≡ either_identity D.Device self }
-        ensures nobody { key_of D.Device result ≡ None → IsNobody D.Device result }
+        ensures nobody { key_of D.Device result ≡ None → HasNoSigner D.Device result }
     {
         match self {
             KeyOrDigest::Key(signer) => KeyOrDigest::Key(signer),
-            KeyOrDigest::Digest(digest) => KeyOrDigest::Nobody(digest, 0),
-            KeyOrDigest::Nobody(digest, failures) => KeyOrDigest::Nobody(digest, failures),
+            KeyOrDigest::Digest(digest) => KeyOrDigest::NoSigner(digest, 0),
+            KeyOrDigest::NoSigner(digest, failures) => KeyOrDigest::NoSigner(digest, failures),
         }
     }
 
@@ -43,7 +43,7 @@ impl<D: Device + Drop> KeyOrDigest<D> {
         match self {
             KeyOrDigest::Key(signer) => signer.set_preset(preset_signature),
             KeyOrDigest::Digest(_) => {}
-            KeyOrDigest::Nobody(_, _) => {}
+            KeyOrDigest::NoSigner(_, _) => {}
         }
     }
 }
@@ -51,7 +51,7 @@ impl<D: Device + Drop> KeyOrDigest<D> {
 impl<D: Device + Drop> Signer for KeyOrDigest<D> {
     ghost use Rattle.std.specs.Prelude.{◌≡◌, None, IfOk, IfSome, OnOk};
     ghost use Rattle.reg_crl_signer.specs.Both.{SignsBoth};
-    ghost use Rattle.reg_crl_signer.specs.KeysOrDigests.{IsNobody, SigningByEither, either_identity, either_failures, either_path, key_of};
+    ghost use Rattle.reg_crl_signer.specs.KeysOrDigests.{HasNoSigner, SigningByEither, either_identity, either_failures, either_path, key_of};
 
     ghost identity = { either_identity D.Device };
 
@@ -63,7 +63,7 @@ impl<D: Device + Drop> Signer for KeyOrDigest<D> {
         match self {
             KeyOrDigest::Key(signer) => signer.algorithm(),
             KeyOrDigest::Digest(digest) => digest.algorithm(),
-            KeyOrDigest::Nobody(digest, _) => digest.algorithm(),
+            KeyOrDigest::NoSigner(digest, _) => digest.algorithm(),
         }
     }
 
@@ -71,7 +71,7 @@ impl<D: Device + Drop> Signer for KeyOrDigest<D> {
         match self {
             KeyOrDigest::Key(signer) => signer.public_key(),
             KeyOrDigest::Digest(_) => None,
-            KeyOrDigest::Nobody(_, _) => None,
+            KeyOrDigest::NoSigner(_, _) => None,
         }
     }
 
@@ -80,13 +80,13 @@ impl<D: Device + Drop> Signer for KeyOrDigest<D> {
         ensures device_answered { IfSome (key_of D.Device self.old) (λ signer. signer.preset_signature ≡ None
             → IfOk result (λ signature.
             D.device_answered (D.device_path signer.device) message.now signature.items)) }
-        ensures nobody { IsNobody D.Device self.old → OnOk result ⊥ }
+        ensures nobody { HasNoSigner D.Device self.old → OnOk result ⊥ }
         ensures same_path { either_path D.Device self.new ≡ either_path D.Device self.old }
     {
         match self {
             KeyOrDigest::Key(signer) => signer.sign(alloc, message),
             KeyOrDigest::Digest(digest) => digest.sign(alloc, message),
-            KeyOrDigest::Nobody(_, failures) => Err(count_failure(failures)),
+            KeyOrDigest::NoSigner(_, failures) => Err(count_failure(failures)),
         }
     }
 
@@ -94,7 +94,7 @@ impl<D: Device + Drop> Signer for KeyOrDigest<D> {
         match self {
             KeyOrDigest::Key(signer) => signer.reset_backoff(),
             KeyOrDigest::Digest(_) => {}
-            KeyOrDigest::Nobody(_, _) => {}
+            KeyOrDigest::NoSigner(_, _) => {}
         }
     }
 
@@ -102,7 +102,7 @@ impl<D: Device + Drop> Signer for KeyOrDigest<D> {
         match self {
             KeyOrDigest::Key(signer) => signer.failures(),
             KeyOrDigest::Digest(_) => 0,
-            KeyOrDigest::Nobody(_, failures) => *failures,
+            KeyOrDigest::NoSigner(_, failures) => *failures,
         }
     }
 }

@@ -85,7 +85,7 @@ serve_app = with_rules (new_app (codes "serve"))
 
 -- `open FILE --port N [--listen ADDRESS] --control SOCKET [--signer SOCKET --algorithm NAME] [--unsigned]
 -- [--responder CERT --responder-signer SOCKET --responder-algorithm NAME | --embed CERT] [--published CRL] [--log] [--log-file PATH] [--why]`;
--- `--counter` is an older name of `--control`; `Jobs.holder_chosen` states whether `--signer` or `--unsigned` must be given
+-- `--counter` is an older name of `--control`; `Jobs.signer_chosen` states whether `--signer` or `--unsigned` must be given
 abbrev pub open_app : App
 open_app = with_rules (new_app (codes "open"))
     (must (codes "file") ∷ needs (codes "port") ∷ takes_value (codes "listen")
@@ -157,12 +157,12 @@ with_commands app [] = app
 with_commands app (command ∷ rest) = with_commands (with_subcommand app command.top) rest
 
 -- the commands that make, run and serve a register; then those that send lines to an open desk, or set, list, copy and audit what a register has
-abbrev pub running_apps : List App
-running_apps = init_app ∷ script_app ∷ import_app ∷ crl_app ∷ serve_app ∷ open_app ∷ []
+abbrev pub first_command_apps : List App
+first_command_apps = init_app ∷ script_app ∷ import_app ∷ crl_app ∷ serve_app ∷ open_app ∷ []
 
-abbrev pub keeping_apps : List App
-keeping_apps = at_app ∷ replay_app ∷ schedule_app ∷ key_id_app ∷ list_app ∷ copy_app ∷ audit_app ∷ []
+abbrev pub other_command_apps : List App
+other_command_apps = at_app ∷ replay_app ∷ schedule_app ∷ key_id_app ∷ list_app ∷ copy_app ∷ audit_app ∷ []
 
 -- `desk [--why] COMMAND ..`
 abbrev pub desk_app : App
-desk_app = with_commands (with_commands begun_app running_apps) keeping_apps
+desk_app = with_commands (with_commands begun_app first_command_apps) other_command_apps

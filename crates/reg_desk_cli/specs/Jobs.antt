@@ -48,35 +48,35 @@ number_in least most id rows =
     option_and_then (within least most) (option_and_then number_of (first_of id rows))
 
 -- the signer, with both options or neither; one option alone is an error, and so is an unknown name of an algorithm
-abbrev pub key_holder_of : Option Text → Option Text → Option (Option SignerAddress)
-key_holder_of (Some socket) (Some name) =
+abbrev pub signer_of_options : Option Text → Option Text → Option (Option SignerAddress)
+signer_of_options (Some socket) (Some name) =
     option_map (λ algorithm. Some (record { socket = socket; algorithm = algorithm })) (algorithm_named name)
-key_holder_of (Some socket) None = None
-key_holder_of None (Some name) = None
-key_holder_of None None = Some None
+signer_of_options (Some socket) None = None
+signer_of_options None (Some name) = None
+signer_of_options None None = Some None
 
 -- the same for the ids of the two options
-abbrev pub holder_by_options : Text → Text → List Row → Option (Option SignerAddress)
-holder_by_options socket algorithm rows = key_holder_of (first_of socket rows) (first_of algorithm rows)
+abbrev pub signer_by_options : Text → Text → List Row → Option (Option SignerAddress)
+signer_by_options socket algorithm rows = signer_of_options (first_of socket rows) (first_of algorithm rows)
 
 -- the signer, if one is given
-abbrev pub holder_in : List Row → Option (Option SignerAddress)
-holder_in rows = holder_by_options (codes "signer") (codes "algorithm") rows
+abbrev pub signer_in : List Row → Option (Option SignerAddress)
+signer_in rows = signer_by_options (codes "signer") (codes "algorithm") rows
 
 -- the responder to OCSP requests, from the path of a responder's certificate, its signer, and the path of a certificate to embed in responses
 -- of the issuer: both of the first two are given and not the third, or neither, and then the third may be given
-abbrev pub answerer_by : Option Text → Option SignerAddress → Option Text → Option ResponderChoice
-answerer_by (Some certificate) (Some holder) None = Some (Delegate certificate holder)
-answerer_by (Some certificate) (Some holder) (Some embedded) = None
-answerer_by (Some certificate) None embedded = None
-answerer_by None (Some holder) embedded = None
-answerer_by None None embedded = Some (Issuer embedded)
+abbrev pub responder_by : Option Text → Option SignerAddress → Option Text → Option ResponderChoice
+responder_by (Some certificate) (Some holder) None = Some (Delegate certificate holder)
+responder_by (Some certificate) (Some holder) (Some embedded) = None
+responder_by (Some certificate) None embedded = None
+responder_by None (Some holder) embedded = None
+responder_by None None embedded = Some (Issuer embedded)
 
 -- the responder to OCSP requests, from the words of these options
-unfoldable pub answerer_in : List Row → Option ResponderChoice
-answerer_in rows = do
-  holder ← holder_by_options (codes "responder-signer") (codes "responder-algorithm") rows
-  answerer_by (first_of (codes "responder") rows) holder (first_of (codes "embed") rows)
+unfoldable pub responder_in : List Row → Option ResponderChoice
+responder_in rows = do
+  holder ← signer_by_options (codes "responder-signer") (codes "responder-algorithm") rows
+  responder_by (first_of (codes "responder") rows) holder (first_of (codes "embed") rows)
 
 -- whether an option without a value is given
 abbrev pub has_flag : Text → List Row → Bool
@@ -98,14 +98,14 @@ chosen None false true = Some None
 chosen None true true = None
 
 -- the signer of CRLs, from `--signer` with `--algorithm`; none with `--unsigned`, or with neither and a responder
-abbrev pub holder_chosen : ResponderChoice → List Row → Option (Option SignerAddress)
-holder_chosen answerer rows =
-    option_and_then (λ signer. chosen signer (has_flag (codes "unsigned") rows) (has_own_key answerer))
-    (holder_in rows)
+abbrev pub signer_chosen : ResponderChoice → List Row → Option (Option SignerAddress)
+signer_chosen responder rows =
+    option_and_then (λ signer. chosen signer (has_flag (codes "unsigned") rows) (has_own_key responder))
+    (signer_in rows)
 
 -- how a script runs
-abbrev pub way_in : List Row → ScriptOptions
-way_in rows = record {
+abbrev pub script_options_in : List Row → ScriptOptions
+script_options_in rows = record {
   is_clocked = has_flag (codes "clock") rows;
   accepts_clock = has_flag (codes "accept-clock") rows;
   is_strict = has_flag (codes "strict") rows;
@@ -113,9 +113,11 @@ way_in rows = record {
 
 -- the job of `script`; only a script over a register at a path can run line by line
 abbrev pub script_by : Option Text → Option SignerAddress → ScriptOptions → Option Job
-script_by None signer way = if way.is_clocked || way.is_strict then None else Some (Script None signer)
-script_by (Some file) signer way =
-    if way.is_clocked || way.is_strict then Some (Lines (record { file = file; signer = signer; way = way }))
+script_by None signer options =
+    if options.is_clocked || options.is_strict then None else Some (Script None signer)
+script_by (Some file) signer options =
+    if options.is_clocked || options.is_strict
+    then Some (Lines (record { file = file; signer = signer; options = options }))
     else Some (Script (Some file) signer)
 
 -- the address of `--listen`, which is one of the loopback interface
@@ -159,8 +161,8 @@ init_of rows = do
 
 unfoldable pub script_of : List Row → Option Job
 script_of rows = do
-  signer ← holder_in rows
-  script_by (first_of (codes "file") rows) signer (way_in rows)
+  signer ← signer_in rows
+  script_by (first_of (codes "file") rows) signer (script_options_in rows)
 
 -- a moment that is given, if one is
 abbrev pub moment_given : Text → List Row → Option (Option ℕ)
@@ -201,14 +203,14 @@ serve_of rows = do
   file ← first_of (codes "file") rows
   endpoint ← endpoint_in rows
   requests ← number_in 1 1000000 (codes "requests") rows
-  signer ← holder_in rows
-  answerer ← answerer_in rows
+  signer ← signer_in rows
+  responder ← responder_in rows
   Some (Serve (record {
     file = file;
     endpoint = endpoint;
     requests = requests;
     signer = signer;
-    answerer = answerer;
+    responder = responder;
     published = first_of (codes "published") rows;
   }))
 
@@ -217,14 +219,14 @@ open_of rows = do
   file ← first_of (codes "file") rows
   endpoint ← endpoint_in rows
   control ← first_of (codes "control") rows
-  answerer ← answerer_in rows
-  signer ← holder_chosen answerer rows
+  responder ← responder_in rows
+  signer ← signer_chosen responder rows
   Some (Open (record {
     file = file;
     endpoint = endpoint;
     control = control;
     signer = signer;
-    answerer = answerer;
+    responder = responder;
     published = first_of (codes "published") rows;
   }))
 
@@ -317,8 +319,8 @@ audit_of rows = do
   Some (Audit file)
 
 -- the job of a command, from its name and what clap found for its arguments and options
-unfoldable pub keeping_job_in : Text → List Row → Option Job
-keeping_job_in name rows =
+unfoldable pub other_job_in : Text → List Row → Option Job
+other_job_in name rows =
     if bytes_eq name (codes "schedule") then schedule_of rows
     else if bytes_eq name (codes "key-id") then key_id_of rows
     else if bytes_eq name (codes "list") then list_of rows
@@ -332,7 +334,7 @@ serving_job_in name rows =
     else if bytes_eq name (codes "open") then open_of rows
     else if bytes_eq name (codes "at") then at_of rows
     else if bytes_eq name (codes "replay") then replay_of rows
-    else keeping_job_in name rows
+    else other_job_in name rows
 
 unfoldable pub job_in : Text → List Row → Option Job
 job_in name rows =

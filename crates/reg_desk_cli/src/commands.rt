@@ -3,15 +3,15 @@
 ghost use Rattle.std.specs.Prelude.{◌≡◌, codes, IfOk};
 ghost use Rattle.reg_desk_cli.specs.Jobs.{endpoint_in, import_moment, one_moment};
 ghost use Rattle.clap.specs.Words.{found_of, rows_of};
-ghost use Rattle.reg_desk_cli.specs.Jobs.{job_in, serving_job_in, keeping_job_in, init_of, script_by, script_of, import_of, crl_job, number_in, serve_of, open_of, at_by, at_of, replay_of, schedule_of, key_id_of, filter_for, form_in, list_of, copy_of, audit_of};
+ghost use Rattle.reg_desk_cli.specs.Jobs.{job_in, serving_job_in, other_job_in, init_of, script_by, script_of, import_of, crl_job, number_in, serve_of, open_of, at_by, at_of, replay_of, schedule_of, key_id_of, filter_for, form_in, list_of, copy_of, audit_of};
 
 use crate::job::{
     Endpoint, ImportJob, Job, LinedScript, ListJob, NewRegister, OpenJob, OrderTerms, RowTask,
     ScriptOptions, ServeJob, SignerAddress,
 };
 use crate::option_values::{
-    answerer, chosen_signer, filter_option, is_set, key_holder, loopback, moment_option,
-    number_option, number_or, number_within, order_terms_option, script_options_of, steps, text_of,
+    chosen_signer, filter_option, is_set, loopback, moment_option, number_option, number_or,
+    number_within, order_terms_option, responder, script_options_of, signer_option, steps, text_of,
     word_of,
 };
 use crate::word::Word;
@@ -72,18 +72,18 @@ fn read_serving<'a>(
     } else if name == "replay" {
         Ok(read_replay(given))
     } else {
-        read_keeping(alloc, name, given)
+        read_other_job(alloc, name, given)
     }
 }
 
 /// As `read_command`, for the commands that set, list, copy and audit what a register has.
-#[tactic(auto, unfolding(crate::specs::Jobs::keeping_job_in))]
-fn read_keeping<'a>(
+#[tactic(auto, unfolding(crate::specs::Jobs::other_job_in))]
+fn read_other_job<'a>(
     alloc: Global,
     name: &str,
     given: &ArgMatches<'a>,
 ) -> Result<Option<Job<'a>>, AllocError>
-    ensures { IfOk result (λ job. job ≡ keeping_job_in name.now (rows_of (found_of given.now))) }
+    ensures { IfOk result (λ job. job ≡ other_job_in name.now (rows_of (found_of given.now))) }
 {
     if name == "schedule" {
         read_schedule(alloc, given)
@@ -120,7 +120,7 @@ fn read_init<'a>(given: &ArgMatches<'a>) -> Option<Job<'a>>
 fn read_script<'a>(given: &ArgMatches<'a>) -> Option<Job<'a>>
     ensures { result ≡ script_of (rows_of (found_of given.now)) }
 {
-    let signer = key_holder(given)?;
+    let signer = signer_option(given)?;
     script_job(word_of(given, "file"), signer, script_options_of(given))
 }
 
@@ -128,13 +128,17 @@ fn read_script<'a>(given: &ArgMatches<'a>) -> Option<Job<'a>>
 fn script_job<'a>(
     file: Option<Word<'a>>,
     signer: Option<SignerAddress<'a>>,
-    way: ScriptOptions,
+    options: ScriptOptions,
 ) -> Option<Job<'a>>
-    ensures { result ≡ script_by file.entry signer.entry way }
+    ensures { result ≡ script_by file.entry signer.entry options }
 {
-    let by_lines = way.is_clocked || way.is_strict;
+    let by_lines = options.is_clocked || options.is_strict;
     match file {
-        Some(file) if by_lines => Some(Job::Lines(LinedScript { file, signer, way })),
+        Some(file) if by_lines => Some(Job::Lines(LinedScript {
+            file,
+            signer,
+            options,
+        })),
         None if by_lines => None,
         file => Some(Job::Script { file, signer }),
     }
@@ -204,8 +208,8 @@ fn read_serve<'a>(given: &ArgMatches<'a>) -> Option<Job<'a>>
         file: word_of(given, "file")?,
         endpoint: endpoint_of(given)?,
         requests: number_within(given, "requests", 1, MOST_REQUESTS)? as u32,
-        signer: key_holder(given)?,
-        answerer: answerer(given)?,
+        signer: signer_option(given)?,
+        responder: responder(given)?,
         published: word_of(given, "published"),
     }))
 }
@@ -217,14 +221,14 @@ fn read_open<'a>(given: &ArgMatches<'a>) -> Option<Job<'a>>
     let file = word_of(given, "file")?;
     let endpoint = endpoint_of(given)?;
     let control = word_of(given, "control")?;
-    let answering = answerer(given)?;
+    let answering = responder(given)?;
     let signer = chosen_signer(given, &answering)?;
     Some(Job::Open(OpenJob {
         file,
         endpoint,
         control,
         signer,
-        answerer: answering,
+        responder: answering,
         published: word_of(given, "published"),
     }))
 }

@@ -3,10 +3,10 @@
 ghost use Rattle.std.specs.Prelude.{◌≡◌, IfOk, OnOk, [], false, map};
 ghost use Rattle.clap.specs.Words.{App, app_of, rule_of, with_subcommand};
 ghost use Rattle.clap.specs.declared.builder.command.Command.TheViews.{out-Command as fields_of};
-ghost use Rattle.reg_desk_cli.specs.Desk.{may, needs, bare_app, begun_app, desk_app, keeping_apps, running_apps, with_commands, with_rules};
+ghost use Rattle.reg_desk_cli.specs.Desk.{may, needs, bare_app, begun_app, desk_app, other_command_apps, first_command_apps, with_commands, with_rules};
 ghost use Rattle.reg_desk_cli.specs.Table.{AreLocal, app_of_entry, rule_of_part, with_made};
 
-use crate::table::{BEFORE, CommandEntry, KEEPING, Part, RUNNING};
+use crate::table::{BEFORE, CommandEntry, FIRST_COMMANDS, OTHER_COMMANDS, Part};
 use clap::{Arg, ArgAction, Command};
 use std::alloc::{AllocError, Global};
 
@@ -18,21 +18,21 @@ pub(crate) fn desk<'a>(alloc: Global) -> Result<Command<'a>, AllocError>
     ensures { IfOk result (λ made. app_of made ≡ desk_app) }
 {
     let mut commands = Vec::new(alloc);
-    add_commands(alloc, &mut commands, running())?;
-    add_commands(alloc, &mut commands, keeping())?;
+    add_commands(alloc, &mut commands, first_commands())?;
+    add_commands(alloc, &mut commands, other_commands())?;
     begun(alloc)?.subcommands(commands)
 }
 
-fn running() -> &'static [CommandEntry]
-    ensures { map app_of_entry result.now ≡ running_apps }
+fn first_commands() -> &'static [CommandEntry]
+    ensures { map app_of_entry result.now ≡ first_command_apps }
 {
-    RUNNING
+    FIRST_COMMANDS
 }
 
-fn keeping() -> &'static [CommandEntry]
-    ensures { map app_of_entry result.now ≡ keeping_apps }
+fn other_commands() -> &'static [CommandEntry]
+    ensures { map app_of_entry result.now ≡ other_command_apps }
 {
-    KEEPING
+    OTHER_COMMANDS
 }
 
 fn add_commands<'a>(

@@ -64,7 +64,7 @@ pub struct LinedScript<'a> {
     pub file: Word<'a>,
     /// The signer, if there is one.
     pub signer: Option<SignerAddress<'a>>,
-    pub way: ScriptOptions,
+    pub options: ScriptOptions,
 }
 
 /// Rows to be registered.
@@ -103,7 +103,7 @@ pub struct ServeJob<'a> {
     pub endpoint: Endpoint,
     pub requests: u32,
     pub signer: Option<SignerAddress<'a>>,
-    pub answerer: ResponderChoice<'a>,
+    pub responder: ResponderChoice<'a>,
     /// The path of a published CRL, all of which the register must have.
     pub published: Option<Word<'a>>,
 }
@@ -116,7 +116,7 @@ pub struct OpenJob<'a> {
     /// The path of the control socket.
     pub control: Word<'a>,
     pub signer: Option<SignerAddress<'a>>,
-    pub answerer: ResponderChoice<'a>,
+    pub responder: ResponderChoice<'a>,
     /// As in [`ServeJob`].
     pub published: Option<Word<'a>>,
 }

@@ -3,7 +3,7 @@
 ghost use Rattle.std.specs.Prelude.{◌≡◌, ◌≤◌, ◌==◌, IfOk, IfSome, List, ℕ, map, option_and_then, option_map, position};
 ghost use Rattle.reg_core.specs.Calendar.{moment_of};
 ghost use Rattle.clap.specs.Words.{all_of, first_of, found_of, rows_of};
-ghost use Rattle.reg_desk_cli.specs.Jobs.{answerer_in, answerer_by, given, value_or_default, chosen, filter_in, has_own_key, holder_by_options, holder_chosen, holder_in, has_flag, label_given, loopback_in, loopback_named, moment_given, number_in, order_terms_given, prefix_given, way_in};
+ghost use Rattle.reg_desk_cli.specs.Jobs.{responder_in, responder_by, given, value_or_default, chosen, filter_in, has_own_key, signer_by_options, signer_chosen, signer_in, has_flag, label_given, loopback_in, loopback_named, moment_given, number_in, order_terms_given, prefix_given, script_options_in};
 ghost use Rattle.reg_desk_cli.specs.WordValues.{order_terms_of, step_of, step_from, steps_of, within};
 
 use crate::job::{Loopback, OrderTerms, ResponderChoice, ScriptOptions, SignerAddress};
@@ -149,29 +149,29 @@ pub(crate) fn prefix_option(matches: &ArgMatches<'_>, id: &str) -> Option<Option
 }
 
 /// The signer, if one is given; `None` if only one of its two options is given, or if no algorithm has the name.
-pub(crate) fn key_holder<'a>(matches: &ArgMatches<'a>) -> Option<Option<SignerAddress<'a>>>
-    ensures { result ≡ holder_in (rows_of (found_of matches.now)) }
+pub(crate) fn signer_option<'a>(matches: &ArgMatches<'a>) -> Option<Option<SignerAddress<'a>>>
+    ensures { result ≡ signer_in (rows_of (found_of matches.now)) }
 {
-    holder_by(matches, "signer", "algorithm")
+    signer_by(matches, "signer", "algorithm")
 }
 
 /// The responder to OCSP requests; `None` if an option of a responder is given without the others, if no algorithm has the name, or if
 /// `--embed` is given too.
-#[tactic(auto, unfolding(crate::specs::Jobs::answerer_in))]
-pub(crate) fn answerer<'a>(matches: &ArgMatches<'a>) -> Option<ResponderChoice<'a>>
-    ensures { result ≡ answerer_in (rows_of (found_of matches.now)) }
+#[tactic(auto, unfolding(crate::specs::Jobs::responder_in))]
+pub(crate) fn responder<'a>(matches: &ArgMatches<'a>) -> Option<ResponderChoice<'a>>
+    ensures { result ≡ responder_in (rows_of (found_of matches.now)) }
 {
-    let holder = holder_by(matches, "responder-signer", "responder-algorithm")?;
+    let holder = signer_by(matches, "responder-signer", "responder-algorithm")?;
     let embedded = word_of(matches, "embed");
-    answerer_of(word_of(matches, "responder"), holder, embedded)
+    responder_of(word_of(matches, "responder"), holder, embedded)
 }
 
-fn answerer_of<'a>(
+fn responder_of<'a>(
     responder: Option<Word<'a>>,
     holder: Option<SignerAddress<'a>>,
     embedded: Option<Word<'a>>,
 ) -> Option<ResponderChoice<'a>>
-    ensures { result ≡ answerer_by responder.entry holder.entry embedded.entry }
+    ensures { result ≡ responder_by responder.entry holder.entry embedded.entry }
 {
     match (responder, holder) {
         (Some(certificate), Some(holder)) => {
@@ -191,12 +191,12 @@ fn answerer_of<'a>(
     }
 }
 
-fn holder_by<'a>(
+fn signer_by<'a>(
     matches: &ArgMatches<'a>,
     socket: &str,
     algorithm: &str,
 ) -> Option<Option<SignerAddress<'a>>>
-    ensures { result ≡ holder_by_options socket.now algorithm.now (rows_of (found_of matches.now)) }
+    ensures { result ≡ signer_by_options socket.now algorithm.now (rows_of (found_of matches.now)) }
 {
     match (word_of(matches, socket), text_of(matches, algorithm)) {
         (Some(socket), Some(name)) => {
@@ -211,18 +211,18 @@ fn holder_by<'a>(
 /// The signer of CRLs for a job that must choose one: a signer, or `--unsigned`, or neither with a responder; `None` for any other choice.
 pub(crate) fn chosen_signer<'a>(
     matches: &ArgMatches<'a>,
-    answerer: &ResponderChoice<'_>,
+    responder: &ResponderChoice<'_>,
 ) -> Option<Option<SignerAddress<'a>>>
-    ensures { result ≡ holder_chosen answerer.now (rows_of (found_of matches.now)) }
+    ensures { result ≡ signer_chosen responder.now (rows_of (found_of matches.now)) }
 {
     let is_unsigned = is_set(matches, "unsigned");
-    choose(key_holder(matches)?, is_unsigned, is_delegate(answerer))
+    choose(signer_option(matches)?, is_unsigned, is_delegate(responder))
 }
 
-fn is_delegate(answerer: &ResponderChoice<'_>) -> bool
-    ensures { result ≡ has_own_key answerer.now }
+fn is_delegate(responder: &ResponderChoice<'_>) -> bool
+    ensures { result ≡ has_own_key responder.now }
 {
-    match answerer {
+    match responder {
         ResponderChoice::Issuer { .. } => false,
         ResponderChoice::Delegate { .. } => true,
     }
@@ -245,7 +245,7 @@ fn choose<'a>(
 
 /// The options of a script.
 pub(crate) fn script_options_of(matches: &ArgMatches<'_>) -> ScriptOptions
-    ensures { result ≡ way_in (rows_of (found_of matches.now)) }
+    ensures { result ≡ script_options_in (rows_of (found_of matches.now)) }
 {
     ScriptOptions {
         is_clocked: is_set(matches, "clock"),

@@ -59,16 +59,16 @@ fn read_invocation<'a>(
     match read_job(alloc, matches) {
         Ok(Some(job)) => Ok(Invocation {
             job,
-            is_explained: is_set(matches, "why") || is_set_behind(matches, "why"),
-            has_log: is_set_behind(matches, "log"),
-            log_file: word_behind(matches, "log-file"),
+            is_explained: is_set(matches, "why") || is_set_after_command(matches, "why"),
+            has_log: is_set_after_command(matches, "log"),
+            log_file: word_after_command(matches, "log-file"),
         }),
         Ok(None) => Err(bad_value(alloc, desk, matches)),
         Err(_) => Err(Usage::Memory),
     }
 }
 
-fn is_set_behind(matches: &ArgMatches<'_>, id: &str) -> bool
+fn is_set_after_command(matches: &ArgMatches<'_>, id: &str) -> bool
     ensures { result ≡ has_flag_after id.now (subcommand_rows_of matches.now) }
 {
     match matches.subcommand() {
@@ -77,7 +77,7 @@ fn is_set_behind(matches: &ArgMatches<'_>, id: &str) -> bool
     }
 }
 
-fn word_behind<'a>(matches: &ArgMatches<'a>, id: &str) -> Option<Word<'a>>
+fn word_after_command<'a>(matches: &ArgMatches<'a>, id: &str) -> Option<Word<'a>>
     ensures { result ≡ value_after id.now (subcommand_rows_of matches.now) }
 {
     match matches.subcommand() {

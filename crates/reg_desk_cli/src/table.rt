@@ -165,8 +165,8 @@ const CAUSE_ANYWHERE: &str =
 pub(crate) const BEFORE: &[Part] = &[Part::Flag("why", CAUSE_ANYWHERE)];
 
 /// The commands that make, run and serve a register, in the order in which help lists them. Only one small function uses this constant, because a
-/// long constant costs the prover seconds in each step. For the same reason the other commands are in `KEEPING`.
-pub(crate) const RUNNING: &[CommandEntry] = &[
+/// long constant costs the prover seconds in each step. For the same reason the other commands are in `OTHER_COMMANDS`.
+pub(crate) const FIRST_COMMANDS: &[CommandEntry] = &[
     CommandEntry {
         name: "init",
         about: "Make a new register in a file.",
@@ -265,8 +265,8 @@ pub(crate) const RUNNING: &[CommandEntry] = &[
     },
 ];
 
-/// The commands that send lines to an open desk, and those that set, list, copy and audit what a register has; help lists them after `RUNNING`.
-pub(crate) const KEEPING: &[CommandEntry] = &[
+/// The commands that send lines to an open desk, and those that set, list, copy and audit what a register has; help lists them after `FIRST_COMMANDS`.
+pub(crate) const OTHER_COMMANDS: &[CommandEntry] = &[
     CommandEntry {
         name: "at",
         about: "Send the lines of standard input to an open desk, and write one reply line for each; a line has no moment.",

@@ -1,8 +1,8 @@
 //! The messages for a value that has another form or is out of range.
 
 use crate::option_values::{
-    answerer, key_holder, label_option, loopback, moment, number_within, prefix_option, read_step,
-    text_of,
+    label_option, loopback, moment, number_within, prefix_option, read_step, responder,
+    signer_option, text_of,
 };
 use clap::ArgMatches;
 use reg_core::read_number;
@@ -52,7 +52,7 @@ const LOOPBACK_WANTED: &str =
 
 const STEP_WANTED: &str = "a step is written as 2026-01-01T00:00:00Z=200";
 
-const KEY_HOLDER_WANTED: &str =
+const SIGNER_WANTED: &str =
     "give both --signer and --algorithm, or neither; an algorithm is ecdsa-sha256, ecdsa-sha384, rsa-sha256 or ed25519";
 
 const RESPONDER_WANTED: &str =
@@ -130,7 +130,7 @@ fn first_wrong<'a>(matches: &ArgMatches<'a>) -> Option<Wrong<'a>> {
     if let Some(wrong) = wrong_filter(given) {
         return Some(wrong);
     }
-    if let Some(wrong) = wrong_holder(given) {
+    if let Some(wrong) = wrong_signer(given) {
         return Some(wrong);
     }
     wrong_responder(given)
@@ -199,20 +199,20 @@ fn wrong_filter<'a>(given: &ArgMatches<'a>) -> Option<Wrong<'a>> {
 }
 
 /// The option of a signer that is given without the other, or names no algorithm.
-fn wrong_holder<'a>(given: &ArgMatches<'a>) -> Option<Wrong<'a>> {
-    if key_holder(given).is_some() {
+fn wrong_signer<'a>(given: &ArgMatches<'a>) -> Option<Wrong<'a>> {
+    if signer_option(given).is_some() {
         return None;
     }
     let (option, value) = match text_of(given, "algorithm") {
         Some(name) => ("--algorithm", name),
         None => ("--signer", text_of(given, "signer")?),
     };
-    Some(Wrong::of(option, value, KEY_HOLDER_WANTED))
+    Some(Wrong::of(option, value, SIGNER_WANTED))
 }
 
 /// An option of a responder, if one is missing, `--embed` is given too, or no algorithm has the name.
 fn wrong_responder<'a>(given: &ArgMatches<'a>) -> Option<Wrong<'a>> {
-    if answerer(given).is_some() {
+    if responder(given).is_some() {
         return None;
     }
     for (id, option) in RESPONDERS {

@@ -25,11 +25,11 @@ pub enum FileContent {
     /// No database, but something else.
     Other,
     /// The beginning of a database. Opening finds out whether it is one.
-    ReadyOrUnsigned,
+    PossibleDatabase,
 }
 
 /// Finds out, by reads only, what opening would find in files. Errors: `Memory`; `Store` if a call failed, or the log is not that of a database.
-pub fn look<D: Disk>(alloc: Global, files: &mut Files<D>) -> Result<FileContent, FileFault>
+pub fn probe_content<D: Disk>(alloc: Global, files: &mut Files<D>) -> Result<FileContent, FileFault>
     requires log { IsTrue (D.Disk.is_usable files.old.log) }
     requires db { IsTrue (D.Disk.is_usable files.old.db) }
     ensures nothing { TellsOfImage D.Disk files.old files.new result
@@ -44,7 +44,7 @@ pub fn look<D: Disk>(alloc: Global, files: &mut Files<D>) -> Result<FileContent,
         return Ok(FileContent::Nothing);
     }
     if begins(alloc, files)? {
-        return Ok(FileContent::ReadyOrUnsigned);
+        return Ok(FileContent::PossibleDatabase);
     }
     Ok(FileContent::Other)
 }

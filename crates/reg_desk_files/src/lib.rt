@@ -13,7 +13,7 @@ mod read_only;
 mod source;
 
 pub use file::{ClaimFault, claim_file, open_file, remove_file};
-pub use file_check::{FileContent, look};
+pub use file_check::{FileContent, probe_content};
 pub use file_fault::FileFault;
 pub use overlay::{Overlay, overlaid};
 pub use page_copy::{copy_closed, copy_open, put_pages, recovered};

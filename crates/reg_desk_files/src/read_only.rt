@@ -10,7 +10,7 @@ ghost use Rattle.reg_desk_files.specs.Overlaid.{image};
 ghost use Rattle.reg_desk_files.specs.Reading.{IsFileFault, IsUnread};
 
 use crate::file::options_for;
-use crate::file_check::{FileContent, look};
+use crate::file_check::{FileContent, probe_content};
 use crate::file_fault::{FileFault, damaged};
 use crate::overlay::{Overlay, overlaid};
 use crate::read_file::{LockedFiles, OpenedBy, ReadFile, lock_files};
@@ -156,8 +156,8 @@ pub(crate) fn is_begun<D: Disk>(alloc: Global, files: &mut Files<D>) -> Result<(
     ensures db { OnlyReads D.Disk files.old.db files.new.db }
     ensures faults { IfErr result IsUnread }
 {
-    match look(alloc, files)? {
-        FileContent::ReadyOrUnsigned => Ok(()),
+    match probe_content(alloc, files)? {
+        FileContent::PossibleDatabase => Ok(()),
         FileContent::Nothing => Err(UnreadFile::Nothing),
         FileContent::Other => Err(UnreadFile::Fault(damaged())),
     }

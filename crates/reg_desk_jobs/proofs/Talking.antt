@@ -11,7 +11,7 @@ use Rattle.reg_desk_cli.specs.declared.failure.Failure.TheVariants as failure
 use Rattle.reg_lines.specs.Accepted.{IsAccepted}
 use Rattle.reg_lines.proofs.PublicLaws.{concat_push}
 use Rattle.reg_lines.specs.Script.{IsWholeLine}
-use Rattle.reg_desk_jobs.specs.Conversations.{AreWhole, IsCutOff, IsInput, Talked, Talks, TalksOnce}
+use Rattle.reg_desk_jobs.specs.Conversations.{AreWhole, IsCutOff, IsInput, ExchangedLines, ExchangesLines, ExchangesNextLine}
 use Rattle.reg_desk_jobs.specs.declared.at_job.Step.TheVariants as step
 
 -- one line more that ends with its LF
@@ -45,15 +45,15 @@ pub all_under : {T A : Type 0} (reader : BufReader T A) (inner : T) (remaining :
 all_under reader inner remaining is empty room = rw (room, empty, is) (prepend_nil (remaining inner))
 
 pub talks_under : (sent sent' incoming incoming' out out' input under : Option (List ℕ)) (result : Result (Unit {0}) Failure) → input ≡ under
-    → Talks sent sent' incoming incoming' out out' input result → Talks sent sent' incoming incoming' out out' under result
-talks_under sent sent' incoming incoming' out out' input under result same talks = subst (λ i. Talks sent sent' incoming incoming' out out' i result) same talks
+    → ExchangesLines sent sent' incoming incoming' out out' input result → ExchangesLines sent sent' incoming incoming' out out' under result
+talks_under sent sent' incoming incoming' out out' input under result same talks = subst (λ i. ExchangesLines sent sent' incoming incoming' out out' i result) same talks
 
 -- What was read, what went out, what came and what was written when a talk began.
 module _ (input sent incoming out : Option (List ℕ)) where
   -- the talk so far, and whether each reply was accepted
   abbrev pub SoFar : Option (List ℕ) → Option (List ℕ) → Option (List ℕ) → Option (List ℕ) → Bool → Type 0
   SoFar input' sent' incoming' out' accepted =
-      (lines : List (List ℕ)) × (replies : List (List ℕ)) × Talked sent sent' incoming incoming' out out' lines replies
+      (lines : List (List ℕ)) × (replies : List (List ℕ)) × ExchangedLines sent sent' incoming incoming' out out' lines replies
       × Consumes input input' (concat lines) × (IsTrue accepted ↔ AllByRecursion IsAccepted replies)
 
   -- nothing yet
@@ -70,7 +70,7 @@ module _ (input sent incoming out : Option (List ℕ)) where
   module _ (input' sent' sent'' incoming' incoming'' out' out'' : Option (List ℕ)) where
     -- one line more
     pub goes_on : (input'' : Option (List ℕ)) (before accepted after : Bool) → SoFar input' sent' incoming' out' before
-        → TalksOnce sent' sent'' incoming' incoming'' out' out'' input' input'' (Ok (step.Replied accepted)) → IsTrue after ↔ (IsTrue before × IsTrue accepted)
+        → ExchangesNextLine sent' sent'' incoming' incoming'' out' out'' input' input'' (Ok (step.Replied accepted)) → IsTrue after ↔ (IsTrue before × IsTrue accepted)
         → SoFar input'' sent'' incoming'' out'' after
     goes_on input'' before accepted after so once both =
         let (lines, replies, talked, read, all) = so in
@@ -103,7 +103,7 @@ module _ (input sent incoming out : Option (List ℕ)) where
     pub ends : (accepted : Bool) (result : Result (Unit {0}) Failure) → SoFar input' sent' incoming' out' accepted
         → IsInput input' [] × (sent'' ≡ sent') × (incoming'' ≡ incoming') × (out'' ≡ out')
         → MatchResult result (λ done. IsTrue accepted) (λ why. (why ≡ failure.Refused) × IsFalse accepted)
-        → Talks sent sent'' incoming incoming'' out out'' input result
+        → ExchangesLines sent sent'' incoming incoming'' out out'' input result
     ends accepted result so none = go result
       where
         here : SoFar input' sent'' incoming'' out'' accepted
@@ -113,7 +113,7 @@ module _ (input sent incoming out : Option (List ℕ)) where
         all = input_is input input' (concat here.0) [] here.3 none.0
 
         go : (r : Result (Unit {0}) Failure) → MatchResult r (λ done. IsTrue accepted) (λ why. (why ≡ failure.Refused) × IsFalse accepted)
-            → Talks sent sent'' incoming incoming'' out out'' input r
+            → ExchangesLines sent sent'' incoming incoming'' out out'' input r
         go (Ok done) holds = (here.0, here.1, here.2, subst (IsInput input) (append-nil (concat here.0)) all, here.4.0 holds)
         go (Err why) refused =
             inr (here.0, here.1, [], here.2, all, inl (refused.0, refl, (λ each. false≢true (sym refused.1 ∙ here.4.1 each))))
@@ -122,7 +122,7 @@ module _ (input sent incoming out : Option (List ℕ)) where
     pub cuts : (accepted : Bool) (why : Failure) → SoFar input' sent' incoming' out' accepted
         → (left : List ℕ) × IsCutOff left × IsInput input' left × (sent'' ≡ sent') × (incoming'' ≡ incoming') × (out'' ≡ out')
         → ((why ≡ failure.NoLineEnd) × IsTrue accepted) ⊎ ((why ≡ failure.RefusedNoLineEnd) × IsFalse accepted)
-        → Talks sent sent'' incoming incoming'' out out'' input (Err why)
+        → ExchangesLines sent sent'' incoming incoming'' out out'' input (Err why)
     cuts accepted why so (left, cut, rest, sends, comes, says) how =
         let here = stays accepted so sends comes says in
         let all = input_is input input' (concat here.0) left here.3 rest in

@@ -6,10 +6,10 @@ use Rattle.reg_core.specs.declared.memory.Memory.{Memory}
 use Rattle.reg_core.specs.declared.refusal.Fault.{Fault}
 use Rattle.reg_office_api.specs.CallSteps.{Signs, Runs, Asks, Crls}
 use Rattle.reg_office_api.specs.Drafts.{Drafts}
-use Rattle.reg_office_api.specs.LookUps.{IsOfStore, intake_in}
+use Rattle.reg_office_api.specs.LookUps.{IsOfStore, request_load_in}
 use Rattle.reg_office_api.specs.Responses.{Replies}
 use Rattle.reg_office_api.specs.Signatories.{Signatory}
-use Rattle.reg_office_api.specs.declared.register_summary.Intake.{Intake}
+use Rattle.reg_office_api.specs.declared.register_summary.RequestLoad.{RequestLoad}
 use Rattle.reg_http.specs.Added.{AddsARequestAtMost}
 use Rattle.reg_http.specs.Answers.{Answers, BeginsTo}
 use Rattle.reg_http.specs.RoutedRequests.{RoutedRequest, requested_serial}
@@ -54,17 +54,17 @@ after_request_if now None admission = admission
 
 -- 503 if the clock is too far ahead, or less than a tenth of the cap is left, which is for the control socket (RFC 9110 15.6.4);
 -- 429 with three open requests for the serial number (RFC 6585 4)
-abbrev pub limit_by : Intake → Bool → Option ℕ
-limit_by intake ahead =
-    if ahead || nat_lt (intake.cap - intake.requests) (intake.cap / 10) then Some 503
-    else if nat_le 3 intake.waiting then Some 429
+abbrev pub limit_by : RequestLoad → Bool → Option ℕ
+limit_by request_load ahead =
+    if ahead || nat_lt (request_load.cap - request_load.requests) (request_load.cap / 10) then Some 503
+    else if nat_le 3 request_load.waiting then Some 429
     else None
 
 -- the status that refuses a request for a serial number at a moment: 429 if a hundred came within the minute; else by the records
 abbrev pub limit_at : Admission → Records → ℕ → ℕ → Option ℕ
 limit_at admission records now serial =
     if is_rate_reached now admission.recent then Some 429
-    else limit_by (intake_in records now serial 3) (is_ahead now records.last admission.accepted)
+    else limit_by (request_load_in records now serial 3) (is_ahead now records.last admission.accepted)
 
 -- a request is within the limits, if it is one for a serial number
 abbrev pub IsWithin : Admission → Records → ℕ → Option ℕ → Type 0
@@ -103,7 +103,8 @@ AnswersAdmitted admission signs now signatory before what it after =
 
 -- the same when the answer is begun, and may be left to be signed
 abbrev pub BeginsAdmitted
-    : Admission → Signs → ℕ → Signatory → Records → RoutedRequest → Result (ReadyOrUnsigned Answered Drafted) Memory
+    : Admission → Signs → ℕ → Signatory → Records → RoutedRequest
+    → Result (ReadyOrUnsigned Answered Drafted) Memory
     → Records → Type 0
 BeginsAdmitted admission signs now signatory before what (Ok (Ready answered)) after =
     AnswersAdmitted admission signs now signatory before what (answer_effects answered) after

@@ -5,7 +5,7 @@ use Rattle.reg_office_api.specs.declared.effects.LineEffects.{LineEffects}
 use Rattle.reg_office_api.specs.declared.effects.LineReply.{LineReply}
 use Rattle.reg_office_api.specs.declared.effects.LineReply.TheVariants as kind
 use Rattle.reg_office_api.specs.declared.effects.SignatureOutcome.{SignatureOutcome}
-use Rattle.reg_office_api.specs.declared.effects.SignatureOutcome.TheVariants as fate
+use Rattle.reg_office_api.specs.declared.effects.SignatureOutcome.TheVariants as signature_outcome
 use Rattle.reg_office_api.specs.declared.effects.StoreEffect.{StoreEffect}
 use Rattle.reg_office_api.specs.declared.effects.StoreEffect.TheVariants as effect
 use Rattle.reg_core.specs.Lines.{fault_line}
@@ -74,20 +74,21 @@ kind_of other = kind.Accepted
 
 -- without a signature, it failed or was not requested
 abbrev pub failed_if : Bool → SignatureOutcome
-failed_if is_unsigned = cond is_unsigned fate.Failed fate.NotRequested
+failed_if signature_failed = cond signature_failed signature_outcome.Failed signature_outcome.NotRequested
 
 -- the signature of a CRL, by whether a signature failed during the line
-abbrev pub crl_fate : Bool → LineOutcome → SignatureOutcome
-crl_fate is_unsigned (Completed (Command Crl) (Ok reply)) = fate.Made
-crl_fate is_unsigned (Completed (Command Crl) (Err why)) = failed_if is_unsigned
-crl_fate is_unsigned other = fate.NotRequested
+abbrev pub crl_outcome : Bool → LineOutcome → SignatureOutcome
+crl_outcome signature_failed (Completed (Command Crl) (Ok reply)) = signature_outcome.Made
+crl_outcome signature_failed (Completed (Command Crl) (Err why)) = failed_if signature_failed
+crl_outcome signature_failed other = signature_outcome.NotRequested
 
 -- the signature of an OCSP response
-abbrev pub ocsp_fate : Bool → LineOutcome → SignatureOutcome
-ocsp_fate is_unsigned (Completed Ocsp outcome) = failed_if is_unsigned
-ocsp_fate is_unsigned (Response true) = failed_if is_unsigned
-ocsp_fate is_unsigned (Response false) = cond is_unsigned fate.Failed fate.Made
-ocsp_fate is_unsigned other = fate.NotRequested
+abbrev pub ocsp_outcome : Bool → LineOutcome → SignatureOutcome
+ocsp_outcome signature_failed (Completed Ocsp outcome) = failed_if signature_failed
+ocsp_outcome signature_failed (Response true) = failed_if signature_failed
+ocsp_outcome signature_failed (Response false) =
+    cond signature_failed signature_outcome.Failed signature_outcome.Made
+ocsp_outcome signature_failed other = signature_outcome.NotRequested
 
 -- the effect of a line on the store: an accepted command was written
 abbrev pub store_effect : LineOutcome → StoreEffect
@@ -98,9 +99,9 @@ store_effect other = effect.Unwritten
 
 -- what is counted for a line, by whether a signature failed during it
 abbrev pub effects_of : Bool → LineOutcome → LineEffects
-effects_of is_unsigned line_outcome = record {
+effects_of signature_failed line_outcome = record {
   reply = kind_of line_outcome;
-  crl = crl_fate is_unsigned line_outcome;
-  ocsp = ocsp_fate is_unsigned line_outcome;
+  crl = crl_outcome signature_failed line_outcome;
+  ocsp = ocsp_outcome signature_failed line_outcome;
   store = store_effect line_outcome;
 }

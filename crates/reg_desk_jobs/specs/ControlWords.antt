@@ -40,7 +40,7 @@ pub data WordMeaning : Type 0 where
   why : WordMeaning
   copies : WordMeaning
   shows : Shown → WordMeaning
-  settles : SerialDecision → WordMeaning
+  decides : SerialDecision → WordMeaning
   accepts : ℕ → WordMeaning
   schedules : List (ℕ × ℕ) → WordMeaning
   commands : WordMeaning
@@ -95,7 +95,7 @@ steps_set (word ∷ step ∷ rest) = if bytes_eq word (codes "schedule") then st
 -- the meaning of the fields of a line
 abbrev pub meaning_by_fields : List (List ℕ) → WordMeaning
 meaning_by_fields fields =
-    option_map_or shows (shown_in fields) (option_map_or settles (serial_decision_in fields)
+    option_map_or shows (shown_in fields) (option_map_or decides (serial_decision_in fields)
     (option_map_or accepts (accepted_in fields) (option_map_or schedules (steps_set fields) commands)))
 
 -- the meaning of a line
@@ -112,7 +112,7 @@ IsWord line Help = meaning_in line ≡ helps
 IsWord line Why = meaning_in line ≡ why
 IsWord line (Copy path) = meaning_in line ≡ copies
 IsWord line (Show shown) = meaning_in line ≡ shows shown
-IsWord line (Decide serial_decision) = meaning_in line ≡ settles serial_decision
+IsWord line (Decide serial_decision) = meaning_in line ≡ decides serial_decision
 IsWord line (AcceptClock clock) = meaning_in line ≡ accepts clock.moment
 IsWord line (Schedule steps) = meaning_in line ≡ schedules steps
 IsWord line (Line command) = (meaning_in line ≡ commands)
@@ -174,7 +174,7 @@ AnswersWord accepted signs now identity before line copies text after =
     AnswersCopy (λ bytes. Unit {0}) text × (after ≡ before)
 AnswersWord accepted signs now identity before line (shows shown) text after =
     AnswersShown before now shown text × (after ≡ before)
-AnswersWord accepted signs now identity before line (settles serial_decision) text after =
+AnswersWord accepted signs now identity before line (decides serial_decision) text after =
     AtClock accepted now before (DecidesAt signs now identity before serial_decision text after) text after
 AnswersWord accepted signs now identity before line (accepts moment) text after =
     IsReplyText (codes "clock accepted\n") text × (after ≡ before)

@@ -46,7 +46,7 @@ NextIs input input' next.Cut = (left : List ℕ) × IsCutOff left × IsInput inp
 NextIs input input' next.End = IsInput input []
 
 -- these lines were sent, one after the other; for each, one reply was received and written
-pub record Talked (sent sent' incoming incoming' out out' : Option (List ℕ))
+pub record ExchangedLines (sent sent' incoming incoming' out out' : Option (List ℕ))
     (lines replies : List (List ℕ)) : Type 0 where
   pub whole : AreWhole lines
   pub told : Appends sent sent' (concat lines)
@@ -65,46 +65,47 @@ IsWhyBy IsGood replies left why =
 -- What was sent to the control socket, received from it, and written to the output: before and after.
 module _ (sent sent' incoming incoming' out out' : Option (List ℕ)) where
   -- a line was sent, and its reply received and written
-  abbrev pub TalksLine : List ℕ → List ℕ → Type 0
-  TalksLine line reply = Appends sent sent' line × Consumes incoming incoming' reply × Appends out out' reply
+  abbrev pub ExchangesLine : List ℕ → List ℕ → Type 0
+  ExchangesLine line reply =
+      Appends sent sent' line × Consumes incoming incoming' reply × Appends out out' reply
 
   -- one line of an input: it was sent, and its reply was accepted or not; or nothing was sent, because it has no line end, or there is none
-  abbrev pub TalksOnce : Option (List ℕ) → Option (List ℕ) → Result Step Failure → Type 0
-  TalksOnce input input' (Ok (step.Replied accepted)) =
-      (line reply : List ℕ) × IsWholeLine line × Consumes input input' line × TalksLine line reply
+  abbrev pub ExchangesNextLine : Option (List ℕ) → Option (List ℕ) → Result Step Failure → Type 0
+  ExchangesNextLine input input' (Ok (step.Replied accepted)) =
+      (line reply : List ℕ) × IsWholeLine line × Consumes input input' line × ExchangesLine line reply
       × (IsTrue accepted ↔ IsAccepted reply)
-  TalksOnce input input' (Ok step.Cut) =
+  ExchangesNextLine input input' (Ok step.Cut) =
       (left : List ℕ) × IsCutOff left × IsInput input left × (sent' ≡ sent) × (incoming' ≡ incoming)
       × (out' ≡ out)
-  TalksOnce input input' (Ok step.End) =
+  ExchangesNextLine input input' (Ok step.End) =
       IsInput input [] × (sent' ≡ sent) × (incoming' ≡ incoming) × (out' ≡ out)
-  TalksOnce input input' (Err why) = IsConversationFault why
+  ExchangesNextLine input input' (Err why) = IsConversationFault why
 
   -- all lines of an input: each reply was accepted; or one was not, or a last line without its line end was not sent. If the conversation
   -- ended early, nothing is stated about how far it got
-  abbrev pub Talks : Option (List ℕ) → Result (Unit {0}) Failure → Type 0
-  Talks input (Ok done) =
-      (lines replies : List (List ℕ)) × Talked sent sent' incoming incoming' out out' lines replies
+  abbrev pub ExchangesLines : Option (List ℕ) → Result (Unit {0}) Failure → Type 0
+  ExchangesLines input (Ok done) =
+      (lines replies : List (List ℕ)) × ExchangedLines sent sent' incoming incoming' out out' lines replies
       × IsInput input (concat lines) × AllByRecursion IsAccepted replies
-  Talks input (Err why) = IsConversationFault why
+  ExchangesLines input (Err why) = IsConversationFault why
       ⊎ ((lines replies : List (List ℕ)) × (left : List ℕ)
-      × Talked sent sent' incoming incoming' out out' lines replies
+      × ExchangedLines sent sent' incoming incoming' out out' lines replies
       × IsInput input (concat lines ++ left) × IsWhyBy IsAccepted replies left why)
 
--- a conversation over a connection about which nothing else is known: it ended early with nothing written, or as `Talks` states
-abbrev pub TalksOver
+-- a conversation over a connection about which nothing else is known: it ended early with nothing written, or as `ExchangesLines` states
+abbrev pub ExchangesLinesOver
     : Option (List ℕ) → Option (List ℕ) → Option (List ℕ) → Result (Unit {0}) Failure → Type 0
-TalksOver input out out' result =
+ExchangesLinesOver input out out' result =
     ((why : Failure) × (result ≡ Err why) × IsConversationFault why × (out' ≡ out))
     ⊎ ((sent sent' incoming incoming' : Option (List ℕ))
-    × Talks sent sent' incoming incoming' out out' input result)
+    × ExchangesLines sent sent' incoming incoming' out out' input result)
 
 -- lines at the control socket at a path: no program listened there, or the lines were sent to it
 abbrev pub AtControlSocket
     : Type 0 → Option (List ℕ) → Option (List ℕ) → Option (List ℕ) → Result (Unit {0}) Failure → Type 0
 AtControlSocket met input out out' result =
     ((result ≡ Err (failure.Fault fault.Read)) × (out' ≡ out))
-    ⊎ (met × TalksOver input out out' result)
+    ⊎ (met × ExchangesLinesOver input out out' result)
 
 -- rows at the control socket at a path: the input could not be read to its end, and nothing is sent; or the lines of its rows are sent there
 abbrev pub RowsAtControlSocket

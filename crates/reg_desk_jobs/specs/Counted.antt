@@ -38,6 +38,7 @@ SignatureFailed crls answers before after = (crls before < crls after) ⊎ (answ
 -- a line is counted by its result, which its reply shows
 abbrev pub CountsLine : Type 0 → ℕ → List ℕ → Tally → Tally → Type 0
 CountsLine failed now reply tally tally' =
-    (micros : ℕ) × (line_outcome : LineOutcome) × (is_unsigned : Bool) × ReportsLineOutcome line_outcome reply
-    × (IsTrue is_unsigned ↔ failed)
-    × (tally' ≡ with_line now (effects_of is_unsigned line_outcome) micros tally)
+    (micros : ℕ) × (line_outcome : LineOutcome) × (signature_failed : Bool)
+    × ReportsLineOutcome line_outcome reply
+    × (IsTrue signature_failed ↔ failed)
+    × (tally' ≡ with_line now (effects_of signature_failed line_outcome) micros tally)

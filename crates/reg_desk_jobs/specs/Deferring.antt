@@ -4,25 +4,25 @@ use Rattle.reg_desk_cli.specs.declared.job.ResponderChoice.{ResponderChoice}
 use Rattle.reg_desk_cli.specs.declared.job.SignerAddress.{SignerAddress}
 use Rattle.reg_desk_jobs.specs.SignerAnswers.{AnsweredAtPath}
 use Rattle.reg_desk_jobs.specs.Signers.{answer_socket, crl_socket}
-use Rattle.reg_desk_jobs.specs.declared.deferred_commands.Known.{Known}
+use Rattle.reg_desk_jobs.specs.declared.deferred_commands.LineSignature.{LineSignature}
 use Rattle.reg_desk_jobs.specs.declared.deferred_commands.SignatureKind.{SignatureKind}
 use Rattle.reg_desk_jobs.specs.declared.deferred_commands.SignatureKind.TheVariants.{Crl, Answer}
 
 -- the path of the signer's socket, if there is a signer
 abbrev pub socket_for : Option SignerAddress → ResponderChoice → SignatureKind → Option (List ℕ)
-socket_for signer answerer Crl = crl_socket signer
-socket_for signer answerer Answer = answer_socket signer answerer
+socket_for signer responder Crl = crl_socket signer
+socket_for signer responder Answer = answer_socket signer responder
 
 -- the signer of the CRL or the OCSP response gave this answer for this message
 abbrev pub AnsweredBySigner
     : (List ℕ → List ℕ → List ℕ → Type 0) → Option SignerAddress → ResponderChoice → SignatureKind → List ℕ
     → List ℕ → Type 0
-AnsweredBySigner signer_answered signer answerer wanted =
-    AnsweredAtPath signer_answered (socket_for signer answerer wanted)
+AnsweredBySigner signer_answered signer responder wanted =
+    AnsweredAtPath signer_answered (socket_for signer responder wanted)
 
 -- the line is answered at a moment of the clock, with a signature of the message that the signer gave, or with none
-pub record IsKnown (signer_answered : List ℕ → List ℕ → Type 0) (clock_reached : ℕ → Type 0)
-    (known : Known) : Type 0 where
+pub record IsLineSignature (signer_answered : List ℕ → List ℕ → Type 0) (clock_reached : ℕ → Type 0)
+    (known : LineSignature) : Type 0 where
   pub line_added : clock_reached known.moment
   pub line_outcome : IfSome known.preset_signature.answer (λ answer.
       signer_answered known.preset_signature.message.items answer.items)

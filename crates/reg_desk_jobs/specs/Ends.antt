@@ -166,7 +166,7 @@ module _ {M O D S R W : Type 0} (machines : Machine M O D S R) (offices : Office
   -- milliseconds it took
   abbrev pub CopyAt : List ℕ → List ℕ → Result (Unit {0}) Failure → Type 0
   CopyAt path to result =
-      ((why : Failure) × (result ≡ Err why) × machines.uncopied machine path to why machine'
+      ((why : Failure) × (result ≡ Err why) × machines.copy_failed machine path to why machine'
       × IsFileFailure why × (writer' ≡ writer))
       ⊎ ((bytes millis : ℕ) × machines.copied machine path to bytes machine'
       × PrintsLine (copied_text bytes millis) contents writer writer' result)
@@ -230,8 +230,8 @@ ScriptInMemory remaining contents reader reader' writer writer' result =
 
 -- lines run at the machine's clock, which is too far ahead, and the operator does not accept that
 abbrev pub IsClockRefused : ScriptOptions → (ℕ → Type 0) → Records → Type 0
-IsClockRefused way clock_reached records =
-    IsTrue way.is_clocked × IsFalse way.accepts_clock
+IsClockRefused options clock_reached records =
+    IsTrue options.is_clocked × IsFalse options.accepts_clock
     × ((now : ℕ) × clock_reached now × IsTrue (is_ahead now records.last None))
 
 -- A job that reads and writes: the machine, the reader and the writer, before the job and after it.
@@ -260,13 +260,13 @@ module _ {M O D S R E W : Type 0} (machines : Machine M O D S R) (offices : Offi
       (result ≡ Err failure.BadClock) × (reader' ≡ reader) × (writer' ≡ writer)
       × UsesRegister machines offices machine machine' it.file (signing_with it.signer by_itself)
       (λ identity before after.
-      IsClockRefused it.way machines.clock_reached before × (after ≡ before))
+      IsClockRefused it.options machines.clock_reached before × (after ≡ before))
 
   -- the lines of a script run over the register at a path
   abbrev pub LinesRunAt : LinedScript → Result (Unit {0}) Failure → Type 0
   LinesRunAt it = RunsAt exit_of_run it.file (signing_with it.signer by_itself) (λ ran identity before after.
       LinesEnd (Lines offices.signs identity) remaining contents before after
-      reader reader' writer writer' machines.clock_reached it.way.is_clocked it.way.is_strict ran)
+      reader reader' writer writer' machines.clock_reached it.options.is_clocked it.options.is_strict ran)
 
   -- a script over the register at a path, run line by line
   abbrev pub LinesAt : LinedScript → Result (Unit {0}) Failure → Type 0
@@ -319,28 +319,28 @@ module _ {M O D S R E W : Type 0} (machines : Machine M O D S R) (offices : Offi
   abbrev pub AtPort
       : List ℕ → Option SignerAddress → ResponderChoice → Option (List ℕ) → Endpoint → Option (List ℕ) → ℕ
       → Result (Unit {0}) Failure → Type 0
-  AtPort path signer answerer published endpoint control requests result =
-      let Uses = UsesRegister machines offices machine machine' path (signing_with signer answerer) in
+  AtPort path signer responder published endpoint control requests result =
+      let Uses = UsesRegister machines offices machine machine' path (signing_with signer responder) in
       (IsFalse (is_some published) → reader' ≡ reader)
       × Over machines offices contents machine machine' writer writer'
-      path (signing_with signer answerer) result
+      path (signing_with signer responder) result
       (((why : Failure) × (result ≡ Err why) × IsTrue (is_some published) × Uses
       (λ identity before after.
       Compares before (remaining reader) (contents writer) (contents writer') (Err why) × (after ≡ before)))
       ⊎ ((inputs : List Input) × (outcomes : List (Outcome Unsigned)) × Uses
       (λ identity before after. (IsTrue (is_some published) → HasAll before (remaining reader))
-      × ServesOn machines offices signer answerer (is_some control) inputs outcomes identity before after)
+      × ServesOn machines offices signer responder (is_some control) inputs outcomes identity before after)
       × ServedAt contents writer writer' (IsBoundOn machines endpoint control)
       (EndsEarly machines.failed machines.waited) endpoint.port requests inputs result))
 
   -- that many requests
   abbrev pub ServeAt : ServeJob → Result (Unit {0}) Failure → Type 0
-  ServeAt it = AtPort it.file it.signer it.answerer it.published it.endpoint None it.requests
+  ServeAt it = AtPort it.file it.signer it.responder it.published it.endpoint None it.requests
 
   -- requests and lines, up to the greatest count: the program ends before
   abbrev pub OpenAt : OpenJob → Result (Unit {0}) Failure → Type 0
   OpenAt it =
-      AtPort it.file it.signer it.answerer it.published it.endpoint (Some it.control) 18446744073709551615
+      AtPort it.file it.signer it.responder it.published it.endpoint (Some it.control) 18446744073709551615
 
   -- a job that reads no input
   abbrev pub Writes : (Result (Unit {0}) Failure → Type 0) → Result (Unit {0}) Failure → Type 0

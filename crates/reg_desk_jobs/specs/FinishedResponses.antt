@@ -20,9 +20,9 @@ IsSignatureOf signer_answered draft (Some signature) =
 IsSignatureOf signer_answered draft None = Unit {0}
 
 -- whether a signature was made
-abbrev pub fate_of : Option (List ℕ) → SignatureOutcome
-fate_of (Some signature) = Made
-fate_of None = Failed
+abbrev pub outcome_of_signature : Option (List ℕ) → SignatureOutcome
+outcome_of_signature (Some signature) = Made
+outcome_of_signature None = Failed
 
 -- this exchange at a moment has the response with this signature, or internalError without one; or there was no memory for it
 pub record IsFinished (draft : Drafted) (moment : ℕ) (signature : Option (List ℕ))
@@ -30,7 +30,7 @@ pub record IsFinished (draft : Drafted) (moment : ℕ) (signature : Option (List
   pub given : Result (List ℕ) Memory
   pub made : IfOk given (λ bytes. bytes ≡ drafted_response draft signature)
   pub tells : AnswersText moment (ocsp_reply given) exchange
-  pub fate : exchange.signature ≡ fate_of signature
+  pub signature_outcome : exchange.signature ≡ outcome_of_signature signature
   pub store : exchange.store ≡ Unwritten
 
 -- this text finishes a response of a moment: with a signature that the signer gave, or without one

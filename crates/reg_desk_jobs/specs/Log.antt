@@ -33,7 +33,7 @@ quoted_text text = 34 ∷ flat_map quoted_byte (take 256 (first_line text)) ++ (
 
 -- the end of the line of an exchange whose signature failed
 abbrev pub unsigned_end : Bool → List ℕ
-unsigned_end is_unsigned = cond is_unsigned (codes " signer") []
+unsigned_end signature_failed = cond signature_failed (codes " signer") []
 
 -- how the line of an exchange names a request that was entered or decided: by its number and serial number, and its ground if it was entered
 abbrev pub named_end : Option NamedRequest → List ℕ
@@ -45,11 +45,11 @@ named_end (Some named) =
 -- the line of an exchange, without its LF: the moment, the client, the request and the answer, the bytes of the answer, the microseconds that it
 -- took, the request for revocation that it entered or decided, and whether a signature failed
 abbrev pub exchange_line : ℕ → List ℕ → List ℕ → List ℕ → ℕ → Option NamedRequest → Bool → List ℕ
-exchange_line now signatory asked answered micros named is_unsigned =
-    moment_text now ++ (32 ∷ signatory) ++ (32 ∷ quoted_text asked) ++ (32 ∷ quoted_text answered)
+exchange_line now client asked answered micros named signature_failed =
+    moment_text now ++ (32 ∷ client) ++ (32 ∷ quoted_text asked) ++ (32 ∷ quoted_text answered)
     ++ (32 ∷ decimal (length answered)) ++ (32 ∷ decimal micros)
-    ++ named_end named ++ unsigned_end is_unsigned
+    ++ named_end named ++ unsigned_end signature_failed
 
 -- the line of a connection that ended by a fault, without its LF
 abbrev pub lost_line : ℕ → List ℕ → List ℕ → List ℕ
-lost_line now signatory why = moment_text now ++ (32 ∷ signatory) ++ codes " lost " ++ why
+lost_line now client why = moment_text now ++ (32 ∷ client) ++ codes " lost " ++ why

@@ -15,15 +15,15 @@ use Rattle.reg_desk_jobs.specs.declared.log_entries.Logged.TheVariants.{Nothing,
 use Rattle.reg_desk_jobs.specs.declared.log_entries.ExchangeText.{ExchangeText}
 
 -- a quotation mark; the log escapes those in a text
-abbrev pub is_mark : ℕ → Bool
-is_mark byte = byte == 34
+abbrev pub is_quote : ℕ → Bool
+is_quote byte = byte == 34
 
-abbrev pub has_mark : List ℕ → Bool
-has_mark text = list_any is_mark text
+abbrev pub has_quote : List ℕ → Bool
+has_quote text = list_any is_quote text
 
 -- the text before the first quotation mark, and the text after it
-unfoldable pub parted : List ℕ → Option (List ℕ × List ℕ)
-parted text = option_map (λ mark. (take mark text, drop (mark + 1) text)) (position is_mark text)
+unfoldable pub split_at_quote : List ℕ → Option (List ℕ × List ℕ)
+split_at_quote text = option_map (λ mark. (take mark text, drop (mark + 1) text)) (position is_quote text)
 
 -- an exchange, as the log has it: the moment and the client, the request, the answer, and the fields after them
 pub record LoggedExchange : Type 0 where
@@ -43,10 +43,10 @@ exchange_of logged_exchange = record {
 -- the exchange of a line of the log: the request and the answer stand in quotation marks
 unfoldable pub exchange_in : List ℕ → Option LoggedExchange
 exchange_in line = do
-  client ← parted line
-  asked ← parted client.1
-  between ← parted asked.1
-  answered ← parted between.1
+  client ← split_at_quote line
+  asked ← split_at_quote client.1
+  between ← split_at_quote asked.1
+  answered ← split_at_quote between.1
   Some (record { client = client.0; asked = asked.0; answered = answered.0; behind = answered.1 })
 
 -- the first and the second word of a text; spaces separate words
@@ -130,17 +130,17 @@ unnamed logged_exchange =
 -- the meaning of a logged exchange; one with another quotation mark is made of two lines, of which the first was not written whole
 unfoldable pub logged_of : LoggedExchange → Logged
 logged_of logged_exchange =
-    if has_mark logged_exchange.behind then Unknown
+    if has_quote logged_exchange.behind then Unknown
     else unwrap_or (named_in (fields_of logged_exchange.behind)) (unnamed logged_exchange)
 
 -- a line of the log has no accepted command; or only a part of one; or one, with its exchange
 abbrev pub LogsNothing : List ℕ → Type 0
-LogsNothing line = ((exchange_in (line_of line) ≡ None) × IsFalse (has_mark (line_of line)))
+LogsNothing line = ((exchange_in (line_of line) ≡ None) × IsFalse (has_quote (line_of line)))
     ⊎ ((logged_exchange : LoggedExchange) × (exchange_in (line_of line) ≡ Some logged_exchange)
     × (logged_of logged_exchange ≡ Nothing))
 
 abbrev pub LogsPart : List ℕ → Type 0
-LogsPart line = ((exchange_in (line_of line) ≡ None) × IsTrue (has_mark (line_of line)))
+LogsPart line = ((exchange_in (line_of line) ≡ None) × IsTrue (has_quote (line_of line)))
     ⊎ ((logged_exchange : LoggedExchange) × (exchange_in (line_of line) ≡ Some logged_exchange)
     × (logged_of logged_exchange ≡ Unknown))
 

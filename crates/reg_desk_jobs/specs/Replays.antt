@@ -9,7 +9,7 @@ use Rattle.reg_core.specs.declared.refusal.Fault.TheVariants as fault
 use Rattle.reg_desk_cli.specs.declared.failure.Failure.{Failure}
 use Rattle.reg_desk_cli.specs.declared.failure.Failure.TheVariants as failure
 use Rattle.reg_lines.specs.Script.{IsWholeLine, line_of}
-use Rattle.reg_desk_jobs.specs.Conversations.{AreWhole, IsCutOff, IsInput, IsConversationFault, TalksLine}
+use Rattle.reg_desk_jobs.specs.Conversations.{AreWhole, IsCutOff, IsInput, IsConversationFault, ExchangesLine}
 use Rattle.reg_desk_jobs.specs.LogEntries.{LoggedExchange, LogsEntry, LogsNothing, LogsPart, first_word, second_word}
 use Rattle.reg_desk_jobs.specs.declared.log_entries.Entry.{Entry}
 use Rattle.reg_desk_jobs.specs.declared.log_entries.Entry.TheVariants.{Line, Request, Decision}
@@ -72,7 +72,8 @@ state_of sent incoming out numbers = record { sent = sent; incoming = incoming; 
 -- the command of an entry is sent; its reply agrees, and the number that it gives is kept
 abbrev pub ReplyAgrees : ReplayState → LoggedExchange → Entry → ReplayState → Type 0
 ReplyAgrees s logged_exchange entry t = (reply : List ℕ)
-    × TalksLine s.sent t.sent s.incoming t.incoming s.out t.out (line_to_send s.numbers logged_exchange entry)
+    × ExchangesLine s.sent t.sent s.incoming t.incoming s.out t.out
+    (line_to_send s.numbers logged_exchange entry)
     reply
     × IsTrue (agrees logged_exchange entry (line_of reply))
     × (t.numbers ≡ s.numbers ++ renumbered entry (line_of reply))
@@ -80,7 +81,8 @@ ReplyAgrees s logged_exchange entry t = (reply : List ℕ)
 -- the command of an entry is sent; its reply differs, and the line of the log is written after it
 abbrev pub ReplyDiffers : ReplayState → LoggedExchange → Entry → List ℕ → ReplayState → Type 0
 ReplyDiffers s logged_exchange entry line t = (reply : List ℕ) × (out : Option (List ℕ))
-    × TalksLine s.sent t.sent s.incoming t.incoming s.out out (line_to_send s.numbers logged_exchange entry)
+    × ExchangesLine s.sent t.sent s.incoming t.incoming s.out out
+    (line_to_send s.numbers logged_exchange entry)
     reply
     × IsFalse (agrees logged_exchange entry (line_of reply)) × Appends out t.out line
 

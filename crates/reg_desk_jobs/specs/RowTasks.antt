@@ -27,18 +27,18 @@ header_of (Register terms) = codes "serial,notBefore,notAfter"
 header_of Revoke = codes "serial,ground"
 
 -- a line that is no row: an empty line, or the header
-abbrev pub is_passed_over : RowTask → List ℕ → Bool
-is_passed_over task text = bytes_eq text [] || bytes_eq text (header_of task)
+abbrev pub is_skipped : RowTask → List ℕ → Bool
+is_skipped task text = bytes_eq text [] || bytes_eq text (header_of task)
 
 -- the text before the first comma, and the text after it
-unfoldable pub parted_by_comma : List ℕ → Option (List ℕ × List ℕ)
-parted_by_comma text =
+unfoldable pub split_at_comma : List ℕ → Option (List ℕ × List ℕ)
+split_at_comma text =
     option_map (λ comma. (take comma text, drop (comma + 1) text)) (position (λ byte. byte == 44) text)
 
 -- the row `SERIAL,GROUND`
 unfoldable pub revocation_row_in : List ℕ → Option RevocationRow
 revocation_row_in text = do
-  fields ← parted_by_comma text
+  fields ← split_at_comma text
   serial ← serial_of fields.0
   word ← label_of fields.1
   Some (record { serial = serial; word = word })
@@ -46,8 +46,8 @@ revocation_row_in text = do
 -- the row `SERIAL,NOTBEFORE,NOTAFTER`
 unfoldable pub registration_row_in : List ℕ → Option RegistrationRow
 registration_row_in text = do
-  fields ← parted_by_comma text
-  moments ← parted_by_comma fields.1
+  fields ← split_at_comma text
+  moments ← split_at_comma fields.1
   serial ← serial_of fields.0
   not_before ← moment_of moments.0
   not_after ← moment_of moments.1
@@ -133,8 +133,8 @@ IsRowDone reply = IsAccepted reply ⊎ (first_word (line_of reply) ≡ codes "E1
 module _ (task : RowTask) where
   -- the reply to a line of the file; a line that is skipped has none
   abbrev pub LineAnswered : Link → Link → List ℕ → List ℕ → Type 0
-  LineAnswered s t line reply = (IsTrue (is_passed_over task (line_of line)) × (reply ≡ []) × (t ≡ s))
-      ⊎ (IsFalse (is_passed_over task (line_of line)) × AnswersRow task (line_of line) s t reply)
+  LineAnswered s t line reply = (IsTrue (is_skipped task (line_of line)) × (reply ≡ []) × (t ≡ s))
+      ⊎ (IsFalse (is_skipped task (line_of line)) × AnswersRow task (line_of line) s t reply)
 
   -- the same, with the reply written, and whether the line is done
   abbrev pub LineReplied : Link → Link → Option (List ℕ) → Option (List ℕ) → List ℕ → Bool → Type 0

@@ -49,10 +49,11 @@ Serves is_open signs signer_answered clock_reached inputs outcomes identity befo
 
 -- the same at a desk with the options' signers, over the offices of a machine
 abbrev pub ServesOn
-    : {M O D S R : Type 0} → Machine M O D S R → Office O → Option SignerAddress → ResponderChoice → Bool → List Input
+    : {M O D S R : Type 0} → Machine M O D S R → Office O → Option SignerAddress → ResponderChoice → Bool
+    → List Input
     → List (Outcome Unsigned) → Signatory → Records → Records → Type 0
-ServesOn machines offices signer answerer is_open =
-    Serves is_open offices.signs (AnsweredByOcspSigner machines.signer_answered signer answerer)
+ServesOn machines offices signer responder is_open =
+    Serves is_open offices.signs (AnsweredByOcspSigner machines.signer_answered signer responder)
     machines.clock_reached
 
 -- an address of the loopback interface (RFC 1122 3.2.1.3, RFC 4291 2.5.3)

@@ -11,16 +11,16 @@ use Rattle.reg_crl_signer.specs.Forms.{identity_of}
 use Rattle.reg_crl_signer.specs.Signed.{IsCrlUnder}
 use Rattle.reg_desk_jobs.specs.SignerAnswers.{AnsweredAtPath}
 use Rattle.reg_desk_jobs.specs.declared.crl_signer.CrlSigner.{CrlSigner}
-use Rattle.reg_desk_jobs.specs.declared.crl_signer.CrlSigner.TheVariants.{Nobody, Digest, OpenedBy}
+use Rattle.reg_desk_jobs.specs.declared.crl_signer.CrlSigner.TheVariants.{NoSigner, Digest, KeyAt}
 use Rattle.reg_desk_cli.specs.declared.job.ResponderChoice.{ResponderChoice}
 use Rattle.reg_desk_cli.specs.declared.job.ResponderChoice.TheVariants.{Issuer, Delegate}
 use Rattle.reg_desk_cli.specs.declared.job.SignerAddress.{SignerAddress}
 
 -- the signer of CRLs that the command line names. Without one, a placeholder digest; but no signer if the OCSP responder has a key of its own
 abbrev pub signs_crls : Option SignerAddress → ResponderChoice → CrlSigner
-signs_crls (Some holder) answerer = OpenedBy holder
+signs_crls (Some holder) responder = KeyAt holder
 signs_crls None (Issuer certificate) = Digest
-signs_crls None (Delegate certificate holder) = Nobody
+signs_crls None (Delegate certificate holder) = NoSigner
 
 -- the signers with which a register is opened: that of its CRLs, and that of OCSP responses
 abbrev pub Signing : Type 0
@@ -28,7 +28,7 @@ Signing = CrlSigner × ResponderChoice
 
 -- the same, from the options
 abbrev pub signing_with : Option SignerAddress → ResponderChoice → Signing
-signing_with signer answerer = (signs_crls signer answerer, answerer)
+signing_with signer responder = (signs_crls signer responder, responder)
 
 -- the signer of CRLs signs OCSP responses too, without a certificate in them
 abbrev pub by_itself : ResponderChoice
@@ -36,7 +36,7 @@ by_itself = Issuer None
 
 -- the signers for a job that signs nothing
 abbrev pub unsigned : Signing
-unsigned = (Nobody, by_itself)
+unsigned = (NoSigner, by_itself)
 
 -- a certificate for OCSP responses is given
 abbrev pub HasCertificate : ResponderChoice → Type 0
@@ -56,8 +56,8 @@ answer_socket signer (Delegate certificate holder) = Some holder.socket
 -- the signer of OCSP responses gave this answer for this message
 abbrev pub AnsweredByOcspSigner
     : (List ℕ → List ℕ → List ℕ → Type 0) → Option SignerAddress → ResponderChoice → List ℕ → List ℕ → Type 0
-AnsweredByOcspSigner signer_answered signer answerer =
-    AnsweredAtPath signer_answered (answer_socket signer answerer)
+AnsweredByOcspSigner signer_answered signer responder =
+    AnsweredAtPath signer_answered (answer_socket signer responder)
 
 -- the signer of an issuer's key (RFC 5280 4.1.2.7): with its algorithm, or the placeholder digest
 abbrev pub identity_of_holder : Option SignerAddress → List ℕ → Identity
@@ -66,9 +66,9 @@ identity_of_holder (Some holder) key = identity_of holder.algorithm key
 
 -- the signer of CRLs of an open register: the given one; if nothing is to be signed, any that could be given
 abbrev pub IsSigning : CrlSigner → List ℕ → Identity → Type 0
-IsSigning Nobody key identity = (signer : Option SignerAddress) × (identity ≡ identity_of_holder signer key)
+IsSigning NoSigner key identity = (signer : Option SignerAddress) × (identity ≡ identity_of_holder signer key)
 IsSigning Digest key identity = identity ≡ identity_of_holder None key
-IsSigning (OpenedBy holder) key identity = identity ≡ identity_of_holder (Some holder) key
+IsSigning (KeyAt holder) key identity = identity ≡ identity_of_holder (Some holder) key
 
 -- a responder with a certificate of its own (RFC 6960 4.2.2.2): it signs with the key of that certificate, which fits the algorithm, and is
 -- identified by that key; the certificate is in each response
@@ -95,8 +95,8 @@ IsAnswering (Issuer (Some path)) signatory =
 IsAnswering (Delegate path holder) signatory = IsDelegate holder signatory.answers
 
 -- a certificate in OCSP responses that the issuer's key signs has that key
-abbrev pub EmbedsOwn : List ℕ → Responder → Type 0
-EmbedsOwn key responder =
+abbrev pub EmbeddedKeyFits : List ℕ → Responder → Type 0
+EmbeddedKeyFits key responder =
     MatchOption responder.own_key
     (IfSome responder.certificate (λ certificate.
     (algorithm : List ℕ) × IsCertificateOf certificate algorithm key))

@@ -15,7 +15,7 @@ use Rattle.reg_crl.specs.Signing.{sha1_algorithm}
 use Rattle.reg_crl_signer.specs.Signed.{IsCrlUnder}
 use Rattle.reg_desk_cli.specs.declared.desk.TheConstants.{VERSION}
 use Rattle.reg_http_head.specs.Response.{Response}
-use Rattle.reg_http.specs.Bodies.{json, only}
+use Rattle.reg_http.specs.Bodies.{json, method_not_allowed}
 use Rattle.reg_http.specs.AnswerEffects.{AnswerEffects, plain}
 use Rattle.reg_desk_metrics.specs.Healths.{health_of, health_text, is_well}
 use Rattle.reg_desk_metrics.specs.Metrics.{metrics_text}
@@ -43,21 +43,21 @@ Has query kind records now (Err (Refused refusal)) = answer records now query �
 Has query kind records now (Err other) = Unit {0}
 
 -- how many requests are overdue
-abbrev pub many_in : Option Overdue → ℕ
-many_in (Some overdue) = overdue.count
-many_in None = 0
+abbrev pub overdue_count : Option Overdue → ℕ
+overdue_count (Some overdue) = overdue.count
+overdue_count None = 0
 
 abbrev pub HasOverdue : Records → ℕ → Result ℕ Fault → Type 0
 HasOverdue records now (Ok count) =
     (overdue : Option Overdue) × (answer records now AskOverdue ≡ Ok (OverdueAre overdue))
-    × (count ≡ many_in overdue)
+    × (count ≡ overdue_count overdue)
 HasOverdue records now (Err fault) = Unit {0}
 
 -- how CRLs are signed, as the tally has it
 abbrev pub signing_by : CrlSigner → CrlSigning
-signing_by (signer.OpenedBy holder) = signing.Key
+signing_by (signer.KeyAt holder) = signing.Key
 signing_by signer.Digest = signing.Digest
-signing_by signer.Nobody = signing.Nobody
+signing_by signer.NoSigner = signing.NoSigner
 
 -- whether a CRL has a placeholder digest instead of a signature, by its signatureAlgorithm (RFC 5280 5.1.1.2)
 abbrev pub IsUnsigned : List ℕ → Bool → Type 0
@@ -84,15 +84,15 @@ IsLatestRead tally records None = (has_crl_key tally ≡ false) ⊎ (latest reco
 abbrev pub due_after : ReadCrl → Option ℕ → Option ℕ
 due_after read asked = cond read.is_unsigned None asked
 
-abbrev pub due_behind : Option ReadCrl → Option ℕ → Option ℕ
-due_behind None asked = asked
-due_behind (Some read) asked = due_after read asked
+abbrev pub due_after_latest : Option ReadCrl → Option ℕ → Option ℕ
+due_after_latest None asked = asked
+due_after_latest (Some read) asked = due_after read asked
 
 -- when the next CRL is due at a moment: as the query gives it, or at once if a signer has the key and the latest CRL has no signature
 abbrev pub HasDue : Tally → Records → ℕ → Result (Option ℕ) Fault → Type 0
 HasDue tally records now (Ok due) = (asked : Option ℕ) × (read : Option ReadCrl)
     × Has AskNextCrl NextCrlIs records now (Ok asked) × IsLatestRead tally records read
-    × (due ≡ due_behind read asked)
+    × (due ≡ due_after_latest read asked)
 HasDue tally records now (Err (Refused refusal)) = answer records now AskNextCrl ≡ Err refusal
 HasDue tally records now (Err other) = Unit {0}
 
@@ -110,13 +110,13 @@ IsDueUnsigned tally records (Some (Unsigned number)) =
 IsDueUnsigned tally records (Some other) = ⊥
 IsDueUnsigned tally records None =
     (read : Option ReadCrl) × IsLatestRead tally records read
-    × ((asked : Option ℕ) → due_behind read asked ≡ asked)
+    × ((asked : Option ℕ) → due_after_latest read asked ≡ asked)
 
 -- the numbers of a register at a moment: its counts, when its next CRL is due, and its standing; or why they can't be read
 abbrev pub HasFound : Tally → Records → ℕ → Result Numbers Fault → Type 0
 HasFound tally records now (Ok numbers) =
     Has AskCounts CountsAre records now (Ok numbers.counts) × HasDue tally records now (Ok numbers.due)
-    × IsRegisterSummary records numbers.standing
+    × IsRegisterSummary records numbers.summary
 HasFound tally records now (Err (Refused refusal)) =
     (answer records now AskCounts ≡ Err refusal) ⊎ (answer records now AskNextCrl ≡ Err refusal)
 HasFound tally records now (Err other) = Unit {0}
@@ -166,7 +166,8 @@ metrics_response text = record {
 
 -- these routes allow only GET (RFC 9110 15.5.6)
 abbrev pub ByGet : List ℕ → (AnswerEffects → Type 0) → AnswerEffects → Type 0
-ByGet method Says it = MatchBool (bytes_eq method (codes "GET")) (Says it) (it ≡ plain (only (codes "GET")))
+ByGet method Says it =
+    MatchBool (bytes_eq method (codes "GET")) (Says it) (it ≡ plain (method_not_allowed (codes "GET")))
 
 -- the health: from the register's numbers at a moment, the tally, and the moment that the operator accepted
 abbrev pub AnswersHealth : ℕ → Records → AnswerEffects → Type 0

@@ -14,7 +14,7 @@ use reg_http::{Answered, begin, refuse, report_fault, serial_of};
 use reg_http_head::status;
 use reg_io::ReadyOrUnsigned;
 use reg_ocsp::Draft;
-use reg_office_api::{Intake, Office};
+use reg_office_api::{Office, RequestLoad};
 use std::alloc::Global;
 
 /// The greatest number of open requests for one serial number.
@@ -117,8 +117,11 @@ fn refusal_of<M: Machine>(
         return refused(alloc, status::TOO_MANY_REQUESTS);
     }
     admission.recent.count(now);
-    match office.intake(now, serial, MOST_OPEN) {
-        Ok(intake) => match limit_of(intake, is_ahead(now, intake.last, admission.accepted)) {
+    match office.request_load(now, serial, MOST_OPEN) {
+        Ok(request_load) => match limit_of(
+            request_load,
+            is_ahead(now, request_load.last, admission.accepted),
+        ) {
             Some(status) => refused(alloc, status),
             None => Ok(None),
         },
@@ -132,13 +135,13 @@ fn refused(alloc: Global, status: u16) -> Result<Option<Answered>, Memory>
     Ok(Some(refuse(alloc, status)?))
 }
 
-fn limit_of(intake: Intake, is_ahead: bool) -> Option<u16>
-    ensures { result ≡ limit_by intake is_ahead }
+fn limit_of(request_load: RequestLoad, is_ahead: bool) -> Option<u16>
+    ensures { result ≡ limit_by request_load is_ahead }
 {
-    if is_ahead || intake.cap.saturating_sub(intake.requests) < intake.cap / 10 {
+    if is_ahead || request_load.cap.saturating_sub(request_load.requests) < request_load.cap / 10 {
         return Some(status::SERVICE_UNAVAILABLE);
     }
-    if intake.waiting >= MOST_OPEN {
+    if request_load.waiting >= MOST_OPEN {
         return Some(status::TOO_MANY_REQUESTS);
     }
     None

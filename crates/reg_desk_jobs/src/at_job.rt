@@ -4,7 +4,7 @@ ghost use Rattle.std.specs.Prelude.{◌≡◌, ◌⊎◌, ◌↔◌, IsFalse, Is
 ghost use Rattle.std.specs.Io.{StopsAt};
 ghost use Rattle.std.specs.Io.BufRead.{ends_with_byte};
 ghost use Rattle.std.specs.Io.KnownBytes.{Appends, Consumes};
-ghost use Rattle.reg_desk_jobs.specs.Conversations.{AtControlSocket, IsConversationFault, IsReadAs, NextIs, RowsAtControlSocket, Talks, TalksLine, TalksOnce, TalksOver};
+ghost use Rattle.reg_desk_jobs.specs.Conversations.{AtControlSocket, IsConversationFault, IsReadAs, NextIs, RowsAtControlSocket, ExchangesLines, ExchangesLine, ExchangesNextLine, ExchangesLinesOver};
 
 use crate::machine::Machine;
 use crate::output_lines::print_text;
@@ -49,7 +49,7 @@ pub fn at<M: Machine, R: Read, W: Write>(
         (W.contents writer.old) (W.contents writer.new) result }
 {
     match machine.connect_to_socket(control_path) {
-        Ok(link) => talk_over(alloc, &link, reader, writer),
+        Ok(link) => exchange_lines_over(alloc, &link, reader, writer),
         Err(_) => Err(Failure::Fault(Fault::Read)),
     }
 }
@@ -72,13 +72,14 @@ pub fn at_rows<M: Machine, R: Read, W: Write>(
     }
 }
 
-fn talk_over<R: Read, W: Write>(
+fn exchange_lines_over<R: Read, W: Write>(
     alloc: Global,
     link: &UnixStream,
     reader: &mut R,
     writer: &mut W,
 ) -> Result<(), Failure>
-    ensures { TalksOver (R.remaining reader.old) (W.contents writer.old) (W.contents writer.new) result }
+    ensures { ExchangesLinesOver (R.remaining reader.old) (W.contents writer.old) (W.contents writer.new)
+        result }
 {
     let Ok(mut incoming) = BufReader::new(alloc, link) else {
         return Err(Failure::Fault(Fault::Memory));
@@ -101,13 +102,13 @@ pub fn exchange_lines<R: BufRead, W: Write, C: BufRead, S: Write>(
     incoming: &mut C,
     sent: &mut S,
 ) -> Result<(), Failure>
-    ensures { Talks (S.contents sent.old) (S.contents sent.new)
+    ensures { ExchangesLines (S.contents sent.old) (S.contents sent.new)
         (C.remaining incoming.old) (C.remaining incoming.new)
         (W.contents writer.old) (W.contents writer.new) (R.remaining input.old) result }
 {
     let mut is_accepted = true;
     for _ in 0..u64::MAX {
-        let step = match talk_once(alloc, input, writer, incoming, sent) {
+        let step = match exchange_next_line(alloc, input, writer, incoming, sent) {
             Ok(step) => step,
             Err(why) => return Err(why),
         };
@@ -148,14 +149,14 @@ pub(crate) fn cut_off(is_accepted: bool) -> Failure
     }
 }
 
-fn talk_once<R: BufRead, W: Write, C: BufRead, S: Write>(
+fn exchange_next_line<R: BufRead, W: Write, C: BufRead, S: Write>(
     alloc: Global,
     input: &mut R,
     writer: &mut W,
     incoming: &mut C,
     sent: &mut S,
 ) -> Result<Step, Failure>
-    ensures { TalksOnce (S.contents sent.old) (S.contents sent.new)
+    ensures { ExchangesNextLine (S.contents sent.old) (S.contents sent.new)
         (C.remaining incoming.old) (C.remaining incoming.new)
         (W.contents writer.old) (W.contents writer.new) (R.remaining input.old) (R.remaining input.new)
         result }
@@ -179,7 +180,7 @@ pub(crate) fn exchange<W: Write, C: BufRead, S: Write>(
     sent: &mut S,
 ) -> Result<Vec<u8>, Failure>
     ensures ok { IfOk result (λ reply.
-        TalksLine (S.contents sent.old) (S.contents sent.new)
+        ExchangesLine (S.contents sent.old) (S.contents sent.new)
         (C.remaining incoming.old) (C.remaining incoming.new)
         (W.contents writer.old) (W.contents writer.new) line.now reply.items) }
     ensures err { IfErr result IsConversationFault }

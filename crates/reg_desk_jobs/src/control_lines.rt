@@ -65,9 +65,9 @@ pub(crate) fn answer_counted<M: Machine>(
         last_reason,
     );
     keep_due_reason::<M>(alloc, office, tally, &reply.line_outcome, last_reason);
-    let is_unsigned = has_failed::<M>(office, failures);
+    let signature_failed = has_failed::<M>(office, failures);
     let micros = machine.micros().saturating_sub(began);
-    tally.count_line(now, reply.line_outcome.effects(is_unsigned), micros);
+    tally.count_line(now, reply.line_outcome.effects(signature_failed), micros);
     let named = named_by(&reply.line_outcome, named);
     log_line(
         alloc,
@@ -77,7 +77,7 @@ pub(crate) fn answer_counted<M: Machine>(
         line,
         &reply.text,
         named,
-        is_unsigned,
+        signature_failed,
     );
     reply.text
 }
@@ -143,10 +143,10 @@ fn refusal_by_clock<M: Machine>(
         office.old office.new }
     ensures line_outcome { IfSome result (λ reply. ReportsLineOutcome reply.line_outcome reply.text.items) }
 {
-    match office.standing() {
-        Ok(standing) if is_ahead(now, standing.last, accepted) => {
+    match office.summary() {
+        Ok(summary) if is_ahead(now, summary.last, accepted) => {
             let reply = clock_refused(alloc);
-            let reason = Some(Reason::ClockAhead(standing.last));
+            let reason = Some(Reason::ClockAhead(summary.last));
             keep_reason_text(reason_line(alloc, b"", reason), &reply.text, last_reason);
             Some(reply)
         }

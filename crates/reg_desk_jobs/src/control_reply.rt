@@ -3,7 +3,7 @@
 ghost use Rattle.std.specs.Prelude.{◌≡◌, ◌≤◌, ◌++◌, ◌∷◌, [], ℕ, List, IfOk, vec_capacity};
 ghost use Rattle.reg_core.specs.Lines.{fault_line};
 ghost use Rattle.reg_lines.specs.Answer.{reply_of};
-ghost use Rattle.reg_desk_jobs.specs.ControlReplies.{IsLineReply, IsOf, line_outcome_of, crl_fate, effects_of, failed_if as failed_where, kind_of, kind_of_fault as kind_by_fault, ocsp_fate, store_effect};
+ghost use Rattle.reg_desk_jobs.specs.ControlReplies.{IsLineReply, IsOf, line_outcome_of, crl_outcome, effects_of, failed_if as failed_where, kind_of, kind_of_fault as kind_by_fault, ocsp_outcome, store_effect};
 
 use reg_core::{Command, Fault, Outcome};
 use reg_desk_cli::Failure;
@@ -38,14 +38,14 @@ impl LineOutcome {
         }
     }
 
-    /// What is counted for the line. `is_unsigned` is whether a signature failed during it.
-    pub(crate) fn effects(&self, is_unsigned: bool) -> LineEffects
-        ensures { result ≡ effects_of is_unsigned self.now }
+    /// What is counted for the line. `signature_failed` is whether a signature failed during it.
+    pub(crate) fn effects(&self, signature_failed: bool) -> LineEffects
+        ensures { result ≡ effects_of signature_failed self.now }
     {
         LineEffects {
             reply: self.kind(),
-            crl: self.crl(is_unsigned),
-            ocsp: self.ocsp(is_unsigned),
+            crl: self.crl(signature_failed),
+            ocsp: self.ocsp(signature_failed),
             store: self.store(),
         }
     }
@@ -65,26 +65,26 @@ impl LineOutcome {
         }
     }
 
-    fn crl(&self, is_unsigned: bool) -> SignatureOutcome
-        ensures { result ≡ crl_fate is_unsigned self.now }
+    fn crl(&self, signature_failed: bool) -> SignatureOutcome
+        ensures { result ≡ crl_outcome signature_failed self.now }
     {
         match self {
             LineOutcome::Completed(LineKind::Command(Command::Crl), Ok(_)) =>
                 SignatureOutcome::Made,
             LineOutcome::Completed(LineKind::Command(Command::Crl), Err(_)) => failed_if(
-                is_unsigned,
+                signature_failed,
             ),
             _ => SignatureOutcome::NotRequested,
         }
     }
 
-    fn ocsp(&self, is_unsigned: bool) -> SignatureOutcome
-        ensures { result ≡ ocsp_fate is_unsigned self.now }
+    fn ocsp(&self, signature_failed: bool) -> SignatureOutcome
+        ensures { result ≡ ocsp_outcome signature_failed self.now }
     {
         match self {
-            LineOutcome::Completed(LineKind::Ocsp, _) => failed_if(is_unsigned),
-            LineOutcome::Response(true) => failed_if(is_unsigned),
-            LineOutcome::Response(false) if !is_unsigned => SignatureOutcome::Made,
+            LineOutcome::Completed(LineKind::Ocsp, _) => failed_if(signature_failed),
+            LineOutcome::Response(true) => failed_if(signature_failed),
+            LineOutcome::Response(false) if !signature_failed => SignatureOutcome::Made,
             LineOutcome::Response(false) => SignatureOutcome::Failed,
             _ => SignatureOutcome::NotRequested,
         }
@@ -111,10 +111,10 @@ fn kind_of_fault(fault: &Fault) -> LineReply
     }
 }
 
-fn failed_if(is_unsigned: bool) -> SignatureOutcome
-    ensures { result ≡ failed_where is_unsigned }
+fn failed_if(signature_failed: bool) -> SignatureOutcome
+    ensures { result ≡ failed_where signature_failed }
 {
-    if is_unsigned {
+    if signature_failed {
         SignatureOutcome::Failed
     } else {
         SignatureOutcome::NotRequested
@@ -163,7 +163,7 @@ impl ControlReply {
     }
 
     /// The reply for a fault because of which no copy was created.
-    pub(crate) fn uncopied(alloc: Global, fault: Fault) -> ControlReply
+    pub(crate) fn copy_failed(alloc: Global, fault: Fault) -> ControlReply
         ensures { IsLineReply (fault_line fault) (LineOutcome.CopyFault fault) result }
     {
         let line = fault.line();

@@ -47,7 +47,7 @@ pub(crate) fn answer_copy<M: Machine>(
     let began = machine.micros();
     match copy_to(machine, file, path) {
         Ok(bytes) => copied_reply(alloc, bytes, millis_since(machine, began)),
-        Err(why) => uncopied_reply(alloc, why, last_reason),
+        Err(why) => copy_failed_reply(alloc, why, last_reason),
     }
 }
 
@@ -94,10 +94,10 @@ fn copied_line(alloc: Global, bytes: u64, millis: u64) -> Result<Vec<u8>, AllocE
     Ok(text)
 }
 
-fn uncopied_reply(alloc: Global, why: CopyFault, last_reason: &mut Vec<u8>) -> ControlReply
+fn copy_failed_reply(alloc: Global, why: CopyFault, last_reason: &mut Vec<u8>) -> ControlReply
     ensures { IsLineReply (fault_line why.fault) (LineOutcome.CopyFault why.fault) result }
 {
-    let reply = ControlReply::uncopied(alloc, why.fault);
+    let reply = ControlReply::copy_failed(alloc, why.fault);
     keep_reason_text(cause_text(alloc, why.cause), &reply.text, last_reason);
     reply
 }

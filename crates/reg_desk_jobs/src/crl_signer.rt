@@ -9,28 +9,28 @@ use reg_desk_cli::{ResponderChoice, SignerAddress, Word};
 #[derive(Drop)]
 pub enum CrlSigner<'a> {
     /// No signer: each CRL fails with a fault of the signer.
-    Nobody,
+    NoSigner,
     /// CRLs get a placeholder digest instead of a signature.
     Digest,
     /// The signer with the issuer's key.
-    OpenedBy(SignerAddress<'a>),
+    KeyAt(SignerAddress<'a>),
 }
 
 impl<'a> CrlSigner<'a> {
     /// The given signer. Without one, a placeholder digest; but no signer if the OCSP responder has a key of its own.
     pub(crate) fn of(
         signer: &Option<SignerAddress<'a>>,
-        answerer: &ResponderChoice<'_>,
+        responder: &ResponderChoice<'_>,
     ) -> CrlSigner<'a>
-        ensures { result ≡ signs_crls signer.now answerer.now }
+        ensures { result ≡ signs_crls signer.now responder.now }
     {
-        match (signer, answerer) {
-            (Some(holder), _) => CrlSigner::OpenedBy(SignerAddress {
+        match (signer, responder) {
+            (Some(holder), _) => CrlSigner::KeyAt(SignerAddress {
                 socket: Word::of(holder.socket.as_str()),
                 algorithm: holder.algorithm,
             }),
             (None, ResponderChoice::Issuer { .. }) => CrlSigner::Digest,
-            (None, ResponderChoice::Delegate { .. }) => CrlSigner::Nobody,
+            (None, ResponderChoice::Delegate { .. }) => CrlSigner::NoSigner,
         }
     }
 }

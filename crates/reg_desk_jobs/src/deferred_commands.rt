@@ -2,7 +2,7 @@
 
 ghost use Rattle.std.specs.Prelude.{◌≡◌, IfOk, IfSome, OnErr, option_copied};
 ghost use Rattle.reg_office_api.specs.Calls.{KeepsIn, LeadsIn};
-ghost use Rattle.reg_desk_jobs.specs.Deferring.{AnsweredBySigner, IsKnown, socket_for};
+ghost use Rattle.reg_desk_jobs.specs.Deferring.{AnsweredBySigner, IsLineSignature, socket_for};
 ghost use Rattle.reg_desk_jobs.specs.Signers.{crl_socket};
 ghost use Rattle.reg_desk_jobs.specs.ControlWords.{Word};
 
@@ -43,7 +43,7 @@ pub struct LineTicket {
 
 /// The signature for a line, if there is one, and the moment at which the line is to run.
 #[derive(Drop)]
-pub(crate) struct Known {
+pub(crate) struct LineSignature {
     pub(crate) moment: Moment,
     pub(crate) preset_signature: PresetSignature,
 }
@@ -107,14 +107,14 @@ fn deferred_for(
 /// The path of the signer's socket, if there is a signer: for OCSP responses the responder's, or else that of the signer of CRLs.
 pub(crate) fn socket_of<'w>(
     signer: &Option<SignerAddress<'w>>,
-    answerer: &ResponderChoice<'w>,
+    responder: &ResponderChoice<'w>,
     wanted: SignatureKind,
 ) -> Option<&'w str>
-    ensures { socket_for signer.now answerer.now wanted ≡ option_copied result }
+    ensures { socket_for signer.now responder.now wanted ≡ option_copied result }
 {
     match wanted {
         SignatureKind::Crl => crls_at(signer),
-        SignatureKind::Answer => match answerer {
+        SignatureKind::Answer => match responder {
             ResponderChoice::Delegate { holder, .. } => Some(holder.socket.as_str()),
             ResponderChoice::Issuer { .. } => crls_at(signer),
         },
@@ -130,19 +130,20 @@ fn crls_at<'w>(signer: &Option<SignerAddress<'w>>) -> Option<&'w str>
 /// The signature for a line, and the moment at which the line is to run: with a link, the one for which the message was made. Without a link there
 /// is no signature, and the moment is that of the clock, or [`EventLoopFault`] if the clock can't be read. `None` if a later command was accepted
 /// meanwhile, so that the message would be another one, or if the clock is now behind the moment of the message.
-pub(crate) fn known_of<M: Machine>(
+pub(crate) fn line_signature_of<M: Machine>(
     alloc: Global,
     office: &mut M::Office,
     machine: &M,
     signer: &Option<SignerAddress<'_>>,
-    answerer: &ResponderChoice<'_>,
+    responder: &ResponderChoice<'_>,
     looked: LineTicket,
     message: Vec<u8>,
     link: Option<SignatureRequest>,
-) -> Result<Option<Known>, EventLoopFault>
+) -> Result<Option<LineSignature>, EventLoopFault>
     ensures moves { KeepsIn M.Office.Office office.old office.new }
     ensures known { IfOk result (λ found.
-        IfSome found (IsKnown (AnsweredBySigner M.signer_answered signer.now answerer.now looked.wanted)
+        IfSome found
+        (IsLineSignature (AnsweredBySigner M.signer_answered signer.now responder.now looked.wanted)
         M.clock_reached)) }
     ensures err { OnErr result (office.new ≡ office.old) }
     ensures fails { OnErr result M.failed }
@@ -155,13 +156,13 @@ pub(crate) fn known_of<M: Machine>(
             message: Vec::new(alloc),
             answer: None,
         };
-        return Ok(Some(Known {
+        return Ok(Some(LineSignature {
             moment,
             preset_signature,
         }));
     };
     Ok(recalled::<M>(
-        alloc, office, machine, signer, answerer, looked, message, link,
+        alloc, office, machine, signer, responder, looked, message, link,
     ))
 }
 
@@ -171,22 +172,30 @@ fn recalled<M: Machine>(
     office: &mut M::Office,
     machine: &M,
     signer: &Option<SignerAddress<'_>>,
-    answerer: &ResponderChoice<'_>,
+    responder: &ResponderChoice<'_>,
     looked: LineTicket,
     message: Vec<u8>,
     link: SignatureRequest,
-) -> Option<Known>
+) -> Option<LineSignature>
     ensures moves { KeepsIn M.Office.Office office.old office.new }
     ensures known { IfSome result
-        (IsKnown (AnsweredBySigner M.signer_answered signer.now answerer.now looked.wanted) M.clock_reached) }
+        (IsLineSignature (AnsweredBySigner M.signer_answered signer.now responder.now looked.wanted)
+        M.clock_reached) }
 {
     if is_past(office, looked.moment) {
         return None;
     }
-    let moment = machine.recall(looked.moment)?;
-    let answer = received_answer::<M>(alloc, signer, answerer, looked.wanted, &message, Some(link));
+    let moment = machine.moment_if_reached(looked.moment)?;
+    let answer = received_answer::<M>(
+        alloc,
+        signer,
+        responder,
+        looked.wanted,
+        &message,
+        Some(link),
+    );
     let preset_signature = PresetSignature { message, answer };
-    Some(Known {
+    Some(LineSignature {
         moment,
         preset_signature,
     })
@@ -196,21 +205,21 @@ fn recalled<M: Machine>(
 fn is_past<O: Office>(office: &mut O, moment: Moment) -> bool
     ensures { KeepsIn O.Office office.old office.new }
 {
-    match office.standing() {
-        Ok(standing) => moment < standing.last,
+    match office.summary() {
+        Ok(summary) => moment < summary.last,
         Err(_) => false,
     }
 }
 
 impl<'a, 'w, M: Machine> Desk<'a, 'w, M> {
     /// What is to be signed before a line can be answered; `None` if nothing is, or if there is no signer for it.
-    pub(crate) fn look_for(&mut self, said: &CommandLine<'_>) -> Option<Deferred<LineTicket>>
+    pub(crate) fn deferred_line(&mut self, said: &CommandLine<'_>) -> Option<Deferred<LineTicket>>
         ensures open { self.new.is_open ≡ self.old.is_open }
         ensures moves { KeepsIn M.Office.Office
             self.old.office self.new.office }
     {
         let wanted = signature_kind_by(said)?;
-        socket_of(self.signer, self.answerer, wanted)?;
+        socket_of(self.signer, self.responder, wanted)?;
         let began = self.machine.micros();
         if wanted == SignatureKind::Answer && self.backoff.is_active(Duration::from_micros(began)) {
             // The response stays unsigned, because its signer is backed off.
@@ -245,20 +254,20 @@ impl<'a, 'w, M: Machine> Desk<'a, 'w, M> {
         ensures moves { KeepsIn M.Office.Office
             self.old.office self.new.office }
     {
-        match self.office.standing() {
-            Ok(standing) => is_ahead(moment, standing.last, self.admission.accepted),
+        match self.office.summary() {
+            Ok(summary) => is_ahead(moment, summary.last, self.admission.accepted),
             Err(_) => false,
         }
     }
 
     /// The back-off of the OCSP signer after this line: cleared if it answered or failed at once, set if it timed out, unchanged if it was not asked.
-    pub(crate) fn backoff_after(&self, looked: LineTicket, has_come: bool) -> Backoff {
-        let answers = socket_of(self.signer, self.answerer, SignatureKind::Answer);
-        let asked = socket_of(self.signer, self.answerer, looked.wanted);
+    pub(crate) fn backoff_after(&self, looked: LineTicket, has_arrived: bool) -> Backoff {
+        let answers = socket_of(self.signer, self.responder, SignatureKind::Answer);
+        let asked = socket_of(self.signer, self.responder, looked.wanted);
         if looked.is_backed_off || !is_same(asked, answers) {
             return self.backoff;
         }
-        if has_come {
+        if has_arrived {
             return Backoff::none();
         }
         Backoff::after_failure(
@@ -269,14 +278,15 @@ impl<'a, 'w, M: Machine> Desk<'a, 'w, M> {
     }
 
     /// Answers a line with this signature, or without one; the signer is not asked again. The line is counted like any other.
-    pub(crate) fn answer_known(
+    pub(crate) fn answer_with_signature(
         &mut self,
         line: &[u8],
         last_reason: &mut Vec<u8>,
         looked: LineTicket,
-        known: Known,
+        known: LineSignature,
     ) -> Vec<u8>
-        requires { IsKnown (AnsweredBySigner M.signer_answered self.old.signer.now self.old.answerer.now
+        requires { IsLineSignature
+            (AnsweredBySigner M.signer_answered self.old.signer.now self.old.responder.now
             looked.wanted) M.clock_reached known }
         ensures open { self.new.is_open ≡ self.old.is_open }
         ensures moves { LeadsIn M.Office.Office
@@ -284,7 +294,7 @@ impl<'a, 'w, M: Machine> Desk<'a, 'w, M> {
             Word M.Office.signs M.clock_reached identity before line.now result.items after) self.old.office
             self.new.office }
     {
-        let Known {
+        let LineSignature {
             moment,
             preset_signature,
         } = known;

@@ -4,7 +4,7 @@ ghost use Rattle.std.specs.Prelude.{◌≡◌, IfOk, MatchOption, OnErr};
 
 use crate::admission::Admission;
 use crate::control_lines::answer_counted;
-use crate::deferred_commands::{LineTicket, SignatureKind, known_of, socket_of};
+use crate::deferred_commands::{LineTicket, SignatureKind, line_signature_of, socket_of};
 use crate::exchange_log::log_lost;
 use crate::http_exchanges::answer_http;
 use crate::machine::Machine;
@@ -36,7 +36,7 @@ pub(crate) struct Desk<'a, 'w, M: Machine> {
     pub(crate) file: &'a str,
     /// The signers of CRLs and of OCSP responses, as the command line names them.
     pub(crate) signer: &'a Option<SignerAddress<'w>>,
-    pub(crate) answerer: &'a ResponderChoice<'w>,
+    pub(crate) responder: &'a ResponderChoice<'w>,
     /// The back-off of the OCSP signer, for `ocsp` lines at the control socket.
     pub(crate) backoff: Backoff,
     /// What was counted since the register was opened. No contract of the desk mentions it. It is a `Cell`, because `finish` takes `&self` and counts
@@ -74,7 +74,7 @@ impl<'a, 'w, M: Machine> Handler for Desk<'a, 'w, M> {
         × KeepsIn M.Office.Office s.office t.office };
 
     ghost finishes = { λ s. FinishesUnsigned
-        (AnsweredByOcspSigner M.signer_answered s.signer.now s.answerer.now) };
+        (AnsweredByOcspSigner M.signer_answered s.signer.now s.responder.now) };
 
     ghost has_control = { λ desk. IsTrue desk.is_open };
 
@@ -138,11 +138,11 @@ impl<'a, 'w, M: Machine> Handler for Desk<'a, 'w, M> {
 
     fn request_signature(&self, ticket: &Unsigned) -> io::Result<SignatureRequest>
         ensures { IfOk result (λ sent_request.
-            AtGivenPath (answer_socket self.now.signer.now self.now.answerer.now)
+            AtGivenPath (answer_socket self.now.signer.now self.now.responder.now)
             (λ path. M.signature_requested path ticket.now.draft.message
             × IsSignatureRequest path ticket.now.draft.message sent_request)) }
     {
-        match socket_of(self.signer, self.answerer, SignatureKind::Answer) {
+        match socket_of(self.signer, self.responder, SignatureKind::Answer) {
             Some(socket) => self
                 .machine
                 .request_signature(socket, ticket.draft.message()),
@@ -157,7 +157,7 @@ impl<'a, 'w, M: Machine> Handler for Desk<'a, 'w, M> {
             self.machine,
             &mut tally,
             self.signer,
-            self.answerer,
+            self.responder,
             ticket,
             link,
         );
@@ -193,17 +193,17 @@ impl<'a, 'w, M: Machine> Handler for Desk<'a, 'w, M> {
 
     fn defer(&mut self, line: &[u8]) -> Option<Deferred<LineTicket>> {
         match read_line(command_in(line)?) {
-            Some(said) => self.look_for(&said),
+            Some(said) => self.deferred_line(&said),
             None => None,
         }
     }
 
     fn connect_to_signer(&self, ticket: &LineTicket) -> io::Result<SignatureRequest>
         ensures { IfOk result (λ sent_request.
-            AtGivenPath (socket_for self.now.signer.now self.now.answerer.now ticket.now.wanted)
+            AtGivenPath (socket_for self.now.signer.now self.now.responder.now ticket.now.wanted)
             (λ path. M.reached path × IsSignatureRequest path [] sent_request)) }
     {
-        match socket_of(self.signer, self.answerer, ticket.wanted) {
+        match socket_of(self.signer, self.responder, ticket.wanted) {
             Some(socket) if !ticket.is_backed_off => self.machine.connect_to_signer(socket),
             _ => Err(io::Error::from(ErrorKind::NotFound)),
         }
@@ -230,20 +230,20 @@ impl<'a, 'w, M: Machine> Handler for Desk<'a, 'w, M> {
         let Deferred { message, ticket } = deferred;
         let looked = ticket;
         let asked = ticket;
-        let has_come = link.is_some();
-        let known = known_of::<M>(
+        let has_arrived = link.is_some();
+        let known = line_signature_of::<M>(
             self.alloc,
             &mut self.office,
             self.machine,
             self.signer,
-            self.answerer,
+            self.responder,
             looked,
             message,
             link,
         )?;
-        self.backoff = self.backoff_after(asked, has_come);
+        self.backoff = self.backoff_after(asked, has_arrived);
         match known {
-            Some(known) => Ok(Some(self.answer_known(line, last_reason, ticket, known))),
+            Some(known) => Ok(Some(self.answer_with_signature(line, last_reason, ticket, known))),
             None => Ok(None),
         }
     }

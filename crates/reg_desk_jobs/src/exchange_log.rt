@@ -28,7 +28,7 @@ pub(crate) fn log_exchange<M: Machine>(
     let Ok(client_text) = name_of(alloc, Some(client)) else {
         return;
     };
-    let is_unsigned = exchange.signature == SignatureOutcome::Failed;
+    let signature_failed = exchange.signature == SignatureOutcome::Failed;
     put(
         machine,
         exchange_line(
@@ -39,7 +39,7 @@ pub(crate) fn log_exchange<M: Machine>(
             &exchange.text,
             micros,
             exchange.named,
-            is_unsigned,
+            signature_failed,
         ),
     );
 }
@@ -54,7 +54,7 @@ pub(crate) fn log_line<M: Machine>(
     line: &[u8],
     reply: &[u8],
     named: Option<NamedRequest>,
-    is_unsigned: bool,
+    signature_failed: bool,
 ) {
     if !machine.has_log() {
         return;
@@ -69,7 +69,7 @@ pub(crate) fn log_line<M: Machine>(
             reply,
             micros,
             named,
-            is_unsigned,
+            signature_failed,
         ),
     );
 }

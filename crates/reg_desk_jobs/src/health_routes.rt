@@ -12,7 +12,7 @@ ghost use Rattle.reg_http.specs.AnswerEffects.{plain, answer_effects};
 ghost use Rattle.reg_crl.specs.Signing.{sha1_algorithm};
 ghost use Rattle.reg_crl_signer.specs.Signed.{IsCrlUnder};
 ghost use Rattle.reg_desk_jobs.specs.Watched.{ByGet, Has, HasDue, HasFound, HasOverdue, HasRequests, IsCounted, IsLatestRead, IsCrlRead, IsReadAt, IsRecounted, IsUnsigned, KeepsRead, Recounts, AnswersHealth, AnswersMetrics, IsDueUnsigned};
-ghost use Rattle.reg_desk_jobs.specs.Watched.{due_after, health_response, health_status as status_spec, many_in, metrics_response, signing_by};
+ghost use Rattle.reg_desk_jobs.specs.Watched.{due_after, health_response, health_status as status_spec, overdue_count, metrics_response, signing_by};
 ghost use Rattle.reg_desk_cli.specs.declared.desk.TheConstants.{VERSION};
 ghost use Rattle.reg_desk_metrics.specs.Metrics.{metrics_text};
 
@@ -127,15 +127,15 @@ fn found_at<M: Machine>(
         Ok(counts) => counts,
         Err(fault) => return Err(fault),
     };
-    let standing = match office.standing() {
-        Ok(standing) => standing,
+    let summary = match office.summary() {
+        Ok(summary) => summary,
         Err(fault) => return Err(fault),
     };
-    match due_at::<M>(alloc, office, now, standing.latest, tally) {
+    match due_at::<M>(alloc, office, now, summary.latest, tally) {
         Ok(due) => Ok(Numbers {
             counts,
             due,
-            standing,
+            summary,
         }),
         Err(fault) => Err(fault),
     }
@@ -164,14 +164,14 @@ fn due_at<M: Machine>(
     match latest_read::<M>(alloc, office, latest, tally) {
         Ok(Some(read)) => {
             tally.keep_crl(read);
-            Ok(due_behind(read, due))
+            Ok(due_after_read(read, due))
         }
         Ok(None) => Ok(due),
         Err(fault) => Err(fault),
     }
 }
 
-fn due_behind(read: ReadCrl, due: Option<Moment>) -> Option<Moment>
+fn due_after_read(read: ReadCrl, due: Option<Moment>) -> Option<Moment>
     ensures { result ≡ due_after read due }
 {
     if read.is_unsigned { None } else { due }
@@ -267,8 +267,8 @@ fn why_at_once<M: Machine>(
     ensures { LooksIn M.Office.Office (λ records. IfOk result (IsDueUnsigned tally.now records))
         office.old office.new }
 {
-    let standing = office.standing()?;
-    match latest_read::<M>(alloc, office, standing.latest, tally)? {
+    let summary = office.summary()?;
+    match latest_read::<M>(alloc, office, summary.latest, tally)? {
         Some(read) if read.is_unsigned => Ok(Some(Reason::Unsigned(read.number))),
         _ => Ok(None),
     }
@@ -279,9 +279,9 @@ pub(crate) fn signing_of(crls: &CrlSigner<'_>) -> CrlSigning
     ensures { result ≡ signing_by crls.now }
 {
     match crls {
-        CrlSigner::OpenedBy(_) => CrlSigning::Key,
+        CrlSigner::KeyAt(_) => CrlSigning::Key,
         CrlSigner::Digest => CrlSigning::Digest,
-        CrlSigner::Nobody => CrlSigning::Nobody,
+        CrlSigner::NoSigner => CrlSigning::NoSigner,
     }
 }
 
@@ -312,14 +312,14 @@ fn overdue_of(outcome: Outcome) -> Result<u64, Fault>
         → HasOverdue records now result }
 {
     match outcome {
-        Ok(Reply::Overdue(overdue)) => Ok(many_of(overdue)),
+        Ok(Reply::Overdue(overdue)) => Ok(overdue_count_of(overdue)),
         Ok(_) => Err(Fault::Store),
         Err(fault) => Err(fault),
     }
 }
 
-fn many_of(overdue: Option<Overdue>) -> u64
-    ensures { result ≡ many_in overdue }
+fn overdue_count_of(overdue: Option<Overdue>) -> u64
+    ensures { result ≡ overdue_count overdue }
 {
     match overdue {
         Some(overdue) => overdue.count,
@@ -403,9 +403,9 @@ fn metrics_answer(
 /// notAfter of the responder's certificate; `None` if the responder has none of its own, or if it can't be read.
 pub(crate) fn responder_end<M: Machine>(
     machine: &M,
-    answerer: &ResponderChoice<'_>,
+    responder: &ResponderChoice<'_>,
 ) -> Option<Moment> {
-    match answerer {
+    match responder {
         ResponderChoice::Delegate { certificate, .. } => not_after(&machine.file(
             certificate.as_str(),
         )?),

@@ -16,7 +16,7 @@ use crate::lines_job::{is_ahead_of, run_script_over};
 use crate::machine::Machine;
 use crate::output_lines::print_text;
 use crate::reasons::{Reason, keep_reason};
-use crate::registers::{audit_at, make, open_signed, open_unsigned};
+use crate::registers::{audit_at, create_register, open_signed, open_unsigned};
 use reg_audit_rows::{AuditResult, Audited, BrokenRow, OTHER_SCHEMA, broken_line, sound_line};
 use reg_core::{Fault, Moment, Policy};
 use reg_der::Issuer;
@@ -90,7 +90,7 @@ fn make_at<M: Machine, W: Write>(
         path.now issuer policy
         result }
 {
-    let register = make(machine, path, issuer, policy)?;
+    let register = create_register(machine, path, issuer, policy)?;
     machine.close(path, register);
     print_text(writer, b"created\n")
 }
@@ -107,8 +107,8 @@ pub fn script<M: Machine, R: Read, W: Write>(
     ensures { ScriptAt M.Machine M.Office.Office R.remaining W.contents machine.old machine.new
         reader.old reader.new writer.old writer.new path.now signer.now result }
 {
-    let answerer = ResponderChoice::Issuer { certificate: None };
-    let mut office = open_signed(machine, path, signer, &answerer)?;
+    let responder = ResponderChoice::Issuer { certificate: None };
+    let mut office = open_signed(machine, path, signer, &responder)?;
     let is_unsigned = signer.is_none();
     let ran = run_script_over::<M, R, W>(alloc, machine, &mut office, is_unsigned, reader, writer);
     machine.close(path, office);
@@ -163,7 +163,14 @@ fn import_at<M: Machine, R: Read, W: Write>(
         return Err(Failure::BadClock);
     }
     if rows.is_strict {
-        let imported = import_kept::<M, R, W>(alloc, &mut office, now, reason, reader, writer);
+        let imported = import_strict_rows::<M, R, W>(
+            alloc,
+            &mut office,
+            now,
+            reason,
+            reader,
+            writer,
+        );
         machine.close(path, office);
         return run_ended(imported);
     }
@@ -184,7 +191,7 @@ fn refuses_import<M: Machine>(office: &mut M::Office, now: Moment, is_checked: b
     is_ahead_of::<M>(office, now)
 }
 
-fn import_kept<M: Machine, R: Read, W: Write>(
+fn import_strict_rows<M: Machine, R: Read, W: Write>(
     alloc: Global,
     office: &mut M::Office,
     now: Moment,
@@ -259,7 +266,7 @@ pub fn schedule<M: Machine, W: Write>(
     let mut register = open_unsigned(machine, path)?;
     let set = register.set_schedule(alloc, schedule);
     machine.close(path, register);
-    answer_setting(writer, b"schedule set\n", set)
+    print_set_result(writer, b"schedule set\n", set)
 }
 
 /// Sets the key identifier of the issuer of the register at a path, for CRLs from the next one on (RFC 5280 5.2.1). The word is checked before
@@ -279,10 +286,10 @@ pub fn key_identifier<M: Machine, W: Write>(
     let mut register = open_unsigned(machine, path)?;
     let set = register.set_key_identifier(alloc, octets);
     machine.close(path, register);
-    answer_setting(writer, b"key-id set\n", set)
+    print_set_result(writer, b"key-id set\n", set)
 }
 
-fn answer_setting<W: Write>(
+fn print_set_result<W: Write>(
     writer: &mut W,
     text: &[u8],
     set: Result<(), Fault>,

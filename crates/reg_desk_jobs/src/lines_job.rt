@@ -66,9 +66,9 @@ pub fn script_by_lines<M: Machine, R: Read, W: Write>(
         reader.old reader.new writer.old writer.new script.now result }
 {
     let path = script.file.as_str();
-    let answerer = ResponderChoice::Issuer { certificate: None };
-    let mut office = open_signed(machine, path, &script.signer, &answerer)?;
-    if refuses_clock::<M>(machine, &mut office, script.way) {
+    let responder = ResponderChoice::Issuer { certificate: None };
+    let mut office = open_signed(machine, path, &script.signer, &responder)?;
+    if refuses_clock::<M>(machine, &mut office, script.options) {
         machine.close(path, office);
         return Err(Failure::BadClock);
     }
@@ -78,7 +78,7 @@ pub fn script_by_lines<M: Machine, R: Read, W: Write>(
         machine,
         &mut office,
         is_unsigned,
-        script.way,
+        script.options,
         reader,
         writer,
     );
@@ -88,11 +88,12 @@ pub fn script_by_lines<M: Machine, R: Read, W: Write>(
 }
 
 /// Whether the lines run at the machine's clock, this is too far ahead, and the operator does not accept that.
-fn refuses_clock<M: Machine>(machine: &M, office: &mut M::Office, way: ScriptOptions) -> bool
-    ensures { LooksIn M.Office.Office (λ records. IsTrue result → IsClockRefused way M.clock_reached records)
+fn refuses_clock<M: Machine>(machine: &M, office: &mut M::Office, options: ScriptOptions) -> bool
+    ensures { LooksIn M.Office.Office
+        (λ records. IsTrue result → IsClockRefused options M.clock_reached records)
         office.old office.new }
 {
-    if !way.is_clocked || way.accepts_clock {
+    if !options.is_clocked || options.accepts_clock {
         return false;
     }
     let Ok(now) = machine.moment() else {
@@ -106,8 +107,8 @@ pub(crate) fn is_ahead_of<M: Machine>(office: &mut M::Office, now: Moment) -> bo
     ensures { LooksIn M.Office.Office (λ records. IsTrue result → IsTrue (ahead now records.last None))
         office.old office.new }
 {
-    match office.standing() {
-        Ok(standing) => is_ahead(now, standing.last, None),
+    match office.summary() {
+        Ok(summary) => is_ahead(now, summary.last, None),
         Err(_) => false,
     }
 }
@@ -139,21 +140,22 @@ fn run_over<M: Machine, R: Read, W: Write>(
     machine: &M,
     office: &mut M::Office,
     is_unsigned: bool,
-    way: ScriptOptions,
+    options: ScriptOptions,
     reader: &mut R,
     writer: &mut W,
 ) -> Result<Ended, Fault>
     ensures { LeadsIn M.Office.Office
         (λ identity before after. LinesEnd (Lines M.Office.signs identity) R.remaining W.contents before after
-        reader.old reader.new writer.old writer.new M.clock_reached way.is_clocked way.is_strict result)
+        reader.old reader.new writer.old writer.new M.clock_reached options.is_clocked options.is_strict
+        result)
         office.old office.new }
 {
     let host: ScriptHost<'_, M> = ScriptHost {
         machine,
-        is_clocked: way.is_clocked,
+        is_clocked: options.is_clocked,
         is_unsigned,
     };
-    run_lines(alloc, reader, writer, office, &host, way.is_strict)
+    run_lines(alloc, reader, writer, office, &host, options.is_strict)
 }
 
 fn is_first_crl(answered: &Answered) -> bool

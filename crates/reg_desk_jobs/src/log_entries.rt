@@ -3,7 +3,7 @@
 ghost use Rattle.std.specs.Prelude.{◌≡◌, ◌<◌, IfSome, length, option_map};
 ghost use Rattle.std.specs.List.{position};
 ghost use Rattle.reg_lines.specs.Fields.{fields_of};
-ghost use Rattle.reg_desk_jobs.specs.LogEntries.{accepted, decision_by, enters, exchange_in, exchange_of, first_word, has_mark, is_control, is_mark, is_of_request, is_whole, logged_of, named_in, parted, request_by, request_named, second_word, unnamed, was_accepted};
+ghost use Rattle.reg_desk_jobs.specs.LogEntries.{accepted, decision_by, enters, exchange_in, exchange_of, first_word, has_quote, is_control, is_quote, is_of_request, is_whole, logged_of, named_in, split_at_quote, request_by, request_named, second_word, unnamed, was_accepted};
 
 use crate::exchange_log::CONTROL_SOCKET;
 use crate::log_lines::MOST_QUOTED;
@@ -53,10 +53,10 @@ pub(crate) enum Logged {
 pub(crate) fn exchange_in(line: &[u8]) -> Option<ExchangeText<'_>>
     ensures { option_map exchange_of result ≡ exchange_in line.now }
 {
-    let (client, rest) = parted(line)?;
-    let (asked, rest) = parted(rest)?;
-    let (_, rest) = parted(rest)?;
-    let (answered, behind) = parted(rest)?;
+    let (client, rest) = split_at_quote(line)?;
+    let (asked, rest) = split_at_quote(rest)?;
+    let (_, rest) = split_at_quote(rest)?;
+    let (answered, behind) = split_at_quote(rest)?;
     Some(ExchangeText {
         client,
         asked,
@@ -66,23 +66,23 @@ pub(crate) fn exchange_in(line: &[u8]) -> Option<ExchangeText<'_>>
 }
 
 /// The text before the first quotation mark, and the text after it.
-#[tactic(auto, unfolding(crate::specs::LogEntries::parted))]
-fn parted(text: &[u8]) -> Option<(&[u8], &[u8])>
-    ensures { option_map (λ p. (p.0.now, p.1.now)) result ≡ parted text.now }
+#[tactic(auto, unfolding(crate::specs::LogEntries::split_at_quote))]
+fn split_at_quote(text: &[u8]) -> Option<(&[u8], &[u8])>
+    ensures { option_map (λ p. (p.0.now, p.1.now)) result ≡ split_at_quote text.now }
 {
     let mark = first_delimiter(text)?;
     Some((&text[..mark], &text[mark + 1..]))
 }
 
 fn first_delimiter(text: &[u8]) -> Option<usize>
-    ensures place { result ≡ position is_mark text.now }
+    ensures place { result ≡ position is_quote text.now }
     ensures within { IfSome result (λ mark. mark < length text.now) }
 {
     text.iter().position(|byte| *byte == b'"')
 }
 
-pub(crate) fn has_mark(text: &[u8]) -> bool
-    ensures { result ≡ has_mark text.now }
+pub(crate) fn has_quote(text: &[u8]) -> bool
+    ensures { result ≡ has_quote text.now }
 {
     text.contains(&b'"')
 }
@@ -91,7 +91,7 @@ pub(crate) fn has_mark(text: &[u8]) -> bool
 pub(crate) fn logged_of(logged_exchange: &ExchangeText<'_>) -> Logged
     ensures { result ≡ logged_of (exchange_of logged_exchange.now) }
 {
-    if has_mark(logged_exchange.behind) {
+    if has_quote(logged_exchange.behind) {
         return Logged::Unknown;
     }
     match named_in(logged_exchange.behind) {

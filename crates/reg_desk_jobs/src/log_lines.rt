@@ -22,10 +22,10 @@ pub(crate) fn exchange_line(
     answered: &[u8],
     micros: u64,
     named: Option<NamedRequest>,
-    is_unsigned: bool,
+    signature_failed: bool,
 ) -> Result<Vec<u8>, AllocError>
     ensures { IfOk result (λ line.
-        line.items ≡ exchanged now client_text.now asked.now answered.now micros named is_unsigned) }
+        line.items ≡ exchanged now client_text.now asked.now answered.now micros named signature_failed) }
 {
     let mut line = Vec::from_slice(alloc, &now.text())?;
     put_word(&mut line, client_text)?;
@@ -34,7 +34,7 @@ pub(crate) fn exchange_line(
     put_number(&mut line, answered.len() as u64)?;
     put_number(&mut line, micros)?;
     put_named(&mut line, named)?;
-    put_unsigned(&mut line, is_unsigned)?;
+    put_unsigned(&mut line, signature_failed)?;
     Ok(line)
 }
 
@@ -83,10 +83,10 @@ fn put_named(line: &mut Vec<u8>, named: Option<NamedRequest>) -> Result<(), Allo
     }
 }
 
-fn put_unsigned(line: &mut Vec<u8>, is_unsigned: bool) -> Result<(), AllocError>
-    ensures { OnOk result (line.new.items ≡ line.old.items ++ unsigned_end is_unsigned) }
+fn put_unsigned(line: &mut Vec<u8>, signature_failed: bool) -> Result<(), AllocError>
+    ensures { OnOk result (line.new.items ≡ line.old.items ++ unsigned_end signature_failed) }
 {
-    if !is_unsigned {
+    if !signature_failed {
         return Ok(());
     }
     line.extend_from_slice(b" signer")

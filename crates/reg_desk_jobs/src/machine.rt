@@ -91,7 +91,7 @@ pub trait Machine {
     /// A copy of the register at the path, with this number of bytes, was created at another path, where there was nothing.
     ghost copied: { Self → List ℕ → List ℕ → ℕ → Self → Type 0 };
     /// For this reason no copy of the register at the path was created at another path.
-    ghost uncopied: { Self → List ℕ → List ℕ → Failing → Self → Type 0 };
+    ghost copy_failed: { Self → List ℕ → List ℕ → Failing → Self → Type 0 };
     /// A copy of the open register whose file is at the path, with this number of bytes, was created.
     ghost copied_open: { List ℕ → ℕ → Type 0 };
 
@@ -163,9 +163,9 @@ pub trait Machine {
     fn file(&self, path: &str) -> Option<Vec<u8>>;
 
     /// Reads the certificates of the responder to OCSP requests; `BadResponder` if one can't be read, is not a certificate, or has a key of another algorithm.
-    fn certify(&self, answerer: &ResponderChoice<'_>) -> Result<Self::Responder, Failure>
-        ensures certified { IfOk result (certified answerer.now) }
-        ensures told { OnErr result (HasCertificate answerer.now) }
+    fn read_responder(&self, responder: &ResponderChoice<'_>) -> Result<Self::Responder, Failure>
+        ensures certified { IfOk result (certified responder.now) }
+        ensures told { OnErr result (HasCertificate responder.now) }
         ensures faults { IfErr result IsOpening };
 
     /// Opens the register of a database, which is closed if that fails: `NotARegister` and `NewVersion` for other tables; `BadSigner` if the
@@ -215,7 +215,7 @@ pub trait Machine {
     /// something at the second path, or at that path with `-wal`, `-journal` or `.part`.
     fn copy(&mut self, path: &str, to: &str) -> Result<u64, Failure>
         ensures ok { IfOk result (λ bytes. copied self.old path.now to.now bytes self.new) }
-        ensures err { IfErr result (λ why. uncopied self.old path.now to.now why self.new) }
+        ensures err { IfErr result (λ why. copy_failed self.old path.now to.now why self.new) }
         ensures faults { IfErr result IsFileFailure };
 
     /// Copies the register that this program has open in the same way, between two transactions. A fault of the store also if the file at the path
@@ -347,7 +347,7 @@ pub trait Machine {
     }
 
     /// Returns this moment, which the clock showed before. `None` if the clock is behind it now, or can't be read.
-    final fn recall(&self, moment: Moment) -> Option<Moment>
+    final fn moment_if_reached(&self, moment: Moment) -> Option<Moment>
         ensures { IfSome result (λ recalled. clock_reached recalled × (recalled ≡ moment)) }
     {
         match self.seconds() {

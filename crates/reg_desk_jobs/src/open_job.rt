@@ -22,14 +22,14 @@ pub fn serve_open<M: Machine, R: Read, W: Write>(
         writer.old writer.new kept.now result }
 {
     let path = kept.file.as_str();
-    let office = open_signed(machine, path, &kept.signer, &kept.answerer)?;
+    let office = open_signed(machine, path, &kept.signer, &kept.responder)?;
     let (office, ending) = serve_checked(
         rt,
         machine,
         office,
         path,
         &kept.signer,
-        &kept.answerer,
+        &kept.responder,
         kept.endpoint,
         Some(kept.control.as_str()),
         u64::MAX,

@@ -61,10 +61,10 @@ fn missing_lines<O: Office>(alloc: Global, office: &mut O, bytes: &[u8]) -> Resu
     let Some(crl) = read_crl(bytes) else {
         return Err(Failure::NotACrl);
     };
-    let standing = office.standing()?;
+    let summary = office.summary()?;
     let mut lines = Vec::new(alloc);
-    put_missing_crl(&mut lines, standing.latest, crl.number)?;
-    put_missing_revocations(alloc, office, standing.last, crl.revoked, &mut lines)?;
+    put_missing_crl(&mut lines, summary.latest, crl.number)?;
+    put_missing_revocations(alloc, office, summary.last, crl.revoked, &mut lines)?;
     Ok(lines)
 }
 

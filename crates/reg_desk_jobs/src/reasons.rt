@@ -184,8 +184,8 @@ fn reason_words(alloc: Global, reason: Reason) -> Result<Vec<u8>, AllocError>
     ensures { IfOk result (λ text. text.items ≡ reason_text reason) }
 {
     match reason {
-        Reason::NoOrder(order) => order_text_of(alloc, b"no order ", order, b""),
-        Reason::Filled(order) => order_text_of(
+        Reason::NoOrder(order) => numbered_text(alloc, b"no order ", order, b""),
+        Reason::Filled(order) => numbered_text(
             alloc,
             b"order ",
             order,
@@ -195,7 +195,7 @@ fn reason_words(alloc: Global, reason: Reason) -> Result<Vec<u8>, AllocError>
         Reason::OtherSerial(request, serial) => other_text_of(alloc, request, serial),
         Reason::ClockAhead(last) => ahead_text_of(alloc, last),
         Reason::Wrong(wrong) => wrong_words(alloc, wrong),
-        Reason::Unsigned(number) => order_text_of(
+        Reason::Unsigned(number) => numbered_text(
             alloc,
             b"CRL ",
             number,
@@ -232,7 +232,7 @@ fn other_text_of(alloc: Global, request: u64, serial: Serial) -> Result<Vec<u8>,
     Ok(text)
 }
 
-fn order_text_of(
+fn numbered_text(
     alloc: Global,
     prefix: &[u8],
     order: u64,

@@ -21,7 +21,7 @@ pub(crate) fn open_unsigned<M: Machine>(machine: &mut M, path: &str) -> Result<M
     ensures faults { IfErr result IsOpening }
 {
     let itself = ResponderChoice::Issuer { certificate: None };
-    open_by(machine, path, &CrlSigner::Nobody, &itself)
+    open_by(machine, path, &CrlSigner::NoSigner, &itself)
 }
 
 /// Opens the register at a path with the signer of its CRLs, or else a placeholder digest, and with its OCSP responder. If the responder has a key
@@ -30,15 +30,15 @@ pub(crate) fn open_signed<M: Machine>(
     machine: &mut M,
     path: &str,
     signer: &Option<SignerAddress<'_>>,
-    answerer: &ResponderChoice<'_>,
+    responder: &ResponderChoice<'_>,
 ) -> Result<M::Office, Failure>
     ensures ok { IfOk result (λ office.
-        Opened M.Machine machine.old path.now (signing_with signer.now answerer.now) office machine.new) }
+        Opened M.Machine machine.old path.now (signing_with signer.now responder.now) office machine.new) }
     ensures err { IfErr result (λ why.
-        Unopened M.Machine machine.old path.now (signing_with signer.now answerer.now) why machine.new) }
+        Unopened M.Machine machine.old path.now (signing_with signer.now responder.now) why machine.new) }
     ensures faults { IfErr result IsOpening }
 {
-    open_by(machine, path, &CrlSigner::of(signer, answerer), answerer)
+    open_by(machine, path, &CrlSigner::of(signer, responder), responder)
 }
 
 /// Checks first that there is a database at the path, because opening a path without one would create one.
@@ -46,22 +46,22 @@ fn open_by<M: Machine>(
     machine: &mut M,
     path: &str,
     crls: &CrlSigner<'_>,
-    answerer: &ResponderChoice<'_>,
+    responder: &ResponderChoice<'_>,
 ) -> Result<M::Office, Failure>
     ensures ok { IfOk result (λ office.
-        Opened M.Machine machine.old path.now (crls.now, answerer.now) office machine.new) }
+        Opened M.Machine machine.old path.now (crls.now, responder.now) office machine.new) }
     ensures err { IfErr result (λ why.
-        Unopened M.Machine machine.old path.now (crls.now, answerer.now) why machine.new) }
+        Unopened M.Machine machine.old path.now (crls.now, responder.now) why machine.new) }
     ensures faults { IfErr result IsOpening }
 {
-    let responder = machine.certify(answerer)?;
+    let loaded = machine.read_responder(responder)?;
     machine.check_database(path)?;
     let database = machine.connect(path)?;
-    machine.open_in(database, crls, responder)
+    machine.open_in(database, crls, loaded)
 }
 
 /// Creates a register without records in the file at a path, which must exist. If that fails, a file without a register may be left there.
-pub(crate) fn make<M: Machine>(
+pub(crate) fn create_register<M: Machine>(
     machine: &mut M,
     path: &str,
     issuer: Issuer,

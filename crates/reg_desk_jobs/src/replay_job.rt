@@ -6,7 +6,7 @@ ghost use Rattle.reg_desk_jobs.specs.Replays.{EntryEnds, LineEnds, ReplaysAt, Re
 
 use crate::at_job::{Next, exchange, next_line};
 use crate::log_entries::{
-    Entry, ExchangeText, Logged, exchange_in, first_word, has_mark, logged_of, second_word,
+    Entry, ExchangeText, Logged, exchange_in, first_word, has_quote, logged_of, second_word,
 };
 use crate::log_lines::{put_number, put_word};
 use crate::machine::Machine;
@@ -130,7 +130,7 @@ fn replay_line<W: Write, C: BufRead, S: Write>(
                 )
             }
         },
-        None if has_mark(text) => stop(writer, line),
+        None if has_quote(text) => stop(writer, line),
         None => Ok(()),
     }
 }

@@ -3,7 +3,7 @@
 
 ghost use Rattle.std.specs.Prelude.{◌≡◌, ◌<◌, ◌==◌, ◌↔◌, IfErr, IfOk, IfSome, IsTrue, length, option_map, position};
 ghost use Rattle.reg_desk_jobs.specs.Conversations.{IsConversationFault};
-ghost use Rattle.reg_desk_jobs.specs.RowTasks.{AnswersRow, IsRowDone, LineReplied, OrdersRow, RegistersRow, RevokesRow, SendsRows, SendsRowsAt, SendsRowsOver, has_first_word, header_of, is_passed_over, link_of, parted_by_comma, registration_row_in, revocation_row_in, row_order, row_registration, row_request, row_revocation, row_status};
+ghost use Rattle.reg_desk_jobs.specs.RowTasks.{AnswersRow, IsRowDone, LineReplied, OrdersRow, RegistersRow, RevokesRow, SendsRows, SendsRowsAt, SendsRowsOver, has_first_word, header_of, is_skipped, link_of, split_at_comma, registration_row_in, revocation_row_in, row_order, row_registration, row_request, row_revocation, row_status};
 
 use crate::at_job::{Next, both, cut_off, ended, next_line, request_reply};
 use crate::log_entries::{first_word, second_word};
@@ -113,7 +113,7 @@ fn send_line<W: Write, C: BufRead, S: Write>(
     ensures err { IfErr result IsConversationFault }
 {
     let text = without_end(line);
-    if is_passed_over(task, text) {
+    if is_skipped(task, text) {
         return Ok(true);
     }
     let reply = answer_row(alloc, task, text, incoming, sent)?;
@@ -225,8 +225,8 @@ fn revoke_row<C: BufRead, S: Write>(
     request_reply(alloc, &revocation, incoming, sent)
 }
 
-fn is_passed_over(task: RowTask, text: &[u8]) -> bool
-    ensures { result ≡ is_passed_over task text.now }
+fn is_skipped(task: RowTask, text: &[u8]) -> bool
+    ensures { result ≡ is_skipped task text.now }
 {
     text.is_empty() || text == header_of(task)
 }
@@ -245,7 +245,7 @@ fn header_of(task: RowTask) -> &'static [u8]
 fn revocation_row_in(text: &[u8]) -> Option<RevocationRow>
     ensures { result ≡ revocation_row_in text.now }
 {
-    let (serial, word) = parted_by_comma(text)?;
+    let (serial, word) = split_at_comma(text)?;
     let serial = Serial::read(serial)?;
     let word = Label::of(word)?;
     Some(RevocationRow { serial, word })
@@ -256,8 +256,8 @@ fn revocation_row_in(text: &[u8]) -> Option<RevocationRow>
 fn registration_row_in(text: &[u8]) -> Option<RegistrationRow>
     ensures { result ≡ registration_row_in text.now }
 {
-    let (serial, moments) = parted_by_comma(text)?;
-    let (not_before, not_after) = parted_by_comma(moments)?;
+    let (serial, moments) = split_at_comma(text)?;
+    let (not_before, not_after) = split_at_comma(moments)?;
     Some(RegistrationRow {
         serial: Serial::read(serial)?,
         not_before: Moment::read(not_before)?,
@@ -266,9 +266,9 @@ fn registration_row_in(text: &[u8]) -> Option<RegistrationRow>
 }
 
 /// The text before the first comma, and the text after it.
-#[tactic(auto, unfolding(crate::specs::RowTasks::parted_by_comma))]
-fn parted_by_comma(text: &[u8]) -> Option<(&[u8], &[u8])>
-    ensures { option_map (λ p. (p.0.now, p.1.now)) result ≡ parted_by_comma text.now }
+#[tactic(auto, unfolding(crate::specs::RowTasks::split_at_comma))]
+fn split_at_comma(text: &[u8]) -> Option<(&[u8], &[u8])>
+    ensures { option_map (λ p. (p.0.now, p.1.now)) result ≡ split_at_comma text.now }
 {
     let comma = first_comma(text)?;
     Some((&text[..comma], &text[comma + 1..]))

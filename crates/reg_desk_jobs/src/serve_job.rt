@@ -48,14 +48,14 @@ pub fn serve<M: Machine, R: Read, W: Write>(
         writer.old writer.new serving.now result }
 {
     let path = serving.file.as_str();
-    let office = open_signed(machine, path, &serving.signer, &serving.answerer)?;
+    let office = open_signed(machine, path, &serving.signer, &serving.responder)?;
     let (office, ending) = serve_checked(
         rt,
         machine,
         office,
         path,
         &serving.signer,
-        &serving.answerer,
+        &serving.responder,
         serving.endpoint,
         None,
         u64::from(serving.requests),
@@ -74,7 +74,7 @@ pub(crate) fn serve_checked<'a, 'w, M: Machine, R: Read, W: Write>(
     mut office: M::Office,
     file: &'a str,
     signer: &'a Option<SignerAddress<'w>>,
-    answerer: &'a ResponderChoice<'w>,
+    responder: &'a ResponderChoice<'w>,
     endpoint: Endpoint,
     control_path: Option<&str>,
     requests: u64,
@@ -89,7 +89,7 @@ pub(crate) fn serve_checked<'a, 'w, M: Machine, R: Read, W: Write>(
         office result.0)
         ⊎ ((inputs : List Input) × (outcomes : List (Outcome Unsigned)) × LeadsIn M.Office.Office
         (λ identity before after. (IsTrue is_published → HasAll before (R.remaining reader.old))
-        × ServesOn M.Machine M.Office.Office signer.now answerer.now (is_some control_path.entry)
+        × ServesOn M.Machine M.Office.Office signer.now responder.now (is_some control_path.entry)
         inputs outcomes identity before after)
         office result.0
         × ServedAt W.contents writer.old writer.new
@@ -108,7 +108,7 @@ pub(crate) fn serve_checked<'a, 'w, M: Machine, R: Read, W: Write>(
         office,
         file,
         signer,
-        answerer,
+        responder,
         endpoint,
         control_path,
         requests,
@@ -123,14 +123,14 @@ fn serve_desk<'a, 'w, M: Machine, W: Write>(
     office: M::Office,
     file: &'a str,
     signer: &'a Option<SignerAddress<'w>>,
-    answerer: &'a ResponderChoice<'w>,
+    responder: &'a ResponderChoice<'w>,
     endpoint: Endpoint,
     control_path: Option<&str>,
     requests: u64,
     writer: &mut W,
 ) -> (M::Office, Result<(), Failure>)
     ensures { (inputs : List Input) × (outcomes : List (Outcome Unsigned)) × LeadsIn M.Office.Office
-        (ServesOn M.Machine M.Office.Office signer.now answerer.now (is_some control_path.entry) inputs
+        (ServesOn M.Machine M.Office.Office signer.now responder.now (is_some control_path.entry) inputs
         outcomes)
         office result.0
         × ServedAt W.contents writer.old writer.new
@@ -147,8 +147,8 @@ fn serve_desk<'a, 'w, M: Machine, W: Write>(
         Err(why) => return (office, Err(why)),
     };
     let alloc = rt.alloc();
-    let signing = signing_of(&CrlSigner::of(signer, answerer));
-    let tally = Cell::new(Tally::new(signing, responder_end(machine, answerer)));
+    let signing = signing_of(&CrlSigner::of(signer, responder));
+    let tally = Cell::new(Tally::new(signing, responder_end(machine, responder)));
     let connection_totals = Cell::new(ConnectionTotals::nothing());
     let mut desk: Desk<'_, '_, M> = Desk {
         office,
@@ -157,7 +157,7 @@ fn serve_desk<'a, 'w, M: Machine, W: Write>(
         is_open: control_path.is_some(),
         file,
         signer,
-        answerer,
+        responder,
         backoff: Backoff::none(),
         tally: &tally,
         connection_totals: &connection_totals,
@@ -246,12 +246,12 @@ fn print_port<W: Write>(writer: &mut W, port: u16) -> Result<(), Failure>
     ensures { PrintsText (listening port) (W.contents writer.old) (W.contents writer.new) result }
 {
     match print_text(writer, b"listening ") {
-        Ok(()) => answer_number(writer, port),
+        Ok(()) => print_number(writer, port),
         Err(why) => Err(why),
     }
 }
 
-fn answer_number<W: Write>(writer: &mut W, number: u16) -> Result<(), Failure>
+fn print_number<W: Write>(writer: &mut W, number: u16) -> Result<(), Failure>
     ensures { PrintsText (decimal number ++ 10 ∷ []) (W.contents writer.old) (W.contents writer.new) result }
 {
     let digits = Decimal::of(u64::from(number));

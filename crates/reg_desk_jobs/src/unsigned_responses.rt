@@ -3,7 +3,7 @@
 ghost use Rattle.std.specs.Prelude.{◌≡◌, ◌≤◌, IfSome, length, option_map};
 ghost use Rattle.reg_desk_jobs.specs.Counted.{CountsFinished};
 ghost use Rattle.reg_desk_jobs.specs.Deferring.{AnsweredBySigner};
-ghost use Rattle.reg_desk_jobs.specs.FinishedResponses.{IsFinished, IsSignatureOf, fate_of};
+ghost use Rattle.reg_desk_jobs.specs.FinishedResponses.{IsFinished, IsSignatureOf, outcome_of_signature};
 ghost use Rattle.reg_desk_jobs.specs.Signers.{AnsweredByOcspSigner};
 
 use crate::deferred_commands::{SignatureKind, socket_of};
@@ -84,14 +84,14 @@ pub(crate) fn finish_http<M: Machine>(
     machine: &M,
     tally: &mut Tally,
     signer: &Option<SignerAddress<'_>>,
-    answerer: &ResponderChoice<'_>,
+    responder: &ResponderChoice<'_>,
     unsigned: Unsigned,
     link: Option<SignatureRequest>,
 ) -> Vec<u8>
-    ensures { CountsFinished (AnsweredByOcspSigner M.signer_answered signer.now answerer.now) unsigned
+    ensures { CountsFinished (AnsweredByOcspSigner M.signer_answered signer.now responder.now) unsigned
         result.items tally.old tally.new }
 {
-    let signature = signature_of::<M>(alloc, signer, answerer, &unsigned.draft, link);
+    let signature = signature_of::<M>(alloc, signer, responder, &unsigned.draft, link);
     let exchange = finish(alloc, &unsigned, &signature);
     let micros = machine.micros().saturating_sub(unsigned.began);
     tally.count_exchange(unsigned.moment, &exchange, micros);
@@ -110,18 +110,18 @@ pub(crate) fn finish_http<M: Machine>(
 fn signature_of<M: Machine>(
     alloc: Global,
     signer: &Option<SignerAddress<'_>>,
-    answerer: &ResponderChoice<'_>,
+    responder: &ResponderChoice<'_>,
     draft: &Draft,
     link: Option<SignatureRequest>,
 ) -> Option<Vec<u8>>
-    ensures signed { IsSignatureOf (AnsweredByOcspSigner M.signer_answered signer.now answerer.now) draft.now
+    ensures signed { IsSignatureOf (AnsweredByOcspSigner M.signer_answered signer.now responder.now) draft.now
         (option_map (λ signature. signature.items) result) }
     ensures short { IfSome result (λ signature. length signature.items ≤ 4096) }
 {
     let answer = received_answer::<M>(
         alloc,
         signer,
-        answerer,
+        responder,
         SignatureKind::Answer,
         draft.message(),
         link,
@@ -137,16 +137,16 @@ fn signature_of<M: Machine>(
 pub(crate) fn received_answer<M: Machine>(
     alloc: Global,
     signer: &Option<SignerAddress<'_>>,
-    answerer: &ResponderChoice<'_>,
+    responder: &ResponderChoice<'_>,
     wanted: SignatureKind,
     message: &[u8],
     link: Option<SignatureRequest>,
 ) -> Option<Vec<u8>>
     ensures given { IfSome result (λ answer.
-        AnsweredBySigner M.signer_answered signer.now answerer.now wanted message.now answer.items) }
+        AnsweredBySigner M.signer_answered signer.now responder.now wanted message.now answer.items) }
     ensures short { IfSome result (λ answer. length answer.items ≤ 4096) }
 {
-    let socket = socket_of(signer, answerer, wanted)?;
+    let socket = socket_of(signer, responder, wanted)?;
     let mut link = link?;
     if !link.is_for(socket, message) {
         return None;
@@ -164,12 +164,18 @@ fn finish(alloc: Global, unsigned: &Unsigned, signature: &Option<Vec<u8>>) -> Ex
     ensures route { result.route ≡ unsigned.now.route }
 {
     let response = unsigned.draft.response(alloc, slice_of(signature));
-    let fate = fate_by(signature);
-    Exchange::finished(alloc, unsigned.route, unsigned.moment, response, fate)
+    let signature_outcome = signature_outcome_of(signature);
+    Exchange::finished(
+        alloc,
+        unsigned.route,
+        unsigned.moment,
+        response,
+        signature_outcome,
+    )
 }
 
-fn fate_by(signature: &Option<Vec<u8>>) -> SignatureOutcome
-    ensures { result ≡ fate_of (option_map (λ signature. signature.items) signature.now) }
+fn signature_outcome_of(signature: &Option<Vec<u8>>) -> SignatureOutcome
+    ensures { result ≡ outcome_of_signature (option_map (λ signature. signature.items) signature.now) }
 {
     match signature {
         Some(_) => SignatureOutcome::Made,

@@ -20,15 +20,15 @@ is_none None = true
 
 -- the moment of the last command, if the clock is behind it; now, if the clock is too far ahead, or past its end
 abbrev pub clock_of : ℕ → Result Numbers Fault → Option ℕ → Option ℕ
-clock_of now (Ok numbers) accepted = cond (is_ahead now numbers.standing.last accepted) (Some now) None
+clock_of now (Ok numbers) accepted = cond (is_ahead now numbers.summary.last accepted) (Some now) None
 clock_of now (Err (Refused (ClockBack last))) accepted = Some last
 clock_of now (Err (Refused other)) accepted = Some now
 clock_of now other accepted = None
 
 -- whether the next CRL is due at once: there is none yet, or the latest one has a placeholder digest and the desk has a signer
-abbrev pub has_no_crl : Result Numbers Fault → Bool
-has_no_crl (Ok numbers) = is_none numbers.due
-has_no_crl (Err fault) = false
+abbrev pub is_crl_due_at_once : Result Numbers Fault → Bool
+is_crl_due_at_once (Ok numbers) = is_none numbers.due
+is_crl_due_at_once (Err fault) = false
 
 -- a moment, if it is past
 abbrev pub if_past : ℕ → Option ℕ → Option ℕ
@@ -46,11 +46,11 @@ most_rows rows = max (max (max (max rows.subscribers rows.orders) rows.certifica
 
 -- whether less than a fifth of the cap is left in a table
 abbrev pub is_filling : RegisterSummary → Bool
-is_filling standing = nat_lt (standing.cap - most_rows standing.rows) (standing.cap / 5)
+is_filling summary = nat_lt (summary.cap - most_rows summary.rows) (summary.cap / 5)
 
 -- now, if less than a fifth of the cap is left in a table
 abbrev pub rows_since : ℕ → Result Numbers Fault → Option ℕ
-rows_since now (Ok numbers) = cond (is_filling numbers.standing) (Some now) None
+rows_since now (Ok numbers) = cond (is_filling numbers.summary) (Some now) None
 rows_since now (Err fault) = None
 
 -- since when the store fails: by the tally, or else now if the register can't be read
@@ -63,7 +63,7 @@ store_since_at now (Err other) since = option_or since (Some now)
 abbrev pub health_of : ℕ → Result Numbers Fault → Tally → Option ℕ → Health
 health_of now found tally accepted = record {
   clock = clock_of now found accepted;
-  has_no_crl = has_no_crl found;
+  is_crl_due_at_once = is_crl_due_at_once found;
   crl = crl_since now found;
   crl_signer = tally.crls.failing_since;
   ocsp_signer = tally.ocsp.failing_since;
@@ -75,7 +75,7 @@ health_of now found tally accepted = record {
 abbrev pub is_well : Health → Bool
 is_well health =
     is_none health.clock
-    && (not health.has_no_crl
+    && (not health.is_crl_due_at_once
     && (is_none health.crl
     && (is_none health.crl_signer
     && (is_none health.ocsp_signer && (is_none health.rows && is_none health.store)))))
@@ -91,7 +91,8 @@ member name since = name ++ since_text since
 
 -- the member of the CRL: since when it is late, or that it is due at once
 unfoldable pub crl_text : Bool → Option ℕ → List ℕ
-crl_text has_no_crl crl = codes ",\"crl\":" ++ cond has_no_crl (codes "\"at-once\"") (since_text crl)
+crl_text is_crl_due_at_once crl =
+    codes ",\"crl\":" ++ cond is_crl_due_at_once (codes "\"at-once\"") (since_text crl)
 
 -- the members of the two signers
 unfoldable pub signers_text : Option ℕ → Option ℕ → List ℕ
@@ -105,7 +106,7 @@ health_member is_well =
 -- the text; if all is well: `{"clock":null,"crl":null,"crl_signer":null,"ocsp_signer":null,"rows":null,"status":"ok","store":null}`
 unfoldable pub health_text : Health → List ℕ
 health_text health =
-    codes "{\"clock\":" ++ since_text health.clock ++ crl_text health.has_no_crl health.crl
+    codes "{\"clock\":" ++ since_text health.clock ++ crl_text health.is_crl_due_at_once health.crl
     ++ signers_text health.crl_signer health.ocsp_signer
     ++ member (codes ",\"rows\":") health.rows ++ health_member (is_well health) ++ since_text health.store
     ++ 125 ∷ []

@@ -58,9 +58,9 @@ rows_text rows cap =
 unfoldable pub numbers_text : ℕ → Numbers → List ℕ
 numbers_text now numbers =
     sample READABLE.now 1 ++ certificates_text numbers.counts
-    ++ rows_text numbers.standing.rows numbers.standing.cap
-    ++ sample LAST_COMMAND.now numbers.standing.last
-    ++ crl_text now numbers.standing.latest numbers.standing.crl_life
+    ++ rows_text numbers.summary.rows numbers.summary.cap
+    ++ sample LAST_COMMAND.now numbers.summary.last
+    ++ crl_text now numbers.summary.latest numbers.summary.crl_life
     ++ sample CRL_DUE.now (moment_or_none numbers.due)
 
 -- the numbers of a register; or only that it is not readable, if it refuses or fails

@@ -13,7 +13,7 @@ use Rattle.reg_http.specs.declared.exchange.Exchange.{Exchange}
 use Rattle.reg_http.specs.declared.route.Route.{Route}
 use Rattle.reg_http.specs.declared.route.Route.TheVariants as routes
 use Rattle.reg_desk_metrics.specs.declared.numbers.CrlSigning.{CrlSigning}
-use Rattle.reg_desk_metrics.specs.declared.numbers.CrlSigning.TheVariants.{Key, Digest, Nobody}
+use Rattle.reg_desk_metrics.specs.declared.numbers.CrlSigning.TheVariants.{Key, Digest, NoSigner}
 use Rattle.reg_desk_metrics.specs.declared.numbers.ReadCrl.{ReadCrl}
 use Rattle.reg_desk_metrics.specs.declared.numbers.Requests.{Requests}
 use Rattle.reg_desk_metrics.specs.declared.signature_outcomes.Signing.{Signing}
@@ -160,14 +160,14 @@ with_failure exchange tally =
     cond (has_response exchange) (with_cause exchange.signature exchange.store tally) tally
 
 -- the outcome of the signature of a CRL: not requested if the desk has no signer for CRLs
-abbrev pub fate_by : CrlSigning → SignatureOutcome → SignatureOutcome
-fate_by Nobody fate = signature.NotRequested
-fate_by other fate = fate
+abbrev pub counted_crl_outcome : CrlSigning → SignatureOutcome → SignatureOutcome
+counted_crl_outcome NoSigner signature_outcome = signature.NotRequested
+counted_crl_outcome other signature_outcome = signature_outcome
 
 -- the effects of an exchange on the signatures of CRLs and of OCSP responses, and on the store
 abbrev pub outcomes_counted : ℕ → SignatureOutcome → SignatureOutcome → StoreEffect → Tally → Tally
 outcomes_counted now crl ocsp effect tally = record tally {
-  crls = signing_after (fate_by tally.crl_signing crl) now tally.crls;
+  crls = signing_after (counted_crl_outcome tally.crl_signing crl) now tally.crls;
   ocsp = signing_after ocsp now tally.ocsp;
   store_since = store_after effect now tally.store_since;
 }
@@ -199,7 +199,7 @@ with_counted requests tally = record tally { requests = Some requests }
 abbrev pub is_key : CrlSigning → Bool
 is_key Key = true
 is_key Digest = false
-is_key Nobody = false
+is_key NoSigner = false
 
 abbrev pub has_crl_key : Tally → Bool
 has_crl_key tally = is_key tally.crl_signing

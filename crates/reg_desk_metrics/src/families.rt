@@ -102,14 +102,9 @@ fn put_numbers(text: &mut Vec<u8>, now: Moment, numbers: &Numbers) -> Result<(),
 {
     put_sample(text, READABLE, 1)?;
     put_certificates(text, numbers.counts)?;
-    put_rows(text, numbers.standing.rows, numbers.standing.cap)?;
-    put_moment(text, LAST_COMMAND, Some(numbers.standing.last))?;
-    put_crl(
-        text,
-        now,
-        numbers.standing.latest,
-        numbers.standing.crl_life,
-    )?;
+    put_rows(text, numbers.summary.rows, numbers.summary.cap)?;
+    put_moment(text, LAST_COMMAND, Some(numbers.summary.last))?;
+    put_crl(text, now, numbers.summary.latest, numbers.summary.crl_life)?;
     put_moment(text, CRL_DUE, numbers.due)?;
     Ok(())
 }

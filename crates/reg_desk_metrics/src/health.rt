@@ -1,7 +1,7 @@
 //! Whether all is well with an open register; if not, what fails, and since when.
 
 ghost use Rattle.std.specs.Prelude.{◌≡◌, ◌++◌, IfOk, OnOk};
-ghost use Rattle.reg_desk_metrics.specs.Healths.{clock_of as clock_spec, crl_since as crl_since_spec, crl_text as crl_spec, has_no_crl as lacks_crl, health_of, health_text, is_none as is_without, is_filling as fills, is_well as all_well, if_past as past_spec, member, rows_since as all_row_lines, signers_text, since_text, health_member, store_since_at as store_spec};
+ghost use Rattle.reg_desk_metrics.specs.Healths.{clock_of as clock_spec, crl_since as crl_since_spec, crl_text as crl_spec, is_crl_due_at_once as lacks_crl, health_of, health_text, is_none as is_without, is_filling as fills, is_well as all_well, if_past as past_spec, member, rows_since as all_row_lines, signers_text, since_text, health_member, store_since_at as store_spec};
 
 use crate::ahead::is_ahead;
 use crate::numbers::Found;
@@ -10,13 +10,13 @@ use reg_core::{Fault, Moment, Refusal};
 use reg_office_api::{RegisterSummary, Rows};
 use std::alloc::{AllocError, Global};
 
-/// What is not well with an open register. All is well if each is `None`, and `has_no_crl` is false.
+/// What is not well with an open register. All is well if each is `None`, and `is_crl_due_at_once` is false.
 #[derive(Clone, Copy, PartialEq, Eq)]
 pub struct Health {
     /// The moment of the last command, if the clock is behind it; now, if the clock is too far ahead or past its end.
     pub(crate) clock: Option<Moment>,
     /// The next CRL is due at once: there is none yet, or the latest one has a placeholder digest and the desk has a signer.
-    pub(crate) has_no_crl: bool,
+    pub(crate) is_crl_due_at_once: bool,
     /// Since when the next CRL is late.
     pub(crate) crl: Option<Moment>,
     /// Since when signatures of CRLs fail.
@@ -36,7 +36,7 @@ impl Health {
     {
         Health {
             clock: clock_of(now, found, accepted),
-            has_no_crl: has_no_crl(found),
+            is_crl_due_at_once: is_crl_due_at_once(found),
             crl: crl_since(now, found),
             crl_signer: tally.crls.failing_since,
             ocsp_signer: tally.ocsp.failing_since,
@@ -50,7 +50,7 @@ impl Health {
         ensures { result ≡ all_well self.now }
     {
         is_none(self.clock)
-            && !self.has_no_crl
+            && !self.is_crl_due_at_once
             && is_none(self.crl)
             && is_none(self.crl_signer)
             && is_none(self.ocsp_signer)
@@ -69,7 +69,7 @@ impl Health {
     {
         let mut text = Vec::from_slice(alloc, b"{\"clock\":")?;
         put_since(&mut text, self.clock)?;
-        put_crl(&mut text, self.has_no_crl, self.crl)?;
+        put_crl(&mut text, self.is_crl_due_at_once, self.crl)?;
         put_signers(&mut text, self.crl_signer, self.ocsp_signer)?;
         put_member(&mut text, b",\"rows\":", self.rows)?;
         put_status(&mut text, self.is_well())?;
@@ -92,14 +92,14 @@ fn clock_of(now: Moment, found: &Found, accepted: Option<Moment>) -> Option<Mome
     ensures { result ≡ clock_spec now found.now accepted }
 {
     match *found {
-        Ok(numbers) if is_ahead(now, numbers.standing.last, accepted) => Some(now),
+        Ok(numbers) if is_ahead(now, numbers.summary.last, accepted) => Some(now),
         Err(Fault::Refused(Refusal::ClockBack { last })) => Some(last),
         Err(Fault::Refused(_)) => Some(now),
         _ => None,
     }
 }
 
-fn has_no_crl(found: &Found) -> bool
+fn is_crl_due_at_once(found: &Found) -> bool
     ensures { result ≡ lacks_crl found.now }
 {
     match found {
@@ -131,13 +131,13 @@ fn rows_of(now: Moment, found: &Found) -> Option<Moment>
     ensures { result ≡ all_row_lines now found.now }
 {
     match found {
-        Ok(numbers) if is_filling(&numbers.standing) => Some(now),
+        Ok(numbers) if is_filling(&numbers.summary) => Some(now),
         _ => None,
     }
 }
 
-fn is_filling(standing: &RegisterSummary) -> bool
-    ensures { result ≡ fills standing.now }
+fn is_filling(summary: &RegisterSummary) -> bool
+    ensures { result ≡ fills summary.now }
 {
     let Rows {
         subscribers,
@@ -145,13 +145,13 @@ fn is_filling(standing: &RegisterSummary) -> bool
         certificates,
         requests,
         crls,
-    } = standing.rows;
+    } = summary.rows;
     let most = subscribers
         .max(orders)
         .max(certificates)
         .max(requests)
         .max(crls);
-    standing.cap.saturating_sub(most) < standing.cap / 5
+    summary.cap.saturating_sub(most) < summary.cap / 5
 }
 
 /// Since when the store fails: by the tally, or else now if the register can't be read.
@@ -181,11 +181,15 @@ fn put_since(text: &mut Vec<u8>, since: Option<Moment>) -> Result<(), AllocError
 }
 
 #[tactic(auto, unfolding(crate::specs::Healths::crl_text))]
-fn put_crl(text: &mut Vec<u8>, has_no_crl: bool, crl: Option<Moment>) -> Result<(), AllocError>
-    ensures { OnOk result (text.new.items ≡ text.old.items ++ crl_spec has_no_crl crl) }
+fn put_crl(
+    text: &mut Vec<u8>,
+    is_crl_due_at_once: bool,
+    crl: Option<Moment>,
+) -> Result<(), AllocError>
+    ensures { OnOk result (text.new.items ≡ text.old.items ++ crl_spec is_crl_due_at_once crl) }
 {
     text.extend_from_slice(b",\"crl\":")?;
-    if has_no_crl {
+    if is_crl_due_at_once {
         return text.extend_from_slice(b"\"at-once\"");
     }
     put_since(text, crl)

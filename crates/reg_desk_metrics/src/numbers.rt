@@ -9,7 +9,7 @@ pub struct Numbers {
     pub counts: Counts,
     /// When the next CRL is due; `None`: at once.
     pub due: Option<Moment>,
-    pub standing: RegisterSummary,
+    pub summary: RegisterSummary,
 }
 
 /// The register's numbers, or why they can't be read.
@@ -34,7 +34,7 @@ pub enum CrlSigning {
     /// A placeholder digest stands in place of a signature.
     Digest,
     /// Nobody: the desk has only a responder.
-    Nobody,
+    NoSigner,
 }
 
 /// What was read in a CRL.

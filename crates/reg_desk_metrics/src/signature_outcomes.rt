@@ -30,10 +30,10 @@ impl Signing {
         }
     }
 
-    pub(crate) fn after(self, fate: SignatureOutcome, now: Moment) -> Signing
-        ensures { result ≡ signing_after fate now self }
+    pub(crate) fn after(self, signature_outcome: SignatureOutcome, now: Moment) -> Signing
+        ensures { result ≡ signing_after signature_outcome now self }
     {
-        match fate {
+        match signature_outcome {
             SignatureOutcome::NotRequested => self,
             SignatureOutcome::Made => Signing {
                 received: self.received.saturating_add(1),

@@ -1,7 +1,7 @@
 //! What a desk counts while it is open: each HTTP exchange and each line once. Sums stop at `u64::MAX`.
 
 ghost use Rattle.std.specs.Prelude.{◌≡◌, ◌<◌};
-ghost use Rattle.reg_desk_metrics.specs.Tallies.{is_new, bumped, bucket_of as bucket_spec, route_number as number_of_route, code_number as number_of_code, with_seconds as timed, with_exchange, with_line, outcomes_counted, with_reply_to_line, with_counted, wants_requests as wants_counted, has_crl_key as has_key, read_of, with_read, with_amount, is_ocsp_line, has_response, with_route, with_failure, fate_by};
+ghost use Rattle.reg_desk_metrics.specs.Tallies.{is_new, bumped, bucket_of as bucket_spec, route_number as number_of_route, code_number as number_of_code, with_seconds as timed, with_exchange, with_line, outcomes_counted, with_reply_to_line, with_counted, wants_requests as wants_counted, has_crl_key as has_key, read_of, with_read, with_amount, is_ocsp_line, has_response, with_route, with_failure, counted_crl_outcome};
 
 use crate::numbers::{CrlSigning, ReadCrl, Requests};
 use crate::signature_outcomes::{Signing, store_after};
@@ -149,12 +149,12 @@ fn bucket_of(micros: u64) -> usize
 }
 
 /// The outcome of the signature of a CRL: not requested if the desk has no signer for CRLs.
-fn fate_at(signing: CrlSigning, fate: SignatureOutcome) -> SignatureOutcome
-    ensures { result ≡ fate_by signing fate }
+fn crl_outcome_at(signing: CrlSigning, signature_outcome: SignatureOutcome) -> SignatureOutcome
+    ensures { result ≡ counted_crl_outcome signing signature_outcome }
 {
     match signing {
-        CrlSigning::Nobody => SignatureOutcome::NotRequested,
-        _ => fate,
+        CrlSigning::NoSigner => SignatureOutcome::NotRequested,
+        _ => signature_outcome,
     }
 }
 
@@ -307,7 +307,7 @@ impl Tally {
     )
         ensures { self.new ≡ outcomes_counted now crl ocsp store self.old }
     {
-        self.crls = self.crls.after(fate_at(self.crl_signing, crl), now);
+        self.crls = self.crls.after(crl_outcome_at(self.crl_signing, crl), now);
         self.ocsp = self.ocsp.after(ocsp, now);
         self.store_since = store_after(self.store_since, store, now);
     }

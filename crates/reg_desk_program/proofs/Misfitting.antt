@@ -4,7 +4,7 @@ use Rattle.std.specs.Prelude.{MatchOption}
 use Rattle.reg_core.specs.declared.cause.Cause.{Cause}
 use Rattle.reg_desk_jobs.specs.Signers.{MayFollow}
 use Rattle.reg_crl_signer.specs.Signed.{IsCrlUnder}
-use Rattle.reg_desk_program.specs.Mismatches.{Differs, IsMismatch, IsMisfitAfter}
+use Rattle.reg_desk_program.specs.Mismatches.{Differs, IsMismatch, IsMismatchAfter}
 
 -- by the algorithm that was found in it
 pub of_found : (crl found algorithm : List ℕ) (result : Option Cause)
@@ -22,7 +22,7 @@ of_found crl found algorithm (Some cause) told differs = λ other under.
 pub of_latest : (latest : Option (List ℕ)) (crl algorithm : List ℕ) (result : Option Cause) → latest ≡ Some crl
     → MatchOption result ((other : List ℕ) → IsCrlUnder crl other → MayFollow algorithm other) (IsMismatch crl algorithm)
     → MatchOption result ((it : List ℕ) → latest ≡ Some it → (other : List ℕ) → IsCrlUnder it other → MayFollow algorithm other)
-    (IsMisfitAfter latest algorithm)
+    (IsMismatchAfter latest algorithm)
 of_latest latest crl algorithm None is follows = λ it same other under.
     let both : Some it ≡ Some crl = sym same ∙ is in
     let one : it ≡ crl = cc in

@@ -4,7 +4,7 @@ use Rattle.sqlite.specs.Held.{Held}
 use Rattle.sqlite_trees.specs.declared.store.Store.{Ghosts}
 use Rattle.reg_office_api.specs.Signatories.{Responder}
 use Rattle.reg_crl.specs.Signing.{Identity}
-use Rattle.reg_desk_jobs.specs.Signers.{EmbedsOwn}
+use Rattle.reg_desk_jobs.specs.Signers.{EmbeddedKeyFits}
 use Rattle.reg_desk_jobs.specs.declared.crl_signer.CrlSigner.{CrlSigner}
 use Rattle.reg_office.specs.Answering.{answers_by}
 use Rattle.reg_office.specs.declared.responder.Responder.{Responder as Held_by}
@@ -13,10 +13,10 @@ use Rattle.reg_store_tables.specs.Stays.{Looked}
 
 -- a certificate that stands with answers is of the issuer's key, whoever signs CRLs
 pub embeds_as : {S : Type 0} (identity : S → Identity) (key : List ℕ) (crls : Identity) (read held : Held_by S) → held ≡ read
-    → ((crls : Identity) → EmbedsOwn key (answers_by identity crls read))
-    → EmbedsOwn key (answers_by identity crls held)
+    → ((crls : Identity) → EmbeddedKeyFits key (answers_by identity crls read))
+    → EmbeddedKeyFits key (answers_by identity crls held)
 embeds_as {S} identity key crls read held same embeds =
-    subst (λ (r : Held_by S). EmbedsOwn key (answers_by identity crls r)) (sym same) (embeds crls)
+    subst (λ (r : Held_by S). EmbeddedKeyFits key (answers_by identity crls r)) (sym same) (embeds crls)
 
 -- what is looked up in the tables that a store lends is looked up in the store
 module _ {C : Type 0} {g : Ghosts C} {store tables new : Held C} (same : tables ≡ store) where

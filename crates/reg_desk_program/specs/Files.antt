@@ -38,7 +38,7 @@ use Rattle.reg_office.specs.Calls.{seen}
 use Rattle.reg_office.specs.Stands.{Stands}
 use Rattle.reg_office.specs.declared.office.Office.{Office}
 use Rattle.reg_office.specs.declared.responder.Responder.{Responder}
-use Rattle.reg_desk_jobs.specs.Signers.{EmbedsOwn, Follows, IsSigning}
+use Rattle.reg_desk_jobs.specs.Signers.{EmbeddedKeyFits, Follows, IsSigning}
 use Rattle.reg_desk_jobs.specs.declared.crl_signer.CrlSigner.{CrlSigner}
 
 -- the tables showed the records of a register, of this program's version or of an older one
@@ -68,7 +68,7 @@ module _ {C : Type 0} (g : Ghosts C) (connection : Held C) where
         → HasCleanDisk (state g register)
         → Follows records signatory.crls.algorithm
     pub embeds : (records : Records) → Showed g connection records → HasCleanDisk (state g register)
-        → EmbedsOwn records.issuer.key signatory.answers
+        → EmbeddedKeyFits records.issuer.key signatory.answers
     pub leaves : IsWhole → (records : Records) → ShowsKept g connection records
         → LeavesThese g register records
 

@@ -23,5 +23,5 @@ abbrev pub IsMismatch : List ℕ → List ℕ → Cause → Type 0
 IsMismatch crl algorithm cause = (other : List ℕ) → IsCrlUnder crl other → Differs other algorithm cause
 
 -- why no CRL with an algorithm may follow the latest one
-abbrev pub IsMisfitAfter : Option (List ℕ) → List ℕ → Cause → Type 0
-IsMisfitAfter latest algorithm cause = (crl : List ℕ) × (latest ≡ Some crl) × IsMismatch crl algorithm cause
+abbrev pub IsMismatchAfter : Option (List ℕ) → List ℕ → Cause → Type 0
+IsMismatchAfter latest algorithm cause = (crl : List ℕ) × (latest ≡ Some crl) × IsMismatch crl algorithm cause

@@ -7,18 +7,18 @@ use Rattle.reg_office_api.specs.Signatories.{Responder}
 use Rattle.reg_core.specs.Records.{Records}
 use Rattle.reg_core.specs.Sound.{SoundRows}
 use Rattle.reg_crl.specs.Signing.{Identity}
-use Rattle.reg_desk_jobs.specs.Signers.{EmbedsOwn, Follows, IsSigning, MayFollow, identity_of_holder}
+use Rattle.reg_desk_jobs.specs.Signers.{EmbeddedKeyFits, Follows, IsSigning, MayFollow, identity_of_holder}
 use Rattle.reg_desk_jobs.specs.declared.crl_signer.CrlSigner.{CrlSigner}
-use Rattle.reg_desk_jobs.specs.declared.crl_signer.CrlSigner.TheVariants.{Nobody, Digest, OpenedBy}
+use Rattle.reg_desk_jobs.specs.declared.crl_signer.CrlSigner.TheVariants.{NoSigner, Digest, KeyAt}
 use Rattle.reg_crl_signer.specs.Signed.{IsCrlUnder}
 use Rattle.reg_store_tables.specs.Shows.{Shows}
 use Rattle.reg_desk_cli.specs.declared.job.SignerAddress.{SignerAddress}
 
--- the path of the socket of the signer of CRLs: `None` for the digest, and any for `Nobody`
+-- the path of the socket of the signer of CRLs: `None` for the digest, and any for `NoSigner`
 abbrev pub SignerAtPath : CrlSigner → Option (List ℕ) → Type 0
-SignerAtPath Nobody path = Unit {0}
+SignerAtPath NoSigner path = Unit {0}
 SignerAtPath Digest path = path ≡ None
-SignerAtPath (OpenedBy holder) path = path ≡ Some holder.socket
+SignerAtPath (KeyAt holder) path = path ≡ Some holder.socket
 
 -- A store before and after the records were read; and the responder to OCSP requests, which may be the signer of CRLs.
 module _ {C : Type 0} (g : Ghosts C) (old new : Held C) (answers : Identity → Responder)
@@ -31,7 +31,7 @@ module _ {C : Type 0} (g : Ghosts C) (old new : Held C) (answers : Identity → 
     pub follows : (crl : List ℕ) → latest ≡ Some crl → (other : List ℕ) → IsCrlUnder crl other
         → MayFollow identity.algorithm other
     pub embeds : (records : Records) → Shows g old records → HasCleanDisk (state g new)
-        → (crls : Identity) → EmbedsOwn records.issuer.key (answers crls)
+        → (crls : Identity) → EmbeddedKeyFits records.issuer.key (answers crls)
 
   -- the same for the signer with which the register is opened, and the latest CRL of the records
   pub record SignsFor (crls : CrlSigner) : Type 0 where
@@ -40,4 +40,4 @@ module _ {C : Type 0} (g : Ghosts C) (old new : Held C) (answers : Identity → 
     pub follows : (records : Records) → Shows g old records → SoundRows records → HasCleanDisk (state g new)
         → Follows records identity.algorithm
     pub embeds : (records : Records) → Shows g old records → HasCleanDisk (state g new)
-        → (crls : Identity) → EmbedsOwn records.issuer.key (answers crls)
+        → (crls : Identity) → EmbeddedKeyFits records.issuer.key (answers crls)

@@ -12,7 +12,7 @@ ghost use Rattle.reg_office.specs.Answering.{answers_by};
 ghost use Rattle.reg_crl_signer.specs.Forms.{identity_of};
 ghost use Rattle.reg_crl_signer.specs.KeysOrDigests.{either_path};
 ghost use Rattle.reg_crl_signer.specs.Signed.{IsCrlUnder};
-ghost use Rattle.reg_desk_program.specs.Mismatches.{Differs, IsKnownAlgorithm, IsMismatch, IsMisfitAfter};
+ghost use Rattle.reg_desk_program.specs.Mismatches.{Differs, IsKnownAlgorithm, IsMismatch, IsMismatchAfter};
 ghost use Rattle.reg_desk_program.specs.StoreSigners.{SignerAtPath, SignsAfter, SignsFor};
 ghost use Rattle.reg_store_tables.specs.Shows.{Shows};
 ghost use Rattle.reg_desk_cli.specs.declared.job.SignerAddress.{SignerAddress};
@@ -20,7 +20,7 @@ ghost use Rattle.reg_store_tables.specs.Stays.{Looked};
 
 use crate::file_office::{FileDevice, FileSigner};
 use crate::host::Host;
-use crate::ocsp_answerer::embeds_own;
+use crate::ocsp_responder::embedded_key_fits;
 use reg_core::{Cause, Fault};
 use reg_crl::{DigestSeal, Signer};
 use reg_crl_signer::{
@@ -33,7 +33,7 @@ use reg_office::Responder;
 use reg_store::{DatabaseFault, Tables};
 use sqlite::Alter;
 
-/// The signer of CRLs for the register in these tables. With `Nobody`, it has the algorithm of the latest CRL and asks no process, so the next
+/// The signer of CRLs for the register in these tables. With `NoSigner`, it has the algorithm of the latest CRL and asks no process, so the next
 /// CRL fails with a fault of the signer.
 ///
 /// # Errors
@@ -57,29 +57,29 @@ pub(crate) fn signer_for<C: Alter>(
 {
     let latest = latest_crl(tables)?;
     match crls {
-        CrlSigner::OpenedBy(holder) => signer_after(host, tables, &latest, Some(holder), responder),
+        CrlSigner::KeyAt(holder) => signer_after(host, tables, &latest, Some(holder), responder),
         CrlSigner::Digest => signer_after(host, tables, &latest, None, responder),
-        CrlSigner::Nobody => silent_after(host, tables, &latest, responder),
+        CrlSigner::NoSigner => signer_without_process(host, tables, &latest, responder),
     }
 }
 
 /// A signer with the algorithm of the latest CRL that asks no process.
-fn silent_after<C: Alter>(
+fn signer_without_process<C: Alter>(
     host: &Host<'_>,
     tables: &mut Tables<C>,
     latest: &Option<Vec<u8>>,
     responder: &Responder<FileSigner>,
 ) -> Result<FileSigner, Failure>
     ensures signs { IfOk result (λ signer.
-        (told : Option SignerAddress) × SignsAfter C.Store tables.old tables.new
+        (address : Option SignerAddress) × SignsAfter C.Store tables.old tables.new
         (λ signatory. answers_by ⟦<FileSigner as Signer>⟧.identity signatory responder.now)
         (⟦<FileSigner as Signer>⟧.identity signer)
-        told (option_map (λ bytes. bytes.items) latest.now)) }
+        address (option_map (λ bytes. bytes.items) latest.now)) }
     ensures looked { Looked C.Store tables.old tables.new }
     ensures faults { IfErr result IsOpening }
 {
-    let told = holder_of(latest);
-    match signer_after(host, tables, latest, told.as_ref(), responder) {
+    let address = unreachable_address(latest);
+    match signer_after(host, tables, latest, address.as_ref(), responder) {
         Ok(signer) => Ok(signer.without_digest()),
         Err(why) => Err(why),
     }
@@ -87,7 +87,7 @@ fn silent_after<C: Alter>(
 
 /// A signer's address with the algorithm of the latest CRL and an empty path, at which no socket can be. `None` if there is no CRL, if the latest
 /// one has a placeholder digest, or if its algorithm is unknown here.
-fn holder_of(latest: &Option<Vec<u8>>) -> Option<SignerAddress<'static>> {
+fn unreachable_address(latest: &Option<Vec<u8>>) -> Option<SignerAddress<'static>> {
     let identifier = crl_algorithm(latest.as_ref()?)?;
     let algorithm = Algorithm::from_identifier(identifier)?;
     Some(SignerAddress {
@@ -101,24 +101,24 @@ fn signer_after<C: Alter>(
     host: &Host<'_>,
     tables: &mut Tables<C>,
     latest: &Option<Vec<u8>>,
-    told: Option<&SignerAddress<'_>>,
+    address: Option<&SignerAddress<'_>>,
     responder: &Responder<FileSigner>,
 ) -> Result<FileSigner, Failure>
     ensures signs { IfOk result (λ signer. SignsAfter C.Store tables.old tables.new
         (λ signatory. answers_by ⟦<FileSigner as Signer>⟧.identity signatory responder.now)
         (⟦<FileSigner as Signer>⟧.identity signer)
-        (option_copied told.entry) (option_map (λ bytes. bytes.items) latest.now)) }
+        (option_copied address.entry) (option_map (λ bytes. bytes.items) latest.now)) }
     ensures asks { IfOk result (λ signer.
         either_path ⟦<FileDevice as Device>⟧ signer
-        ≡ option_map (λ holder. holder.socket) (option_copied told.entry)) }
+        ≡ option_map (λ holder. holder.socket) (option_copied address.entry)) }
     ensures looked { Looked C.Store tables.old tables.new }
     ensures faults { IfErr result IsOpening }
 {
     let issuer = tables.issuer()?;
-    if !embeds_own(responder, issuer.key()) {
+    if !embedded_key_fits(responder, issuer.key()) {
         return Err(Failure::BadResponder);
     }
-    let signer = open_signer(host, told, issuer.key())?;
+    let signer = open_signer(host, address, issuer.key())?;
     match mismatch(latest, signer.algorithm()) {
         None => Ok(signer),
         Some(why) => {
@@ -131,17 +131,17 @@ fn signer_after<C: Alter>(
 /// The signer at this address, which has the issuer's key; the placeholder digest for `None`. If the key does not fit the algorithm, keeps that cause.
 fn open_signer(
     host: &Host<'_>,
-    told: Option<&SignerAddress<'_>>,
+    address: Option<&SignerAddress<'_>>,
     key: &[u8],
 ) -> Result<FileSigner, Failure>
     ensures ok { IfOk result (λ signer.
-        ⟦<FileSigner as Signer>⟧.identity signer ≡ identity_of_holder (option_copied told.entry) key.now) }
+        ⟦<FileSigner as Signer>⟧.identity signer ≡ identity_of_holder (option_copied address.entry) key.now) }
     ensures asks { IfOk result (λ signer.
         either_path ⟦<FileDevice as Device>⟧ signer
-        ≡ option_map (λ holder. holder.socket) (option_copied told.entry)) }
+        ≡ option_map (λ holder. holder.socket) (option_copied address.entry)) }
     ensures faults { IfErr result IsOpening }
 {
-    let Some(holder) = told else {
+    let Some(holder) = address else {
         return Ok(KeyOrDigest::Digest(DigestSeal));
     };
     match key_signer(&host.rt, holder.socket.as_str(), holder.algorithm, key) {
@@ -196,7 +196,7 @@ fn mismatch(latest: &Option<Vec<u8>>, algorithm: &[u8]) -> Option<Cause>
     ensures { MatchOption result
         ((crl : List ℕ) → option_map (λ bytes. bytes.items) latest.now ≡ Some crl
         → (other : List ℕ) → IsCrlUnder crl other → MayFollow algorithm.now other)
-        (IsMisfitAfter (option_map (λ bytes. bytes.items) latest.now) algorithm.now) }
+        (IsMismatchAfter (option_map (λ bytes. bytes.items) latest.now) algorithm.now) }
 {
     match latest {
         Some(crl) => mismatch_of(crl, algorithm),

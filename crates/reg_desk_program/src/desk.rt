@@ -32,7 +32,7 @@ pub fn run_desk(rt: &HostRuntime, invocation: &Invocation<'_>) -> u8 {
         last_cause: &last_cause,
         has_log: invocation.has_log,
         log_file,
-        is_watched: errors.is_terminal(),
+        has_terminal: errors.is_terminal(),
     };
     let mut output = CountedOutput::of(rt, &invocation.job, &last_cause);
     perform_unreported(

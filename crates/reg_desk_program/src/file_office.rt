@@ -6,7 +6,7 @@ use reg_crl_signer::{BackoffDevice, KeyOrDigest, SocketDevice, UnixConnection};
 use reg_io::ReadyOrUnsigned;
 use reg_ocsp::Draft;
 use reg_office::Office;
-use reg_office_api::{Intake, OcspResponse, RegisterSummary};
+use reg_office_api::{OcspResponse, RegisterSummary, RequestLoad};
 use sqlite::{FileFrom, FileStore};
 use sqlite_disk::Unknown;
 use std::alloc::Global;
@@ -71,16 +71,21 @@ impl reg_office_api::Office for FileOffice {
         self.office.page(alloc, now, from, most)
     }
 
-    fn standing(&mut self) -> Result<RegisterSummary, Fault> {
-        self.office.standing()
+    fn summary(&mut self) -> Result<RegisterSummary, Fault> {
+        self.office.summary()
     }
 
     fn open_count(&mut self, now: Moment) -> Result<u64, Fault> {
         self.office.open_count(now)
     }
 
-    fn intake(&mut self, now: Moment, serial: Serial, most: u64) -> Result<Intake, Fault> {
-        self.office.intake(now, serial, most)
+    fn request_load(
+        &mut self,
+        now: Moment,
+        serial: Serial,
+        most: u64,
+    ) -> Result<RequestLoad, Fault> {
+        self.office.request_load(now, serial, most)
     }
 
     fn longest(&mut self, order: u64, not_before: Moment) -> Result<Option<u64>, Fault> {

@@ -12,7 +12,7 @@ ghost use Rattle.reg_crl_signer.specs.SignatureRequest.{IsSignatureRequest};
 
 use crate::file_audit::audit_over;
 use crate::file_office::{FileOffice, FileSigner};
-use crate::ocsp_answerer::{delegate_answerer, issuer_answerer};
+use crate::ocsp_responder::{delegate_responder, issuer_responder};
 use crate::offices::{
     FileConnection, close, connection_of, create_over, office_over, preset_wanted,
 };
@@ -68,7 +68,7 @@ pub struct Host<'a> {
     /// The path of the file in which exchanges are logged, if one is given.
     pub(crate) log_file: Option<&'a str>,
     /// Whether an audit shows its progress on standard error.
-    pub(crate) is_watched: bool,
+    pub(crate) has_terminal: bool,
 }
 
 impl<'a> Host<'a> {
@@ -153,7 +153,7 @@ impl<'a> Machine for Host<'a> {
 
     ghost fresh = { λ database. (database.in_transaction ≡ false) × IsConnection database };
 
-    ghost certified = { λ answerer responder. (crls : Identity) → IsAnswering answerer (signatory_of ⟦<FileSigner as Signer>⟧.identity crls responder) };
+    ghost certified = { λ responder loaded. (crls : Identity) → IsAnswering responder (signatory_of ⟦<FileSigner as Signer>⟧.identity crls loaded) };
 
     ghost opened = { λ database crls responder office. OpensFor ⟦<FileSigner as Signer>⟧ database crls responder office.office };
 
@@ -167,7 +167,7 @@ impl<'a> Machine for Host<'a> {
 
     ghost copied = { λ host path to bytes after. Unspecified path };
 
-    ghost uncopied = { λ host path to why after. Unspecified path };
+    ghost copy_failed = { λ host path to why after. Unspecified path };
 
     ghost copied_open = { λ path bytes. Unspecified path };
 
@@ -233,13 +233,16 @@ impl<'a> Machine for Host<'a> {
         fs::read(&self.rt, path).ok()
     }
 
-    fn certify(&self, answerer: &ResponderChoice<'_>) -> Result<Responder<FileSigner>, Failure> {
-        match answerer {
-            ResponderChoice::Issuer { certificate } => issuer_answerer(self, certificate),
+    fn read_responder(
+        &self,
+        responder: &ResponderChoice<'_>,
+    ) -> Result<Responder<FileSigner>, Failure> {
+        match responder {
+            ResponderChoice::Issuer { certificate } => issuer_responder(self, certificate),
             ResponderChoice::Delegate {
                 certificate,
                 holder,
-            } => delegate_answerer(self, certificate, holder),
+            } => delegate_responder(self, certificate, holder),
         }
     }
 
@@ -302,7 +305,7 @@ impl<'a> Machine for Host<'a> {
     fn copy_open(&self, path: &str, to: &str) -> Result<u64, CopyFault> {
         match copy_open(&self.rt, path, to) {
             Ok(bytes) => Ok(bytes),
-            Err(why) => Err(uncopied_by(why)),
+            Err(why) => Err(copy_fault_by(why)),
         }
     }
 
@@ -381,14 +384,14 @@ impl<'a> Machine for Host<'a> {
     fn request_signature(&self, path: &str, message: &[u8]) -> io::Result<SignatureRequest> {
         match SignatureRequest::send_to(&self.rt, path, message) {
             Ok(link) => Ok(link),
-            Err(error) => Err(for_room(error)),
+            Err(error) => Err(as_would_block(error)),
         }
     }
 
     fn connect_to_signer(&self, path: &str) -> io::Result<SignatureRequest> {
         match SignatureRequest::connect(&self.rt, path) {
             Ok(link) => Ok(link),
-            Err(error) => Err(for_room(error)),
+            Err(error) => Err(as_would_block(error)),
         }
     }
 
@@ -443,7 +446,7 @@ impl<'a> Machine for Host<'a> {
 }
 
 /// Why an open register's files were not copied. Such files hold a database; if they don't, they are damaged.
-fn uncopied_by(why: UnreadFile) -> CopyFault
+fn copy_fault_by(why: UnreadFile) -> CopyFault
     requires { IsUnread why }
     ensures { IsOfStore result.fault }
 {
@@ -500,7 +503,7 @@ fn lock_once_free(rt: &HostRuntime, folder: &File) -> io::Result<()> {
 }
 
 /// The error of a connection to a signer. Too many open files become `WouldBlock`, since the request can be sent once another file is closed.
-fn for_room(error: io::Error) -> io::Error {
+fn as_would_block(error: io::Error) -> io::Error {
     match error.raw_os_error() {
         Some(TOO_MANY_HERE | TOO_MANY) => io::Error::from(ErrorKind::WouldBlock),
         _ => error,

@@ -22,7 +22,7 @@ pub fn a_register_that_was_found_sound_stands<A: Disk, D: Disk, S: Signer>()
 
 /// The signer of a register in a file that is opened without a key makes the placeholder digest, and nothing else. So the register may switch from
 /// it to a key, by [`reg_office::laws::a_key_follows_the_digest`].
-pub fn the_digest_is_a_seal<D: Device>()
+pub fn without_a_key_only_digests_are_made<D: Device>()
     ensures { IsDigestSigner (SignsBoth D.answers) digest }
 {}
 

@@ -11,7 +11,7 @@ mod host;
 mod input;
 pub mod laws;
 mod memory;
-mod ocsp_answerer;
+mod ocsp_responder;
 mod offices;
 mod progress;
 

@@ -39,7 +39,7 @@ pub(crate) fn create_over<C: Alter, S: Signer + Drop>(
     ensures alone { IfOk result (λ office. office.responder ≡ ByIssuer None) }
     ensures err { IfErr result (λ left. IsMaking left.0) }
 {
-    policy.promise();
+    policy.values_are_in_range();
     match Store::create(connection, issuer, policy) {
         Ok(store) => Ok(Office::new(store, signer)),
         Err(unopened) => Err((Failure::from(unopened.fault), unopened.connection)),

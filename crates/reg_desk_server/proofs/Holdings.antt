@@ -4,8 +4,8 @@ use Rattle.std.specs.Prelude.{Option, None, Some, MatchOption}
 use Rattle.std.specs.Io.KnownBytes.{Appends}
 use Rattle.std.proofs.KnownBytes.{Appends-trans, Consumes-trans}
 use Rattle.std.proofs.lemmas.List.{append_assoc, drop-drop, take-take, take_all}
-use Rattle.reg_io.specs.Mark.{EndsWith, FirstDelimiter, HasNoMark}
-use Rattle.reg_io.proofs.PublicLaws.{no_mark_in_front}
+use Rattle.reg_io.specs.Delimiter.{EndsWith, FirstDelimiter, HasNoDelimiter}
+use Rattle.reg_io.proofs.PublicLaws.{no_delimiter_in_prefix}
 use Rattle.reg_desk_server.specs.Stages.{HasUnsentText, HasUnsentRest, IsDropped, Sends}
 use Rattle.reg_desk_server.specs.Buffers.{AddsTo, Receives, SendsOn}
 use Rattle.reg_desk_server.specs.declared.http_connection.HttpConnection.{HttpConnection}
@@ -56,15 +56,15 @@ sends_piece old new text at end count few appended = record {
 -- the end of the first line, or none
 pub found_or_none : (bytes mark : List ℕ) (r : Option ℕ)
     → MatchOption r ((n : ℕ) → n ≤ length bytes → ¬ EndsWith (take n bytes) mark) (λ end. (end ≤ length bytes) × FirstDelimiter mark bytes end)
-    → MatchOption r (HasNoMark mark bytes) (λ end. FirstDelimiter mark bytes end)
+    → MatchOption r (HasNoDelimiter mark bytes) (λ end. FirstDelimiter mark bytes end)
 found_or_none bytes mark None none =
-    let P : List ℕ → Type 0 = λ l. HasNoMark mark l in
-    subst P (take_all (length bytes) bytes (omega arith)) (no_mark_in_front mark bytes (length bytes) none)
+    let P : List ℕ → Type 0 = λ l. HasNoDelimiter mark l in
+    subst P (take_all (length bytes) bytes (omega arith)) (no_delimiter_in_prefix mark bytes (length bytes) none)
 found_or_none bytes mark (Some end) found = found.1
 
 -- the same behind a reply that was sent
-pub due_or_none : (unsent bytes : List ℕ) (r : Option ℕ) → unsent ≡ [] → MatchOption r (HasNoMark (10 ∷ []) bytes) (λ end. FirstDelimiter (10 ∷ []) bytes end)
-    → MatchOption r (unsent ≡ [] → HasNoMark (10 ∷ []) bytes) (λ end. (unsent ≡ []) × FirstDelimiter (10 ∷ []) bytes end)
+pub due_or_none : (unsent bytes : List ℕ) (r : Option ℕ) → unsent ≡ [] → MatchOption r (HasNoDelimiter (10 ∷ []) bytes) (λ end. FirstDelimiter (10 ∷ []) bytes end)
+    → MatchOption r (unsent ≡ [] → HasNoDelimiter (10 ∷ []) bytes) (λ end. (unsent ≡ []) × FirstDelimiter (10 ∷ []) bytes end)
 due_or_none unsent bytes None sent none = λ is. none
 due_or_none unsent bytes (Some end) sent found = (sent, found)
 

@@ -6,8 +6,8 @@ use Rattle.std.specs.List.{concat}
 use Rattle.std.proofs.lemmas.List.{append-nil, append_assoc}
 use Rattle.std.proofs.lemmas.List.Elements.{AllZip-push}
 use Rattle.std.proofs.lemmas.List.Folds.{concat-append}
-use Rattle.reg_io.specs.Mark.{FirstDelimiter}
-use Rattle.reg_io.proofs.PublicLaws.{byte_first}
+use Rattle.reg_io.specs.Delimiter.{FirstDelimiter}
+use Rattle.reg_io.proofs.PublicLaws.{first_delimiter_of_byte}
 use Rattle.reg_http_head.specs.Bytes.{collected_bytes}
 use Rattle.reg_http_head.specs.declared.collected.Collected.{Collected}
 use Rattle.reg_desk_server.specs.Connections.{FinishesOnce, HasServed, HasAnsweredLines, IsAnsweredOnce, IsAnsweredBy, KeepsServed, ServesOn, SinceAccepted, AnswersNoMoreLines, AnswersOneMoreLine, WasAnswered, WasLeftUnsigned, more_received, more_sent, nothing_yet}
@@ -104,7 +104,7 @@ module _ {S H : Type 0} (contents remaining : S → Option (List ℕ)) (answers_
         answered =
             concat_more replies (unsent_of new.unsent)
             ∙ ap (λ (l : List ℕ). l ++ unsent_of new.unsent) (was.answered ∙ ap (λ (l : List ℕ). was.gone ++ l) none ∙ append-nil was.gone);
-        each = AllZip-push (IsAnsweredBy answers_line) lines replies (take end held) (unsent_of new.unsent) was.each (byte_first 10 held end mark, (s, t, step));
+        each = AllZip-push (IsAnsweredBy answers_line) lines replies (take end held) (unsent_of new.unsent) was.each (first_delimiter_of_byte 10 held end mark, (s, t, step));
         whole = subst (λ (ended : Bool). (was.lost ≡ []) ⊎ (ended ≡ true)) (sym same.1) was.whole;
       }
 

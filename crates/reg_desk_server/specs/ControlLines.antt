@@ -1,7 +1,7 @@
 -- One control connection: the handler's reply to a line, the bytes that are left after it, and how received bytes are kept until then.
 use Rattle.std.specs.Prelude.{◌≡◌, ℕ, Bool, true, false, List, [], ◌∷◌, ◌++◌, ◌⊎◌, Option, take, drop}
 use Rattle.std.specs.Io.KnownBytes.{Appends, Consumes}
-use Rattle.reg_io.specs.Mark.{FirstDelimiter, HasNoMark}
+use Rattle.reg_io.specs.Delimiter.{FirstDelimiter, HasNoDelimiter}
 use Rattle.reg_desk_server.specs.Buffers.{unsent_of}
 use Rattle.reg_desk_server.specs.declared.control_connection.ControlConnection.{ControlConnection}
 use Rattle.reg_desk_server.specs.declared.request_bytes.Received.{Received}
@@ -9,7 +9,7 @@ use Rattle.reg_desk_server.specs.declared.request_bytes.Received.TheVariants as 
 
 -- these bytes have no whole line
 abbrev pub HasNoLine : List ℕ → Type 0
-HasNoLine bytes = HasNoMark (10 ∷ []) bytes
+HasNoLine bytes = HasNoDelimiter (10 ∷ []) bytes
 
 -- the first line of these bytes ends here, with its LF
 abbrev pub FirstLineEnds : List ℕ → ℕ → Type 0

@@ -57,7 +57,7 @@ impl<S: Link> ControlConnection<S> {
         }
     }
 
-    pub fn advance(&mut self, room: &mut [u8]) -> Next
+    pub fn advance(&mut self, read_buffer: &mut [u8]) -> Next
         ensures advances { Advances S.Write.contents S.Read.remaining self.old self.new }
 
         // Once the previous reply is sent, a whole line is due, even if the client has half-closed.
@@ -66,7 +66,7 @@ impl<S: Link> ControlConnection<S> {
     {
         let sent = self.unsent.send_on(&mut self.link);
         if self.unsent.len() == 0 {
-            return self.receive(room);
+            return self.receive(read_buffer);
         }
         match sent {
             Sent::Broken => Next::Close,
@@ -75,7 +75,7 @@ impl<S: Link> ControlConnection<S> {
     }
 
     /// Reads until a line is whole, at most `MOST_READS` times. After a half-close nothing more comes.
-    fn receive(&mut self, room: &mut [u8]) -> Next
+    fn receive(&mut self, read_buffer: &mut [u8]) -> Next
         ensures gathers { GathersOn S.Read.remaining self.old self.new }
         ensures ended { StaysEnded self.old self.new }
         ensures unsent { self.new.unsent ≡ self.old.unsent }
@@ -85,7 +85,7 @@ impl<S: Link> ControlConnection<S> {
             if let Some(next) = self.after_reading() {
                 return next;
             }
-            if !self.receive_once(room) {
+            if !self.receive_once(read_buffer) {
                 return Next::Poll(Interest::READABLE);
             }
         }
@@ -110,12 +110,12 @@ impl<S: Link> ControlConnection<S> {
     }
 
     /// Reads once. `false` if the read would block; `true` if another may give more, or the end was found.
-    fn receive_once(&mut self, room: &mut [u8]) -> bool
+    fn receive_once(&mut self, read_buffer: &mut [u8]) -> bool
         ensures gathers { GathersOn S.Read.remaining self.old self.new }
         ensures unsent { self.new.unsent ≡ self.old.unsent }
         ensures waits { result ≡ false → self.new.arrived.items ≡ self.old.arrived.items }
     {
-        let received = gather(&mut self.link, &mut self.arrived, room);
+        let received = gather(&mut self.link, &mut self.arrived, read_buffer);
         self.has_ended = is_end(received);
         !matches!(received, Received::Blocked)
     }
@@ -215,14 +215,14 @@ impl<S: Link> ControlConnection<S> {
     }
 }
 
-fn gather<R: Read>(reader: &mut R, buffer: &mut Vec<u8>, room: &mut [u8]) -> Received
+fn gather<R: Read>(reader: &mut R, buffer: &mut Vec<u8>, read_buffer: &mut [u8]) -> Received
     ensures receives { Receives (R.remaining reader.old) (R.remaining reader.new)
         buffer.old.items buffer.new.items result }
     ensures waits { result ≡ Received.Blocked → buffer.new.items ≡ buffer.old.items }
 {
-    match reader.read(room) {
+    match reader.read(read_buffer) {
         Ok(0) => Received::Ended,
-        Ok(count) => keep_bytes(buffer, &room[..count]),
+        Ok(count) => keep_bytes(buffer, &read_buffer[..count]),
         Err(error) => match error.kind() {
             ErrorKind::WouldBlock => Received::Blocked,
             ErrorKind::Interrupted => Received::More,

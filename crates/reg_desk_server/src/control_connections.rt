@@ -123,7 +123,7 @@ impl<H: Handler> ControlConnections<H> {
         mut connection: ControlConnection<UnixStream>,
         shared: &mut Shared,
     ) {
-        match connection.advance(shared.room.as_mut_slice()) {
+        match connection.advance(shared.read_buffer.as_mut_slice()) {
             Next::Due => {
                 self.has_lines = true;
                 self.slots.put(slot, connection);

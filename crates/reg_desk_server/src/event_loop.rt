@@ -336,16 +336,16 @@ impl<H: Handler> EventLoop<H> {
             requester,
             deadline,
         } = requested.pending;
-        if requested.has_come || deadline <= now || !self.http.is_waiting(requester) {
+        if requested.has_arrived || deadline <= now || !self.http.is_waiting(requester) {
             self.signatures.drop_at(index);
-            self.complete(requester, requested.has_come, handler, now);
+            self.complete(requester, requested.has_arrived, handler, now);
         }
     }
 
     /// Finishes the answer of a waiting connection, with its signature if that has come, and sends it.
-    fn complete(&mut self, requester: Requester, has_come: bool, handler: &H, now: u64) {
+    fn complete(&mut self, requester: Requester, has_arrived: bool, handler: &H, now: u64) {
         if let Some(mut connection) = self.http.take_waiting(requester) {
-            connection.complete(handler, has_come, now);
+            connection.complete(handler, has_arrived, now);
             self.send_on(requester.slot, connection, 0, now);
         }
     }

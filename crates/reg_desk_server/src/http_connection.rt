@@ -47,11 +47,11 @@ pub enum Next {
 }
 
 /// Drops the bytes that came, in at most `MOST_DROPPED` reads.
-fn drop_all<R: Read>(reader: &mut R, room: &mut [u8]) -> Received
+fn drop_all<R: Read>(reader: &mut R, read_buffer: &mut [u8]) -> Received
     ensures { IsDropped (R.remaining reader.old) (R.remaining reader.new) }
 {
     for _ in 0..MOST_DROPPED {
-        match drop_once(reader, room) {
+        match drop_once(reader, read_buffer) {
             Received::More => {}
             received => return received,
         }
@@ -59,10 +59,10 @@ fn drop_all<R: Read>(reader: &mut R, room: &mut [u8]) -> Received
     Received::More
 }
 
-fn drop_once<R: Read>(reader: &mut R, room: &mut [u8]) -> Received
+fn drop_once<R: Read>(reader: &mut R, read_buffer: &mut [u8]) -> Received
     ensures { IsDropped (R.remaining reader.old) (R.remaining reader.new) }
 {
-    match reader.read(room) {
+    match reader.read(read_buffer) {
         Ok(0) => Received::Ended,
         Ok(_) => Received::More,
         Err(error) if error.kind() == ErrorKind::WouldBlock => Received::Blocked,
@@ -131,7 +131,7 @@ impl<S: Link, H: Handler> HttpConnection<S, H> {
     pub fn record_fault(&mut self, now: u64) -> Option<ConnectionFault>
         ensures same_link { self.new.link ≡ self.old.link }
         ensures same_stage { self.new.stage ≡ self.old.stage }
-        ensures last_reason { IsSome self.old.fault → IsSome self.new.fault }
+        ensures fault { IsSome self.old.fault → IsSome self.new.fault }
     {
         if !self.is_receiving() {
             return None;
@@ -150,28 +150,28 @@ impl<S: Link, H: Handler> HttpConnection<S, H> {
     }
 
     /// Advances the connection as far as it goes without blocking.
-    pub fn advance(&mut self, room: &mut [u8], now: u64) -> Next
+    pub fn advance(&mut self, read_buffer: &mut [u8], now: u64) -> Next
         ensures receives { ReceivesMore S.Read.remaining self.old self.new }
         ensures sends { Sends S.Write.contents self.old self.new }
         ensures drops { Drops S.Read.remaining self.old self.new }
     {
         match &self.stage {
-            Stage::Receiving(_) => self.receive(room),
-            Stage::Signing(..) => self.wait(room),
+            Stage::Receiving(_) => self.receive(read_buffer),
+            Stage::Signing(..) => self.wait(read_buffer),
             Stage::Sending(..) => self.send_on(now),
-            Stage::Draining => self.drain(room),
+            Stage::Draining => self.drain(read_buffer),
         }
     }
 
     #[tactic(auto, using(crate::proofs::Gatherings::gathers_none))]
-    fn receive(&mut self, room: &mut [u8]) -> Next
+    fn receive(&mut self, read_buffer: &mut [u8]) -> Next
         ensures { ReceivesMore S.Read.remaining self.old self.new }
     {
         if self.fault.is_some() {
             return Next::Due;
         }
         match &mut self.stage {
-            Stage::Receiving(collected) => match receive(&mut self.link, collected, room) {
+            Stage::Receiving(collected) => match receive(&mut self.link, collected, read_buffer) {
                 Received::Blocked => Next::Poll(Interest::READABLE),
                 Received::More => Next::Poll(Interest::READABLE),
                 Received::Whole => Next::Due,
@@ -192,10 +192,10 @@ impl<S: Link, H: Handler> HttpConnection<S, H> {
     }
 
     /// Drops the bytes that a client sends while it waits for its answer, and notices if it is gone.
-    fn wait(&mut self, room: &mut [u8]) -> Next
+    fn wait(&mut self, read_buffer: &mut [u8]) -> Next
         ensures { Drops S.Read.remaining self.old self.new }
     {
-        match drop_all(&mut self.link, room) {
+        match drop_all(&mut self.link, read_buffer) {
             Received::Broken => return Next::Close,
             Received::Ended => self.has_ended = true,
             _ => {}
@@ -244,10 +244,10 @@ impl<S: Link, H: Handler> HttpConnection<S, H> {
         }
     }
 
-    fn drain(&mut self, room: &mut [u8]) -> Next
+    fn drain(&mut self, read_buffer: &mut [u8]) -> Next
         ensures { Drops S.Read.remaining self.old self.new }
     {
-        match drop_all(&mut self.link, room) {
+        match drop_all(&mut self.link, read_buffer) {
             Received::Blocked | Received::More => Next::Poll(Interest::READABLE),
             _ => Next::Close,
         }
@@ -331,15 +331,15 @@ impl<S: Link, H: Handler> HttpConnection<S, H> {
         }
     }
 
-    /// Finishes the answer that is to be signed: if `has_come`, with the signature from the connection on which it was requested; else without a
+    /// Finishes the answer that is to be signed: if `has_arrived`, with the signature from the connection on which it was requested; else without a
     /// signature. In any other stage nothing changes.
-    pub fn complete(&mut self, handler: &H, has_come: bool, now: u64)
+    pub fn complete(&mut self, handler: &H, has_arrived: bool, now: u64)
         ensures finished { Finishing (H.finishes handler.now) self.old.stage self.new.stage }
         ensures kept { SameLinkAndFault self.old self.new }
     {
         match mem::replace(&mut self.stage, Stage::Draining) {
             Stage::Signing(ticket, link, is_exact) => {
-                let finished = handler.finish(ticket, if has_come { link } else { None });
+                let finished = handler.finish(ticket, if has_arrived { link } else { None });
                 self.start_sending(finished, is_exact, now);
             }
             Stage::Receiving(collected) => self.stage = Stage::Receiving(collected),

@@ -85,7 +85,7 @@ impl<H: Handler> HttpConnections<H> {
         now: u64,
     ) {
         let before = connection.unsent();
-        let next = connection.advance(shared.room.as_mut_slice(), now);
+        let next = connection.advance(shared.read_buffer.as_mut_slice(), now);
         self.count_unsent(before, connection.unsent());
         match next {
             Next::Due => self.put_due(slot, connection),

@@ -26,13 +26,13 @@ pub(crate) enum Received {
 pub(crate) fn receive<R: Read>(
     reader: &mut R,
     collected: &mut Collected,
-    room: &mut [u8],
+    read_buffer: &mut [u8],
 ) -> Received
     ensures { Collects (R.remaining reader.old) (R.remaining reader.new)
         collected.old collected.new result }
 {
     for _ in 0..MOST_READS {
-        match receive_once(reader, collected, room) {
+        match receive_once(reader, collected, read_buffer) {
             Received::More => {}
             received => return received,
         }
@@ -40,13 +40,17 @@ pub(crate) fn receive<R: Read>(
     Received::More
 }
 
-fn receive_once<R: Read>(reader: &mut R, collected: &mut Collected, room: &mut [u8]) -> Received
+fn receive_once<R: Read>(
+    reader: &mut R,
+    collected: &mut Collected,
+    read_buffer: &mut [u8],
+) -> Received
     ensures { Collects (R.remaining reader.old) (R.remaining reader.new)
         collected.old collected.new result }
 {
-    match reader.read(room) {
+    match reader.read(read_buffer) {
         Ok(0) => Received::Ended,
-        Ok(count) => add(collected, &room[..count]),
+        Ok(count) => add(collected, &read_buffer[..count]),
         Err(error) => match error.kind() {
             ErrorKind::WouldBlock => Received::Blocked,
             ErrorKind::Interrupted => Received::More,

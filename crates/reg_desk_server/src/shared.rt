@@ -17,20 +17,20 @@ pub(crate) struct Shared {
     pub(crate) alloc: Global,
     pub(crate) poller: Poller,
     pub(crate) lost: LostConnections,
-    pub(crate) room: Vec<u8>,
+    pub(crate) read_buffer: Vec<u8>,
 }
 
 impl Shared {
     pub(crate) fn new(rt: &(impl Net + AllocGlobal), connections: usize) -> io::Result<Shared> {
         let alloc = rt.alloc();
-        let room = vec![in alloc; 0u8; BUFFER_SIZE]?;
+        let read_buffer = vec![in alloc; 0u8; BUFFER_SIZE]?;
         let lost = LostConnections::new(alloc, connections)?;
         let poller = Poller::new(rt)?;
         Ok(Shared {
             alloc,
             poller,
             lost,
-            room,
+            read_buffer,
         })
     }
 }

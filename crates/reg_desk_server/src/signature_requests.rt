@@ -34,7 +34,7 @@ pub(crate) struct Pending {
 pub(crate) struct Requested {
     pub(crate) pending: Pending,
     /// Whether the connection to the signer is at its end, so that all of the answer has arrived.
-    pub(crate) has_come: bool,
+    pub(crate) has_arrived: bool,
 }
 
 /// The signatures that were requested, each on its own connection, and the queue of those that are to be requested.
@@ -125,7 +125,7 @@ impl SignatureRequests {
         self.polls = POLLS;
         let requested = Requested {
             pending,
-            has_come: false,
+            has_arrived: false,
         };
         if let Some(entry) = self.requested.get_mut(index) {
             *entry = Some(requested);
@@ -136,7 +136,7 @@ impl SignatureRequests {
 
     pub(crate) fn mark_ended(&mut self, index: usize) {
         if let Some(Some(requested)) = self.requested.get_mut(index) {
-            requested.has_come = true;
+            requested.has_arrived = true;
         }
     }
 

@@ -17,7 +17,7 @@ const TIMEOUT_MILLIS: u64 = 10_000;
 enum Progress {
     Sending,
     Waiting,
-    Come,
+    Arrived,
     Failed,
 }
 
@@ -57,7 +57,7 @@ impl<H: Handler> WaitingLine<H> {
     }
 
     pub(crate) fn has_ended(&self) -> bool {
-        matches!(self.progress, Progress::Come | Progress::Failed)
+        matches!(self.progress, Progress::Arrived | Progress::Failed)
     }
 
     pub(crate) fn is_due(&self, now: u64) -> bool {
@@ -67,7 +67,7 @@ impl<H: Handler> WaitingLine<H> {
     /// The connection to the signer is at its end: the answer has arrived, unless the message was not wholly sent.
     pub(crate) fn mark_ended(&mut self) {
         self.progress = match self.progress {
-            Progress::Waiting | Progress::Come => Progress::Come,
+            Progress::Waiting | Progress::Arrived => Progress::Arrived,
             Progress::Sending | Progress::Failed => Progress::Failed,
         };
     }
@@ -133,7 +133,7 @@ impl<H: Handler> WaitingLine<H> {
         let message = message.text;
         let deferred = Deferred { message, ticket };
         match progress {
-            Progress::Come => (slot, connection, deferred, link),
+            Progress::Arrived => (slot, connection, deferred, link),
             _ => (slot, connection, deferred, None),
         }
     }

@@ -16,7 +16,7 @@ use Rattle.reg_core.specs.declared.memory.Memory.{Memory}
 use Rattle.reg_http_head.specs.Response.{Response}
 use Rattle.reg_http.specs.Added.{AddsARequestAtMost}
 use Rattle.reg_http.specs.Answers.{Answers, BeginsIn, BeginsTo, RespondsIn, RespondsTo, BeginsOcsp, of_any_kind}
-use Rattle.reg_http.specs.RoutedRequests.{RoutedRequest, refused, only, unread, malformed, ocsp_of, crl_of, status_of, counts_of, request_of}
+use Rattle.reg_http.specs.RoutedRequests.{RoutedRequest, refused, method_not_allowed, unread, malformed, ocsp_of, crl_of, status_of, counts_of, request_of}
 use Rattle.reg_http.specs.AnswerEffects.{AnswerEffects, answer_effects}
 use Rattle.reg_http.specs.declared.answered.Answered.{Answered}
 use Rattle.reg_crl.specs.Signing.{signed_by}
@@ -48,7 +48,7 @@ module _ {O : Type 0} (office : Office O) (now : ℕ) (s t : O) where
     pub answer_leads : (what : RoutedRequest) (it : AnswerEffects) → Answers (RunsIn office) (AsksIn office) RepliesBy (CrlsIn office) now s what it t
         → Leads office.is_clean office.stands (Answer what it) s t
     answer_leads (refused status) it (same, is) = stayed (refused status) it same (λ signatory before after still. (still, is))
-    answer_leads (only method) it (same, is) = stayed (only method) it same (λ signatory before after still. (still, is))
+    answer_leads (method_not_allowed method) it (same, is) = stayed (method_not_allowed method) it same (λ signatory before after still. (still, is))
     answer_leads unread it (same, is) = stayed unread it same (λ signatory before after still. (still, is))
     answer_leads malformed it (same, is) = stayed malformed it same (λ signatory before after still. (still, is))
     answer_leads (ocsp_of request) it (given, came, is) =

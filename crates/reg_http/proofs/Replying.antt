@@ -77,7 +77,7 @@ pub call_answers : {S : Type 0} (runs : S → ℕ → Command → Result Reply F
 call_answers runs asks replies others crls now s t (call.Refused status) it answered = answered
 call_answers runs asks replies others crls now s t call.OnlyGet it answered = answered
 call_answers runs asks replies others crls now s t call.OnlyPost it answered = answered
-call_answers runs asks replies others crls now s t call.UnreadFile it answered = answered
+call_answers runs asks replies others crls now s t call.Unreadable it answered = answered
 call_answers runs asks replies others crls now s t call.Malformed it answered = answered
 call_answers runs asks replies others crls now s t (call.Crl number) it answered = answered
 call_answers runs asks replies others crls now s t (call.Status serial) it answered = answered

@@ -14,9 +14,9 @@ use Rattle.reg_core.specs.declared.refusal.Fault.{Fault}
 use Rattle.reg_core.specs.declared.refusal.Fault.TheVariants.{Refused}
 use Rattle.reg_core.specs.declared.refusal.Refusal.TheVariants.{Syntax}
 use Rattle.reg_http_head.specs.Response.{Response}
-use Rattle.reg_http.specs.RoutedRequests.{RoutedRequest, refused, only, unread, malformed, ocsp_of, crl_of, status_of, counts_of, request_of}
+use Rattle.reg_http.specs.RoutedRequests.{RoutedRequest, refused, method_not_allowed, unread, malformed, ocsp_of, crl_of, status_of, counts_of, request_of}
 use Rattle.reg_http.specs.Bodies.{http_refusal, fault_response, der, malformed_text}
-use Rattle.reg_http.specs.Bodies.{only as only_response}
+use Rattle.reg_http.specs.Bodies.{method_not_allowed as only_response}
 use Rattle.reg_http.specs.AnswerEffects.{AnswerEffects, plain, outcome_effects, request_effects, crl_effects, ocsp_effects, answer_effects}
 use Rattle.reg_http.specs.declared.answered.Answered.{Answered}
 use Rattle.reg_ocsp.specs.Drafts.{Drafted}
@@ -31,7 +31,7 @@ module _ {S : Type 0} (runs : S → ℕ → Command → Result Reply Fault → S
   -- the answer to a request; only a request for revocation runs a command
   abbrev pub Answers : ℕ → S → RoutedRequest → AnswerEffects → S → Type 0
   Answers now s (refused status) it t = (t ≡ s) × (it ≡ plain (http_refusal status))
-  Answers now s (only method) it t = (t ≡ s) × (it ≡ plain (only_response method))
+  Answers now s (method_not_allowed method) it t = (t ≡ s) × (it ≡ plain (only_response method))
   Answers now s unread it t = (t ≡ s) × (it ≡ plain (fault_response (Refused Syntax)))
   Answers now s malformed it t =
       (t ≡ s) × (it ≡ plain (der (codes "application/ocsp-response") malformed_text))

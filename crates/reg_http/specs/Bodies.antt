@@ -48,8 +48,8 @@ unfoldable pub http_refusal : ℕ → Response
 http_refusal status = json status (error_text (decimal status))
 
 -- a 405 names the method that the route has (RFC 9110 15.5.6)
-unfoldable pub only : List ℕ → Response
-only method = record {
+unfoldable pub method_not_allowed : List ℕ → Response
+method_not_allowed method = record {
   status = 405;
   kind = codes "application/json";
   allow = Some method;

@@ -12,21 +12,21 @@ use Rattle.reg_core_lists.specs.Pages.{IsPaged}
 use Rattle.reg_core_lists.specs.Texts.{page_body}
 use Rattle.reg_core_lists.specs.declared.list_parameters.PageQuery.{PageQuery}
 use Rattle.reg_core_lists.specs.declared.rows.Page.{Page as PageOf}
-use Rattle.reg_http.specs.Bodies.{json, only}
+use Rattle.reg_http.specs.Bodies.{json, method_not_allowed}
 use Rattle.reg_http.specs.AnswerEffects.{AnswerEffects, plain, fault_effects}
 use Rattle.reg_http.specs.declared.lists.ListRequest.{ListRequest}
-use Rattle.reg_http.specs.declared.lists.ListRequest.TheVariants.{OnlyGet, UnreadFile, Page}
+use Rattle.reg_http.specs.declared.lists.ListRequest.TheVariants.{OnlyGet, Unreadable, Page}
 
--- the page that is wanted; `UnreadFile` if the list or its query can't be read
+-- the page that is wanted; `Unreadable` if the list or its query can't be read
 abbrev pub or_unread : Option PageQuery → ListRequest
 or_unread (Some wanted) = Page wanted
-or_unread None = UnreadFile
+or_unread None = Unreadable
 
 -- the page that is wanted by a path `/list/WORD` and its query
 abbrev pub page_of_path : List ℕ → List ℕ → ListRequest
-page_of_path path answer_effects =
+page_of_path path decoded_query =
     if starts_with (λ a b. a == b) path (codes "/list/")
-    then or_unread (page_query (drop 6 path) answer_effects) else UnreadFile
+    then or_unread (page_query (drop 6 path) decoded_query) else Unreadable
 
 -- the same for a target (RFC 3986 3.3, 3.4): a path, and after `?` the query, percent-decoded
 unfoldable pub page_in : List ℕ → ListRequest
@@ -51,5 +51,5 @@ abbrev pub RespondsList : Records → ℕ → ListRequest → AnswerEffects → 
 RespondsList records now (Page wanted) it =
     (given : Result PageOf Fault) × IsPaged records now wanted.most wanted.from given
     × (it ≡ given_page wanted given)
-RespondsList records now OnlyGet it = it ≡ plain (only (codes "GET"))
-RespondsList records now UnreadFile it = it ≡ fault_effects (fault.Refused Syntax)
+RespondsList records now OnlyGet it = it ≡ plain (method_not_allowed (codes "GET"))
+RespondsList records now Unreadable it = it ≡ fault_effects (fault.Refused Syntax)

@@ -1,17 +1,17 @@
 -- The meaning of a request, from the values of Rust types that it was read as.
 use Rattle.std.specs.Prelude.{ℕ, List, codes}
-use Rattle.reg_http.specs.RoutedRequests.{RoutedRequest, refused, only, unread, malformed, ocsp_of, crl_of, status_of, counts_of, request_of}
+use Rattle.reg_http.specs.RoutedRequests.{RoutedRequest, refused, method_not_allowed, unread, malformed, ocsp_of, crl_of, status_of, counts_of, request_of}
 use Rattle.reg_http.specs.declared.parts.Call.{Call}
-use Rattle.reg_http.specs.declared.parts.Call.TheVariants.{Refused, OnlyGet, OnlyPost, UnreadFile, Malformed, Crl, Status, Counts, Request}
+use Rattle.reg_http.specs.declared.parts.Call.TheVariants.{Refused, OnlyGet, OnlyPost, Unreadable, Malformed, Crl, Status, Counts, Request}
 use Rattle.reg_http.specs.declared.parts.Meaning.{Meaning}
 use Rattle.reg_http.specs.declared.parts.Meaning.TheVariants.{Posted, Decoded, Other}
 
 -- the meaning of any request but an OCSP request
 abbrev pub request_of_call : Call → RoutedRequest
 request_of_call (Refused status) = refused status
-request_of_call OnlyGet = only (codes "GET")
-request_of_call OnlyPost = only (codes "POST")
-request_of_call UnreadFile = unread
+request_of_call OnlyGet = method_not_allowed (codes "GET")
+request_of_call OnlyPost = method_not_allowed (codes "POST")
+request_of_call Unreadable = unread
 request_of_call Malformed = malformed
 request_of_call (Crl number) = crl_of number
 request_of_call (Status serial) = status_of serial

@@ -21,7 +21,7 @@ use Rattle.reg_http.specs.declared.route.Route.TheVariants.{Ocsp, OcspRest, Crl,
 -- can't be decoded, or one of the five calls of the office
 pub data RoutedRequest : Type 0 where
   refused : ℕ → RoutedRequest
-  only : List ℕ → RoutedRequest
+  method_not_allowed : List ℕ → RoutedRequest
   unread : RoutedRequest
   malformed : RoutedRequest
   ocsp_of : List ℕ → RoutedRequest
@@ -84,7 +84,7 @@ or_malformed None = malformed
 
 -- a route has one method; any other is refused with 405 (RFC 9110 15.5.6)
 abbrev pub by_method : List ℕ → List ℕ → RoutedRequest → RoutedRequest
-by_method has method asks = if bytes_eq method has then asks else only has
+by_method has method asks = if bytes_eq method has then asks else method_not_allowed has
 
 -- the meaning of a request at a route, with the variable part of the path
 abbrev pub asked_at : List ℕ → Route → List ℕ → List ℕ → RoutedRequest

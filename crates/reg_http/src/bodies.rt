@@ -2,7 +2,7 @@
 
 ghost use Rattle.std.specs.Prelude.{◌≡◌, ◌≤◌, [], IfOk, length, vec_capacity};
 ghost use Rattle.reg_http_head.specs.Response.{shown};
-ghost use Rattle.reg_http.specs.Bodies.{counts_text, der, due_text, error_text, fault_response, fault_status, json, only, http_refusal as refusal_of, status_text};
+ghost use Rattle.reg_http.specs.Bodies.{counts_text, der, due_text, error_text, fault_response, fault_status, json, method_not_allowed, http_refusal as refusal_of, status_text};
 
 use reg_core::{Counts, Decimal, Fault, Memory, Moment, Refusal, Status};
 use reg_http_head::{Answer, put, status};
@@ -122,12 +122,12 @@ pub(crate) fn refusal(mut buffer: Vec<u8>, code: u16) -> Answer
 }
 
 /// The answer to a method that the route does not have, with the one that it has (RFC 9110 15.5.6).
-#[tactic(auto, unfolding(crate::specs::Bodies::only))]
-pub(crate) fn only(mut buffer: Vec<u8>, method: &'static str) -> Answer
+#[tactic(auto, unfolding(crate::specs::Bodies::method_not_allowed))]
+pub(crate) fn method_not_allowed(mut buffer: Vec<u8>, method: &'static str) -> Answer
     requires empty { buffer.items ≡ [] }
     requires buffer { 256 ≤ vec_capacity buffer }
     requires short { length method.now ≤ 64 }
-    ensures { shown result ≡ only method.now }
+    ensures { shown result ≡ method_not_allowed method.now }
 {
     put_error(
         &mut buffer,

@@ -23,7 +23,7 @@ pub(crate) enum ListRequest {
     /// Another method than GET, the only one of the route.
     OnlyGet,
     /// The word of the list, or its query, can't be read.
-    UnreadFile,
+    Unreadable,
     Page(PageQuery),
 }
 
@@ -47,7 +47,7 @@ pub fn answer_list<O: Office>(
             answer_page(alloc, &wanted, &given)
         }
         Ok(ListRequest::OnlyGet) => only_get(alloc),
-        Ok(ListRequest::UnreadFile) => report_fault(alloc, Fault::Refused(Refusal::Syntax)),
+        Ok(ListRequest::Unreadable) => report_fault(alloc, Fault::Refused(Refusal::Syntax)),
         Err(memory) => Err(memory),
     }
 }
@@ -83,11 +83,11 @@ fn page_behind(path: &[u8], plain_query: &[u8]) -> ListRequest
     ensures { result ≡ page_of_path path.now plain_query.now }
 {
     if !path.starts_with(b"/list/") {
-        return ListRequest::UnreadFile;
+        return ListRequest::Unreadable;
     }
     match read_page(&path[b"/list/".len()..], plain_query) {
         Some(wanted) => ListRequest::Page(wanted),
-        None => ListRequest::UnreadFile,
+        None => ListRequest::Unreadable,
     }
 }
 

@@ -39,7 +39,7 @@ pub(crate) enum Call {
     OnlyGet,
     OnlyPost,
     /// A number, a serial number or a body can't be read.
-    UnreadFile,
+    Unreadable,
     /// The text of an OCSP request in the path can't be decoded.
     Malformed,
     /// The CRL with this number, or the latest one.
@@ -78,7 +78,7 @@ fn crl_call(text: &[u8]) -> Call
 {
     match read_number(text) {
         Some(number) => Call::Crl(Some(number)),
-        None => Call::UnreadFile,
+        None => Call::Unreadable,
     }
 }
 
@@ -87,7 +87,7 @@ fn status_call(text: &[u8]) -> Call
 {
     match Serial::read(text) {
         Some(serial) => Call::Status(serial),
-        None => Call::UnreadFile,
+        None => Call::Unreadable,
     }
 }
 
@@ -116,19 +116,19 @@ fn request_in(value: &Value) -> Call
     match serial_in(value) {
         Some(serial) => match word_in(value) {
             Some(word) => Call::Request { serial, word },
-            None => Call::UnreadFile,
+            None => Call::Unreadable,
         },
-        None => Call::UnreadFile,
+        None => Call::Unreadable,
     }
 }
 
 /// Text that is not JSON can't be read; a lack of memory is [`Memory`].
 fn unread(error: &Error) -> Result<Meaning, Memory>
-    ensures { IfOk result (λ part. ¬ (IsMemory error.now) × (part ≡ Meaning.Other Call.UnreadFile)) }
+    ensures { IfOk result (λ part. ¬ (IsMemory error.now) × (part ≡ Meaning.Other Call.Unreadable)) }
 {
     match error.classify() {
         Category::Memory => Err(Memory),
-        _ => Ok(Meaning::Other(Call::UnreadFile)),
+        _ => Ok(Meaning::Other(Call::Unreadable)),
     }
 }
 
@@ -138,7 +138,7 @@ fn request_part(alloc: Global, body: &[u8]) -> Result<Meaning, Memory>
         (posted : List ℕ) → request_of_part posted part ≡ revocation_request (wanted_by body.now)) }
 {
     let Ok(text) = str::from_utf8(body) else {
-        return Ok(Meaning::Other(Call::UnreadFile));
+        return Ok(Meaning::Other(Call::Unreadable));
     };
     match Value::from_str(alloc, text) {
         Ok(value) => Ok(Meaning::Other(request_in(&value))),

@@ -8,7 +8,7 @@ ghost use Rattle.reg_http.specs.Parts.{request_of_call};
 ghost use Rattle.reg_http.specs.AnswerEffects.{answer_effects};
 
 use crate::answered::{Answered, answer_of_fault, crl_answer, outcome_answer, request_answer};
-use crate::bodies::{OCSP_RESPONSE, der, only, refusal};
+use crate::bodies::{OCSP_RESPONSE, der, method_not_allowed, refusal};
 use crate::parts::Call;
 use reg_core::{Command, Fault, Moment, Query, Refusal};
 use reg_http_head::{Answer, put};
@@ -41,9 +41,9 @@ pub(crate) fn respond<O: Office>(
 {
     match call {
         Call::Refused(status) => Answered::plain(refusal(buffer, status)),
-        Call::OnlyGet => Answered::plain(only(buffer, "GET")),
-        Call::OnlyPost => Answered::plain(only(buffer, "POST")),
-        Call::UnreadFile => answer_of_fault(buffer, Fault::Refused(Refusal::Syntax)),
+        Call::OnlyGet => Answered::plain(method_not_allowed(buffer, "GET")),
+        Call::OnlyPost => Answered::plain(method_not_allowed(buffer, "POST")),
+        Call::Unreadable => answer_of_fault(buffer, Fault::Refused(Refusal::Syntax)),
         Call::Malformed => Answered::plain(malformed(buffer)),
         Call::Crl(number) => crl_answer(buffer, office.crl_bytes(alloc, number)),
         Call::Status(serial) => {

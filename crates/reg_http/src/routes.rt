@@ -9,12 +9,12 @@ ghost use Rattle.reg_http_head.specs.Response.{shown};
 ghost use Rattle.reg_http.specs.Added.{AddsARequestAtMost};
 ghost use Rattle.reg_http.specs.Answers.{BeginsIn, BeginsTo, RespondsIn, RespondsTo};
 ghost use Rattle.reg_http.specs.RoutedRequests.{asked, requested_serial};
-ghost use Rattle.reg_http.specs.Bodies.{http_refusal, only as only_response};
+ghost use Rattle.reg_http.specs.Bodies.{http_refusal, method_not_allowed as only_response};
 ghost use Rattle.reg_http.specs.Parts.{request_of_call};
 ghost use Rattle.reg_http.specs.AnswerEffects.{fault_effects, plain, answer_effects};
 
 use crate::answered::{Answered, answer_of_fault, begun_answer, ocsp_answer};
-use crate::bodies::{json_buffer, only, refusal};
+use crate::bodies::{json_buffer, method_not_allowed, refusal};
 use crate::parts::{Call, Meaning, meaning_of};
 use crate::respond::respond;
 use http::Method;
@@ -141,5 +141,5 @@ pub fn refuse(alloc: Global, status: u16) -> Result<Answered, Memory>
 pub fn only_get(alloc: Global) -> Result<Answered, Memory>
     ensures { IfOk result (λ answered. answer_effects answered ≡ plain (only_response (codes "GET"))) }
 {
-    Ok(Answered::plain(only(json_buffer(alloc)?, "GET")))
+    Ok(Answered::plain(method_not_allowed(json_buffer(alloc)?, "GET")))
 }

@@ -3,8 +3,8 @@ use Rattle.std.proofs.Common.{◌≡◌, ℕ, ◌<◌, ◌≤◌, ◌-◌, Bool,
 use Rattle.std.proofs.lemmas.List.{append-nil, take-append-le, take-take, take_all, length-take-le}
 use Rattle.std.proofs.lemmas.Grind.{not_there}
 use Rattle.std.proofs.lemmas.Bool.{cases_order}
-use Rattle.reg_io.specs.Mark.{HasNoMark}
-use Rattle.reg_io.proofs.PublicLaws.{first_mark_in_front, no_mark_in_front}
+use Rattle.reg_io.specs.Delimiter.{HasNoDelimiter}
+use Rattle.reg_io.proofs.PublicLaws.{first_delimiter_in_prefix, no_delimiter_in_prefix}
 use Rattle.httparse.specs.Spans.{span_bytes}
 use Rattle.reg_http_head.specs.Head.{blank_line, longest_head, RefusesHead, IsHeadAt}
 use Rattle.reg_http_head.specs.Frame.{Part, refused, asked, AsksFor, Framed, HasHead, IsUnfinished}
@@ -18,7 +18,7 @@ use Rattle.reg_http_head.proofs.FrameLemmas.{head_of_more, take_of_more}
 -- a head that is refused is refused by its own bytes
 pub refused_at : (bytes : List ℕ) (end status : ℕ) → HasHead bytes end → RefusesHead (take end bytes) status → (end ≤ length bytes) × IsRefusedRequest bytes end status
 refused_at bytes end status head refuses =
-    let kept : HasHead (take end bytes) end = record { within = head.within; ends = first_mark_in_front blank_line bytes end end head.ends (omega arith) } in
+    let kept : HasHead (take end bytes) end = record { within = head.within; ends = first_delimiter_in_prefix blank_line bytes end end head.ends (omega arith) } in
     let same : take end (take end bytes) ≡ take end bytes = take-take end end bytes (omega arith) in
     let P : List ℕ → Type 0 = λ b. RefusesHead b status in
     (head.ends.within, inr (end, kept, subst P (sym same) refuses))
@@ -26,7 +26,7 @@ refused_at bytes end status head refuses =
 -- 8,192 bytes in which no head ends
 pub refused_long : (bytes : List ℕ) → longest_head ≤ length bytes → IsUnmarked bytes longest_head → (longest_head ≤ length bytes) × IsRefusedRequest bytes longest_head 431
 refused_long bytes long none =
-    (long, inl (refl, (length-take-le longest_head bytes long, no_mark_in_front blank_line bytes longest_head none)))
+    (long, inl (refl, (length-take-le longest_head bytes long, no_delimiter_in_prefix blank_line bytes longest_head none)))
 
 -- what is told is known
 pub known_of_told : (bytes : List ℕ) (known : ScanState) → IsAllKnown bytes known → Knows bytes known
@@ -124,10 +124,10 @@ exact_of_needs bytes it needs all =
 -- no head yet, or a head with less than its body
 pub unfinished_of_unmarked : (bytes : List ℕ) (count : ℕ) → IsAllKnown bytes (Unmarked count) → IsUnfinished bytes
 unfinished_of_unmarked bytes count told =
-    let P : List ℕ → Type 0 = λ b. HasNoMark blank_line b in
+    let P : List ℕ → Type 0 = λ b. HasNoDelimiter blank_line b in
     inl (
       omega (arith, told.0, told.1),
-      subst P (take_all count bytes (omega (arith, told.0))) (no_mark_in_front blank_line bytes count told.2),
+      subst P (take_all count bytes (omega (arith, told.0))) (no_delimiter_in_prefix blank_line bytes count told.2),
     )
 
 pub unfinished_of_needs : (bytes : List ℕ) (it : HeadIn) → NeedsBytes bytes it → length bytes < it.needed → IsUnfinished bytes

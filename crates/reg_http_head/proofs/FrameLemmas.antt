@@ -3,15 +3,15 @@ use Rattle.std.proofs.Common.{◌≡◌, ℕ, ◌+◌, ◌-◌, ◌<◌, ◌≤�
 use Rattle.std.proofs.lemmas.List.{append-nil, take-append-le, drop-append-le, take_all}
 use Rattle.httparse.specs.Grammar.{RequestHead}
 use Rattle.reg_io.specs.Fill.{FillsTo, FillsShort}
-use Rattle.reg_io.specs.Mark.{HasNoMark}
-use Rattle.reg_io.specs.declared.fill.Reached.TheVariants.{Mark, Full, End}
-use Rattle.reg_io.proofs.PublicLaws.{first_mark_goes_on, first_mark_in_front, held_now}
+use Rattle.reg_io.specs.Delimiter.{HasNoDelimiter}
+use Rattle.reg_io.specs.declared.fill.Reached.TheVariants.{Delimiter, Full, End}
+use Rattle.reg_io.proofs.PublicLaws.{first_delimiter_of_append, first_delimiter_in_prefix, keeps_what_was_taken}
 use Rattle.reg_http_head.specs.Head.{blank_line, longest_head, IsHead, RefusesHead, body_size}
 use Rattle.reg_http_head.specs.Frame.{refused, AsksFor, HasHead, IsTooLong, IsUnfinished, Framed}
 
 -- the head stands in what was read, and in what more is read
 pub head_of_more : (buffered took : List ℕ) (end : ℕ) → HasHead buffered end → HasHead (buffered ++ took) end
-head_of_more buffered took end head = record { within = head.within; ends = first_mark_goes_on blank_line buffered took end head.ends }
+head_of_more buffered took end head = record { within = head.within; ends = first_delimiter_of_append blank_line buffered took end head.ends }
 
 pub take_of_more : (buffered took : List ℕ) (end : ℕ) → HasHead buffered end → take end (buffered ++ took) ≡ take end buffered
 take_of_more buffered took end head = take-append-le end buffered took head.ends.within
@@ -29,7 +29,7 @@ asks_from buffered took body end size h method target head reads method_is targe
   end = end;
   head = h;
   within = head.within;
-  ends = first_mark_goes_on blank_line buffered took end head.ends;
+  ends = first_delimiter_of_append blank_line buffered took end head.ends;
   reads = (let P : List ℕ → Type 0 = λ bytes. IsHead bytes h in subst P (sym (take_of_more buffered took end head)) reads);
   method_is = method_is;
   target_is = target_is;
@@ -64,32 +64,32 @@ refused_from buffered end status head refuses =
 
 module _ (input left : Option (List ℕ)) (before after : List ℕ) where
   -- the bytes that are held at a mark are those that were taken
-  pub taken_at_mark : (end now : ℕ) (to : FillsTo blank_line input left before after 0 (Mark end now)) → take now after ≡ to.took
-  taken_at_mark end now to = held_now blank_line input left before after 0 (Mark end now) to
+  pub taken_at_mark : (end now : ℕ) (to : FillsTo blank_line input left before after 0 (Delimiter end now)) → take now after ≡ to.took
+  taken_at_mark end now to = keeps_what_was_taken blank_line input left before after 0 (Delimiter end now) to
 
-  pub head_at_mark : (end now : ℕ) → FillsTo blank_line input left before after 0 (Mark end now) → length after ≡ longest_head → HasHead (take now after) end
+  pub head_at_mark : (end now : ℕ) → FillsTo blank_line input left before after 0 (Delimiter end now) → length after ≡ longest_head → HasHead (take now after) end
   head_at_mark end now to long = record {
     within = (let low : end ≤ length after = to.rests.1.within in omega (arith, low, long));
-    ends = first_mark_in_front blank_line after end now to.rests.1 to.rests.0;
+    ends = first_delimiter_in_prefix blank_line after end now to.rests.1 to.rests.0;
   }
 
   -- a full buffer without an end of a head
   pub too_long_at_full : (to : FillsTo blank_line input left before after 0 Full) → length after ≡ longest_head → IsTooLong to.took
   too_long_at_full to long =
-      let all : after ≡ to.took = sym (take_all (length after) after (omega arith)) ∙ held_now blank_line input left before after 0 Full to in
-      let P : List ℕ → Type 0 = λ bytes. HasNoMark blank_line bytes in
+      let all : after ≡ to.took = sym (take_all (length after) after (omega arith)) ∙ keeps_what_was_taken blank_line input left before after 0 Full to in
+      let P : List ℕ → Type 0 = λ bytes. HasNoDelimiter blank_line bytes in
       (ap length (sym all) ∙ long, subst P all to.rests)
 
   -- the reader's end before the end of a head
   pub unfinished_at_end : (now : ℕ) (to : FillsTo blank_line input left before after 0 (End now)) → length after ≡ longest_head → IsUnfinished to.took
   unfinished_at_end now to long =
-      let all : take now after ≡ to.took = held_now blank_line input left before after 0 (End now) to in
-      let P : List ℕ → Type 0 = λ bytes. HasNoMark blank_line bytes in
+      let all : take now after ≡ to.took = keeps_what_was_taken blank_line input left before after 0 (End now) to in
+      let P : List ℕ → Type 0 = λ bytes. HasNoDelimiter blank_line bytes in
       let room : now < length after = to.rests.0 in
       inl (omega (arith, to.count, room, long), subst P all to.rests.1)
 
   -- a failed read before the end of a head
   pub unfinished_at_fault : (short : FillsShort blank_line input left before after 0) → length after ≡ longest_head → IsUnfinished short.took
   unfinished_at_fault short long =
-      let P : List ℕ → Type 0 = λ bytes. HasNoMark blank_line bytes in
+      let P : List ℕ → Type 0 = λ bytes. HasNoDelimiter blank_line bytes in
       inl (omega (arith, short.room, long), subst P short.fills.stands short.unmarked)

@@ -4,14 +4,14 @@ use Rattle.httparse.specs.Grammar.{RequestHead, ReadsRequest}
 use Rattle.httparse.proofs.GrammarLemmas.{request_unique}
 use Rattle.httpdate.specs.Text.{imf_fixdate}
 use Rattle.httpdate.proofs.Theorems.{unix_secs_injective}
-use Rattle.reg_io.proofs.PublicLaws.{one_first_mark}
+use Rattle.reg_io.proofs.PublicLaws.{one_first_delimiter}
 use Rattle.reg_http_head.specs.Head.{blank_line, body_size}
 use Rattle.reg_http_head.specs.Response.{head_text}
 use Rattle.reg_http_head.specs.Laws.{IsOneRequest, IsOneText}
 
 pub one_request : IsOneRequest
 one_request took method target body method' target' body' a b =
-    let end : a.end ≡ b.end = one_first_mark blank_line took a.end b.end a.ends b.ends in
+    let end : a.end ≡ b.end = one_first_delimiter blank_line took a.end b.end a.ends b.ends in
     let P : ℕ → Type 0 = λ n. ReadsRequest (take n took) a.head [] in
     let head : a.head ≡ b.head = (request_unique (take b.end took) a.head b.head [] [] (subst P end a.reads.0) b.reads.0).0 in
     let made : ℕ → Result ℕ ℕ = λ n. Ok n in

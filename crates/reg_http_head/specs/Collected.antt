@@ -1,7 +1,7 @@
 -- What is known about the first bytes of a connection.
 use Rattle.std.specs.Prelude.{◌≡◌, ℕ, ◌+◌, ◌<◌, ◌≤◌, List, ◌++◌, length, take}
 use Rattle.httparse.specs.Grammar.{RequestHead}
-use Rattle.reg_io.specs.Mark.{EndsWith}
+use Rattle.reg_io.specs.Delimiter.{EndsWith}
 use Rattle.reg_http_head.specs.Head.{blank_line, longest_head, IsHeadAt}
 use Rattle.reg_http_head.specs.Frame.{Part, refused, Framed, HasHead}
 use Rattle.reg_http_head.specs.declared.known.HeadIn.{HeadIn}

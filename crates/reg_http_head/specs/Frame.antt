@@ -4,7 +4,7 @@ use Rattle.std.specs.Io.KnownBytes.{Consumes}
 use Rattle.httparse.specs.Grammar.{RequestHead}
 use Rattle.reg_core.specs.declared.refusal.Fault.{Fault}
 use Rattle.reg_core.specs.declared.refusal.Fault.TheVariants as fault
-use Rattle.reg_io.specs.Mark.{FirstDelimiter, HasNoMark}
+use Rattle.reg_io.specs.Delimiter.{FirstDelimiter, HasNoDelimiter}
 use Rattle.reg_http_head.specs.Head.{blank_line, longest_head, IsHead, RefusesHead, body_size}
 use Rattle.reg_http_head.specs.declared.request.Request.{Request}
 use Rattle.reg_http_head.specs.declared.request.Request.TheVariants.{Refused, Asked}
@@ -30,7 +30,7 @@ pub record AsksFor (took method target body : List ℕ) : Type 0 where
 
 -- there are 8,192 bytes, and no head ends in them
 abbrev pub IsTooLong : List ℕ → Type 0
-IsTooLong took = (length took ≡ longest_head) × HasNoMark blank_line took
+IsTooLong took = (length took ≡ longest_head) × HasNoDelimiter blank_line took
 
 -- the head ends at this index, within the first 8,192 bytes
 pub record HasHead (took : List ℕ) (end : ℕ) : Type 0 where
@@ -46,7 +46,7 @@ Framed took (asked method target body) = AsksFor took method target body
 -- the bytes are no whole request yet: the head has no end, or its body is shorter than its length
 abbrev pub IsUnfinished : List ℕ → Type 0
 IsUnfinished took =
-    ((length took < longest_head) × HasNoMark blank_line took)
+    ((length took < longest_head) × HasNoDelimiter blank_line took)
     ⊎ ((end : ℕ) × (head : RequestHead) × (size : ℕ) × HasHead took end × IsHead (take end took) head
     × (body_size head ≡ Ok size) × (length took < end + size))
 

@@ -4,7 +4,7 @@ ghost use Rattle.std.specs.Prelude.{◌≡◌, ◌≤◌, length, IfErr, IfOk};
 ghost use Rattle.reg_http_head.specs.Collected.{HoldsRequest, Knows, NeedsBytes};
 ghost use Rattle.reg_http_head.specs.Frame.{part_of_ref};
 
-use crate::known::{HeadIn, ScanState, told};
+use crate::known::{HeadIn, ScanState, scan_all};
 use crate::request::RequestRef;
 use reg_core::Fault;
 use std::alloc::{AllocError, Global};
@@ -56,7 +56,7 @@ impl Collected {
         ensures whole { result ≡ true → ∥ IsWholeRequest (collected_bytes self.old) ∥₁ }
         ensures unfinished { result ≡ false → ∥ IsUnfinished (collected_bytes self.old) ∥₁ }
     {
-        self.known = told(self.bytes.as_slice(), self.known);
+        self.known = scan_all(self.bytes.as_slice(), self.known);
         match self.known {
             ScanState::Unmarked(_) => false,
             ScanState::Refused(..) => true,
@@ -83,7 +83,7 @@ impl Collected {
             ((fault ≡ Fault.Read) × ∥ IsUnfinished (collected_bytes self.now) ∥₁) ⊎ (fault ≡ Fault.Memory)) }
     {
         let bytes = self.bytes.as_slice();
-        match told(bytes, self.known) {
+        match scan_all(bytes, self.known) {
             ScanState::Unmarked(_) => Err(Fault::Read),
             ScanState::Refused(_, status) => Ok(RequestRef::Refused(status)),
             ScanState::Asked(head) if head.needed <= bytes.len() => asked_at(alloc, bytes, head),

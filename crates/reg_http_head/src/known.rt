@@ -27,19 +27,19 @@ pub(crate) struct HeadIn {
 }
 
 /// What is known about the bytes after all of them were searched.
-pub(crate) fn told(bytes: &[u8], known: ScanState) -> ScanState
+pub(crate) fn scan_all(bytes: &[u8], known: ScanState) -> ScanState
     requires { ∥ Knows bytes.now known ∥₁ }
     ensures { ∥ IsAllKnown bytes.now result ∥₁ }
 {
     match known {
-        ScanState::Unmarked(searched) => searched_on(bytes, searched),
+        ScanState::Unmarked(searched) => search_rest(bytes, searched),
         ScanState::Refused(count, status) => ScanState::Refused(count, status),
         ScanState::Asked(head) => ScanState::Asked(head),
     }
 }
 
 /// What is known about the bytes after they were searched for the end of a head, of which there is none in the first `searched`.
-fn searched_on(bytes: &[u8], searched: usize) -> ScanState
+fn search_rest(bytes: &[u8], searched: usize) -> ScanState
     requires { IsUnmarked bytes.now searched }
     ensures { IsAllKnown bytes.now result }
 {

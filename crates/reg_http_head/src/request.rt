@@ -65,7 +65,12 @@ fn read_within<R: Read>(alloc: Global, reader: &mut R, room: &mut [u8]) -> Resul
         (longest_head + longest_body) (IsCutBy fault)) }
 {
     match fill_to_delimiter(reader, room, 0, BLANK_LINE) {
-        Ok(Reached::Mark { end, buffered }) => read_rest(alloc, reader, &room[..buffered], end),
+        Ok(Reached::Delimiter { end, buffered }) => read_rest(
+            alloc,
+            reader,
+            &room[..buffered],
+            end,
+        ),
         Ok(Reached::Full) => Ok(Request::Refused(status::HEADERS_TOO_LARGE)),
         Ok(Reached::End { .. }) => Err(Fault::Read),
         Err(_) => Err(Fault::Read),

@@ -5,7 +5,7 @@ use Rattle.std.proofs.lemmas.Bool.{cases_lt, cases_order}
 use Rattle.std.proofs.lemmas.Bool.Decides.{Decides-eqb}
 use Rattle.std.proofs.lemmas.List.{take-take, take_all, take_at, take_more, take-append-le, length-take, length-take-le}
 use Rattle.std.proofs.lemmas.Slice.Eq.{ends_is}
-use Rattle.reg_io.specs.Mark.{EndsWith, FirstDelimiter, HasNoMark}
+use Rattle.reg_io.specs.Delimiter.{EndsWith, FirstDelimiter, HasNoDelimiter}
 
 -- what `bytes.ends_with(delimiter)` says where it answers yes, and where it answers no
 pub ends_found : (bytes delimiter : List ℕ) (r : Bool) → r ≡ ends_with nat_eq bytes delimiter → r ≡ true → EndsWith bytes delimiter
@@ -19,7 +19,7 @@ pub nothing_ends : (delimiter : List ℕ) → 0 < length delimiter → ¬ EndsWi
 nothing_ends delimiter some ends = let e = ap length ends.1 ∙ length-append ends.0 delimiter in absurd (omega arith)
 
 -- where none of the fronts up to a count ends with the mark, it is not in the first bytes up to there
-pub no_mark_of_fronts : (delimiter bytes : List ℕ) (count : ℕ) → ((n : ℕ) → n ≤ count → ¬ EndsWith (take n bytes) delimiter) → HasNoMark delimiter (take count bytes)
+pub no_mark_of_fronts : (delimiter bytes : List ℕ) (count : ℕ) → ((n : ℕ) → n ≤ count → ¬ EndsWith (take n bytes) delimiter) → HasNoDelimiter delimiter (take count bytes)
 no_mark_of_fronts delimiter bytes count none n ends =
     elim (cases_lt count n) [
       | inl above ↦ none count (omega arith) (ends.0, sym (take_all n (take count bytes) (omega (arith, length-take count bytes))) ∙ ends.1)
@@ -56,18 +56,18 @@ FirstDelimiter-unique delimiter bytes m n is also =
     ]
 
 -- a mark of one byte is nowhere where no byte is that byte
-pub no_byte : (byte : ℕ) (bytes : List ℕ) → HasNoMark (byte ∷ []) bytes → All (λ b. b ≢ byte) bytes
-no_byte byte bytes none k d within is =
+pub no_delimiter_of_byte : (byte : ℕ) (bytes : List ℕ) → HasNoDelimiter (byte ∷ []) bytes → All (λ b. b ≢ byte) bytes
+no_delimiter_of_byte byte bytes none k d within is =
     none (k + 1) (take k bytes, take_more bytes k d within ∙ ap (λ b. take k bytes ++ b ∷ []) is)
 
 -- up to the first mark of one byte stand other bytes, and then that byte
-pub byte_first : (byte : ℕ) (bytes : List ℕ) (end : ℕ) → FirstDelimiter (byte ∷ []) bytes end
+pub first_delimiter_of_byte : (byte : ℕ) (bytes : List ℕ) (end : ℕ) → FirstDelimiter (byte ∷ []) bytes end
     → (front : List ℕ) × (take end bytes ≡ front ++ byte ∷ []) × All (λ b. b ≢ byte) front
-byte_first byte bytes end is =
+first_delimiter_of_byte byte bytes end is =
     let front = is.here.0 in
     let count : length front + 1 ≡ end =
     sym (length-append front (byte ∷ [])) ∙ sym (ap length is.here.1) ∙ length-take-le end bytes is.within in
     let same : take (length front) bytes ≡ front =
     sym (take-take (length front) end bytes (omega arith)) ∙ ap (take (length front)) is.here.1 ∙ take_at front (byte ∷ []) (length front) refl in
     let free = no_mark_of_fronts (byte ∷ []) bytes (length front) (λ n below. is.first n (omega arith)) in
-    (front, is.here.1, no_byte byte front (subst (HasNoMark (byte ∷ [])) same free))
+    (front, is.here.1, no_delimiter_of_byte byte front (subst (HasNoDelimiter (byte ∷ [])) same free))

@@ -1,6 +1,6 @@
 -- The laws, for proofs above: they cite these alone. Each is stated in specs/, and is what a function of `laws` ensures.
-use Rattle.reg_io.specs.Fill.{KeepsWhatWasTaken, PartsAtMark}
-use Rattle.reg_io.specs.Mark.{OneFirstMark, FirstMarkGoesOn, FirstMarkInPrefix, NoMarkInPrefix, FirstMarkOfByte, NoMarkOfByte}
+use Rattle.reg_io.specs.Fill.{KeepsWhatWasTaken, SplitsAtDelimiter}
+use Rattle.reg_io.specs.Delimiter.{OneFirstDelimiter, FirstDelimiterOfAppend, FirstDelimiterInPrefix, NoDelimiterInPrefix, FirstDelimiterOfByte, NoDelimiterOfByte}
 use Rattle.reg_io.specs.Put.{PrefixOfFirst, PrefixOfSecond}
 use Rattle.reg_io.specs.RunsOfAnswers.{RunsGoOn, RunsStepOn}
 use Rattle.reg_io.proofs.Marks as marks
@@ -8,29 +8,29 @@ use Rattle.reg_io.proofs.Parts as parts
 use Rattle.reg_io.proofs.Runs as runs
 use Rattle.reg_io.proofs.Searches as searches
 
-pub one_first_mark : OneFirstMark
-one_first_mark = marks.FirstDelimiter-unique
+pub one_first_delimiter : OneFirstDelimiter
+one_first_delimiter = marks.FirstDelimiter-unique
 
-pub first_mark_goes_on : FirstMarkGoesOn
-first_mark_goes_on = marks.FirstDelimiter-append
+pub first_delimiter_of_append : FirstDelimiterOfAppend
+first_delimiter_of_append = marks.FirstDelimiter-append
 
-pub first_mark_in_front : FirstMarkInPrefix
-first_mark_in_front = marks.FirstDelimiter-take
+pub first_delimiter_in_prefix : FirstDelimiterInPrefix
+first_delimiter_in_prefix = marks.FirstDelimiter-take
 
-pub no_mark_in_front : NoMarkInPrefix
-no_mark_in_front = marks.no_mark_of_fronts
+pub no_delimiter_in_prefix : NoDelimiterInPrefix
+no_delimiter_in_prefix = marks.no_mark_of_fronts
 
-pub byte_first : FirstMarkOfByte
-byte_first = marks.byte_first
+pub first_delimiter_of_byte : FirstDelimiterOfByte
+first_delimiter_of_byte = marks.first_delimiter_of_byte
 
-pub no_byte : NoMarkOfByte
-no_byte = marks.no_byte
+pub no_delimiter_of_byte : NoDelimiterOfByte
+no_delimiter_of_byte = marks.no_delimiter_of_byte
 
-pub held_now : KeepsWhatWasTaken
-held_now = searches.held_now
+pub keeps_what_was_taken : KeepsWhatWasTaken
+keeps_what_was_taken = searches.keeps_what_was_taken
 
-pub cut_at_mark : PartsAtMark
-cut_at_mark = searches.cut_at_mark
+pub splits_at_delimiter : SplitsAtDelimiter
+splits_at_delimiter = searches.splits_at_delimiter
 
 pub front_of_first : PrefixOfFirst
 front_of_first = parts.front_of_first

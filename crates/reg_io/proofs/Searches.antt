@@ -6,9 +6,9 @@ use Rattle.std.proofs.lemmas.List.{take_all, take-take}
 use Rattle.std.proofs.lemmas.Slice.{take-put_mid_below}
 use borrow.Rule.Slice.PartMut.{put_mid}
 use Rattle.reg_io.specs.declared.fill.Reached.{Reached}
-use Rattle.reg_io.specs.declared.fill.Reached.TheVariants.{Mark, Full, End}
+use Rattle.reg_io.specs.declared.fill.Reached.TheVariants.{Delimiter, Full, End}
 use Rattle.reg_io.specs.Fill.{FillsShort, FillsTo, kept_of_reading}
-use Rattle.reg_io.specs.Mark.{EndsWith, HasNoMark}
+use Rattle.reg_io.specs.Delimiter.{EndsWith, HasNoDelimiter}
 use Rattle.reg_io.proofs.Buffers.{SoFar, held_stays, so_far_kept, so_far_more}
 use Rattle.reg_io.proofs.Marks.{no_mark_of_fronts, nothing_ends}
 
@@ -40,7 +40,7 @@ rests_full delimiter input left before after buffered filled so_far full none = 
   took = so_far.took;
   fills = so_far.fills;
   count = omega (arith, so_far.count);
-  rests = subst (HasNoMark delimiter) (take_all filled after (omega arith)) (no_mark_of_fronts delimiter after filled none);
+  rests = subst (HasNoDelimiter delimiter) (take_all filled after (omega arith)) (no_mark_of_fronts delimiter after filled none);
 }
 
 -- the reader gave no more: it was asked for some bytes, and gave none
@@ -70,21 +70,21 @@ breaks_off delimiter input middle left before between ys buffered filled k so_fa
       took = kept.took;
       fills = kept.fills;
       room = omega (arith, kept.count);
-      unmarked = subst (λ n. HasNoMark delimiter (take n (put_mid filled k between ys))) kept.count
+      unmarked = subst (λ n. HasNoDelimiter delimiter (take n (put_mid filled k between ys))) kept.count
           (no_mark_of_fronts delimiter (put_mid filled k between ys) filled (unmarked_read delimiter between ys filled k (omega arith) none));
     }
 
 -- ---- for those who read up to a mark
 
 -- what is held where the reading came to rest
-pub held_now : (delimiter : List ℕ) (input left : Option (List ℕ)) (before after : List ℕ) (buffered : ℕ) (reached : Reached)
+pub keeps_what_was_taken : (delimiter : List ℕ) (input left : Option (List ℕ)) (before after : List ℕ) (buffered : ℕ) (reached : Reached)
     → (to : FillsTo delimiter input left before after buffered reached) → take (kept_of_reading (length after) reached) after ≡ take buffered before ++ to.took
-held_now delimiter input left before after buffered reached to = ap (λ n. take n after) to.count ∙ to.fills.stands
+keeps_what_was_taken delimiter input left before after buffered reached to = ap (λ n. take n after) to.count ∙ to.fills.stands
 
 -- at a mark: the bytes up to its end, and those that are held behind it
-pub cut_at_mark : (delimiter : List ℕ) (input left : Option (List ℕ)) (before after : List ℕ) (buffered end now : ℕ)
-    → (to : FillsTo delimiter input left before after buffered (Mark end now)) → take buffered before ++ to.took ≡ take end after ++ drop end (take now after)
-cut_at_mark delimiter input left before after buffered end now to =
-    sym (held_now delimiter input left before after buffered (Mark end now) to)
+pub splits_at_delimiter : (delimiter : List ℕ) (input left : Option (List ℕ)) (before after : List ℕ) (buffered end now : ℕ)
+    → (to : FillsTo delimiter input left before after buffered (Delimiter end now)) → take buffered before ++ to.took ≡ take end after ++ drop end (take now after)
+splits_at_delimiter delimiter input left before after buffered end now to =
+    sym (keeps_what_was_taken delimiter input left before after buffered (Delimiter end now) to)
     ∙ sym (take-append-drop end (take now after))
     ∙ ap (λ l. l ++ drop end (take now after)) (take-take end now after to.rests.0)

@@ -3,8 +3,8 @@ use Rattle.std.specs.Prelude.{◌≡◌, ℕ, ◌+◌, ◌<◌, ◌≤◌, ◌++
 use Rattle.std.specs.declared.option.Option.{Option}
 use Rattle.std.specs.Io.KnownBytes.{Consumes, IsAtEnd}
 use Rattle.reg_io.specs.declared.fill.Reached.{Reached}
-use Rattle.reg_io.specs.declared.fill.Reached.TheVariants.{Mark, Full, End}
-use Rattle.reg_io.specs.Mark.{FirstDelimiter, HasNoMark}
+use Rattle.reg_io.specs.declared.fill.Reached.TheVariants.{Delimiter, Full, End}
+use Rattle.reg_io.specs.Delimiter.{FirstDelimiter, HasNoDelimiter}
 
 -- these bytes were taken from the reader, and are in the buffer after the first `buffered` bytes, which stayed the same
 pub record Fills (input left : Option (List ℕ)) (before after : List ℕ) (buffered : ℕ)
@@ -15,18 +15,19 @@ pub record Fills (input left : Option (List ℕ)) (before after : List ℕ) (buf
 
 -- how many bytes a buffer of this size has after the read
 abbrev pub kept_of_reading : ℕ → Reached → ℕ
-kept_of_reading size (Mark end buffered) = buffered
+kept_of_reading size (Delimiter end buffered) = buffered
 kept_of_reading size Full = size
 kept_of_reading size (End buffered) = buffered
 
--- what holds after a read: the buffer has the first mark, or is full without a mark, or the reader is at its end
+-- what holds after a read: the buffer has the first delimiter, or is full without a delimiter, or the reader is at its end
 abbrev pub ReadStopsAt : List ℕ → List ℕ → Option (List ℕ) → Reached → Type 0
-ReadStopsAt delimiter buffer left (Mark end buffered) = (end ≤ buffered) × FirstDelimiter delimiter buffer end
-ReadStopsAt delimiter buffer left Full = HasNoMark delimiter buffer
+ReadStopsAt delimiter buffer left (Delimiter end buffered) =
+    (end ≤ buffered) × FirstDelimiter delimiter buffer end
+ReadStopsAt delimiter buffer left Full = HasNoDelimiter delimiter buffer
 ReadStopsAt delimiter buffer left (End buffered) =
-    (buffered < length buffer) × HasNoMark delimiter (take buffered buffer) × IsAtEnd left
+    (buffered < length buffer) × HasNoDelimiter delimiter (take buffered buffer) × IsAtEnd left
 
--- a read up to a mark: these bytes were taken, and the buffer has them after the bytes before, and no others
+-- a read up to a delimiter: these bytes were taken, and the buffer has them after the bytes before, and no others
 pub record FillsTo (delimiter : List ℕ) (input left : Option (List ℕ)) (before after : List ℕ) (buffered : ℕ)
     (reached : Reached) : Type 0 where
   pub took : List ℕ
@@ -34,13 +35,13 @@ pub record FillsTo (delimiter : List ℕ) (input left : Option (List ℕ)) (befo
   pub count : kept_of_reading (length after) reached ≡ buffered + length took
   pub rests : ReadStopsAt delimiter after left reached
 
--- a read up to a mark that failed: these bytes were taken before that, the buffer is not full, and has no mark
+-- a read up to a delimiter that failed: these bytes were taken before that, the buffer is not full, and has no delimiter
 pub record FillsShort (delimiter : List ℕ) (input left : Option (List ℕ)) (before after : List ℕ)
     (buffered : ℕ) : Type 0 where
   pub took : List ℕ
   pub fills : Fills input left before after buffered took
   pub room : buffered + length took < length after
-  pub unmarked : HasNoMark delimiter (take (buffered + length took) after)
+  pub unmarked : HasNoDelimiter delimiter (take (buffered + length took) after)
 
 -- ---- laws
 
@@ -52,9 +53,9 @@ KeepsWhatWasTaken =
     → (to : FillsTo delimiter input left before after buffered reached)
     → take (kept_of_reading (length after) reached) after ≡ take buffered before ++ to.took
 
--- if the read stopped at a mark, these are the bytes up to its end, and then those after it
-abbrev pub PartsAtMark : Type 0
-PartsAtMark =
+-- if the read stopped at a delimiter, these are the bytes up to its end, and then those after it
+abbrev pub SplitsAtDelimiter : Type 0
+SplitsAtDelimiter =
     (delimiter : List ℕ) (input left : Option (List ℕ)) (before after : List ℕ) (buffered end now : ℕ)
-    → (to : FillsTo delimiter input left before after buffered (Mark end now))
+    → (to : FillsTo delimiter input left before after buffered (Delimiter end now))
     → take buffered before ++ to.took ≡ take end after ++ drop end (take now after)

@@ -1,4 +1,4 @@
 pub mod Fill
-pub mod Mark
+pub mod Delimiter
 pub mod Put
 pub mod RunsOfAnswers

@@ -2,7 +2,7 @@
 
 ghost use Rattle.std.specs.Prelude.{◌≡◌, ℕ, ◌+◌, ◌<◌, ◌≤◌, ◌++◌, List, length, take, IfOk, MatchOption, OnErr, OnOk};
 ghost use Rattle.std.specs.Io.KnownBytes.{Consumes, IsAtEnd};
-ghost use Rattle.reg_io.specs.Mark.{EndsWith, FirstDelimiter};
+ghost use Rattle.reg_io.specs.Delimiter.{EndsWith, FirstDelimiter};
 ghost use Rattle.reg_io.specs.Fill.{Fills, FillsShort, FillsTo};
 
 use std::io::Read;
@@ -11,15 +11,15 @@ use std::io::Read;
 #[derive(Clone, Copy, PartialEq, Eq)]
 pub struct ReadFault;
 
-/// Why a read up to a mark stopped: at the end of the first mark, with a full buffer, or at the reader's end. `buffered` bytes are in the buffer.
+/// Why a read up to a delimiter stopped: at the end of the first delimiter, with a full buffer, or at the reader's end. `buffered` bytes are in the buffer.
 #[derive(Clone, Copy, PartialEq, Eq)]
 pub enum Reached {
-    Mark { end: usize, buffered: usize },
+    Delimiter { end: usize, buffered: usize },
     Full,
     End { buffered: usize },
 }
 
-/// Reads into `buf` after its first `buffered` bytes, until the buffered bytes contain the mark or fill the buffer, or the reader is at its end.
+/// Reads into `buf` after its first `buffered` bytes, until the buffered bytes contain the delimiter or fill the buffer, or the reader is at its end.
 /// [`ReadFault`] at the first read that fails, even with `Interrupted`.
 pub fn fill_to_delimiter<R: Read>(
     reader: &mut R,
@@ -34,7 +34,7 @@ pub fn fill_to_delimiter<R: Read>(
     ensures err { OnErr result (FillsShort delimiter.now
         (R.remaining reader.old) (R.remaining reader.new) buf.old buf.new buffered) }
 
-    // If the buffer has a mark already, or is full, nothing is read.
+    // If the buffer has a delimiter already, or is full, nothing is read.
     ensures marked { (end : ℕ) → end ≤ buffered → EndsWith (take end buf.old) delimiter.now
         → (reader.new ≡ reader.old) × (buf.new ≡ buf.old) }
     ensures no_room { buffered ≡ length buf.old → (reader.new ≡ reader.old) × (buf.new ≡ buf.old) }
@@ -43,7 +43,7 @@ pub fn fill_to_delimiter<R: Read>(
     let mut searched: usize = 0;
     'reading: loop {
         if let Some(end) = first_delimiter(buf, filled, delimiter, searched) {
-            return Ok(Reached::Mark {
+            return Ok(Reached::Delimiter {
                 end,
                 buffered: filled,
             });
@@ -60,7 +60,7 @@ pub fn fill_to_delimiter<R: Read>(
     }
 }
 
-/// The end of the first mark in the first `buffered` bytes. The caller knows that no mark ends within the first `searched` bytes.
+/// The end of the first delimiter in the first `buffered` bytes. The caller knows that no delimiter ends within the first `searched` bytes.
 pub fn first_delimiter(
     buf: &[u8],
     buffered: usize,

@@ -1,28 +1,28 @@
 //! Laws of reads, writes and runs: contracts of functions that do nothing. Proofs in other crates cite them by `proofs/PublicLaws.antt`.
 
-ghost use Rattle.reg_io.specs.Fill.{KeepsWhatWasTaken, PartsAtMark};
-ghost use Rattle.reg_io.specs.Mark.{OneFirstMark, FirstMarkGoesOn, FirstMarkInPrefix, NoMarkInPrefix, FirstMarkOfByte, NoMarkOfByte};
+ghost use Rattle.reg_io.specs.Fill.{KeepsWhatWasTaken, SplitsAtDelimiter};
+ghost use Rattle.reg_io.specs.Delimiter.{OneFirstDelimiter, FirstDelimiterOfAppend, FirstDelimiterInPrefix, NoDelimiterInPrefix, FirstDelimiterOfByte, NoDelimiterOfByte};
 ghost use Rattle.reg_io.specs.Put.{PrefixOfFirst, PrefixOfSecond};
 ghost use Rattle.reg_io.specs.RunsOfAnswers.{RunsGoOn, RunsStepOn};
 
-/// Bytes have at most one first mark. It is also the first in longer bytes that begin with these, and in each prefix that contains it.
-pub fn one_first_mark()
-    ensures one { OneFirstMark }
-    ensures longer { FirstMarkGoesOn }
-    ensures shorter { FirstMarkInPrefix }
-    ensures none { NoMarkInPrefix }
+/// Bytes have at most one first delimiter. It is also the first in longer bytes that begin with these, and in each prefix that contains it.
+pub fn one_first_delimiter()
+    ensures one { OneFirstDelimiter }
+    ensures longer { FirstDelimiterOfAppend }
+    ensures shorter { FirstDelimiterInPrefix }
+    ensures none { NoDelimiterInPrefix }
 {}
 
-/// The first mark of one byte is the first such byte, and bytes without such a mark don't contain the byte.
-pub fn marks_of_one_byte()
-    ensures first { FirstMarkOfByte }
-    ensures none { NoMarkOfByte }
+/// The first delimiter of one byte is the first such byte, and bytes without such a delimiter don't contain the byte.
+pub fn delimiters_of_one_byte()
+    ensures first { FirstDelimiterOfByte }
+    ensures none { NoDelimiterOfByte }
 {}
 
-/// After a read up to a mark, the buffer has the bytes that it had before and those that were taken, and no others.
+/// After a read up to a delimiter, the buffer has the bytes that it had before and those that were taken, and no others.
 pub fn kept_is_what_was_taken()
     ensures all { KeepsWhatWasTaken }
-    ensures parts { PartsAtMark }
+    ensures parts { SplitsAtDelimiter }
 {}
 
 /// A write of two parts that failed wrote a proper prefix of the first part, or that part and a proper prefix of the second.

@@ -1,4 +1,4 @@
-//! Reads and writes over any reader and writer: whole writes, and reads into a buffer up to a mark, to the buffer's end or to the reader's.
+//! Reads and writes over any reader and writer: whole writes, and reads into a buffer up to a delimiter, to the buffer's end or to the reader's.
 #![tactic(auto)]
 
 mod begun;

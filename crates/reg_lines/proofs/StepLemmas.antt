@@ -6,8 +6,8 @@ use Rattle.std.specs.Io.KnownBytes.{Appends}
 use Rattle.std.proofs.lemmas.Bool.{eq-eqb, ne_eqb, lt-ltb}
 use Rattle.std.proofs.lemmas.List.{get_or_push, take_all, take_at}
 use Rattle.reg_io.specs.Fill.{FillsShort, FillsTo}
-use Rattle.reg_io.specs.declared.fill.Reached.TheVariants.{Mark, Full, End}
-use Rattle.reg_io.proofs.PublicLaws.{byte_first, no_byte, cut_at_mark, held_now}
+use Rattle.reg_io.specs.declared.fill.Reached.TheVariants.{Delimiter, Full, End}
+use Rattle.reg_io.proofs.PublicLaws.{first_delimiter_of_byte, no_delimiter_of_byte, splits_at_delimiter, keeps_what_was_taken}
 use Rattle.reg_core.specs.declared.refusal.Fault.{Fault}
 use Rattle.reg_core.specs.declared.refusal.Fault.TheVariants.{Read, Write}
 use Rattle.reg_lines.specs.Script.{HasNoLf, IsCut, IsShort, IsWholeLine, LineEnds, NextEnds, RanLast, RanWhole, line_of}
@@ -61,9 +61,9 @@ module _ {S : Type 0} (runs : S → List ℕ → List ℕ → S → Type 0) (lon
     (before after : List ℕ) (buffered : ℕ) (size : length after ≡ longest + 1) where
   -- ---- at a mark
 
-  module _ (end now : ℕ) (to : FillsTo (10 ∷ []) input left before after buffered (Mark end now)) where
+  module _ (end now : ℕ) (to : FillsTo (10 ∷ []) input left before after buffered (Delimiter end now)) where
     whole_at : IsWholeLine (take end after)
-    whole_at = byte_first 10 after end to.rests.1
+    whole_at = first_delimiter_of_byte 10 after end to.rests.1
 
     ordered : end ≤ now
     ordered = to.rests.0
@@ -81,7 +81,7 @@ module _ {S : Type 0} (runs : S → List ℕ → List ℕ → S → Type 0) (lon
         piece = take end after;
         reply = reply;
         consumed = to.fills.consumed;
-        cut = cut_at_mark (10 ∷ []) input left before after buffered end now to ∙ ap (λ l. take end after ++ l) (sym is);
+        cut = splits_at_delimiter (10 ∷ []) input left before after buffered end now to ∙ ap (λ l. take end after ++ l) (sym is);
         whole = whole_at;
         short = whole_short longest (take end after) whole_at (omega (arith, size, length-take end after));
         little = omega (arith, size, within, ap length is, length-drop end (take now after), length-take now after);
@@ -122,7 +122,7 @@ module _ {S : Type 0} (runs : S → List ℕ → List ℕ → S → Type 0) (lon
       rest = drop end (take now after);
       reply = reply;
       consumed = to.fills.consumed;
-      cut = cut_at_mark (10 ∷ []) input left before after buffered end now to;
+      cut = splits_at_delimiter (10 ∷ []) input left before after buffered end now to;
       ends = inl whole_at;
       short = whole_short longest (take end after) whole_at (omega (arith, size, length-take end after));
       replied = subst (λ l. runs s l reply t) lines replied;
@@ -132,7 +132,7 @@ module _ {S : Type 0} (runs : S → List ℕ → List ℕ → S → Type 0) (lon
       record {
         took = to.took;
         consumed = to.fills.consumed;
-        little = omega (arith, size, within, ap length (held_now (10 ∷ []) input left before after buffered (Mark end now) to), length-take now after);
+        little = omega (arith, size, within, ap length (keeps_what_was_taken (10 ∷ []) input left before after buffered (Delimiter end now) to), length-take now after);
         office = same;
         wrote = kept;
       },
@@ -144,10 +144,10 @@ module _ {S : Type 0} (runs : S → List ℕ → List ℕ → S → Type 0) (lon
 
   module _ (now : ℕ) (to : FillsTo (10 ∷ []) input left before after buffered (End now)) where
     same : take now after ≡ take buffered before ++ to.took
-    same = held_now (10 ∷ []) input left before after buffered (End now) to
+    same = keeps_what_was_taken (10 ∷ []) input left before after buffered (End now) to
 
     free : HasNoLf (take now after)
-    free = no_byte 10 (take now after) to.rests.1
+    free = no_delimiter_of_byte 10 (take now after) to.rests.1
 
     short : length (take now after) ≤ longest
     short = let room = to.rests.0 in omega (arith, size, length-take now after)
@@ -234,7 +234,7 @@ module _ {S : Type 0} (runs : S → List ℕ → List ℕ → S → Type 0) (lon
       → NextEnds runs s t out out' longest input left (take buffered before) is_clocked is_strict buffer (Err Read)
   reads_full buffer to stays kept =
       let all : after ≡ take buffered before ++ to.took =
-      sym (take_all (length after) after (omega arith)) ∙ held_now (10 ∷ []) input left before after buffered Full to in (
+      sym (take_all (length after) after (omega arith)) ∙ keeps_what_was_taken (10 ∷ []) input left before after buffered Full to in (
         record {
           took = to.took;
           consumed = to.fills.consumed;
@@ -242,7 +242,7 @@ module _ {S : Type 0} (runs : S → List ℕ → List ℕ → S → Type 0) (lon
           office = stays;
           wrote = kept;
         },
-        inl (subst HasNoLf all (no_byte 10 after to.rests)),
+        inl (subst HasNoLf all (no_delimiter_of_byte 10 after to.rests)),
       )
 
   pub reads_short : (buffer : List ℕ) → FillsShort (10 ∷ []) input left before after buffered → t ≡ s → Appends out out' []
@@ -256,5 +256,5 @@ module _ {S : Type 0} (runs : S → List ℕ → List ℕ → S → Type 0) (lon
           office = stays;
           wrote = kept;
         },
-        inl (subst HasNoLf to.fills.stands (no_byte 10 _ to.unmarked)),
+        inl (subst HasNoLf to.fills.stands (no_delimiter_of_byte 10 _ to.unmarked)),
       )

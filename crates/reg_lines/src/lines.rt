@@ -123,7 +123,7 @@ fn run_next<R: Read, W: Write, O: Office, H: Host>(
         (H.clocked host.now) is_strict buffer.new result }
 {
     match fill_to_delimiter(reader, buffer, buffered, b"\n") {
-        Ok(Reached::Mark { end, buffered }) => {
+        Ok(Reached::Delimiter { end, buffered }) => {
             let line = without_end(&buffer[..end]);
             match answer_line(alloc, writer, office, host, is_strict, line) {
                 Ok(Continuation::On) => {
@@ -209,6 +209,6 @@ fn end_of_input<R: Read>(reader: &mut R, room: &mut [u8]) -> Result<Ended, Fault
 {
     match fill_to_delimiter(reader, room, 0, b"\n") {
         Ok(Reached::End { .. }) => Ok(Ended::Whole),
-        Ok(Reached::Mark { .. }) | Ok(Reached::Full) | Err(_) => Err(Fault::Read),
+        Ok(Reached::Delimiter { .. }) | Ok(Reached::Full) | Err(_) => Err(Fault::Read),
     }
 }

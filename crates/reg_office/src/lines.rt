@@ -86,7 +86,7 @@ fn listing_of<C: Alter>(
     }
 }
 
-fn told_of(
+fn certificate_line_from(
     now: Moment,
     certificate: &CertRow,
     revocation: Option<RevocationRow>,
@@ -120,7 +120,7 @@ fn certificate_line<C: Alter>(
     let revocation = tables.revocation(certificate.serial)?;
     let subscriber = subscriber_of(tables, certificate.order)?;
     let listing = listing_of(tables, certificate.serial, &revocation)?;
-    Ok(told_of(now, &certificate, revocation, subscriber, listing))
+    Ok(certificate_line_from(now, &certificate, revocation, subscriber, listing))
 }
 
 /// The row of a certificate in the list of all.

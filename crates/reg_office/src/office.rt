@@ -9,14 +9,14 @@ use crate::identifiers::set_key_identifier;
 use crate::ocsp_answer::{begin_ocsp, sign_draft};
 use crate::pages::page;
 use crate::queries::answer;
-use crate::register_state::{intake_in, longest_in, open_count_in, standing_in};
+use crate::register_state::{longest_in, open_count_in, request_load_in, standing_in};
 use crate::responder::{Responder, failures_in};
 use reg_core::{Command, Fault, Label, Memory, Moment, Outcome, Query, Refusal, Schedule, Serial};
 use reg_core_lists::{Cursor, Page};
 use reg_crl::Signer;
 use reg_io::ReadyOrUnsigned;
 use reg_ocsp::Draft;
-use reg_office_api::{Intake, OcspResponse, RegisterSummary};
+use reg_office_api::{OcspResponse, RegisterSummary, RequestLoad};
 use reg_store::Store;
 use sqlite::Alter;
 use std::alloc::Global;
@@ -240,7 +240,7 @@ impl<C: Alter, S: Signer> reg_office_api::Office for Office<C, S> {
         page(&mut self.store, alloc, now, from, most)
     }
 
-    fn standing(&mut self) -> Result<RegisterSummary, Fault> {
+    fn summary(&mut self) -> Result<RegisterSummary, Fault> {
         standing_in(&mut self.store)
     }
 
@@ -248,8 +248,13 @@ impl<C: Alter, S: Signer> reg_office_api::Office for Office<C, S> {
         open_count_in(&mut self.store, now)
     }
 
-    fn intake(&mut self, now: Moment, serial: Serial, most: u64) -> Result<Intake, Fault> {
-        intake_in(&mut self.store, now, serial, most)
+    fn request_load(
+        &mut self,
+        now: Moment,
+        serial: Serial,
+        most: u64,
+    ) -> Result<RequestLoad, Fault> {
+        request_load_in(&mut self.store, now, serial, most)
     }
 
     fn longest(&mut self, order: u64, not_before: Moment) -> Result<Option<u64>, Fault> {

@@ -1,11 +1,11 @@
 //! Summaries of a register: its sizes and latest CRL, its open requests, and the longest validity of an order.
 
 ghost use Rattle.std.specs.Prelude.{◌≡◌, ◌<◌, ◌^◌, IfErr};
-ghost use Rattle.reg_office_api.specs.LookUps.{HasIntake, HasLongest, HasOpen, HasSummary, IsOfStore, rows_in};
+ghost use Rattle.reg_office_api.specs.LookUps.{HasRequestLoad, HasLongest, HasOpen, HasSummary, IsOfStore, rows_in};
 ghost use Rattle.reg_store_tables.specs.LookUps.{Learns, LooksUp};
 
 use reg_core::{Fault, Moment, Serial};
-use reg_office_api::{Intake, RegisterSummary, Rows};
+use reg_office_api::{RegisterSummary, RequestLoad, Rows};
 use reg_store::{DatabaseFault, Table, Tables};
 use sqlite::Alter;
 
@@ -45,22 +45,22 @@ fn table_rows<C: Alter>(tables: &mut Tables<C>) -> Result<Rows, DatabaseFault>
 }
 
 #[tactic(auto, using(crate::proofs::Composing::answer_of_fault))]
-pub(crate) fn intake_in<C: Alter>(
+pub(crate) fn request_load_in<C: Alter>(
     tables: &mut Tables<C>,
     now: Moment,
     serial: Serial,
     most: u64,
-) -> Result<Intake, Fault>
+) -> Result<RequestLoad, Fault>
     requires { most < 2 ^ 63 }
     ensures looks { LooksUp C.Store tables.old tables.new
-        (λ records. HasIntake records now serial most result) }
+        (λ records. HasRequestLoad records now serial most result) }
     ensures faults { IfErr result IsOfStore }
 {
     let last = tables.last()?;
     let policy = tables.policy()?;
     let requests = tables.held(Table::Requests)?;
     let waiting = tables.open_of(serial, now, most)?;
-    Ok(Intake {
+    Ok(RequestLoad {
         last,
         cap: policy.cap(),
         requests,

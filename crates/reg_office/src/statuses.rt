@@ -31,7 +31,7 @@ pub(crate) fn answers<'a, C: Alter>(
 {
     let mut answers = Vec::new(alloc);
     for id in ids {
-        let status = told(tables, issuer, now, id)?;
+        let status = status_for_id(tables, issuer, now, id)?;
         answers.extend_from_slice(&[(*id, status)])?;
     }
     Ok(answers)
@@ -39,7 +39,7 @@ pub(crate) fn answers<'a, C: Alter>(
 
 /// The status for a CertID at a moment: that of the issuer's certificate that it names; `Unknown` if it names
 /// none.
-fn told<C: Alter>(
+fn status_for_id<C: Alter>(
     tables: &mut Tables<C>,
     issuer: &Issuer,
     now: Moment,

@@ -10,7 +10,7 @@ use Rattle.reg_core_lists.specs.Pages.{Pages}
 use Rattle.reg_core_lists.specs.declared.cursor.Cursor.{Cursor}
 use Rattle.reg_core_lists.specs.declared.rows.Page.{Page}
 use Rattle.reg_office_api.specs.Signatories.{Signatory}
-use Rattle.reg_office_api.specs.declared.register_summary.Intake.{Intake}
+use Rattle.reg_office_api.specs.declared.register_summary.RequestLoad.{RequestLoad}
 use Rattle.reg_office_api.specs.declared.register_summary.Rows.{Rows}
 use Rattle.reg_office_api.specs.declared.register_summary.RegisterSummary.{RegisterSummary}
 
@@ -32,10 +32,10 @@ rows_in records = record {
 
 -- the last accepted moment, the latest CRL without its bytes, the life of CRLs, the cap of each table, and how many rows the tables have
 abbrev pub IsRegisterSummary : Records → RegisterSummary → Type 0
-IsRegisterSummary records standing =
-    (standing.last ≡ records.last) × (standing.latest ≡ option_map row_of (latest records.crls))
-    × (standing.crl_life ≡ records.policy.crl_life)
-    × (standing.cap ≡ records.policy.cap) × (standing.rows ≡ rows_in records)
+IsRegisterSummary records summary =
+    (summary.last ≡ records.last) × (summary.latest ≡ option_map row_of (latest records.crls))
+    × (summary.crl_life ≡ records.policy.crl_life)
+    × (summary.cap ≡ records.policy.cap) × (summary.rows ≡ rows_in records)
 
 -- `IsRegisterSummary`, if the call succeeds
 abbrev pub HasSummary : Records → Result RegisterSummary Fault → Type 0
@@ -48,8 +48,8 @@ HasOpen records now result =
 
 -- the state of the requests at a moment: the last accepted moment, the cap, how many requests there are, and how many for a serial number
 -- are open, at most `most` of them
-abbrev pub intake_in : Records → ℕ → ℕ → ℕ → Intake
-intake_in records now serial most = record {
+abbrev pub request_load_in : Records → ℕ → ℕ → ℕ → RequestLoad
+request_load_in records now serial most = record {
   last = records.last;
   cap = records.policy.cap;
   requests = length records.requests;
@@ -57,9 +57,10 @@ intake_in records now serial most = record {
       min most (length (filter (λ row. (row.serial == serial) && is_open records now row) records.requests));
 }
 
--- `intake_in`, if the call succeeds
-abbrev pub HasIntake : Records → ℕ → ℕ → ℕ → Result Intake Fault → Type 0
-HasIntake records now serial most result = IfOk result (λ intake. intake ≡ intake_in records now serial most)
+-- `request_load_in`, if the call succeeds
+abbrev pub HasRequestLoad : Records → ℕ → ℕ → ℕ → Result RequestLoad Fault → Type 0
+HasRequestLoad records now serial most result =
+    IfOk result (λ request_load. request_load ≡ request_load_in records now serial most)
 
 -- the longest validity in days that an order and the policy allow from a moment on; none if there is no such order
 abbrev pub longest_allowed : Records → ℕ → ℕ → Option ℕ

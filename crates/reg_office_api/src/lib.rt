@@ -8,5 +8,5 @@ mod response;
 
 pub use effects::{LineEffects, LineReply, SignatureOutcome, StoreEffect};
 pub use office::Office;
-pub use register_summary::{Intake, RegisterSummary, Rows};
+pub use register_summary::{RegisterSummary, RequestLoad, Rows};
 pub use response::{OcspResponse, ResponseKind};

@@ -1,6 +1,6 @@
 //! An office that keeps the records of a register.
 
-use crate::register_summary::{Intake, RegisterSummary};
+use crate::register_summary::{RegisterSummary, RequestLoad};
 use crate::response::OcspResponse;
 use reg_core::{Command, Fault, Label, Memory, Moment, Outcome, Query, Schedule, Serial};
 use reg_core_lists::{Cursor, Page};
@@ -16,7 +16,7 @@ pub trait Office {
     ghost use Rattle.reg_office_api.specs.Drafts.{BeginStep, IsSignerFailure};
     ghost use Rattle.reg_office_api.specs.Items.{items_of};
     ghost use Rattle.reg_office_api.specs.Leads.{Leads, Looks};
-    ghost use Rattle.reg_office_api.specs.LookUps.{HasIntake, HasLongest, HasOpen, HasSummary, IsOfStore, PageStep};
+    ghost use Rattle.reg_office_api.specs.LookUps.{HasRequestLoad, HasLongest, HasOpen, HasSummary, IsOfStore, PageStep};
     ghost use Rattle.reg_office_api.specs.Settings.{Identifies, Reschedules};
     ghost use Rattle.reg_office_api.specs.Signatories.{Signatory};
     ghost use Rattle.reg_core.specs.Records.{Records};
@@ -81,7 +81,7 @@ pub trait Office {
         ensures { Leads is_clean stands (PageStep now most from result) self.old self.new };
 
     /// The register's summary: the last accepted moment, the latest CRL, the life of CRLs, the cap, and how many rows the tables have.
-    fn standing(&mut self) -> Result<RegisterSummary, Fault>
+    fn summary(&mut self) -> Result<RegisterSummary, Fault>
         ensures looks { Looks is_clean stands (λ records. HasSummary records result) self.old self.new }
         ensures faults { IfErr result IsOfStore };
 
@@ -92,9 +92,9 @@ pub trait Office {
 
     /// How full the requests table is, and how many requests for a serial number are open at a moment, at most `most` of them.
     /// It walks the requests. Errors: `Memory`, `Store`.
-    fn intake(&mut self, now: Moment, serial: Serial, most: u64) -> Result<Intake, Fault>
+    fn request_load(&mut self, now: Moment, serial: Serial, most: u64) -> Result<RequestLoad, Fault>
         requires { most < 2 ^ 63 }
-        ensures looks { Looks is_clean stands (λ records. HasIntake records now serial most result)
+        ensures looks { Looks is_clean stands (λ records. HasRequestLoad records now serial most result)
             self.old self.new }
         ensures faults { IfErr result IsOfStore };
 

@@ -26,7 +26,7 @@ pub struct Rows {
 
 /// How full the requests table is, and how many requests for one serial number are open.
 #[derive(Clone, Copy, PartialEq, Eq)]
-pub struct Intake {
+pub struct RequestLoad {
     /// The last accepted moment.
     pub last: Moment,
     /// How many rows each table may have.

@@ -23,8 +23,8 @@ use Rattle.reg_core.specs.declared.rows.CertRow.{CertRow}
 use Rattle.reg_core.specs.declared.rows.RevocationRow.{RevocationRow}
 use Rattle.reg_store_tables.specs.DerivedRows.{good, revoked, expired, is_good_letter, ends_before, Standing, Listed, DerivedRows, letter_counts, turned, with_counts}
 use Rattle.reg_store_tables.specs.Kept.{letter_of, standing_of, not_after_of, listed_of, Kept}
-use Rattle.reg_store_changes.specs.ColumnEffects.{lettered, swept, ended_by, is_good_at, good_at, with_revoked_letter, has_passed, with_last_listing, with_good, marked, shifted}
-use Rattle.reg_store_changes.specs.ChangeEffects.{columns_after}
+use Rattle.reg_store_changes.specs.DerivedEffects.{lettered, swept, ended_by, is_good_at, good_at, with_revoked_letter, has_passed, with_last_listing, with_good, marked, shifted}
+use Rattle.reg_store_changes.specs.ChangeEffects.{derived_after}
 use Rattle.reg_store_tables.proofs.PublicLaws.{map_same, found_each, counts_stand}
 use Rattle.reg_store_changes.proofs.Letters.{counts_swept, counts_good, counts_revoked, ended_enough}
 
@@ -144,7 +144,7 @@ module _ (records : Records) (columns : DerivedRows) (now : ℕ) (sound : SoundR
       λ i. record { serial = r.serial; at = r.at; reason = r.reason; first = r.first; not_after = ends i; last = lasts i })
       records.revocations sound.revocations.each (last_kept records now row sound))
 
-  kept_certificate : Kept (columns_after now (Certificate row) columns) (with_certificate records now row)
+  kept_certificate : Kept (derived_after now (Certificate row) columns) (with_certificate records now row)
   kept_certificate = record {
     letters = letters_grown;
     counts = counts_good (ended_by now columns) row.serial row.not_after columns.counts (swept now columns).letters (moved records columns now sound up kept) (enough records columns now sound up kept)
@@ -229,7 +229,7 @@ module _ (records : Records) (columns : DerivedRows) (now : ℕ) (sound : SoundR
       (all_weaker (λ (c : CertRow). certificate_in records.certificates c.serial ≡ Some c) (λ (c : CertRow). is_good_at row.serial (standing_of (touched records now) c) ≡ (c.serial == row.serial)) good_here records.certificates (found_each records sound))
       ∙ one_has (λ (c : CertRow). c.serial) row.serial records.certificates certificate sound.certificates.serials_differ found
 
-  kept_revocation : row.first ≡ next_number records.crls → Kept (columns_after now (Revocation row certificate.not_after) columns) (with_revocation records now row)
+  kept_revocation : row.first ≡ next_number records.crls → Kept (derived_after now (Revocation row certificate.not_after) columns) (with_revocation records now row)
   kept_revocation next = record {
     letters = letters_lost;
     counts = counts_revoked (ended_by now columns) row.serial columns.counts (swept now columns).letters (moved records columns now sound up kept) good_once (enough records columns now sound up kept)
@@ -294,7 +294,7 @@ module _ (records : Records) (columns : DerivedRows) (now : ℕ) (sound : SoundR
 -- ---- each change
 
 pub kept_change : (records : Records) (columns : DerivedRows) (now : ℕ) → SoundRows records → records.last ≤ now → Kept columns records → (change : Change) → Fits records now change
-    → Kept (columns_after now change columns) (changed_by records now change)
+    → Kept (derived_after now change columns) (changed_by records now change)
 kept_change records columns now sound up kept Touch fits = record { letters = passed records columns now sound up kept; counts = moved_stand records columns now sound up kept; listed = kept.listed }
 kept_change records columns now sound up kept (Subscriber row) fits = record { letters = passed records columns now sound up kept; counts = moved_stand records columns now sound up kept; listed = kept.listed }
 kept_change records columns now sound up kept (Order row) fits = record { letters = passed records columns now sound up kept; counts = moved_stand records columns now sound up kept; listed = kept.listed }
@@ -303,7 +303,7 @@ kept_change records columns now sound up kept (Request row) fits = record { lett
 kept_change records columns now sound up kept (Decline id) fits = record { letters = passed records columns now sound up kept; counts = moved_stand records columns now sound up kept; listed = kept.listed }
 kept_change records columns now sound up kept (Revocation row not_after) fits =
     let known = some_and_of (λ certificate. certificate.not_after ≡ not_after) (certificate_in records.certificates row.serial) fits.1 in
-    subst (λ moment. Kept (columns_after now (Revocation row moment) columns) (with_revocation records now row)) known.2
+    subst (λ moment. Kept (derived_after now (Revocation row moment) columns) (with_revocation records now row)) known.2
     (kept_revocation records columns now sound up kept row known.0 known.1 (subst (λ moment. now ≤ moment) (sym known.2) fits.2) fits.0 fits.3)
 kept_change records columns now sound up kept (NewCrl row der) fits =
     kept_crl records columns now sound up kept (record { number = row.number; this_update = row.this_update; bytes = der.now }) fits

@@ -5,7 +5,7 @@ use Rattle.sqlite_trees.proofs.ListLemmas.{filter-map}
 use Rattle.reg_core.specs.declared.command.Counts.{Counts}
 use Rattle.reg_store_tables.specs.DerivedRows.{Letter, good, revoked, expired, is_good_letter, ends_before, Standing, is_revoked_letter, is_expired_letter, with_letter, letter_counts, turned}
 use Rattle.reg_core_laws.proofs.PublicLaws.{one_if, sum_of_two, same_length, all_any}
-use Rattle.reg_store_changes.specs.ColumnEffects.{lettered, is_good_at, shifted}
+use Rattle.reg_store_changes.specs.DerivedEffects.{lettered, is_good_at, shifted}
 use Rattle.reg_store_tables.proofs.PublicLaws.{same_counts}
 
 -- ---- some good ones are turned

@@ -14,7 +14,7 @@ use Rattle.reg_store_tables.specs.DerivedRows.{DerivedRows, office_days}
 use Rattle.reg_store_tables.specs.Stays.{Changed, Looked, Moves, Stays}
 use Rattle.reg_store_tables.proofs.PublicLaws.{on_err, looked_fails, moves_as}
 use Rattle.reg_store_changes.specs.AfterStoppedChange.{IsNamed, IsScheduled}
-use Rattle.reg_store_changes.specs.ChangeEffects.{kept_rows_after}
+use Rattle.reg_store_changes.specs.ChangeEffects.{derived_rows_after}
 use Rattle.reg_store_changes.specs.ChangeSteps.{Puts}
 use Rattle.reg_store_changes.specs.MadeChanges.{MakesChange, SetsIssuer, SetsSchedule}
 use Rattle.sqlite_value.specs.declared.value.Value.TheVariants.{Int}
@@ -41,7 +41,7 @@ puts old new P {given} {change} r same moved turns =
 -- ---- the days of the office
 
 -- no change turns the days that are kept
-pub beside_days : (change : Change) (columns : DerivedRows) → (kept_rows_after change columns).days ≡ columns.days
+pub beside_days : (change : Change) (columns : DerivedRows) → (derived_rows_after change columns).days ≡ columns.days
 beside_days Touch columns = refl
 beside_days (Subscriber row) columns = refl
 beside_days (Order row) columns = refl

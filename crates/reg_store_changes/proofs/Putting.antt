@@ -26,7 +26,7 @@ use Rattle.reg_store_tables.specs.DerivedRows.{good, Standing, Listed, stored_st
 use Rattle.reg_store_tables.specs.Shows.{HaveSerials}
 use Rattle.reg_store_tables.specs.Stays.{Ran}
 use Rattle.reg_store_tables.specs.Steps.{Turns, TurnsWhere}
-use Rattle.reg_store_changes.specs.ColumnEffects.{with_good, with_unlisted}
+use Rattle.reg_store_changes.specs.DerivedEffects.{with_good, with_unlisted}
 use Rattle.reg_store_changes.specs.declared.sql.TheConstants.{PUT_SUBSCRIBER, PUT_ORDER, PUT_CERT, PUT_LETTER, PUT_REQUEST, PUT_REVOCATION, PUT_LISTED, PUT_CRL}
 use Rattle.reg_store_changes.proofs.Meaning.{text, lends, put_subscriber_means, put_order_means, put_cert_means, put_letter_means, put_request_means, put_revocation_means, put_listed_means, put_crl_means}
 use Rattle.reg_store_tables.proofs.PublicLaws.{counted_put, stored_put, mapped_push, Puts, cast_int, cast_null, puts_row, puts_spares, Numbered, Counted, both_after}

@@ -17,7 +17,7 @@ use Rattle.reg_store_changes.specs.ChangeSteps.{ClearsSteps, WritesSchedule}
 use Rattle.reg_der.specs.Issuers.{with_issuer}
 use Rattle.reg_store_changes.specs.declared.sql.TheConstants.{CLEAR_STEPS}
 use Rattle.reg_store_changes.proofs.Meaning.{clear_steps_means}
-use Rattle.reg_store_tables.proofs.PublicLaws.{stored_keyed, empties_rows, empties_spares, rows_after, columns_after}
+use Rattle.reg_store_tables.proofs.PublicLaws.{stored_keyed, empties_rows, empties_spares, rows_after, derived_after}
 
 pub clears : (old new : State) (count : ℕ) → Ran CLEAR_STEPS.now [] old new count → ClearsSteps old.now new.now
 unfolding register_schema
@@ -46,7 +46,7 @@ module _ (db after : Database) (records : Records) where
   pub staged_both : (columns : DerivedRows) (steps : List (ℕ × ℕ)) → AreRecordsAndDerived db records columns → WritesSchedule steps db after → AreRecordsAndDerived after (with_schedule records steps) columns
   staged_both columns steps both on = record {
     shown = staged_shows steps both.shown on;
-    kept = columns_after 17 db.trees after.trees (record { same = (staged_first steps both.shown on).0.others }) columns columns both.kept (refl, refl, refl, refl);
+    kept = derived_after 17 db.trees after.trees (record { same = (staged_first steps both.shown on).0.others }) columns columns both.kept (refl, refl, refl, refl);
   }
 
 pub kept_schedule : (columns : DerivedRows) (records : Records) (steps : List (ℕ × ℕ)) → Kept columns records → Kept columns (with_schedule records steps)

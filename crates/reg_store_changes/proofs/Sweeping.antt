@@ -31,7 +31,7 @@ use Rattle.reg_store_tables.specs.Stays.{Ran}
 use Rattle.reg_store_tables.specs.Steps.{Turns, TurnsCounted}
 use Rattle.reg_store_changes.specs.ChangeSteps.{Renames}
 use Rattle.reg_der.specs.Issuers.{with_issuer}
-use Rattle.reg_store_changes.specs.ColumnEffects.{lettered, swept, ended_by, is_good_at, with_revoked_letter, good_at, has_passed, with_last_listing, marked}
+use Rattle.reg_store_changes.specs.DerivedEffects.{lettered, swept, ended_by, is_good_at, with_revoked_letter, good_at, has_passed, with_last_listing, marked}
 use Rattle.reg_store_changes.specs.declared.sql.TheConstants.{SWEEP, MARK_REVOKED, SET_LAST, SET_NAME, SET_DECLINED, MARK_LISTED}
 use Rattle.reg_store_changes.proofs.Meaning.{equals, below, text, lends, sweep_means, mark_revoked_means, set_last_means, set_name_means, set_declined_means, mark_listed_means}
 use Rattle.reg_store_tables.proofs.PublicLaws as Edits

@@ -15,8 +15,8 @@ use Rattle.reg_store_tables.specs.DerivedRows.{DerivedRows}
 use Rattle.reg_store_tables.specs.Shows.{AreRecordsAndDerived}
 use Rattle.reg_store_tables.specs.Staged.{IsStaged}
 use Rattle.reg_store_tables.specs.Steps.{TurnsWhere}
-use Rattle.reg_store_changes.specs.ChangeEffects.{TurnsOne, columns_after, kept_rows_after}
-use Rattle.reg_store_changes.specs.ColumnEffects.{good_at, swept, with_revoked_letter, with_unlisted}
+use Rattle.reg_store_changes.specs.ChangeEffects.{TurnsOne, derived_after, derived_rows_after}
+use Rattle.reg_store_changes.specs.DerivedEffects.{good_at, swept, with_revoked_letter, with_unlisted}
 
 -- the revocation of a certificate, which had one good letter, with this notAfter
 abbrev pub Revokes : RevocationRow → ℕ → Database → Database → Type 0
@@ -29,7 +29,7 @@ Revokes row not_after old new =
 pub record Puts (change : Change) (old new : Database) : Type 0 where
   pub turns : (records : Records) (columns : DerivedRows) (now : ℕ) → SoundRows records
       → Fits records now change → AreRecordsAndDerived old records columns
-      → AreRecordsAndDerived new (changed_by records records.last change) (kept_rows_after change columns)
+      → AreRecordsAndDerived new (changed_by records records.last change) (derived_rows_after change columns)
   pub one : (records : Records) (columns : DerivedRows) → AreRecordsAndDerived old records columns
       → TurnsOne change columns
 
@@ -37,7 +37,7 @@ pub record Puts (change : Change) (old new : Database) : Type 0 where
 pub record Enters (now : ℕ) (change : Change) (counts : Counts) (old new : Database) : Type 0 where
   pub turns : (records : Records) (columns : DerivedRows) → counts ≡ columns.counts → SoundRows records
       → Fits records now change → AreRecordsAndDerived old records columns
-      → AreRecordsAndDerived new (changed_by records now change) (columns_after now change columns)
+      → AreRecordsAndDerived new (changed_by records now change) (derived_after now change columns)
       × IsDatabase new
   pub one : (records : Records) (columns : DerivedRows) → AreRecordsAndDerived old records columns
       → TurnsOne change (swept now columns)

@@ -1,5 +1,5 @@
 pub mod AfterStoppedChange
 pub mod ChangeEffects
 pub mod ChangeSteps
-pub mod ColumnEffects
+pub mod DerivedEffects
 pub mod MadeChanges

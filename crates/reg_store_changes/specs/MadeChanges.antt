@@ -15,7 +15,7 @@ use Rattle.reg_store_tables.specs.Shows.{KeepsOfficeDays, Shows, ShowsBoth}
 use Rattle.reg_store_tables.specs.Stays.{Changed, Stays}
 use Rattle.reg_store_changes.specs.AfterStoppedChange.{IsChanged, IsNamed, IsScheduled}
 use Rattle.reg_store_changes.specs.ChangeEffects.{TurnsOne}
-use Rattle.reg_store_changes.specs.ColumnEffects.{swept}
+use Rattle.reg_store_changes.specs.DerivedEffects.{swept}
 
 -- if the tables show records that the change fits, the office's row keeps its days
 abbrev pub LeavesOfficeDays : {S A E : Type 0} → Ghosts S → Held S → Held S → ℕ → Change → Result A E → Type 0

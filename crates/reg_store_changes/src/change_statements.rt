@@ -5,7 +5,7 @@ ghost use Rattle.reg_core.specs.Changes.{touched, with_certificate, with_crl};
 ghost use Rattle.reg_store_tables.specs.Stays.{Stepped};
 ghost use Rattle.reg_store_tables.specs.DerivedRows.{with_counts};
 ghost use Rattle.reg_store_tables.specs.Steps.{Continues, Makes, MakesRows, Turns, TurnsWhere};
-ghost use Rattle.reg_store_changes.specs.ColumnEffects.{with_good, marked, shifted};
+ghost use Rattle.reg_store_changes.specs.DerivedEffects.{with_good, marked, shifted};
 ghost use Rattle.reg_store_changes.specs.ChangeEffects.{crl_of, lost, added};
 ghost use Rattle.reg_store_changes.specs.ChangeSteps.{Enters, Puts, Revokes};
 

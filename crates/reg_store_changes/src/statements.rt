@@ -3,9 +3,9 @@
 ghost use Rattle.std.specs.Prelude.{◌≡◌, ◌+◌, length};
 ghost use Rattle.reg_core.specs.Changes.{touched, with_subscriber, with_order, with_certificate, with_request, with_declined, with_revocation, with_crl};
 ghost use Rattle.reg_store_tables.specs.Stays.{Stepped};
-ghost use Rattle.reg_store_tables.specs.Steps.{Makes, MakesRows, Turns, TurnsColumns, TurnsCounted, TurnsRecords, TurnsWhere, Yields};
+ghost use Rattle.reg_store_tables.specs.Steps.{Makes, MakesRows, Turns, TurnsDerivedRows, TurnsCounted, TurnsRecords, TurnsWhere, Yields};
 ghost use Rattle.reg_store_changes.specs.ChangeEffects.{crl_of};
-ghost use Rattle.reg_store_changes.specs.ColumnEffects.{swept, ended_by, with_revoked_letter, good_at, with_good, with_unlisted, marked};
+ghost use Rattle.reg_store_changes.specs.DerivedEffects.{swept, ended_by, with_revoked_letter, good_at, with_good, with_unlisted, marked};
 
 use crate::sql;
 use reg_core::{
@@ -48,7 +48,7 @@ pub(crate) fn set_last_listed<S: Alter>(
     number: u64,
     this_update: Moment,
 ) -> Result<(), DatabaseFault>
-    ensures made { Makes S.Store tx.old tx.new result (TurnsColumns (marked number this_update)) }
+    ensures made { Makes S.Store tx.old tx.new result (TurnsDerivedRows (marked number this_update)) }
     ensures stepped { Stepped S.Store tx.old tx.new }
 {
     let number = sql_number(number)?;
@@ -137,7 +137,7 @@ pub(crate) fn put_letter<S: Alter>(
     serial: Serial,
     not_after: Moment,
 ) -> Result<(), DatabaseFault>
-    ensures made { Makes S.Store tx.old tx.new result (TurnsColumns (with_good serial not_after)) }
+    ensures made { Makes S.Store tx.old tx.new result (TurnsDerivedRows (with_good serial not_after)) }
     ensures stepped { Stepped S.Store tx.old tx.new }
 {
     let serial = serial.bytes20();
@@ -195,7 +195,7 @@ pub(crate) fn put_listed<S: Alter>(
     row: RevocationRow,
     not_after: Moment,
 ) -> Result<(), DatabaseFault>
-    ensures made { Makes S.Store tx.old tx.new result (TurnsColumns (with_unlisted row not_after)) }
+    ensures made { Makes S.Store tx.old tx.new result (TurnsDerivedRows (with_unlisted row not_after)) }
     ensures stepped { Stepped S.Store tx.old tx.new }
 {
     let serial = row.serial.bytes20();

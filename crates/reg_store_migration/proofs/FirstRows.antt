@@ -24,7 +24,7 @@ use Rattle.reg_store_tables.proofs.PublicLaws.{passes, Turns, made, cast_int, ca
 use Rattle.reg_store_tables.specs.Stays.{Ran}
 use Rattle.reg_store_tables.specs.Staged.{IsStaged}
 use Rattle.reg_store_migration.specs.Older.{stored_older, IsShownByOlder}
-use Rattle.reg_store_migration.specs.Refilled.{no_columns, no_counts}
+use Rattle.reg_store_migration.specs.Refilled.{no_derived_rows, no_counts}
 use Rattle.reg_store_migration.specs.NumberedRows.{HasRows, with_rows, records_alone}
 use Rattle.reg_store_migration.specs.Rebuilds.{PutsCounts, SetsVersion}
 use Rattle.reg_store_migration.specs.declared.version.OlderVersion.{OlderVersion}
@@ -88,7 +88,7 @@ greatest_one days = omega arith
 
 -- the records are shown, and nothing is kept beside them
 pub begun_both : (version : OlderVersion) (days : ℕ) (db after : Database) (records : Records) (older : IsShownByOlder version db records) → records.policy.schedule ≡ one_step days
-    → IsStaged (first_rows db.trees older.days records.issuer records.policy records.last) ((0, days) ∷ []) after → AreRecordsAndDerived after records (no_columns records.policy.schedule)
+    → IsStaged (first_rows db.trees older.days records.issuer records.policy records.last) ((0, days) ∷ []) after → AreRecordsAndDerived after records (no_derived_rows records.policy.schedule)
 begun_both version days db after records older one staged =
     let rows : AreRows after.trees records = record {
       days = pos older.days;
@@ -109,7 +109,7 @@ begun_both version days db after records older one staged =
       request_serials = older.rows.request_serials;
       revocation_serials = older.rows.revocation_serials;
     } in
-    let kept : AreDerivedRows after.trees (no_columns records.policy.schedule) = record {
+    let kept : AreDerivedRows after.trees (no_derived_rows records.policy.schedule) = record {
       days = ap office_days (staged.others 0 refl refl) ∙ ap number (greatest_one older.days ∙ ap greatest_of (sym older.schedule));
       letters = staged.others 12 refl refl;
       counts = staged.others 14 refl refl;

@@ -23,7 +23,7 @@ use Rattle.reg_store_tables.specs.Steps.{Turns}
 use Rattle.reg_store_migration.specs.Makes.{DefinesTable, DefinesIndex}
 use Rattle.reg_store_migration.specs.NumberedRows.{HasRows, with_rows, records_alone}
 use Rattle.reg_store_migration.specs.Older.{with_derived_tables, older_schema, stored_older, HasDerivedRows, IsShownByOlder}
-use Rattle.reg_store_migration.specs.Refilled.{no_columns, no_counts, with_letters, AreIssued, listed_by, with_listed, HasRelisted, HasKept, HasGreatestDays}
+use Rattle.reg_store_migration.specs.Refilled.{no_derived_rows, no_counts, with_letters, AreIssued, listed_by, with_listed, HasRelisted, HasKept, HasGreatestDays}
 use Rattle.reg_store_migration.specs.declared.version.OlderVersion.{OlderVersion}
 
 -- a text that defines a table or an index makes it, and all rows stay
@@ -69,7 +69,7 @@ PutsCounts old new =
 pub record BeginsTables (version : OlderVersion) (days : ℕ) (old new : Database) : Type 0 where
   pub both : (records : Records) → records.policy.schedule ≡ one_step days
       → IsShownByOlder version old records
-      → AreRecordsAndDerived new records (no_columns records.policy.schedule)
+      → AreRecordsAndDerived new records (no_derived_rows records.policy.schedule)
   pub schema : old.schema ≡ older_schema version → new.schema ≡ register_schema
 
 -- each certificate gets its letter at the last accepted moment
@@ -109,7 +109,7 @@ Relists old new =
 -- the derived tables are rebuilt: they match the records at the last accepted moment
 pub record RebuildsDerived (last : ℕ) (old new : Database) : Type 0 where
   pub kept : (records : Records) → SoundRows records → records.last ≡ last
-      → AreRecordsAndDerived old records (no_columns records.policy.schedule)
+      → AreRecordsAndDerived old records (no_derived_rows records.policy.schedule)
       → HasKept new records × HasGreatestDays new records × IsDatabase new
   pub schema : old.schema ≡ register_schema → new.schema ≡ register_schema
 

@@ -19,7 +19,7 @@ abbrev pub OfRecords : (Records → Type 0) → Database → Type 0
 OfRecords Holds db = (records : Records) → IsShownBy db records → Holds records
 
 -- `Holds` is true of the derived tables, if they have at most 1,000,000 letters
-abbrev pub OfColumns : (DerivedRows → Type 0) → Database → Type 0
-OfColumns Holds db =
+abbrev pub OfDerivedRows : (DerivedRows → Type 0) → Database → Type 0
+OfDerivedRows Holds db =
     (records : Records) (columns : DerivedRows) → length columns.letters ≤ 1000000
     → AreRecordsAndDerived db records columns → Holds columns

@@ -17,8 +17,8 @@ abbrev pub no_counts : Counts
 no_counts = record { good = 0; revoked = 0; expired = 0 }
 
 -- empty derived tables, with counts of 0; the office's days are the greatest of a schedule
-abbrev pub no_columns : List (ℕ × ℕ) → DerivedRows
-no_columns schedule =
+abbrev pub no_derived_rows : List (ℕ × ℕ) → DerivedRows
+no_derived_rows schedule =
     record { letters = []; counts = no_counts; listed = []; days = pos (greatest_of schedule) }
 
 -- the derived tables with these letters

@@ -5,7 +5,7 @@ ghost use Rattle.reg_store_tables.specs.DerivedRows.{Letter, letter_counts, lett
 ghost use Rattle.reg_store_tables.specs.Rows.{number};
 ghost use Rattle.reg_store_tables.specs.Stays.{Stepped};
 ghost use Rattle.reg_store_tables.specs.Steps.{Asks};
-ghost use Rattle.reg_store_migration.specs.RecordReading.{OfColumns};
+ghost use Rattle.reg_store_migration.specs.RecordReading.{OfDerivedRows};
 
 use crate::record_reader::ask;
 use crate::sql;
@@ -28,7 +28,8 @@ fn count_in(rows: &[Row]) -> Result<u64, DatabaseFault>
 }
 
 fn count_letter<S: Alter>(tx: &mut Transaction<'_, S>, letter: &[u8]) -> Result<u64, DatabaseFault>
-    ensures asked { Asks S.Store tx.old tx.new result (λ count. OfColumns (λ columns. (test : Letter → Bool)
+    ensures asked { Asks S.Store tx.old tx.new result (λ count.
+        OfDerivedRows (λ columns. (test : Letter → Bool)
         → ((of : Letter) → bytes_eq (letter_text of) letter.now ≡ test of)
         → count ≡ with_letter test columns.letters)) }
     ensures stepped { Stepped S.Store tx.old tx.new }
@@ -39,7 +40,7 @@ fn count_letter<S: Alter>(tx: &mut Transaction<'_, S>, letter: &[u8]) -> Result<
 
 pub(crate) fn counts<S: Alter>(tx: &mut Transaction<'_, S>) -> Result<Counts, DatabaseFault>
     ensures asked { Asks S.Store tx.old tx.new
-        result (λ counts. OfColumns (λ columns. counts ≡ letter_counts columns.letters)) }
+        result (λ counts. OfDerivedRows (λ columns. counts ≡ letter_counts columns.letters)) }
     ensures stepped { Stepped S.Store tx.old tx.new }
 {
     let good = count_letter(tx, b"G")?;

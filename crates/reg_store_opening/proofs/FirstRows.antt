@@ -25,7 +25,7 @@ use Rattle.reg_store_tables.specs.Stays.{Ran}
 use Rattle.reg_store_tables.specs.Staged.{IsStaged}
 use Rattle.reg_store_tables.proofs.PublicLaws.{cast_int, cast_null, inserts, IsWriting, puts_row}
 use Rattle.reg_store_migration.specs.NumberedRows.{HasRows, with_rows}
-use Rattle.reg_store_migration.specs.Refilled.{no_columns, no_counts}
+use Rattle.reg_store_migration.specs.Refilled.{no_derived_rows, no_counts}
 use Rattle.reg_store_migration.proofs.PublicLaws.{with_other, rows_at}
 use Rattle.reg_store_opening.specs.Blank.{IsBlank, no_rows, office_alone}
 use Rattle.reg_store_opening.specs.declared.sql.TheConstants.{PUT_OFFICE}
@@ -64,7 +64,7 @@ staged_first issuer policy db has = record {
 }
 
 -- and once it is, no record is shown
-pub filled : (issuer : Issuer) (policy : Terms) (db : Database) → IsPolicy policy → IsStaged (first_rows issuer policy) policy.schedule db → AreRecordsAndDerived db (no_records issuer policy) (no_columns policy.schedule)
+pub filled : (issuer : Issuer) (policy : Terms) (db : Database) → IsPolicy policy → IsStaged (first_rows issuer policy) policy.schedule db → AreRecordsAndDerived db (no_records issuer policy) (no_derived_rows policy.schedule)
 filled issuer policy db is staged =
     let rows : AreRows db.trees (no_records issuer policy) = record {
       days = pos (greatest_of policy.schedule);
@@ -85,7 +85,7 @@ filled issuer policy db is staged =
       request_serials = tt;
       revocation_serials = tt;
     } in
-    let kept : AreDerivedRows db.trees (no_columns policy.schedule) = record {
+    let kept : AreDerivedRows db.trees (no_derived_rows policy.schedule) = record {
       days = ap office_days (staged.others 0 refl refl);
       letters = staged.others 12 refl refl;
       counts = staged.others 14 refl refl;
@@ -96,5 +96,5 @@ filled issuer policy db is staged =
     record { shown = record { schema = staged.schema; rows = rows }; kept = kept }
 
 -- what is kept beside no records stands for them
-pub none_kept : (issuer : Issuer) (policy : Terms) → Kept (no_columns policy.schedule) (no_records issuer policy)
+pub none_kept : (issuer : Issuer) (policy : Terms) → Kept (no_derived_rows policy.schedule) (no_records issuer policy)
 none_kept issuer policy = record { letters = IsPermutation-refl []; counts = refl; listed = IsPermutation-refl [] }

@@ -12,7 +12,7 @@ use Rattle.reg_store_tables.specs.Rows.{stored_office}
 use Rattle.reg_store_tables.specs.Schema.{no_schema, register_schema, office, subscriber, orders, cert}
 use Rattle.reg_store_tables.specs.Shows.{AreRecordsAndDerived}
 use Rattle.reg_store_migration.specs.NumberedRows.{HasRows, with_rows}
-use Rattle.reg_store_migration.specs.Refilled.{no_columns}
+use Rattle.reg_store_migration.specs.Refilled.{no_derived_rows}
 
 -- no table has a row
 abbrev pub no_rows : Trees
@@ -44,4 +44,4 @@ PutsOffice issuer policy old new =
 abbrev pub CreatesRegister : Schema → Issuer → Terms → Database → Database → Type 0
 CreatesRegister tables issuer policy old new =
     IsBlank tables old
-    → AreRecordsAndDerived new (no_records issuer policy) (no_columns policy.schedule) × IsDatabase new
+    → AreRecordsAndDerived new (no_records issuer policy) (no_derived_rows policy.schedule) × IsDatabase new

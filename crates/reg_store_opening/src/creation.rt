@@ -8,7 +8,7 @@ ghost use Rattle.reg_store_tables.specs.Steps.{Makes};
 ghost use Rattle.reg_store_opening.specs.Blank.{CreatesRegister};
 ghost use Rattle.reg_store_opening.specs.Opens.{Creates, IsFailedCreate};
 
-use crate::empty_tables::make;
+use crate::empty_tables::make_empty_tables;
 use crate::initial_rows::fill;
 use reg_core::Policy;
 use reg_der::Issuer;
@@ -31,7 +31,7 @@ fn make_register<S: Alter>(
     ensures made { Makes S.Store tx.old tx.new result (CreatesRegister no_schema issuer.now policy.now) }
     ensures stepped { Stepped S.Store tx.old tx.new }
 {
-    make(tx)?;
+    make_empty_tables(tx)?;
     fill(tx, issuer, policy)
 }
 

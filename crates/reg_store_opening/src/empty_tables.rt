@@ -29,7 +29,7 @@ fn make_revocation_tables<S: Alter>(tx: &mut Transaction<'_, S>) -> Result<(), D
 }
 
 /// Makes all tables and indexes, in a database that has none.
-pub(crate) fn make<S: Alter>(tx: &mut Transaction<'_, S>) -> Result<(), DatabaseFault>
+pub(crate) fn make_empty_tables<S: Alter>(tx: &mut Transaction<'_, S>) -> Result<(), DatabaseFault>
     ensures made { Makes S.Store tx.old tx.new result (Grows no_schema register_schema) }
     ensures stepped { Stepped S.Store tx.old tx.new }
 {

@@ -22,7 +22,7 @@ pub(crate) fn is_same(tables: Option<Version>, version: Option<OlderVersion>) ->
 
 /// The version whose schema the database has; `None` if it is that of no version. No transaction is under way, so it is the schema that
 /// was committed last.
-pub(crate) fn look<S: Alter>(
+pub(crate) fn schema_version<S: Alter>(
     alloc: Global,
     conn: &Connection<S>,
 ) -> Result<Option<Version>, AllocError>

@@ -15,7 +15,7 @@ ghost use Rattle.reg_store_opening.specs.Opens.{Opens, IsFailedOpen};
 
 use crate::office_rows::{check_office_rows, older_office_in, version_in_rows};
 use crate::read_only_queries::read_rows;
-use crate::schema_check::{is_same, look};
+use crate::schema_check::{is_same, schema_version};
 use crate::sql;
 use reg_core::Moment;
 use reg_store_migration::{OlderVersion, migrate};
@@ -166,7 +166,7 @@ pub fn open<S: Alter>(alloc: Global, conn: &mut Connection<S>) -> Result<(), Sto
     ensures unopened { IfErr result (IsFailedOpen S.Store conn.old conn.new) }
     ensures idle { conn.new.in_transaction ≡ false }
 {
-    let Ok(tables) = look(alloc, conn) else {
+    let Ok(tables) = schema_version(alloc, conn) else {
         return Err(StoreFault::Memory);
     };
     let found = examine(conn)?;

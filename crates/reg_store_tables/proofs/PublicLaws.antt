@@ -25,7 +25,7 @@ pub use Rattle.reg_store_tables.proofs.Rowids.{behind, rowids_are, rowids_number
 pub use Rattle.reg_store_tables.proofs.ScheduleLemmas.{ascends_rises, moment_of, steps_are}
 pub use Rattle.reg_store_tables.proofs.Selecting.{select_never, select_planned, selected}
 pub use Rattle.reg_store_tables.proofs.Sorting.{Rises, ascending_key, ascends, sorted_same}
-pub use Rattle.reg_store_tables.proofs.Spared.{Counted, Numbered, both_after, columns_after, rows_after}
+pub use Rattle.reg_store_tables.proofs.Spared.{Counted, Numbered, both_after, derived_after, rows_after}
 pub use Rattle.reg_store_tables.proofs.Staying.{both_shows, both_then, fails_remains, fails_stays, looked_both, reads_nothing, rows_same, shown_answers, shown_stays, shows_register, some_then, stays_both, stays_holds, stays_kept, stays_register, stays_shows, stays_then, stepped_then}
 pub use Rattle.reg_store_tables.proofs.Turning.{IsKeyed, behind_keyed, behind_passing, behind_table, behind_turned, stored_keyed, stored_table, stored_turned}
 pub use Rattle.reg_store_tables.proofs.Written.{received_early, revocations_have, updated_early}

@@ -98,8 +98,8 @@ module _ (tree : ℕ) (db after : Trees) (spares : Spares tree db after) where
         request_serials = requests.2;
       }
 
-  pub columns_after : (was is : DerivedRows) → AreDerivedRows db was → ColumnsTold tree after was is → AreDerivedRows after is
-  columns_after was is kept told =
+  pub derived_after : (was is : DerivedRows) → AreDerivedRows db was → ColumnsTold tree after was is → AreDerivedRows after is
+  derived_after was is kept told =
       let letters = part 12 (Counted stored_standing (λ (row : Standing). row.serial) (after 12)) _ _
       (λ e. (spares.same 12 refl e ∙ kept.letters, kept.letter_serials)) told.0 in
       let listed = part 15 (Counted stored_listed (λ (row : Listed). row.serial) (after 15)) _ _
@@ -118,5 +118,5 @@ pub both_after : (tree : ℕ) (old new : Database) (was is : Records) (columns t
     → RowsTold tree new.trees was is → IsPolicy is.policy → ColumnsTold tree new.trees columns those → AreRecordsAndDerived new is those
 both_after tree old new was is columns those both schema spares rows policy kept = record {
   shown = record { schema = schema; rows = rows_after tree old.trees new.trees spares was is both.shown.rows rows policy };
-  kept = columns_after tree old.trees new.trees spares columns those both.kept kept;
+  kept = derived_after tree old.trees new.trees spares columns those both.kept kept;
 }

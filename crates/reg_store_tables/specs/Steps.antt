@@ -72,26 +72,26 @@ module _ {S : Type 0} (g : Ghosts S) (old new : Transaction S) where
 -- if the tables showed records that fit, with some derived tables, they now show the changed records and derived tables
 abbrev pub TurnsWhere : (Records → Type 0) → (Records → Records) → (DerivedRows → DerivedRows) → Database
     → Database → Type 0
-TurnsWhere Fits records_after columns_after old new =
+TurnsWhere Fits records_after derived_after old new =
     (records : Records) (columns : DerivedRows) → Fits records → AreRecordsAndDerived old records columns
-    → AreRecordsAndDerived new (records_after records) (columns_after columns)
+    → AreRecordsAndDerived new (records_after records) (derived_after columns)
 
 -- `TurnsWhere` for any records
 abbrev pub Turns : (Records → Records) → (DerivedRows → DerivedRows) → Database → Database → Type 0
-Turns records_after columns_after old new =
+Turns records_after derived_after old new =
     (records : Records) (columns : DerivedRows) → AreRecordsAndDerived old records columns
-    → AreRecordsAndDerived new (records_after records) (columns_after columns)
+    → AreRecordsAndDerived new (records_after records) (derived_after columns)
 
 -- the records become these, and the derived tables stay
 abbrev pub TurnsRecords : (Records → Records) → Database → Database → Type 0
 TurnsRecords records_after = Turns records_after (λ columns. columns)
 
 -- the records stay, and the derived tables become these
-abbrev pub TurnsColumns : (DerivedRows → DerivedRows) → Database → Database → Type 0
-TurnsColumns columns_after = Turns (λ records. records) columns_after
+abbrev pub TurnsDerivedRows : (DerivedRows → DerivedRows) → Database → Database → Type 0
+TurnsDerivedRows derived_after = Turns (λ records. records) derived_after
 
--- `TurnsColumns`, with the number of rows that change
+-- `TurnsDerivedRows`, with the number of rows that change
 abbrev pub TurnsCounted : (DerivedRows → DerivedRows) → (DerivedRows → ℕ) → ℕ → Database → Database → Type 0
-TurnsCounted columns_after turned count old new =
+TurnsCounted derived_after turned count old new =
     (records : Records) (columns : DerivedRows) → AreRecordsAndDerived old records columns
-    → AreRecordsAndDerived new records (columns_after columns) × (count ≡ turned columns)
+    → AreRecordsAndDerived new records (derived_after columns) × (count ≡ turned columns)

@@ -8,7 +8,7 @@ ghost use Rattle.reg_store_tables.specs.Rows.{ground_index};
 ghost use Rattle.reg_store_tables.specs.Stays.{Stepped, Ran};
 ghost use Rattle.reg_store_tables.specs.DerivedRows.{with_counts};
 ghost use Rattle.reg_store_tables.specs.Commits.{Ends};
-ghost use Rattle.reg_store_tables.specs.Steps.{MakesRows, TurnsColumns};
+ghost use Rattle.reg_store_tables.specs.Steps.{MakesRows, TurnsDerivedRows};
 
 use crate::DatabaseFault;
 use crate::sql::SET_COUNTS;
@@ -93,7 +93,7 @@ pub fn set_counts<S: Alter>(
     tx: &mut Transaction<'_, S>,
     counts: Counts,
 ) -> Result<(), DatabaseFault>
-    ensures made { MakesRows S.Store tx.old tx.new result (TurnsColumns (with_counts counts)) }
+    ensures made { MakesRows S.Store tx.old tx.new result (TurnsDerivedRows (with_counts counts)) }
     ensures stepped { Stepped S.Store tx.old tx.new }
 {
     let good = sql_number(counts.good)?;

@@ -1,7 +1,7 @@
 use Rattle.std.proofs.Common.{arith, rules}
 use Rattle.reg_audit.specs.ReadTexts.{whole, read_besides}
 use Rattle.reg_audit.specs.Faults.{EndsAtBrokenRow}
-use Rattle.reg_audit.specs.declared.sql.What.TheVariants.{Office}
+use Rattle.reg_audit.specs.declared.sql.AuditQuery.TheVariants.{Office}
 use Rattle.reg_audit.proofs.Completed.{some_shown}
 use Rattle.reg_audit.proofs.CountedRows.{subscribers_counted, orders_counted, certificates_counted, requests_counted, revocations_counted, crls_counted, letters_counted, listings_counted}
 use Rattle.reg_audit.proofs.Gathered.{on_both}

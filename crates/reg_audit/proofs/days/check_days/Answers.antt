@@ -3,7 +3,7 @@ use Rattle.sqlite_value.specs.Order.{column}
 use Rattle.sqlite_value.specs.declared.value.Value.TheVariants.{Int}
 use Rattle.reg_audit.specs.ReadTexts.{read_besides}
 use Rattle.reg_audit.specs.ReadableValues.{HasAllowedDays}
-use Rattle.reg_audit.specs.declared.sql.What.TheVariants.{Office}
+use Rattle.reg_audit.specs.declared.sql.AuditQuery.TheVariants.{Office}
 use Rattle.reg_audit.proofs.OfficeRows.{days_at, allowed_days}
 use Rattle.reg_audit.proofs.days.check_days.Goals as goal
 

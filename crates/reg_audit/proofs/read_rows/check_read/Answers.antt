@@ -10,7 +10,7 @@ use Rattle.reg_audit_rows.specs.Faults as found
 use Rattle.reg_audit_rows.specs.KeptAsRead.{standing_in, listed_in}
 use Rattle.reg_audit.specs.ReadTexts.{whole}
 use Rattle.reg_audit.specs.ReadableValues.{AreReadable, HasValues}
-use Rattle.reg_audit.specs.declared.sql.What.TheVariants.{Office}
+use Rattle.reg_audit.specs.declared.sql.AuditQuery.TheVariants.{Office}
 use Rattle.reg_audit.proofs.Having.{each_has}
 use Rattle.reg_audit.proofs.read_rows.check_read.Goals as goal
 

@@ -9,7 +9,7 @@ use Rattle.reg_audit_rows.specs.KeptAsRead.{listed_in}
 use Rattle.reg_audit.specs.ReadTexts.{whole}
 use Rattle.reg_audit.specs.Faults.{EndsAtBrokenRow, IsBrokenRow}
 use Rattle.reg_audit.specs.Stored.{IsStored}
-use Rattle.reg_audit.specs.declared.sql.What.TheVariants.{Office}
+use Rattle.reg_audit.specs.declared.sql.AuditQuery.TheVariants.{Office}
 use Rattle.reg_audit_rows.proofs.PublicLaws.{on_ok, if_err}
 use Rattle.reg_audit.proofs.Denying.{all_stored, can_list, updates_before}
 use Rattle.reg_audit.proofs.Having.{each_has}

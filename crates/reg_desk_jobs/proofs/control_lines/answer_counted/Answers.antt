@@ -19,8 +19,8 @@ pub returns-clause-counted : goal.returns-clause-counted
 returns-clause-counted g c = (
   c.saturating_sub-micros.result,
   c.answer_word-reply.result.line_outcome,
-  c.has_failed-is_unsigned.result,
+  c.has_failed-signature_failed.result,
   c.answer_word-reply.ensures.line_outcome,
-  rw (c.failure_counts-failures.ensures.crls, c.failure_counts-failures.ensures.answers) at c.has_failed-is_unsigned.ensures,
+  rw (c.failure_counts-failures.ensures.crls, c.failure_counts-failures.ensures.answers) at c.has_failed-signature_failed.ensures,
   rw c.effects.ensures at c.count_line.ensures,
 )

@@ -1,6 +1,6 @@
 use Rattle.std.proofs.Common.{refl}
 use Rattle.reg_core.specs.declared.refusal.Fault.TheVariants.{Memory, Read}
-use Rattle.reg_desk_jobs.specs.ControlWords.{settles}
+use Rattle.reg_desk_jobs.specs.ControlWords.{decides}
 use Rattle.reg_desk_jobs.proofs.ControlLines.{copied, entered, fault_came, told_word}
 use Rattle.reg_desk_jobs.proofs.control_lines.answer_word.Goals as goal
 
@@ -11,7 +11,7 @@ returns-in-Ok-Copy-clause-moves g c =
 
 pub returns-in-Ok-Decide-clause-moves : goal.returns-in-Ok-Decide-clause-moves
 returns-in-Ok-Decide-clause-moves g c =
-    told_word g.M.Office.Office.is_clean g.M.Office.Office.stands c.args.accepted.now g.M.Office.Office.signs c.args.now _ _ c.args.line.now _ (settles c.in-Ok-Decide.serial_decision)
+    told_word g.M.Office.Office.is_clean g.M.Office.Office.stands c.args.accepted.now g.M.Office.Office.signs c.args.now _ _ c.args.line.now _ (decides c.in-Ok-Decide.serial_decision)
     (rw c.in-Ok-Decide.field-0-is at c.in-Ok-Decide.ensures) c.decide_by_clock.ensures.moves
 
 pub returns-in-Ok-Line-Some-clause-moves : goal.returns-in-Ok-Line-Some-clause-moves

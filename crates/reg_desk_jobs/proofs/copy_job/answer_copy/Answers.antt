@@ -10,4 +10,4 @@ returns-in-Ok-clause-line_outcome g c =
     came_told (copied_text c.in-Ok.bytes c.millis_since.result) Done _ _ c.copied_reply.ensures (copy_accepted c.in-Ok.bytes c.millis_since.result)
 
 pub returns-in-Err-clause-line_outcome : goal.returns-in-Err-clause-line_outcome
-returns-in-Err-clause-line_outcome g c = came_told (fault_line c.in-Err.why.fault ++ 10 ∷ []) (CopyFault c.in-Err.why.fault) _ _ c.uncopied_reply.ensures refl
+returns-in-Err-clause-line_outcome g c = came_told (fault_line c.in-Err.why.fault ++ 10 ∷ []) (CopyFault c.in-Err.why.fault) _ _ c.copy_failed_reply.ensures refl

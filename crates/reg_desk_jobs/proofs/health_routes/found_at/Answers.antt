@@ -6,18 +6,18 @@ returns-in-Err-clause-moves g c =
     looks_as g.M.Office.Office.is_clean g.M.Office.Office.stands _ _
     (λ records it. not_counts c.args.tally.now records c.args.now _ (c.in-Err.ensures records c.args.now it)) _ _ c.ask-counted.ensures.asks
 
-pub returns-in-Err-standing-clause-moves : goal.returns-in-Err-standing-clause-moves
-returns-in-Err-standing-clause-moves g c =
+pub returns-in-Err-summary-clause-moves : goal.returns-in-Err-summary-clause-moves
+returns-in-Err-summary-clause-moves g c =
     looks_as g.M.Office.Office.is_clean g.M.Office.Office.stands _ _
-    (λ records it. not_standing c.args.tally.now records c.args.now _ c.in-Err-standing.ensures.faults) _ _
-    (looks_then g.M.Office.Office.is_clean g.M.Office.Office.stands _ _ _ _ _ c.ask-counted.ensures.asks c.in-Err-standing.ensures.looks)
+    (λ records it. not_standing c.args.tally.now records c.args.now _ c.in-Err-summary.ensures.faults) _ _
+    (looks_then g.M.Office.Office.is_clean g.M.Office.Office.stands _ _ _ _ _ c.ask-counted.ensures.asks c.in-Err-summary.ensures.looks)
 
 pub returns-in-Err-due_at-clause-moves : goal.returns-in-Err-due_at-clause-moves
 returns-in-Err-due_at-clause-moves g c =
     looks_as g.M.Office.Office.is_clean g.M.Office.Office.stands _ _
     (λ records it. not_due c.args.tally.now records c.args.now _ (it.1 it.0.1.1).0) _ _
     (looks_then g.M.Office.Office.is_clean g.M.Office.Office.stands _ _ _ _ _
-    (looks_then g.M.Office.Office.is_clean g.M.Office.Office.stands _ _ _ _ _ c.ask-counted.ensures.asks c.in-Ok-standing.ensures.looks)
+    (looks_then g.M.Office.Office.is_clean g.M.Office.Office.stands _ _ _ _ _ c.ask-counted.ensures.asks c.in-Ok-summary.ensures.looks)
     c.in-Err-due_at.ensures.moves)
 
 pub returns-in-Ok-due_at-clause-moves : goal.returns-in-Ok-due_at-clause-moves
@@ -25,5 +25,5 @@ returns-in-Ok-due_at-clause-moves g c =
     looks_as g.M.Office.Office.is_clean g.M.Office.Office.stands _ _
     (λ records it. (c.in-Ok.ensures records c.args.now it.0.0, (it.1 it.0.1.1).0, it.0.1)) _ _
     (looks_then g.M.Office.Office.is_clean g.M.Office.Office.stands _ _ _ _ _
-    (looks_then g.M.Office.Office.is_clean g.M.Office.Office.stands _ _ _ _ _ c.ask-counted.ensures.asks c.in-Ok-standing.ensures.looks)
+    (looks_then g.M.Office.Office.is_clean g.M.Office.Office.stands _ _ _ _ _ c.ask-counted.ensures.asks c.in-Ok-summary.ensures.looks)
     c.in-Ok-due_at.ensures.moves)

@@ -27,16 +27,16 @@ returns-then-refuses_import g c = inl (
 
 pub returns-then-rows : goal.returns-then-rows
 returns-then-rows g c = rw c.if-rows.true (inr (inr (
-  c.import_kept-imported.result,
+  c.import_strict_rows-imported.result,
   c.run_ended.ensures,
   record {
     first = c.in_ok-office.office;
-    last = c.import_kept-imported.new.office;
+    last = c.import_strict_rows-imported.new.office;
     between = c.open_unsigned.new.machine;
     opened = rw c.as_str-path.ensures at c.in_ok-office.ensures.ok;
     moves = still_then g.M.Office.Office.is_clean g.M.Office.Office.stands _ _ _ _
         (follows g.M.Office.Office.is_clean g.M.Office.Office.stands _ (λ signatory before after. after ≡ before) (λ signatory before after seen. seen.1) _ _ c.refuses_import.ensures.looks)
-        c.import_kept-imported.ensures;
+        c.import_strict_rows-imported.ensures;
     closed = rw c.as_str-path.ensures at c.close-then-rows.ensures;
   },
 )))

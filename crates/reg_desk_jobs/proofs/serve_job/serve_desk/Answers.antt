@@ -25,7 +25,7 @@ returns g c =
           (λ desk. desk.is_open)
           g.M.Office.Office.signs
           g.M.Machine.signer_answered
-          (answer_socket c.args.signer.now c.args.answerer.now)
+          (answer_socket c.args.signer.now c.args.responder.now)
           g.M.Machine.clock_reached
           (is_some c.args.control_path)
           _

@@ -8,6 +8,6 @@ returns-clause-finished c = record {
   given = items_of c.response-response.result;
   made = items_made c.args.unsigned.now.draft c.response-response.result _ _ c.slice_of.ensures c.response-response.ensures;
   tells = c.finished.ensures.tells;
-  fate = c.finished.ensures.effects.0 ∙ c.fate_by-fate.ensures;
+  signature_outcome = c.finished.ensures.effects.0 ∙ c.signature_outcome_of-signature_outcome.ensures;
   store = c.finished.ensures.effects.1;
 }

@@ -7,13 +7,13 @@ use Rattle.reg_http_head.proofs.request.read_within.Goals as goal
 
 pub read_rest-requires-clause-head : goal.read_rest-requires-clause-head
 read_rest-requires-clause-head g c =
-    let to = rw c.in-Ok-Mark.field-0-is at c.in-Ok-Mark.ensures.ok in
-    head_at_mark _ _ c.args.room.now c.fill_to_delimiter.new.buf c.in-Ok-Mark.end c.in-Ok-Mark.buffered to (omega (arith, c.requires))
+    let to = rw c.in-Ok-Delimiter.field-0-is at c.in-Ok-Delimiter.ensures.ok in
+    head_at_mark _ _ c.args.room.now c.fill_to_delimiter.new.buf c.in-Ok-Delimiter.end c.in-Ok-Delimiter.buffered to (omega (arith, c.requires))
 
-pub returns-in-Ok-Mark-clause-ok : goal.returns-in-Ok-Mark-clause-ok
-returns-in-Ok-Mark-clause-ok g c =
-    let to = rw c.in-Ok-Mark.field-0-is at c.in-Ok-Mark.ensures.ok in
-    let same = taken_at_mark _ _ c.args.room.now c.fill_to_delimiter.new.buf c.in-Ok-Mark.end c.in-Ok-Mark.buffered to in
+pub returns-in-Ok-Delimiter-clause-ok : goal.returns-in-Ok-Delimiter-clause-ok
+returns-in-Ok-Delimiter-clause-ok g c =
+    let to = rw c.in-Ok-Delimiter.field-0-is at c.in-Ok-Delimiter.ensures.ok in
+    let same = taken_at_mark _ _ c.args.room.now c.fill_to_delimiter.new.buf c.in-Ok-Delimiter.end c.in-Ok-Delimiter.buffered to in
     let most : length c.fill_to_delimiter.new.buf ≡ 8192 = omega (arith, c.requires) in
     let few : length to.took ≤ 8192 = omega (arith, to.fills.within, most) in
     IfOk-weaker c.read_rest.result _ _
@@ -25,10 +25,10 @@ returns-in-Ok-Mark-clause-ok g c =
     ))
     c.read_rest.ensures.ok
 
-pub returns-in-Ok-Mark-clause-err : goal.returns-in-Ok-Mark-clause-err
-returns-in-Ok-Mark-clause-err g c =
-    let to = rw c.in-Ok-Mark.field-0-is at c.in-Ok-Mark.ensures.ok in
-    let same = taken_at_mark _ _ c.args.room.now c.fill_to_delimiter.new.buf c.in-Ok-Mark.end c.in-Ok-Mark.buffered to in
+pub returns-in-Ok-Delimiter-clause-err : goal.returns-in-Ok-Delimiter-clause-err
+returns-in-Ok-Delimiter-clause-err g c =
+    let to = rw c.in-Ok-Delimiter.field-0-is at c.in-Ok-Delimiter.ensures.ok in
+    let same = taken_at_mark _ _ c.args.room.now c.fill_to_delimiter.new.buf c.in-Ok-Delimiter.end c.in-Ok-Delimiter.buffered to in
     let most : length c.fill_to_delimiter.new.buf ≡ 8192 = omega (arith, c.requires) in
     let few : length to.took ≤ 8192 = omega (arith, to.fills.within, most) in
     IfErr-weaker c.read_rest.result _ _

@@ -1,5 +1,5 @@
 use Rattle.std.proofs.Common.{◌≡◌, ℕ, ◌-◌, ◌≤◌, length, take}
-use Rattle.reg_io.specs.Mark.{EndsWith}
+use Rattle.reg_io.specs.Delimiter.{EndsWith}
 use Rattle.reg_io.proofs.Buffers.{SoFar}
 use Rattle.reg_io.proofs.fill.fill_to_delimiter.Given as goal
 

@@ -1,6 +1,6 @@
 use Rattle.std.proofs.Common.{◌+◌, take, subst, arith, inl, inr}
 use Rattle.std.proofs.lemmas.Bool.{cases_order}
-use Rattle.reg_io.specs.Mark.{EndsWith}
+use Rattle.reg_io.specs.Delimiter.{EndsWith}
 use Rattle.reg_io.proofs.Marks.{ends_found, ends_missed}
 use Rattle.reg_io.proofs.fill.first_delimiter.Goals as goal
 

@@ -1,5 +1,5 @@
 use Rattle.std.proofs.Common.{ℕ, ◌≤◌, take}
-use Rattle.reg_io.specs.Mark.{EndsWith}
+use Rattle.reg_io.specs.Delimiter.{EndsWith}
 use Rattle.reg_io.proofs.fill.first_delimiter.Given as goal
 
 -- no mark ends up to here

@@ -9,21 +9,21 @@ pub returns-in-Ok-On : goal.returns-in-Ok-On
 returns-in-Ok-On g c =
     ran_on (HostLines g.O.Office g.H.Host c.args.host.now) (longest_of (g.H.Host.clocked c.args.host.now)) (g.H.Host.clocked c.args.host.now) c.args.is_strict
     _ _ _ _ _ _ c.args.buffer.now c.fill_to_delimiter.new.buf c.args.buffered (c.fill_to_delimiter.auto.buf ∙ c.requires.room)
-    c.in-Ok-Mark.end c.in-Ok-Mark.buffered (rw c.in-Ok-Mark.field-0-is at c.in-Ok-Mark.ensures.ok) c.without_end-line.result.now c.rotate_left.new.self c.without_end-line.ensures
+    c.in-Ok-Delimiter.end c.in-Ok-Delimiter.buffered (rw c.in-Ok-Delimiter.field-0-is at c.in-Ok-Delimiter.ensures.ok) c.without_end-line.result.now c.rotate_left.new.self c.without_end-line.ensures
     c.rotate_left.ensures.after (rw c.in-Ok-On.field-0-is at c.in-Ok-On.ensures)
 
 pub returns-in-Ok-Refused : goal.returns-in-Ok-Refused
 returns-in-Ok-Refused g c =
     ran_refused (HostLines g.O.Office g.H.Host c.args.host.now) (longest_of (g.H.Host.clocked c.args.host.now)) (g.H.Host.clocked c.args.host.now) c.args.is_strict
     _ _ _ _ _ _ c.args.buffer.now c.fill_to_delimiter.new.buf c.args.buffered (c.fill_to_delimiter.auto.buf ∙ c.requires.room)
-    c.in-Ok-Mark.end c.in-Ok-Mark.buffered (rw c.in-Ok-Mark.field-0-is at c.in-Ok-Mark.ensures.ok) c.without_end-line.result.now c.fill_to_delimiter.new.buf c.in-Ok-Refused.refused c.without_end-line.ensures
+    c.in-Ok-Delimiter.end c.in-Ok-Delimiter.buffered (rw c.in-Ok-Delimiter.field-0-is at c.in-Ok-Delimiter.ensures.ok) c.without_end-line.result.now c.fill_to_delimiter.new.buf c.in-Ok-Refused.refused c.without_end-line.ensures
     (rw c.in-Ok-Refused.field-0-is at c.in-Ok-Refused.ensures)
 
 pub returns-in-Err-answer_line : goal.returns-in-Err-answer_line
 returns-in-Err-answer_line g c =
     failed_at (HostLines g.O.Office g.H.Host c.args.host.now) (longest_of (g.H.Host.clocked c.args.host.now)) (g.H.Host.clocked c.args.host.now) c.args.is_strict
     _ _ _ _ _ _ c.args.buffer.now c.fill_to_delimiter.new.buf c.args.buffered (c.fill_to_delimiter.auto.buf ∙ c.requires.room)
-    c.in-Ok-Mark.end c.in-Ok-Mark.buffered (rw c.in-Ok-Mark.field-0-is at c.in-Ok-Mark.ensures.ok) c.without_end-line.result.now c.fill_to_delimiter.new.buf c.in-Err-answer_line.fault c.without_end-line.ensures c.in-Err-answer_line.ensures
+    c.in-Ok-Delimiter.end c.in-Ok-Delimiter.buffered (rw c.in-Ok-Delimiter.field-0-is at c.in-Ok-Delimiter.ensures.ok) c.without_end-line.result.now c.fill_to_delimiter.new.buf c.in-Err-answer_line.fault c.without_end-line.ensures c.in-Err-answer_line.ensures
 
 pub returns-in-Ok-End-eq0 : goal.returns-in-Ok-End-eq0
 returns-in-Ok-End-eq0 g c =

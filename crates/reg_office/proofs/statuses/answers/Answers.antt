@@ -22,11 +22,11 @@ loop-id-preserved g c =
 
 pub returns-in_err-status-clause-looks : goal.returns-in_err-status-clause-looks
 returns-in_err-status-clause-looks g c =
-    by_none (looked_then c.loop-id.invariant.looks.looked c.told.ensures.looks.looked) (λ records issuer. gives_none _ c.from_residual.result c.from_residual.ensures.0)
+    by_none (looked_then c.loop-id.invariant.looks.looked c.status_for_id.ensures.looks.looked) (λ records issuer. gives_none _ c.from_residual.result c.from_residual.ensures.0)
 
 pub returns-in_err-extend_from_slice-clause-looks : goal.returns-in_err-extend_from_slice-clause-looks
 returns-in_err-extend_from_slice-clause-looks g c =
-    by_none (looked_then c.loop-id.invariant.looks.looked c.told.ensures.looks.looked)
+    by_none (looked_then c.loop-id.invariant.looks.looked c.status_for_id.ensures.looks.looked)
     (λ records issuer. gives_none _ c.from_residual-in_err-extend_from_slice.result c.from_residual-in_err-extend_from_slice.ensures.0)
 
 pub returns-clause-looks : goal.returns-clause-looks

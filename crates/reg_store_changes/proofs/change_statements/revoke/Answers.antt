@@ -1,7 +1,7 @@
 use Rattle.std.proofs.Common.{sym, ◌∙◌}
 use Rattle.reg_core.specs.Changes.{with_revocation}
 use Rattle.reg_store_tables.proofs.PublicLaws.{leading, moves_on, stepped_clean}
-use Rattle.reg_store_changes.specs.ColumnEffects.{with_unlisted}
+use Rattle.reg_store_changes.specs.DerivedEffects.{with_unlisted}
 use Rattle.reg_store_changes.proofs.change_statements.revoke.Goals as goal
 
 pub returns-then-branch-eq1-clause-made : goal.returns-then-branch-eq1-clause-made

@@ -7,8 +7,8 @@ use Rattle.reg_store_tables.specs.Kept.{ShowsKept}
 use Rattle.reg_store_tables.specs.Shows.{AreRecordsAndDerived}
 use Rattle.reg_store_tables.proofs.PublicLaws.{kept_shows, looked_both, shows_register, changes, keeps, keeps_days, led, looked_changes, stays_days, moving-was_clean as was_clean, at_rest}
 use Rattle.reg_store_changes.specs.AfterStoppedChange.{IsChanged}
-use Rattle.reg_store_changes.specs.ChangeEffects.{columns_after}
-use Rattle.reg_store_changes.specs.ColumnEffects.{swept}
+use Rattle.reg_store_changes.specs.ChangeEffects.{derived_after}
+use Rattle.reg_store_changes.specs.DerivedEffects.{swept}
 use Rattle.reg_store_changes.proofs.Law.{kept_change}
 use Rattle.reg_store_changes.proofs.Making.{beside_days, keeps_days_then, not_made, same_days}
 use Rattle.reg_store_changes.proofs.transaction.apply.Goals as goal
@@ -27,7 +27,7 @@ returns-clause-makes g c =
     λ records kept clean. c.in_ok-counts.ensures.found records (kept_shows s old records kept) clean kept.0 kept.1 in
     record {
       ok = λ records kept sound up fits.
-          keeps done records (changed_by records now change) kept.0 (columns_after now change kept.0) (columns_after now change kept.0) (looked_both looked records kept.0 kept.1)
+          keeps done records (changed_by records now change) kept.0 (derived_after now change kept.0) (derived_after now change kept.0) (looked_both looked records kept.0 kept.1)
           (λ clean before after both on. (on.turns records kept.0 (counted records kept (was clean)) sound fits both).0)
           (λ clean. refl) (kept_change records kept.0 now sound up kept.2 change fits);
       one = λ clean records columns both.
@@ -41,7 +41,7 @@ returns-clause-makes g c =
       changed =
           looked_changes c.commit.result looked (changes done (IsChanged s old now change) (λ clean up after trees is on records kept sound le fits.
           let made = on.turns records kept.0 (counted records kept clean) sound fits ((looked_both looked records kept.0 kept.1).tables clean up) in
-          at_rest after trees (changed_by records now change) (columns_after now change kept.0) is made.0 made.1
+          at_rest after trees (changed_by records now change) (derived_after now change kept.0) is made.0 made.1
           (kept_change records kept.0 now sound le kept.2 change fits)));
     }
 

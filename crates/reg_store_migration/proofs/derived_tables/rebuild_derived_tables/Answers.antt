@@ -9,7 +9,7 @@ use Rattle.reg_store_tables.specs.Shows.{AreRecordsAndDerived}
 use Rattle.reg_store_tables.specs.Stays.{Moves}
 use Rattle.reg_store_tables.specs.DerivedRows.{with_counts}
 use Rattle.reg_store_tables.proofs.PublicLaws.{moves_on, stays_here, stepped_clean, then_moves, under_way}
-use Rattle.reg_store_migration.specs.Refilled.{no_columns, with_letters}
+use Rattle.reg_store_migration.specs.Refilled.{no_derived_rows, with_letters}
 use Rattle.reg_store_migration.proofs.RebuildsDerived.{few_letters, kept_counted}
 use Rattle.reg_store_migration.proofs.derived_tables.rebuild_derived_tables.Goals as goal
 
@@ -25,8 +25,8 @@ returns-clause-made g c clean =
     let third : Moves s2 s3 (λ _. Unit {0}) = stays_here (under_way second) counted.0 tt in
     then_moves _ _ _ _ _ _ c.set_counts.result (moves_on (moves_on first second) third) (c.set_counts.ensures.made clean) (λ _ sets. record {
       kept = λ records sound same both.
-          let filled = first.tables.0 records (no_columns records.policy.schedule) sound same refl both in
-          let done = second.tables.0 records sound (with_letters filled.0 (no_columns records.policy.schedule), filled.2, filled.1, refl, refl) in
+          let filled = first.tables.0 records (no_derived_rows records.policy.schedule) sound same refl both in
+          let done = second.tables.0 records sound (with_letters filled.0 (no_derived_rows records.policy.schedule), filled.2, filled.1, refl, refl) in
           let columns = done.0 in
           let whole : columns.listed ≡ map (listed_of records) records.revocations = done.3 ∙ ap (map (listed_of records)) (take_all (length records.revocations) records.revocations (omega arith)) in
           let counts_are = counted.1 records columns (few_letters records columns sound done.1.shown.rows.policy.cap.1 done.2) done.1 in

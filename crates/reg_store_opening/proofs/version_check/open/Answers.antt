@@ -60,7 +60,7 @@ returns-in-None-clause-opens g c =
     let mid = state s c.examine.new.conn in
     let found = c.in_ok-found.ensures in
     let schema = current_there old.now c.in-Ok.tables c.in-Ok.ensures.tables c.in_ok-found.found c.in_ok-check_schema.ensures.ok c.in-None.is in
-    opens_current c.examine.ensures.survives c.examine.ensures.same (same_register old mid c.examine.ensures.same c.look.ensures.settled schema) (λ clean. subst (HasVersionAndOffice old.now) c.in-None.is (found.ok clean))
+    opens_current c.examine.ensures.survives c.examine.ensures.same (same_register old mid c.examine.ensures.same c.schema_version.ensures.settled schema) (λ clean. subst (HasVersionAndOffice old.now) c.in-None.is (found.ok clean))
     (λ version records shows clean. subst (IsFoundOf (Some version) records) c.in-None.is (found.shown (Some version) records shows clean))
 
 pub returns-in_ok-migrate-in-Some-clause-opens : goal.returns-in_ok-migrate-in-Some-clause-opens
@@ -74,5 +74,5 @@ returns-in_ok-migrate-in-Some-clause-opens g c =
     opens_newer c.examine.ensures.survives c.examine.ensures.same older
     (λ clean. older_said old.now c.in-Ok.tables c.in-Ok.ensures.tables c.in_ok-found.found c.in_ok-check_schema.ensures.ok older c.in-Some.is (found.ok clean))
     (λ version records shows clean. subst (IsFoundOf version records) c.in-Some.is (found.shown version records shows clean))
-    (record { saved = c.examine.ensures.saved; tables = same_schema old mid c.examine.ensures.same c.look.ensures.settled (older_schema older.version) schema })
+    (record { saved = c.examine.ensures.saved; tables = same_schema old mid c.examine.ensures.same c.schema_version.ensures.settled (older_schema older.version) schema })
     c.in_ok-migrate-in-Some.ensures

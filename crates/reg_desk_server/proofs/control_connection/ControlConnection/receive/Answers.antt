@@ -1,5 +1,5 @@
 use Rattle.std.proofs.Common.{refl, sym, subst, inr, ℕ, List, ◌∷◌, [], ◌∙◌}
-use Rattle.reg_io.specs.Mark.{HasNoMark}
+use Rattle.reg_io.specs.Delimiter.{HasNoDelimiter}
 use Rattle.reg_desk_server.proofs.Gatherings.{gathers_none, gathers_then, goes_on, not_due}
 use Rattle.reg_desk_server.proofs.control_connection.ControlConnection.receive.Goals as goal
 
@@ -15,7 +15,7 @@ returns-then-not-receive_once-clause-ended g c was = absurd (goes_on _ c.in_defa
 
 pub returns-then-not-receive_once-clause-whole : goal.returns-then-not-receive_once-clause-whole
 returns-then-not-receive_once-clause-whole g c =
-    inr (subst (λ (bytes : List ℕ). HasNoMark (10 ∷ []) bytes) (sym (c.if-not-receive_once.ensures.waits refl)) (not_due _ _ c.in_default.ensures.whole))
+    inr (subst (λ (bytes : List ℕ). HasNoDelimiter (10 ∷ []) bytes) (sym (c.if-not-receive_once.ensures.waits refl)) (not_due _ _ c.in_default.ensures.whole))
 
 pub loop-preserved : goal.loop-preserved
 loop-preserved g c = (

@@ -1,0 +1,100 @@
+//! The responder to OCSP requests for a register in a file.
+
+ghost use Rattle.std.specs.Prelude.{◌≡◌, ◌⊎◌, IsTrue, IfOk, IfErr, OnErr};
+ghost use Rattle.reg_crl.specs.Signing.{Identity};
+ghost use Rattle.reg_desk_jobs.specs.RegisterFailures.{IsOpening};
+ghost use Rattle.reg_desk_jobs.specs.Signers.{EmbeddedKeyFits, HasCertificate, IsAnswering, IsDelegate};
+ghost use Rattle.reg_office.specs.Answering.{answers_by, signatory_of};
+ghost use Rattle.reg_desk_cli.specs.declared.job.ResponderChoice.TheVariants.{Issuer};
+
+use crate::crl_signer::key_signer;
+use crate::file_office::FileSigner;
+use crate::host::Host;
+use reg_core::{Fault, io_cause_of};
+use reg_crl::Signer;
+use reg_crl_signer::is_key_identifier;
+use reg_desk_cli::{Failure, SignerAddress, Word};
+use reg_desk_jobs::Machine;
+use reg_ocsp::{Certificate, CertificateFault};
+use reg_office::Responder;
+use std::fs;
+use std::io::ErrorKind;
+
+/// A responder that signs with the signer of CRLs, with the certificate in the file at a path, if one is given.
+pub(crate) fn issuer_responder(
+    host: &Host<'_>,
+    path: &Option<Word<'_>>,
+) -> Result<Responder<FileSigner>, Failure>
+    ensures ok { IfOk result (λ responder.
+        (crls : Identity) → IsAnswering (Issuer path.now)
+        (signatory_of ⟦<FileSigner as Signer>⟧.identity crls responder)) }
+    ensures certified { OnErr result (HasCertificate (Issuer path.now)) }
+    ensures faults { IfErr result IsOpening }
+{
+    match path {
+        None => Ok(Responder::Issuer(None)),
+        Some(path) => {
+            let certificate = certificate_at(host, path.as_str())?;
+            Ok(Responder::Issuer(Some(certificate)))
+        }
+    }
+}
+
+/// A responder with a key of its own, with the certificate in the file at a path.
+pub(crate) fn delegate_responder(
+    host: &Host<'_>,
+    path: &Word<'_>,
+    holder: &SignerAddress<'_>,
+) -> Result<Responder<FileSigner>, Failure>
+    ensures ok { IfOk result (λ responder.
+        (crls : Identity) → IsDelegate holder.now
+        (answers_by ⟦<FileSigner as Signer>⟧.identity crls responder)) }
+    ensures faults { IfErr result IsOpening }
+{
+    let certificate = certificate_at(host, path.as_str())?;
+    if !is_key_identifier(holder.algorithm, certificate.algorithm()) {
+        return Err(Failure::BadResponder);
+    }
+    match key_signer(
+        &host.rt,
+        holder.socket.as_str(),
+        holder.algorithm,
+        certificate.key(),
+    ) {
+        Ok(signer) => Ok(Responder::Delegate(signer, certificate)),
+        Err(Failure::BadSigner) => Err(Failure::BadResponder),
+        Err(why) => Err(why),
+    }
+}
+
+/// Reads the certificate in the file at a path. If the file can't be read, keeps the cause.
+fn certificate_at(host: &Host<'_>, path: &str) -> Result<Certificate, Failure>
+    ensures { IfErr result (λ why. (why ≡ Failure.Fault Fault.Memory) ⊎ (why ≡ Failure.BadResponder)) }
+{
+    let der = match fs::read(&host.rt, path) {
+        Ok(der) => der,
+        Err(error) if error.kind() == ErrorKind::OutOfMemory => {
+            return Err(Failure::Fault(Fault::Memory));
+        }
+        Err(error) => {
+            host.keep_cause(io_cause_of(error.kind()));
+            return Err(Failure::BadResponder);
+        }
+    };
+    match Certificate::new(host.rt.alloc(), &der) {
+        Ok(certificate) => Ok(certificate),
+        Err(CertificateFault::Memory) => Err(Failure::Fault(Fault::Memory)),
+        Err(CertificateFault::Bad) => Err(Failure::BadResponder),
+    }
+}
+
+pub(crate) fn embedded_key_fits(responder: &Responder<FileSigner>, key: &[u8]) -> bool
+    ensures { IsTrue result → (crls : Identity)
+        → EmbeddedKeyFits key.now (answers_by ⟦<FileSigner as Signer>⟧.identity crls responder.now) }
+{
+    match responder {
+        Responder::Issuer(Some(certificate)) => certificate.key() == key,
+        Responder::Issuer(None) => true,
+        Responder::Delegate(_, _) => true,
+    }
+}

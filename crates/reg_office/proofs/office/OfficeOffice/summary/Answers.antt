@@ -1,0 +1,13 @@
+use Rattle.std.proofs.Common.{◌≡◌, refl}
+use Rattle.reg_core.specs.Records.{Records}
+use Rattle.reg_office_api.specs.LookUps.{HasSummary}
+use Rattle.reg_office.proofs.Leading.{office_leads, office_looks}
+use Rattle.reg_office.proofs.Looking.{lent}
+use Rattle.reg_office.proofs.office.OfficeOffice.summary.Goals as goal
+
+pub returns-clause-looks : goal.returns-clause-looks
+returns-clause-looks g c =
+    let Told : Records → Type 0 = λ records. HasSummary records c.standing_in.result in
+    office_leads g.C.Store g.S.Signer _ _ Told (λ signatory before after. Told before × (after ≡ before))
+    (office_looks g.C.Store g.S.Signer _ _ Told Told (lent c.deref_mut.ensures.shows c.standing_in.ensures.looks) refl (λ records sound told. told))
+    (λ records told. (told, refl))
