@@ -128,7 +128,7 @@ def a_responder_while_the_ca_s_key_is_away(t):
     t.same(len(starts), 2, f"lines that start the signer, of {first}")
     ends = ["kill $signer", "while [ -S ca.sign ]; do sleep 0.1; done"]
     made = block("A responder", "openssl req")[:-1]
-    opened = of_a_responder("desk open ca.db --port 8080 --control /run/durshavon/ca/control $RESPONDER", port)
+    opened = of_a_responder("desk open ca.db --port 8080 --control control $RESPONDER", port)
     closed = ["kill $desk", "wait $desk", *starts, *block("A responder", "desk script ca.db --clock"), first[-1]]
     told = typed(t, folder_of(t), [*first, *ends, *made, *opened, *closed])
     t.same(re.findall(r"^verify OK$", told, re.MULTILINE), ["verify OK"] * 3, f"CRLs that verify, in {told}")

@@ -1,4 +1,4 @@
-//! Makes the command line for the crate `clap` from the table.
+//! Makes the `Command` of the crate `clap` from `table.rt`.
 
 ghost use Rattle.std.specs.Prelude.{◌≡◌, IfOk, OnOk, [], false, map};
 ghost use Rattle.clap.specs.Words.{App, app_of, rule_of, with_subcommand};

@@ -18,7 +18,7 @@ pub struct SignerAddress<'a> {
 /// The responder to OCSP requests for a register that is served (RFC 6960 2.2).
 #[derive(Drop)]
 pub enum ResponderChoice<'a> {
-    /// The signer of its CRLs. If the path of a certificate is given, this is embedded in each response.
+    /// The signer of its CRLs. Each response embeds the certificate, if its path is given.
     Issuer {
         certificate: Option<Word<'a>>,
     },
@@ -50,11 +50,13 @@ pub struct NewRegister<'a> {
     pub key: Word<'a>,
     /// The key identifier of the issuer's certificate, in hexadecimal, if it is given.
     pub key_id: Option<Word<'a>>,
+    /// The longest validity of a certificate, in days.
     pub days: u64,
     /// The seconds from thisUpdate to nextUpdate of a CRL.
     pub crl_life: u64,
     /// The seconds from thisUpdate to nextUpdate of an OCSP response.
     pub ocsp_life: u64,
+    /// The greatest number of rows of a table.
     pub cap: u64,
 }
 
@@ -75,7 +77,7 @@ pub struct ImportJob<'a> {
     pub moment: Option<Moment>,
     /// As in [`ScriptOptions`].
     pub accepts_clock: bool,
-    /// The import ends at the first refusal or fault, and registers no last row without its line end.
+    /// The import ends at the first refusal or fault, and skips a last row without its line end.
     pub is_strict: bool,
 }
 
@@ -104,7 +106,7 @@ pub struct ServeJob<'a> {
     pub requests: u32,
     pub signer: Option<SignerAddress<'a>>,
     pub responder: ResponderChoice<'a>,
-    /// The path of a published CRL, all of which the register must have.
+    /// The path of a published CRL: the register must have its number and all its entries.
     pub published: Option<Word<'a>>,
 }
 
@@ -121,7 +123,7 @@ pub struct OpenJob<'a> {
     pub published: Option<Word<'a>>,
 }
 
-/// A list of a register to be written.
+/// A list to write, from a register.
 #[derive(Drop)]
 pub struct ListJob<'a> {
     pub file: Word<'a>,
@@ -152,12 +154,12 @@ pub enum RowTask {
 #[derive(Drop)]
 pub enum Job<'a> {
     Init(NewRegister<'a>),
-    /// Runs the script of standard input, without FILE over a register in memory. Without a signer, a placeholder digest replaces each signature.
+    /// Runs the script of standard input, over FILE or over a register in memory. Without a signer, a placeholder digest replaces each signature.
     Script {
         file: Option<Word<'a>>,
         signer: Option<SignerAddress<'a>>,
     },
-    /// Runs the script of standard input over FILE, line by line.
+    /// Runs the script of standard input over FILE line by line, as `--clock` and `--strict` need.
     Lines(LinedScript<'a>),
     /// Registers the rows of standard input, all at one moment.
     Import(ImportJob<'a>),
@@ -187,6 +189,7 @@ pub enum Job<'a> {
         control_path: Word<'a>,
         log: Word<'a>,
     },
+    /// Sets how many days a certificate may be valid, by its notBefore.
     Schedule {
         file: Word<'a>,
         steps: Steps,
@@ -214,9 +217,9 @@ pub struct Invocation<'a> {
     pub job: Job<'a>,
     /// Whether the cause of a failure is reported, if it is known.
     pub is_explained: bool,
-    /// Whether a job that serves logs each exchange on standard error.
+    /// Whether `serve` or `open` logs each exchange on standard error.
     pub has_log: bool,
-    /// The path of the file in which a job that serves logs each exchange.
+    /// The path of the file in which `serve` or `open` logs each exchange.
     pub log_file: Option<Word<'a>>,
 }
 

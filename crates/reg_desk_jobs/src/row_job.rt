@@ -34,7 +34,7 @@ struct RegistrationRow {
 
 /// Does a task with the certificate of each row at the control socket at a path, in the rows' order, and writes one reply for each: that to the
 /// last line sent for it. A row is `SERIAL,GROUND` to revoke, and `SERIAL,NOTBEFORE,NOTAFTER` to register. Empty lines and a header are
-/// skipped. Errors: those of [`at`](crate::at), except that E19, for a certificate that is already revoked, does not count as a refusal.
+/// skipped. Errors: those of [`exchange_lines`](crate::exchange_lines), except that E19, for a certificate that is already revoked, does not count as a refusal.
 pub fn each_row<M: Machine, R: Read, W: Write>(
     alloc: Global,
     machine: &M,
@@ -98,7 +98,7 @@ fn send_each<R: BufRead, W: Write, C: BufRead, S: Write>(
     Err(Failure::Fault(Fault::Read))
 }
 
-/// Does the task with the certificate of a line, if it is a row, and writes the reply. Returns whether no reply was a refusal or a fault.
+/// Does the task with the certificate of a line that is not skipped, and writes the last reply. Returns whether that was no refusal and no fault.
 fn send_line<W: Write, C: BufRead, S: Write>(
     alloc: Global,
     task: RowTask,
@@ -159,6 +159,7 @@ fn register_row<C: BufRead, S: Write>(
     ensures err { IfErr result IsConversationFault }
 {
     let Some(row) = row else {
+        // The desk replies `E22 syntax`.
         return request_reply(alloc, b"register\n", incoming, sent);
     };
     let Ok(query) = status_line(alloc, &row) else {
@@ -210,6 +211,7 @@ fn revoke_row<C: BufRead, S: Write>(
     ensures err { IfErr result IsConversationFault }
 {
     let Some(row) = row else {
+        // The desk replies `E22 syntax`.
         return request_reply(alloc, b"request\n", incoming, sent);
     };
     let Ok(request) = request_line(alloc, &row) else {

@@ -34,7 +34,7 @@ const LOOPBACK: [u8; 4] = [127, 0, 0, 1];
 
 const LOOPBACK_V6: [u8; 16] = [0, 0, 0, 0, 0, 0, 0, 0, 0, 0, 0, 0, 0, 0, 0, 1];
 
-/// Answers a number of requests over a register, which is opened before the port is bound. If a published CRL is given, `reader` has its bytes, and a
+/// Answers `serving.requests` requests over a register, which is opened before the port is bound. If a published CRL is given, `reader` has its bytes, and a
 /// register that lacks any of it is not served.
 pub fn serve<M: Machine, R: Read, W: Write>(
     rt: &HostRuntime,

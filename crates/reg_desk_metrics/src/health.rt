@@ -13,7 +13,7 @@ use std::alloc::{AllocError, Global};
 /// What is not well with an open register. All is well if each is `None`, and `is_crl_due_at_once` is false.
 #[derive(Clone, Copy, PartialEq, Eq)]
 pub struct Health {
-    /// The moment of the last command, if the clock is behind it; now, if the clock is too far ahead or past its end.
+    /// The moment of the last command, if the clock is behind it; now, if the clock is too far ahead or past the last moment that a register accepts.
     pub(crate) clock: Option<Moment>,
     /// The next CRL is due at once: there is none yet, or the latest one has a placeholder digest and the desk has a signer.
     pub(crate) is_crl_due_at_once: bool,
@@ -30,7 +30,7 @@ pub struct Health {
 }
 
 impl Health {
-    /// The health of a register at a moment, by its numbers, the desk's tally, and the moment of the last `accept-clock`.
+    /// The health of a register at a moment, by its numbers, the desk's tally, and the moment that the last `accept-clock` gave.
     pub fn of(now: Moment, found: &Found, tally: &Tally, accepted: Option<Moment>) -> Health
         ensures { result ≡ health_of now found.now tally.now accepted }
     {
@@ -58,7 +58,7 @@ impl Health {
             && is_none(self.store)
     }
 
-    /// The answer to `GET /health`, as JSON (RFC 8259): each member but `status` is null, or since when it fails; `crl` can be `"at-once"`.
+    /// The answer to `GET /health`, as JSON (RFC 8259): each member but `status` is null, or the moment that its field has; `crl` can be `"at-once"`.
     ///
     /// # Errors
     ///

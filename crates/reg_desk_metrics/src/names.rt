@@ -7,10 +7,10 @@ pub(crate) const CLOCK: &str =
     "# HELP desk_clock_timestamp_seconds The machine's clock, as the desk reads it.\n# TYPE desk_clock_timestamp_seconds gauge\ndesk_clock_timestamp_seconds ";
 
 pub(crate) const BEHIND: &str =
-    "# HELP desk_clock_behind_seconds How far the clock is before the last command, 0 where it is not: until then the register refuses all.\n# TYPE desk_clock_behind_seconds gauge\ndesk_clock_behind_seconds ";
+    "# HELP desk_clock_behind_seconds By how much the clock is behind the last command, 0 if it is not: until it catches up, commands are refused.\n# TYPE desk_clock_behind_seconds gauge\ndesk_clock_behind_seconds ";
 
 pub(crate) const READABLE: &str =
-    "# HELP desk_register_readable Whether the register tells its numbers: 1, or 0 where it refuses or can not be read, and then they are left out.\n# TYPE desk_register_readable gauge\ndesk_register_readable ";
+    "# HELP desk_register_readable 1 if the register's numbers can be read; 0 if not, and then the series of these numbers are left out.\n# TYPE desk_register_readable gauge\ndesk_register_readable ";
 
 pub(crate) const GOOD: &str =
     "# HELP desk_certificates Registered certificates by status.\n# TYPE desk_certificates gauge\ndesk_certificates{status=\"good\"} ";
@@ -37,7 +37,7 @@ pub(crate) const LAST_COMMAND: &str =
     "# HELP desk_last_command_timestamp_seconds The last accepted moment of the register.\n# TYPE desk_last_command_timestamp_seconds gauge\ndesk_last_command_timestamp_seconds ";
 
 pub(crate) const CRL_NUMBER: &str =
-    "# HELP desk_crl_number The number of the latest CRL, 0 where there is none yet.\n# TYPE desk_crl_number gauge\ndesk_crl_number ";
+    "# HELP desk_crl_number The number of the latest CRL, 0 if there is none yet.\n# TYPE desk_crl_number gauge\ndesk_crl_number ";
 
 pub(crate) const THIS_UPDATE: &str =
     "# HELP desk_crl_this_update_timestamp_seconds thisUpdate of the latest CRL.\n# TYPE desk_crl_this_update_timestamp_seconds gauge\ndesk_crl_this_update_timestamp_seconds ";
@@ -55,7 +55,7 @@ pub(crate) const OPEN: &str =
     "# HELP desk_requests_open Requests for revocation that wait for a decision.\n# TYPE desk_requests_open gauge\ndesk_requests_open ";
 
 pub(crate) const OVERDUE: &str =
-    "# HELP desk_requests_overdue Requests for revocation whose limit has passed.\n# TYPE desk_requests_overdue gauge\ndesk_requests_overdue ";
+    "# HELP desk_requests_overdue Open requests for revocation whose deadline has passed.\n# TYPE desk_requests_overdue gauge\ndesk_requests_overdue ";
 
 pub(crate) const COUNTED: &str =
     "# HELP desk_requests_counted_timestamp_seconds When requests were counted last: at most once a minute.\n# TYPE desk_requests_counted_timestamp_seconds gauge\ndesk_requests_counted_timestamp_seconds ";
@@ -68,32 +68,32 @@ pub(crate) const REFUSED_LINES: &str = "desk_lines_total{reply=\"refused\"} ";
 pub(crate) const FAULTS: &str = "desk_lines_total{reply=\"fault\"} ";
 
 pub(crate) const CRL_SIGNED: &str =
-    "# HELP desk_signatures_total Signatures that came.\n# TYPE desk_signatures_total counter\ndesk_signatures_total{of=\"crl\"} ";
+    "# HELP desk_signatures_total Signatures that were received.\n# TYPE desk_signatures_total counter\ndesk_signatures_total{of=\"crl\"} ";
 
 pub(crate) const OCSP_SIGNED: &str = "desk_signatures_total{of=\"ocsp\"} ";
 
 pub(crate) const CRL_UNSIGNED: &str =
-    "# HELP desk_signature_failures_total Signatures that did not come.\n# TYPE desk_signature_failures_total counter\ndesk_signature_failures_total{of=\"crl\"} ";
+    "# HELP desk_signature_failures_total Signatures that failed.\n# TYPE desk_signature_failures_total counter\ndesk_signature_failures_total{of=\"crl\"} ";
 
 pub(crate) const OCSP_UNSIGNED: &str = "desk_signature_failures_total{of=\"ocsp\"} ";
 
 pub(crate) const CRL_LAST: &str =
-    "# HELP desk_signature_timestamp_seconds When the last signature came, 0 where none did.\n# TYPE desk_signature_timestamp_seconds gauge\ndesk_signature_timestamp_seconds{of=\"crl\"} ";
+    "# HELP desk_signature_timestamp_seconds When the last signature was received, 0 if none was.\n# TYPE desk_signature_timestamp_seconds gauge\ndesk_signature_timestamp_seconds{of=\"crl\"} ";
 
 pub(crate) const OCSP_LAST: &str = "desk_signature_timestamp_seconds{of=\"ocsp\"} ";
 
 pub(crate) const CRL_LAST_FAILED: &str =
-    "# HELP desk_signature_failure_timestamp_seconds When a signature did not come last, 0 where each did.\n# TYPE desk_signature_failure_timestamp_seconds gauge\ndesk_signature_failure_timestamp_seconds{of=\"crl\"} ";
+    "# HELP desk_signature_failure_timestamp_seconds When a signature last failed, 0 if none did.\n# TYPE desk_signature_failure_timestamp_seconds gauge\ndesk_signature_failure_timestamp_seconds{of=\"crl\"} ";
 
 pub(crate) const OCSP_LAST_FAILED: &str = "desk_signature_failure_timestamp_seconds{of=\"ocsp\"} ";
 
 pub(crate) const CRL_FAILING: &str =
-    "# HELP desk_signer_failing_since_timestamp_seconds Since when no signature came, 0 where the last one did.\n# TYPE desk_signer_failing_since_timestamp_seconds gauge\ndesk_signer_failing_since_timestamp_seconds{of=\"crl\"} ";
+    "# HELP desk_signer_failing_since_timestamp_seconds Since when signatures fail, 0 if the last one was received.\n# TYPE desk_signer_failing_since_timestamp_seconds gauge\ndesk_signer_failing_since_timestamp_seconds{of=\"crl\"} ";
 
 pub(crate) const OCSP_FAILING: &str = "desk_signer_failing_since_timestamp_seconds{of=\"ocsp\"} ";
 
 pub(crate) const STORE_FAILING: &str =
-    "# HELP desk_store_failing_since_timestamp_seconds Since when the store fails, 0 where it does not: no command was entered since.\n# TYPE desk_store_failing_since_timestamp_seconds gauge\ndesk_store_failing_since_timestamp_seconds ";
+    "# HELP desk_store_failing_since_timestamp_seconds Since when the store fails, 0 if it does not. The next accepted command ends the failure.\n# TYPE desk_store_failing_since_timestamp_seconds gauge\ndesk_store_failing_since_timestamp_seconds ";
 
 pub(crate) const OPEN_HTTP: &str =
     "# HELP desk_connections Connections that are open.\n# TYPE desk_connections gauge\ndesk_connections{at=\"port\"} ";
@@ -104,7 +104,7 @@ pub(crate) const ACCEPTED: &str =
     "# HELP desk_connections_accepted_total Connections that were accepted at the port.\n# TYPE desk_connections_accepted_total counter\ndesk_connections_accepted_total ";
 
 pub(crate) const BROKEN: &str =
-    "# HELP desk_connections_lost_total Connections that ended by a fault.\n# TYPE desk_connections_lost_total counter\ndesk_connections_lost_total{why=\"broken\"} ";
+    "# HELP desk_connections_lost_total Connections that were lost, by cause; crowded: closed to make room for another.\n# TYPE desk_connections_lost_total counter\ndesk_connections_lost_total{why=\"broken\"} ";
 
 pub(crate) const LATE: &str = "desk_connections_lost_total{why=\"late\"} ";
 
@@ -113,7 +113,7 @@ pub(crate) const EVICTED: &str = "desk_connections_lost_total{why=\"crowded\"} "
 pub(crate) const NO_MEMORY: &str = "desk_connections_lost_total{why=\"memory\"} ";
 
 pub(crate) const ANSWERED: &str =
-    "# HELP desk_http_responses_total Answers over HTTP by route and status; none: nothing was answered.\n# TYPE desk_http_responses_total counter\n";
+    "# HELP desk_http_responses_total Answers over HTTP by route and status; code none: no answer.\n# TYPE desk_http_responses_total counter\n";
 
 pub(crate) const ANSWER: &str = "desk_http_responses_total{route=\"";
 
@@ -122,7 +122,7 @@ pub(crate) const ANSWER_CODE: &str = "\",code=\"";
 pub(crate) const LABEL_END: &str = "\"} ";
 
 pub(crate) const SECONDS: &str =
-    "# HELP desk_exchange_seconds Seconds in which answers and replies were made.\n# TYPE desk_exchange_seconds histogram\n";
+    "# HELP desk_exchange_seconds Seconds that answers and replies took.\n# TYPE desk_exchange_seconds histogram\n";
 
 pub(crate) const SECONDS_TO: &str = "desk_exchange_seconds_bucket{le=\"";
 
@@ -131,7 +131,7 @@ pub(crate) const SECONDS_SUM: &str = "desk_exchange_seconds_sum ";
 pub(crate) const SECONDS_COUNT: &str = "desk_exchange_seconds_count ";
 
 pub(crate) const ROUTE_SECONDS: &str =
-    "# HELP desk_http_response_seconds Seconds in which answers over HTTP were made, by route.\n# TYPE desk_http_response_seconds summary\n";
+    "# HELP desk_http_response_seconds Seconds that answers over HTTP took, by route.\n# TYPE desk_http_response_seconds summary\n";
 
 pub(crate) const ROUTE_SUM: &str = "desk_http_response_seconds_sum{route=\"";
 

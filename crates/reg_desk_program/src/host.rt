@@ -57,11 +57,11 @@ const MOST_LOCK_TRIES: u32 = 2_000;
 
 const LOCK_PAUSE_MILLIS: u64 = 5;
 
-/// The machine on which the program runs: its files, clock, TCP ports and Unix sockets. It keeps the cause of its last failed call.
+/// The machine on which the program runs: its files, clock, TCP ports and Unix sockets. It keeps the last cause of a failed call.
 #[derive(Clone, Copy)]
 pub struct Host<'a> {
     pub(crate) rt: HostRuntime,
-    /// The cause of the last failed call, if it is known.
+    /// The last cause of a failed call, if one is known.
     pub(crate) last_cause: &'a Cell<Option<Cause>>,
     /// Whether exchanges are logged on standard error.
     pub(crate) has_log: bool,
@@ -115,8 +115,8 @@ impl<'a> Host<'a> {
     }
 }
 
-/// Most methods are one call of reg_desk_files or std with the arguments that they were given. No clause can state what that call did outside the
-/// program, so those relations of [`Machine`] state nothing here (`Unspecified`).
+/// Most methods make one library call with the arguments that they were given. No clause can state what that call did outside the program, so
+/// its relation of [`Machine`] states nothing here (`Unspecified`).
 impl<'a> Machine for Host<'a> {
     ghost use Rattle.std.specs.Prelude.{false};
     ghost use Rattle.std.proofs.Common.{inr, refl};
@@ -445,7 +445,7 @@ impl<'a> Machine for Host<'a> {
     }
 }
 
-/// Why an open register's files were not copied. Such files hold a database; if they don't, they are damaged.
+/// Why an open register's files were not copied. Files without a database are damaged, as they had one.
 fn copy_fault_by(why: UnreadFile) -> CopyFault
     requires { IsUnread why }
     ensures { IsOfStore result.fault }
@@ -488,7 +488,7 @@ fn folder_of(path: &str) -> Path<'_> {
     }
 }
 
-/// Locks a folder once no other program holds the lock. The kernel releases the lock of a program that ended, so ten seconds are enough.
+/// Locks a folder once no other program holds the lock. Error after ten seconds: `AddrInUse`. The kernel releases the lock of a program that ends.
 fn lock_once_free(rt: &HostRuntime, folder: &File) -> io::Result<()> {
     for _ in 0..MOST_LOCK_TRIES {
         match folder.try_lock() {

@@ -22,7 +22,7 @@ use reg_store::Store;
 use sqlite::{Alter, Connection, FileFrom, FileStore};
 use sqlite_disk::{Disk, Unknown};
 
-/// A file as a database, with its checks for damage.
+/// A connection to a database file, which is checked for damage.
 pub type FileConnection = Connection<FileStore<FileFrom<Unknown>>>;
 
 /// Creates a register in a database, and returns its office; if that fails, the failure and the connection.
@@ -46,8 +46,8 @@ pub(crate) fn create_over<C: Alter, S: Signer + Drop>(
     }
 }
 
-/// Opens the register of a database with this signer of CRLs and this responder, and returns its office; if that fails, the failure and the
-/// connection. Keeps the cause of `BadSigner`.
+/// Opens the register of a database with this signer of CRLs and this responder, and returns its office, or the failure and the
+/// connection. The host keeps the cause of `BadSigner`.
 pub(crate) fn office_over<C: Alter>(
     host: &Host<'_>,
     connection: Connection<C>,
@@ -77,12 +77,12 @@ pub(crate) fn connection_of<C: Alter, S: Signer + Drop>(office: Office<C, S>) ->
     store.into_connection()
 }
 
-/// Closes a connection. If its log can't be copied into the file, nothing is lost: the next opening reads the log.
+/// Closes a connection. If its WAL can't be copied into the file, nothing is lost: the next opening reads the WAL.
 pub(crate) fn close<D: Disk + Drop>(connection: Connection<FileStore<D>>) {
     drop(connection.close());
 }
 
-/// Presets the next signature of the signer of CRLs, or of the responder. No contract states what a socket returned, so any answer may be preset.
+/// Presets the next signature of the signer of CRLs, or of the responder. This contract does not limit what is preset.
 #[tactic(auto, using(crate::proofs::Priming::given_anyhow))]
 pub(crate) fn preset_wanted(
     signer: &mut FileSigner,

@@ -12,7 +12,7 @@ const LARGE: u64 = 67_108_864;
 
 const MEGABYTE: u64 = 1_000_000;
 
-/// Standard output, to which a long job writes a line for each line or row that is done. At most once a second it shows how many were.
+/// Standard output, to which a long job writes a line for each line or row that is done. Standard error has their number, at most once a second.
 #[derive(Drop)]
 pub(crate) struct CountedOutput<'a> {
     rt: &'a HostRuntime,
@@ -26,7 +26,7 @@ pub(crate) struct CountedOutput<'a> {
 }
 
 impl<'a> CountedOutput<'a> {
-    /// Lines are counted if standard error is a terminal and standard output is not. On a terminal, the operator sees the replies themselves.
+    /// Lines of a long job are counted if standard error is a terminal and standard output is not. On a terminal, the operator sees the replies themselves.
     pub(crate) fn of(
         rt: &'a HostRuntime,
         job: &Job<'_>,

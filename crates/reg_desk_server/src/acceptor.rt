@@ -16,7 +16,7 @@ use std::net::SocketAddr;
 
 const MOST_ACCEPTED: usize = 64;
 
-/// A listener, and a connection that it accepted and that waits for a slot, if there is one.
+/// A listener, and the accepted connection that waits for a slot, if one does.
 #[derive(Drop)]
 pub(crate) struct Acceptor {
     listener: TcpListener,
@@ -24,7 +24,7 @@ pub(crate) struct Acceptor {
     next: Option<(TcpStream, SocketAddr)>,
     /// Whether another connection may be waiting at the listener.
     may_have_more: bool,
-    /// Whether one is certainly waiting: the listener was ready, and none was accepted since.
+    /// Whether one is taken to wait: the listener was ready, with none accepted since.
     has_more: bool,
     /// Whether there was no descriptor for a waiting connection, and no HTTP connection whose descriptor could be freed for it.
     pub(crate) is_short: bool,
@@ -53,12 +53,12 @@ impl Acceptor {
         self.has_more = true;
     }
 
-    /// Whether a connection may be accepted, or has no slot yet, if at most `most` are accepted in all.
+    /// Whether a connection has no slot yet, or one may be accepted, up to `most` in all.
     pub(crate) fn is_ready(&self, most: u64) -> bool {
         self.next.is_some() || (self.may_have_more && self.accepted < most)
     }
 
-    /// Accepts connections while there are any, up to `most` in all. If a waiting connection can't be accepted, or there is no slot for it, evicts
+    /// Accepts waiting connections: at most [`MOST_ACCEPTED`] in a call, and `most` in all. If a waiting connection can't be accepted, or there is no slot for it, evicts
     /// an HTTP connection. If there is none, the next call tries again if descriptors ran out; any other error is an [`EventLoopFault`].
     pub(crate) fn accept_all<H: Handler>(
         &mut self,
@@ -89,7 +89,7 @@ impl Acceptor {
         }
     }
 
-    /// Accepts the next connection and gives it a slot. Returns whether there may be another one.
+    /// Accepts the next connection and gives it a slot. Returns whether it got one.
     fn accept<H: Handler>(
         &mut self,
         most: u64,
@@ -185,7 +185,7 @@ impl Acceptor {
         }
     }
 
-    /// Polls the listener anew, so that it is reported as ready if a connection waits. If it can't be polled, assumes that one may.
+    /// Registers the listener again, so that it is reported as ready if a connection waits. If that fails, assumes that one does.
     fn poll_again(&mut self, poller: &Poller)
         ensures { self.new.accepted ≡ self.old.accepted }
     {

@@ -1,4 +1,4 @@
-//! Reads one request, answers it, and writes the response.
+//! Serves one request. An open desk calls `begin` instead, since it waits for signatures.
 
 ghost use Rattle.std.specs.Prelude.{◌≡◌, ◌≢◌, ◌≤◌, ◌⊎◌, [], ℕ, List, IfErr, OnOk, vec_capacity};
 ghost use Rattle.std.specs.Io.KnownBytes.{Appends};
@@ -37,7 +37,7 @@ fn send<W: Write>(
     write_answer(writer, buffer, answer, now).map_err(|_| Fault::Write)
 }
 
-/// Writes the constant text for a lack of memory.
+/// Writes the constant response of a desk that is out of memory.
 fn send_memory_fault<W: Write>(writer: &mut W) -> Result<(), Fault>
     ensures ok { OnOk result (Appends (W.contents writer.old) (W.contents writer.new) memory_text) }
     ensures err { IfErr result (λ fault. (fault ≡ Fault.Write)
@@ -113,7 +113,7 @@ fn reply<W: Write, O: Office>(
 }
 
 /// Serves one request: reads it, answers it, and writes the response. Reads and writes may be in pieces of any size. If
-/// there is no memory for an answer, the office does not change, and the constant response of status 500 is written.
+/// there is no memory to answer a valid request, the office does not change, and the constant response of status 500 is written.
 ///
 /// # Errors
 ///

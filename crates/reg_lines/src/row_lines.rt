@@ -1,4 +1,4 @@
-//! The rows of an import as command lines.
+//! The rows of an import as lines of a script.
 
 ghost use Rattle.std.specs.Prelude.{◌≡◌, [], ◌∷◌, ◌++◌, ℕ, List, MatchResult, OnOk, option_map};
 ghost use Rattle.std.specs.Result.{result_map_both};
@@ -14,8 +14,8 @@ use std::alloc::{AllocError, Global};
 use std::io::Read;
 
 /// The line for each row of a text, in order: `register` and its four fields, without a moment. A first row
-/// `order,serial,notBefore,notAfter` is skipped. The line for a row that spells no registration is `register` alone, which is unreadable
-/// too, so that each row has one line.
+/// `order,serial,notBefore,notAfter` is skipped. A row that is no registration gives `register` alone, which is refused
+/// (`E22`), so that each row has one line.
 ///
 /// # Errors
 ///
@@ -42,7 +42,7 @@ fn lines_of_text(alloc: Global, text: &[u8]) -> Result<Vec<u8>, Fault>
     }
 }
 
-/// Appends the line of each row of a reader that has read none yet, one after the other in one record.
+/// Appends the line of each row of a reader that has read none yet, each in the same `ByteRecord`.
 fn put_each(
     rows: &mut Reader<&[u8]>,
     row: &mut ByteRecord,

@@ -251,7 +251,7 @@ fn request_line<C: Alter>(
     })
 }
 
-/// The deadline of a request. `Store` if it was received at or past the clock's end: a register has no such request.
+/// The deadline of a request. `Store` if it was received at `CLOCK_END` or later: a register has no such request.
 fn due_of(request: &RequestRow) -> Result<Moment, DatabaseFault>
     ensures due { IfOk result (λ due. due ≡ deadline request.now) }
 {
