@@ -102,7 +102,7 @@ Installed-Size: $(du -sk --exclude=DEBIAN "$root" | cut -f1)
 Depends: libc6 (>= $glibc)$libcrypto, passwd, openssl, curl, python3
 Suggests: nginx-light | nginx, opensc, libengine-pkcs11-openssl, python3-cryptography, socat
 Description: certificate register with CRLs and OCSP
- The register and status desk of one certification authority: it records the
+ The register and status service of one certification authority: it records the
  certificates that were issued, takes requests for their revocation with the
  deadlines of these, issues X.509 CRLs and answers OCSP requests.
  .

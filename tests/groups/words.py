@@ -14,7 +14,7 @@ SCHEDULE, FIRST_STEP = ("schedule", "none.db"), "1970-01-01T00:00:00Z=398"
 # A socket and an algorithm.
 BOTH = "give both --signer and --algorithm, or neither; an algorithm is ecdsa-sha256, ecdsa-sha384, rsa-sha256 or ed25519"
 ONE_OF_BOTH = (
-    "open needs --signer SOCKET with --algorithm NAME, or --unsigned for a placeholder digest instead of signatures, and not both; with --responder the first, or neither"
+    "open needs --signer SOCKET with --algorithm NAME, or --unsigned for a placeholder digest instead of signatures, and not both; with --responder, --signer may be left out, and --unsigned is refused"
 )
 TOGETHER = "give --responder, --responder-signer and --responder-algorithm together, and without --embed; an algorithm is"
 RESPONDER = ("--responder=r.der", "--responder-signer=r.sign", "--responder-algorithm=ed25519")
@@ -210,7 +210,7 @@ def a_responder_is_told_whole(t, words, named):
         t.has(refused(t, *command, *words), f"{named}: {TOGETHER}")
 
 
-LISTED = "a list is revoked, certificates, ending, open-requests, overdue, requests, subscribers, orders or crls; ending needs --before, and no other takes it; crls takes neither --subscriber nor --serial, orders no --from or --to, subscribers --subscriber alone"
+LISTED = "a list is revoked, certificates, ending, open-requests, overdue, requests, subscribers, orders or crls; ending needs --before, and no other takes it; crls takes neither --subscriber nor --serial, orders takes no --from or --to, and subscribers takes only --subscriber"
 
 
 @each({
@@ -231,8 +231,8 @@ def a_list_has_its_word(t, *words):
 
 @each({" ".join(it)[:40]: it for it in (
     ("--subscriber", "", "a subscriber's name is 1 to 64 bytes"), ("--subscriber", "a" * 65, "a subscriber's name is 1 to 64 bytes"),
-    ("--serial", "", "a serial number begins with 1 to 40 hexadecimal digits"), ("--serial", "0x1f", "a serial number begins with 1 to 40 hexadecimal digits"),
-    ("--serial", "0" * 41, "a serial number begins with 1 to 40 hexadecimal digits"), ("--from", "2026-01-01", "a moment is written as 2026-01-01T00:00:00Z"),
+    ("--serial", "", "a serial number's prefix is 1 to 40 hexadecimal digits"), ("--serial", "0x1f", "a serial number's prefix is 1 to 40 hexadecimal digits"),
+    ("--serial", "0" * 41, "a serial number's prefix is 1 to 40 hexadecimal digits"), ("--from", "2026-01-01", "a moment is written as 2026-01-01T00:00:00Z"),
     ("--to", "", "a moment is written as 2026-01-01T00:00:00Z"),
 )})
 def what_a_filter_tells_has_a_form(t, option, value, wanted):

@@ -31,7 +31,7 @@ P256_KEY = (
 # The form of an ECDSA signature, r = s = 1 (RFC 5480 appendix A): no client verifies it.
 ANY_SIGNATURE = bytes.fromhex("3006020101020101")
 # The warning about the first CRL of a register that has a placeholder digest.
-SEALED = b"warning: CRL 1 has a placeholder digest instead of a signature; to sign: --signer SOCKET --algorithm NAME\n"
+SEALED = b"warning: CRL 1 has a placeholder digest instead of a signature, which no client accepts; to sign the next one: --signer SOCKET --algorithm NAME\n"
 # Timeouts are multiplied by this, for a slow machine or a slow build.
 PATIENCE = float(os.environ.get("DESK_PATIENCE", "1"))
 # After so many seconds a program that a test runs has hung: far more than any takes on a slow machine.

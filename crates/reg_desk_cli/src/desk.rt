@@ -78,7 +78,7 @@ fn bare<'a>(alloc: Global) -> Command<'a>
 {
     Command::new(alloc, "desk")
         .version(VERSION)
-        .about("The register and status desk of one certification authority.")
+        .about("The register and status service of one certification authority.")
         .after_help(
             "A first day, over a register in memory:\n  desk script < examples/first-day.txt\n\n`desk COMMAND --help` explains one command.",
         )

@@ -16,7 +16,7 @@ use clap::{ArgMatches, Command, Error};
 use std::alloc::{AllocError, Global};
 use std::convert::AsStr;
 
-const TEXT_WANTED: &str = "a word is not UTF-8 text: the name of a FILE must be UTF-8";
+const TEXT_WANTED: &str = "an argument is not UTF-8 text: each path and name must be UTF-8";
 
 /// Reads the words of a command line, of which the first is the program's name. Options that are not given have the values of the
 /// default policy. `Help` and `Version` if clap answers with them; `Bad` if clap finds an error, a value has another form or

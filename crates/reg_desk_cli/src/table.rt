@@ -72,7 +72,7 @@ const LISTEN: &str =
 const REQUESTS: &str = "How many connections to answer before it ends, 1 to 1000000";
 
 const SIGNER: &str =
-    "The Unix socket of the signer with the issuer's key [default: none, and a placeholder digest stands instead of each signature]";
+    "The Unix socket of the signer with the issuer's key [default: none, and a placeholder digest stands instead of each signature with this key]";
 
 const OPEN_SIGNER: &str =
     "The Unix socket of the signer with the issuer's key; needs --algorithm; leave it out only with --unsigned, or with --responder, and then no CRL is signed";
@@ -81,7 +81,10 @@ const UNSIGNED: &str =
     "Instead of --signer: CRLs and answers get a placeholder digest instead of a signature, which no client accepts; not with --responder";
 
 const ALGORITHM: &str =
-    "The algorithm of its signatures: ecdsa-sha256, ecdsa-sha384, rsa-sha256 or ed25519";
+    "The algorithm of the signer at --signer: ecdsa-sha256, ecdsa-sha384, rsa-sha256 or ed25519";
+
+const RESPONDER_ALGORITHM: &str =
+    "The algorithm of the signer at --responder-signer: ecdsa-sha256, ecdsa-sha384, rsa-sha256 or ed25519";
 
 const RESPONDER: &str =
     "The file of the OCSP responder's certificate, in DER; its own key then signs the answers [default: none, and the signer of CRLs signs them]";
@@ -95,7 +98,7 @@ const CLOCK: &str =
     "Lines have no moment: each runs at the moment of the machine's clock; needs FILE [default: a line begins with its moment]";
 
 const ACCEPT_CLOCK: &str =
-    "With --clock: run even if the clock is more than 30 days past the last accepted moment [default: bad-clock]";
+    "With --clock: run even if the clock is more than 30 days past the last accepted moment [default: fail with bad-clock]";
 
 const STRICT: &str =
     "Stop at the first refusal or fault, and do not run a last line without its line end: exit status 3; needs FILE [default: run all lines]";
@@ -109,7 +112,8 @@ const CONTROL: &str =
 const PUBLISHED: &str =
     "A published CRL in DER: if its number is higher than that of the register's latest CRL, or it lists a serial number that isn't revoked, nothing is served, and a line names each";
 
-const AT_CONTROL: &str = "The control socket of an open desk";
+const AT_CONTROL: &str =
+    "The control socket of an open desk: the path that it was given by --control";
 
 const AT_IMPORT: &str =
     "Instead of standard input: register each certificate of this CSV file, order,serial,notBefore,notAfter";
@@ -153,13 +157,13 @@ const LOG: &str = "Log each exchange in a line on standard error";
 const LOG_FILE: &str =
     "Log each exchange in a line of this file, which is opened anew for each line; with --log or instead of it";
 
-const CAUSE: &str = "Print the cause of a fault in a second line, if it is known";
+const CAUSE: &str = "Print the cause of a failure in a second line, if it is known";
 
 const CAUSE_OR_REASON: &str =
-    "Print the cause of a fault, or with --strict of a refusal (E08, E09, E12), in a second line, if it is known";
+    "Print in a second line the cause of a failure, or with --strict why a registration was refused, if it is known";
 
 const CAUSE_ANYWHERE: &str =
-    "Print the cause of a fault in a second line, if it is known; also after a command";
+    "Print the cause of a failure in a second line, if it is known; also after a command";
 
 /// The options before a command.
 pub(crate) const BEFORE: &[Part] = &[Part::Flag("why", CAUSE_ANYWHERE)];
@@ -233,7 +237,7 @@ pub(crate) const FIRST_COMMANDS: &[CommandEntry] = &[
             Part::Takes("algorithm", "NAME", ALGORITHM),
             Part::Takes("responder", "CERT", RESPONDER),
             Part::Takes("responder-signer", "SOCKET", RESPONDER_SIGNER),
-            Part::Takes("responder-algorithm", "NAME", ALGORITHM),
+            Part::Takes("responder-algorithm", "NAME", RESPONDER_ALGORITHM),
             Part::Takes("embed", "CERT", EMBED),
             Part::Takes("published", "CRL", PUBLISHED),
             Part::Flag("log", LOG),
@@ -255,7 +259,7 @@ pub(crate) const FIRST_COMMANDS: &[CommandEntry] = &[
             Part::Flag("unsigned", UNSIGNED),
             Part::Takes("responder", "CERT", RESPONDER),
             Part::Takes("responder-signer", "SOCKET", RESPONDER_SIGNER),
-            Part::Takes("responder-algorithm", "NAME", ALGORITHM),
+            Part::Takes("responder-algorithm", "NAME", RESPONDER_ALGORITHM),
             Part::Takes("embed", "CERT", EMBED),
             Part::Takes("published", "CRL", PUBLISHED),
             Part::Flag("log", LOG),

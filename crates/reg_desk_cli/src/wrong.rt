@@ -1,4 +1,4 @@
-//! The messages for a value that has another form or is out of range.
+//! The messages for a malformed or out-of-range value, and for options that exclude or lack each other.
 
 use crate::option_values::{
     label_option, loopback, moment, number_within, prefix_option, read_step, responder,
@@ -59,20 +59,20 @@ const RESPONDER_WANTED: &str =
     "give --responder, --responder-signer and --responder-algorithm together, and without --embed; an algorithm is ecdsa-sha256, ecdsa-sha384, rsa-sha256 or ed25519";
 
 const LIST_WANTED: &str =
-    "a list is revoked, certificates, ending, open-requests, overdue, requests, subscribers, orders or crls; ending needs --before, and no other takes it; crls takes neither --subscriber nor --serial, orders no --from or --to, subscribers --subscriber alone";
+    "a list is revoked, certificates, ending, open-requests, overdue, requests, subscribers, orders or crls; ending needs --before, and no other takes it; crls takes neither --subscriber nor --serial, orders takes no --from or --to, and subscribers takes only --subscriber";
 
 const SUBSCRIBER_WANTED: &str = "a subscriber's name is 1 to 64 bytes";
 
-const SERIAL_WANTED: &str = "a serial number begins with 1 to 40 hexadecimal digits";
+const SERIAL_WANTED: &str = "a serial number's prefix is 1 to 40 hexadecimal digits";
 
 const FILE_WANTED: &str = "--clock and --strict need a FILE";
 
-const ROWS_WANTED: &str = "at takes --import or --revoke, and not both; --orders needs --import";
+const AT_WANTED: &str = "at takes --import or --revoke, and not both; --orders needs --import";
 
-const CHOICE_WANTED: &str =
-    "open needs --signer SOCKET with --algorithm NAME, or --unsigned for a placeholder digest instead of signatures, and not both; with --responder the first, or neither";
+const OPEN_WANTED: &str =
+    "open needs --signer SOCKET with --algorithm NAME, or --unsigned for a placeholder digest instead of signatures, and not both; with --responder, --signer may be left out, and --unsigned is refused";
 
-/// A value that has another form or is out of range, its option, and the form that is wanted.
+/// A wrong value, its option, and what is wanted.
 #[derive(Clone, Copy)]
 struct Wrong<'a> {
     option: &'static str,
@@ -90,7 +90,7 @@ impl<'a> Wrong<'a> {
     }
 }
 
-/// The message for the first value of another form or out of range, or else for options that exclude or lack each other; `None` if out of memory.
+/// The message for a wrong value, or else for options that exclude or lack each other; `None` if out of memory.
 pub(crate) fn wrong_text(alloc: Global, matches: &ArgMatches<'_>) -> Option<String> {
     let Some(wrong) = first_wrong(matches) else {
         return String::from_str(alloc, combination_wanted(matches)).ok();
@@ -101,15 +101,15 @@ pub(crate) fn wrong_text(alloc: Global, matches: &ArgMatches<'_>) -> Option<Stri
 
 fn combination_wanted(matches: &ArgMatches<'_>) -> &'static str {
     match matches.subcommand() {
-        Some((name, _)) if name == "open" => CHOICE_WANTED,
+        Some((name, _)) if name == "open" => OPEN_WANTED,
         Some((name, _)) if name == "import" => IMPORT_WANTED,
         Some((name, _)) if name == "list" => LIST_WANTED,
-        Some((name, _)) if name == "at" => ROWS_WANTED,
+        Some((name, _)) if name == "at" => AT_WANTED,
         _ => FILE_WANTED,
     }
 }
 
-/// The first value of the given command that has another form or is out of range.
+/// A wrong value of the given command: a number before a moment, and so on, in the order of these checks.
 fn first_wrong<'a>(matches: &ArgMatches<'a>) -> Option<Wrong<'a>> {
     let (_, given) = matches.subcommand()?;
     if let Some(wrong) = wrong_number(given) {
@@ -124,7 +124,7 @@ fn first_wrong<'a>(matches: &ArgMatches<'a>) -> Option<Wrong<'a>> {
     if let Some(wrong) = wrong_step(given) {
         return Some(wrong);
     }
-    if let Some(wrong) = wrong_order(given) {
+    if let Some(wrong) = wrong_terms(given) {
         return Some(wrong);
     }
     if let Some(wrong) = wrong_filter(given) {
@@ -176,7 +176,7 @@ fn wrong_step<'a>(given: &ArgMatches<'a>) -> Option<Wrong<'a>> {
 }
 
 /// The value of `--orders` that is no number.
-fn wrong_order<'a>(given: &ArgMatches<'a>) -> Option<Wrong<'a>> {
+fn wrong_terms<'a>(given: &ArgMatches<'a>) -> Option<Wrong<'a>> {
     for value in given.get_strs("orders")? {
         if read_number(value.as_bytes()).is_none() {
             return Some(Wrong::of("--orders", value, NUMBER_WANTED));
@@ -210,7 +210,7 @@ fn wrong_signer<'a>(given: &ArgMatches<'a>) -> Option<Wrong<'a>> {
     Some(Wrong::of(option, value, SIGNER_WANTED))
 }
 
-/// An option of a responder, if one is missing, `--embed` is given too, or no algorithm has the name.
+/// An option of a responder, if one is missing, `--embed` is given too, or an algorithm is unknown.
 fn wrong_responder<'a>(given: &ArgMatches<'a>) -> Option<Wrong<'a>> {
     if responder(given).is_some() {
         return None;

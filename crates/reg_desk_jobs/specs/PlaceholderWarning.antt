@@ -13,4 +13,4 @@ IsFirstCrl answered =
 -- the warning that CRL 1 has no signature, with its LF
 unfoldable pub placeholder_warning : List ℕ
 placeholder_warning =
-    codes "warning: CRL 1 has a placeholder digest instead of a signature; to sign: --signer SOCKET --algorithm NAME\n"
+    codes "warning: CRL 1 has a placeholder digest instead of a signature, which no client accepts; to sign the next one: --signer SOCKET --algorithm NAME\n"

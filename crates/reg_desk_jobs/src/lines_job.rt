@@ -172,6 +172,6 @@ fn warn<M: Machine>(machine: &M)
     ensures { M.warned placeholder_warning }
 {
     machine.warn(
-        b"warning: CRL 1 has a placeholder digest instead of a signature; to sign: --signer SOCKET --algorithm NAME\n",
+        b"warning: CRL 1 has a placeholder digest instead of a signature, which no client accepts; to sign the next one: --signer SOCKET --algorithm NAME\n",
     );
 }
