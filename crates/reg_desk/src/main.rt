@@ -7,10 +7,7 @@ use std::env;
 use std::io::ErrorKind;
 use std::process::ExitCode;
 
-/// Reads the command line, does its job, and returns the exit status: 0 if the job is done, or for help or the version; 1 after a fault, with its
-/// line on standard error, and the line of its cause if that is asked for and known; 2 if the command line can't be read, with the usage on
-/// standard error; 3 if a reply at a control socket, or in a strict script or import, was a refusal or a fault, if a replay stopped, or if the last
-/// line there has no line end.
+/// Does the job of the command line. Returns the exit status of [`run_desk`]; 0 for help or the version, 2 for a wrong command line, 1 without memory.
 fn main(rt: HostRuntime) -> ExitCode {
     let status = match words_of(&rt) {
         Ok(words) => match read_words(rt.alloc(), words.as_slice()) {

@@ -28,7 +28,7 @@ abbrev pub with_made : App → List Command → App
 with_made app [] = app
 with_made app (command ∷ rest) = with_made (with_subcommand app (app_of command).top) rest
 
--- no command has an option that its subcommands have too
+-- no command has a global option, which its subcommands would have too
 abbrev pub AreLocal : List Command → Type 0
 AreLocal [] = Unit {0}
 AreLocal (command ∷ rest) = ((fields_of command).has_globals ≡ false) × AreLocal rest

@@ -33,6 +33,7 @@ const DEFAULT_OCSP_LIFE: u64 = 345_600;
 /// The most rows of a table in the default policy.
 const DEFAULT_CAP: u64 = 1_000_000;
 
+/// The job of a command; `None` if a value is wrong, or if options exclude or lack each other.
 #[tactic(auto, unfolding(crate::specs::Jobs::job_in))]
 pub(crate) fn read_command<'a>(
     alloc: Global,
@@ -221,14 +222,14 @@ fn read_open<'a>(given: &ArgMatches<'a>) -> Option<Job<'a>>
     let file = word_of(given, "file")?;
     let endpoint = endpoint_of(given)?;
     let control = word_of(given, "control")?;
-    let answering = responder(given)?;
-    let signer = chosen_signer(given, &answering)?;
+    let ocsp_responder = responder(given)?;
+    let signer = chosen_signer(given, &ocsp_responder)?;
     Some(Job::Open(OpenJob {
         file,
         endpoint,
         control,
         signer,
-        responder: answering,
+        responder: ocsp_responder,
         published: word_of(given, "published"),
     }))
 }

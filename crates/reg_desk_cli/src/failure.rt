@@ -1,3 +1,5 @@
+//! Why a job failed: its line on standard error, and its exit status.
+
 ghost use Rattle.std.specs.Prelude.{◌≡◌, ◌≤◌, length};
 ghost use Rattle.reg_desk_cli.specs.ExitStatus.{failure_line, exit_status};
 
@@ -12,17 +14,19 @@ pub enum Failure {
     /// The file of a new register has tables already.
     NotEmpty,
     NotARegister,
+    /// A newer version of the program wrote the register.
     NewVersion,
     /// The register to be audited has an older version.
     OldVersion,
     /// The Name, the key or the key identifier is invalid.
     BadIssuer,
+    /// Days, a life, the cap or the steps of a schedule are out of range.
     BadPolicy,
     /// The clock is more than 30 days past the last accepted moment.
     BadClock,
     /// The latest CRL has another algorithm, the issuer's key does not fit the algorithm, or the register is in memory and a signer is given.
     BadSigner,
-    /// A certificate for OCSP responses can't be read, or has another key than that for which it is given.
+    /// A certificate for OCSP responses can't be read, or its key is not the issuer's (`--embed`) or not of the given algorithm (`--responder`).
     BadResponder,
     /// A reply at a control socket, in a strict script or import was a refusal or a fault, or a replay stopped at a line of the log.
     Refused,

@@ -98,11 +98,12 @@ pub struct Endpoint {
     pub port: u16,
 }
 
-/// A register that is served for a number of requests.
+/// A register that is served for a number of HTTP connections.
 #[derive(Drop)]
 pub struct ServeJob<'a> {
     pub file: Word<'a>,
     pub endpoint: Endpoint,
+    /// How many HTTP connections are answered, 1 to 1,000,000.
     pub requests: u32,
     pub signer: Option<SignerAddress<'a>>,
     pub responder: ResponderChoice<'a>,
@@ -127,6 +128,7 @@ pub struct OpenJob<'a> {
 #[derive(Drop)]
 pub struct ListJob<'a> {
     pub file: Word<'a>,
+    /// The list, as the cursor before its first row.
     pub from: Cursor,
     /// The moment for which the list is written; `None` for that of the machine's clock.
     pub moment: Option<Moment>,
@@ -168,7 +170,7 @@ pub enum Job<'a> {
         file: Word<'a>,
         number: Option<u64>,
     },
-    /// Answers a number of requests over HTTP at a port. Without a signer, a placeholder digest replaces each signature.
+    /// Answers a number of HTTP connections at a port. Without a signer and a responder, a placeholder digest replaces each signature.
     Serve(ServeJob<'a>),
     /// Keeps a register open until the program ends: answers requests over HTTP at a port, and lines at a control socket. The signer signs; only
     /// with `--unsigned` a placeholder digest replaces each signature. With a responder and no signer, no CRL is signed.

@@ -34,12 +34,12 @@ fn texts_of<'m, 'a>(matches: &'m ArgMatches<'a>, id: &str) -> Option<&'m [&'a st
 }
 
 /// The number of an option, or the default if the option is not given; `None` if its value is no number.
-pub(crate) fn number_or(matches: &ArgMatches<'_>, id: &str, usual: u64) -> Option<u64>
-    ensures { result ≡ value_or_default usual id.now (rows_of (found_of matches.now)) }
+pub(crate) fn number_or(matches: &ArgMatches<'_>, id: &str, otherwise: u64) -> Option<u64>
+    ensures { result ≡ value_or_default otherwise id.now (rows_of (found_of matches.now)) }
 {
     match text_of(matches, id) {
         Some(text) => read_number(text.as_bytes()),
-        None => Some(usual),
+        None => Some(otherwise),
     }
 }
 
@@ -161,26 +161,26 @@ pub(crate) fn signer_option<'a>(matches: &ArgMatches<'a>) -> Option<Option<Signe
 pub(crate) fn responder<'a>(matches: &ArgMatches<'a>) -> Option<ResponderChoice<'a>>
     ensures { result ≡ responder_in (rows_of (found_of matches.now)) }
 {
-    let holder = signer_by(matches, "responder-signer", "responder-algorithm")?;
+    let signer = signer_by(matches, "responder-signer", "responder-algorithm")?;
     let embedded = word_of(matches, "embed");
-    responder_of(word_of(matches, "responder"), holder, embedded)
+    responder_of(word_of(matches, "responder"), signer, embedded)
 }
 
 fn responder_of<'a>(
     responder: Option<Word<'a>>,
-    holder: Option<SignerAddress<'a>>,
+    signer: Option<SignerAddress<'a>>,
     embedded: Option<Word<'a>>,
 ) -> Option<ResponderChoice<'a>>
-    ensures { result ≡ responder_by responder.entry holder.entry embedded.entry }
+    ensures { result ≡ responder_by responder.entry signer.entry embedded.entry }
 {
-    match (responder, holder) {
-        (Some(certificate), Some(holder)) => {
+    match (responder, signer) {
+        (Some(certificate), Some(signer)) => {
             if embedded.is_some() {
                 return None;
             }
             Some(ResponderChoice::Delegate {
                 certificate,
-                holder,
+                holder: signer,
             })
         }
         (None, None) => Some(ResponderChoice::Issuer {
@@ -229,17 +229,17 @@ fn is_delegate(responder: &ResponderChoice<'_>) -> bool
 }
 
 fn choose<'a>(
-    holder: Option<SignerAddress<'a>>,
+    signer: Option<SignerAddress<'a>>,
     is_unsigned: bool,
     is_delegated: bool,
 ) -> Option<Option<SignerAddress<'a>>>
-    ensures { result ≡ chosen holder.entry is_unsigned is_delegated }
+    ensures { result ≡ chosen signer.entry is_unsigned is_delegated }
 {
-    let has_other = holder.is_some() || is_delegated;
+    let has_other = signer.is_some() || is_delegated;
     if has_other == is_unsigned {
         None
     } else {
-        Some(holder)
+        Some(signer)
     }
 }
 
@@ -286,7 +286,7 @@ fn read_order_terms(texts: &[&str]) -> Option<OrderTerms>
     })
 }
 
-/// The steps of a schedule; `None` if there are none, or if one has another form than MOMENT=DAYS.
+/// The steps of a schedule; `None` if there are none, or if one is not MOMENT=DAYS.
 pub(crate) fn steps(
     alloc: Global,
     matches: &ArgMatches<'_>,
@@ -314,7 +314,7 @@ fn read_steps(alloc: Global, texts: &[&str]) -> Result<Option<Steps>, AllocError
     Ok(Some(Steps::of(steps)))
 }
 
-/// Reads `MOMENT=DAYS`, a step of a schedule; `None` if the text has another form.
+/// Reads `MOMENT=DAYS`, a step of a schedule; `None` for any other text.
 pub fn read_step(text: &[u8]) -> Option<(Moment, u64)>
     ensures { result ≡ step_of text.now }
 {

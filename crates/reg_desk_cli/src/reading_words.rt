@@ -18,9 +18,9 @@ use std::convert::AsStr;
 
 const TEXT_WANTED: &str = "an argument is not UTF-8 text: each path and name must be UTF-8";
 
-/// Reads the words of a command line, of which the first is the program's name. Options that are not given have the values of the
-/// default policy. `Help` and `Version` if clap answers with them; `Bad` if clap finds an error, a value has another form or
-/// is out of range, or an option excludes or lacks another one, such as `open` with `--unsigned` and a signer.
+/// Reads the words of a command line, of which the first is the program's name. Options of `init` that are not given have the values of
+/// the default policy. `Help` and `Version` if clap answers with them; `Bad` if clap finds an error, a value is malformed or
+/// out of range, or an option excludes or lacks another one, such as `open` with `--unsigned` and a signer.
 pub fn read_words<'a, S: AsStr>(alloc: Global, words: &'a [S]) -> Result<Invocation<'a>, Usage>
     ensures invocation { IfOk result (IsInvocationOf (map S.text words.entry.now)) }
     ensures usage { IfErr result (IsUsageOf (map S.text words.entry.now)) }
@@ -86,7 +86,7 @@ fn word_after_command<'a>(matches: &ArgMatches<'a>, id: &str) -> Option<Word<'a>
     }
 }
 
-/// The job of the given command; `None` if one of its values has another form or is out of range, or if its options exclude or lack each other.
+/// The job of the given command; `None` if one of its values is malformed or out of range, or if its options exclude or lack each other.
 fn read_job<'a>(alloc: Global, matches: &ArgMatches<'a>) -> Result<Option<Job<'a>>, AllocError>
     ensures { IfOk result (λ job. job ≡ job_found (subcommand_rows_of matches.now)) }
 {

@@ -1,7 +1,7 @@
 //! The command line as a table: its commands, their arguments and options, and the help for each.
 
 /// A positional argument (`Must`, `May`, `Rest`) or an option of a command: its id (for an option also its long name), the
-/// name of its value, and its help. `Must` and `Needs` are required, `May` and `Takes` are not.
+/// name of its value, and its help. The argument `Must` and the option `Needs` are required; `May` and `Takes` are not.
 #[derive(Clone, Copy)]
 pub(crate) enum Part {
     Must(&'static str, &'static str, &'static str),

@@ -19,7 +19,7 @@ abbrev pub IsUnread : UnreadFile → Type 0
 IsUnread unread.Nothing = Unit {0}
 IsUnread (unread.Fault why) = IsFileFault why
 
--- what was found in files, and the image that they held, if the disk returned all that was written
+-- `Tells` holds of the result and of the image that the files held, if the disk returned all that was written
 abbrev pub TellsOfImage
     : {D T E : Type 0} → Disk D → Files D → Files D → Result T E → (T → Image → Type 0) → Type 0
 TellsOfImage disk old new result Tells =

@@ -8,8 +8,8 @@ ghost use Rattle.sqlite.specs.State.{HasCleanDisk};
 ghost use Rattle.sqlite_wal.specs.Files.{image_at};
 ghost use Rattle.reg_desk_files.specs.Reading.{IsFileFault};
 
-use crate::file_fault::{FileFault, with_cause};
-use crate::file_locks::{lock_exclusively, log_of};
+use crate::file_fault::{FileFault, fault_with_cause};
+use crate::file_locks::{lock_exclusively, log_path};
 use reg_core::{Cause, Fault, io_cause_of};
 use sqlite::{Connection, FileFrom, FileStore, Options};
 use sqlite_disk::Start;
@@ -29,9 +29,9 @@ const MOST_PAGES: usize = 131_072;
 
 const OWNER_ONLY: u32 = 0o600;
 
-/// Opens the file at a path as a database, with SQLite's checks for damage, or creates it. `start` says what the file and its log hold. The page
-/// cache has room for twice the pages of the file, so that a look-up in a large register seldom waits for the operating system, and a page that changes
-/// often is written to the log once. Errors: `Memory`; `Store` if the file can't be opened or is no database, with its cause.
+/// Opens the file at a path as a database, with SQLite's checks for damage, or creates it. `start` is what contracts suppose of the file and its log. The page
+/// cache has room for twice the pages of the file (2,000 to 131,072), so that a look-up in a large register seldom waits for the operating system, and a
+/// page that changes often is written to the log once. Errors: `Memory`; `Store` if the file can't be opened or is no database, with its cause.
 pub fn open_file<S: Start>(
     rt: &HostRuntime,
     path: &str,
@@ -46,7 +46,7 @@ pub fn open_file<S: Start>(
 {
     // A path that SQLite does not read as the name of a file is refused.
     if path == ":memory:" || path.starts_with("file:") {
-        return Err(with_cause(Fault::Store, None));
+        return Err(fault_with_cause(Fault::Store, None));
     }
     let options = options_for(rt, path)?;
     let files = sqlite_std_file::open(rt, path, start)?;
@@ -62,7 +62,7 @@ pub(crate) fn options_for(rt: &HostRuntime, path: &str) -> Result<Options, FileF
     ensures faults { IfErr result (λ why. why.fault ≡ Fault.Store) }
 {
     let Ok(state) = RandomState::new(rt) else {
-        return Err(with_cause(Fault::Store, None));
+        return Err(fault_with_cause(Fault::Store, None));
     };
     let pages = pages_for(rt, path);
     Ok(Options {
@@ -93,9 +93,9 @@ pub enum ClaimFault {
 }
 
 /// Creates an empty file at a path with mode 0600. It fails if there is a file, so that of two programs at once only one succeeds. A dangling symbolic
-/// link counts as a file, also in the log's place, and so does a log without a register: it may be all that is left of one.
+/// link counts as a file, at the log's path too. A log without a register counts as one: it may be all that is left of a register.
 pub fn claim_file(rt: &HostRuntime, path: &str) -> Result<(), ClaimFault> {
-    let Ok(log) = log_of(rt, path) else {
+    let Ok(log) = log_path(rt, path) else {
         return Err(ClaimFault::Memory);
     };
     match fs::symlink_metadata(rt, log.as_str()) {
@@ -124,14 +124,14 @@ fn claim_fault_of(kind: ErrorKind) -> ClaimFault
     }
 }
 
-/// Removes a database's file and its log, if no other program has the file open: it locks the file meanwhile. It writes nothing before, so that a
-/// failing disk does not prevent the removal.
+/// Removes a database's file and its log, if no other program has the file open: it locks the file meanwhile. It writes nothing to the file first, so
+/// that a failing disk does not prevent the removal.
 pub fn remove_file(rt: &HostRuntime, path: &str) {
     let Some(held) = lock_exclusively(rt, path) else {
         return;
     };
     drop(fs::remove_file(rt, path));
-    if let Ok(log) = log_of(rt, path) {
+    if let Ok(log) = log_path(rt, path) {
         drop(fs::remove_file(rt, log.as_str()));
     }
     drop(held);

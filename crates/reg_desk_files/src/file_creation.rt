@@ -3,7 +3,7 @@
 ghost use Rattle.std.specs.Prelude.{IfErr};
 ghost use Rattle.reg_desk_files.specs.Reading.{IsFileFault};
 
-use crate::file_fault::{FileFault, create_fault_of, with_cause};
+use crate::file_fault::{FileFault, create_fault_of, fault_with_cause};
 use crate::file_locks::with_suffix;
 use crate::page_copy::put_pages;
 use reg_core::{Cause, Fault};
@@ -19,8 +19,8 @@ const OWNER_ONLY: u32 = 0o600;
 /// The suffix of a copy's name while it is written.
 const PARTIAL_SUFFIX: &str = ".part";
 
-/// Writes all pages to a new file at a path that has no file, nor a file that would be taken for its log. The file is written under another
-/// name and synced. Only then it gets its name, in one step that replaces nothing. If that fails, the file is removed.
+/// Writes all pages to a new file at a path that has no file, and none beside it that SQLite would take for its log or journal. The file is written
+/// under another name and synced. Only then it gets its name, in one step that replaces nothing. If that fails, the file is removed.
 pub(crate) fn write_copy<D: Disk>(
     rt: &HostRuntime,
     pager: &mut Pager<D>,
@@ -28,23 +28,23 @@ pub(crate) fn write_copy<D: Disk>(
 ) -> Result<u64, FileFault>
     ensures { IfErr result IsFileFault }
 {
-    look_all_free(rt, to)?;
-    let part = with_suffix(rt, to, PARTIAL_SUFFIX)?;
-    let mut file = new_file(rt, part.as_str())?;
-    match fill_and_name(rt, pager, &mut file, part.as_str(), to) {
+    check_all_free(rt, to)?;
+    let part_path = with_suffix(rt, to, PARTIAL_SUFFIX)?;
+    let mut file = new_file(rt, part_path.as_str())?;
+    match fill_and_name(rt, pager, &mut file, part_path.as_str(), to) {
         Ok(bytes) => Ok(bytes),
         Err(why) => {
-            drop(fs::remove_file(rt, part.as_str()));
+            drop(fs::remove_file(rt, part_path.as_str()));
             Err(why)
         }
     }
 }
 
-fn look_all_free(rt: &HostRuntime, to: &str) -> Result<(), FileFault>
+fn check_all_free(rt: &HostRuntime, to: &str) -> Result<(), FileFault>
     ensures { IfErr result IsFileFault }
 {
     if to.is_empty() {
-        return Err(with_cause(Fault::Store, Some(Cause::NoFile)));
+        return Err(fault_with_cause(Fault::Store, Some(Cause::NoFile)));
     }
     check_free(rt, to, "")?;
     check_free(rt, to, "-wal")?;
@@ -52,12 +52,12 @@ fn look_all_free(rt: &HostRuntime, to: &str) -> Result<(), FileFault>
 }
 
 /// Checks that a path with this suffix has no file and no symbolic link, not even a dangling one.
-fn check_free(rt: &HostRuntime, to: &str, end: &str) -> Result<(), FileFault>
+fn check_free(rt: &HostRuntime, to: &str, suffix: &str) -> Result<(), FileFault>
     ensures { IfErr result IsFileFault }
 {
-    let path = with_suffix(rt, to, end)?;
+    let path = with_suffix(rt, to, suffix)?;
     match fs::symlink_metadata(rt, path.as_str()) {
-        Ok(_) => Err(with_cause(Fault::Store, Some(Cause::Taken))),
+        Ok(_) => Err(fault_with_cause(Fault::Store, Some(Cause::Taken))),
         Err(error) if error.kind() == ErrorKind::NotFound => Ok(()),
         Err(error) => Err(create_fault_of(error.kind())),
     }
@@ -78,23 +78,23 @@ fn fill_and_name<D: Disk>(
     rt: &HostRuntime,
     pager: &mut Pager<D>,
     file: &mut File,
-    part: &str,
+    part_path: &str,
     to: &str,
 ) -> Result<u64, FileFault>
     ensures { IfErr result IsFileFault }
 {
     let bytes = put_pages(pager, file)?;
-    created_or_fault(file.sync_all())?;
-    name(rt, part, to)?;
+    create_result(file.sync_all())?;
+    name(rt, part_path, to)?;
     Ok(bytes)
 }
 
 /// Gives a complete file its name, if the name is free, and removes its former one. If that fails, it removes the new name again.
-fn name(rt: &HostRuntime, part: &str, to: &str) -> Result<(), FileFault>
+fn name(rt: &HostRuntime, part_path: &str, to: &str) -> Result<(), FileFault>
     ensures { IfErr result IsFileFault }
 {
-    created_or_fault(fs::hard_link(rt, part, to))?;
-    match settle(rt, part) {
+    create_result(fs::hard_link(rt, part_path, to))?;
+    match remove_former_name(rt, part_path) {
         Ok(()) => Ok(()),
         Err(error) => {
             drop(fs::remove_file(rt, to));
@@ -104,15 +104,15 @@ fn name(rt: &HostRuntime, part: &str, to: &str) -> Result<(), FileFault>
 }
 
 /// Removes a file's former name, and syncs its folder.
-fn settle(rt: &HostRuntime, part: &str) -> io::Result<()> {
-    let mut folder = fs::canonicalize(rt, part)?;
+fn remove_former_name(rt: &HostRuntime, part_path: &str) -> io::Result<()> {
+    let mut folder = fs::canonicalize(rt, part_path)?;
     folder.pop();
-    fs::remove_file(rt, part)?;
+    fs::remove_file(rt, part_path)?;
     let folder = File::open(rt, folder.as_str())?;
     folder.sync_all()
 }
 
-fn created_or_fault(outcome: io::Result<()>) -> Result<(), FileFault>
+fn create_result(outcome: io::Result<()>) -> Result<(), FileFault>
     ensures { IfErr result IsFileFault }
 {
     match outcome {

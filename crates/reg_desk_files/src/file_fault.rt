@@ -13,13 +13,13 @@ use std::io::ErrorKind;
 /// Why a file can't be opened or created: the fault, and its cause if it is known.
 #[derive(Clone, Copy, PartialEq, Eq)]
 pub struct FileFault {
-    /// The fault.
+    /// `Memory` or `Store`.
     pub fault: Fault,
-    /// The cause of the call that failed.
+    /// Why the call failed, if that is known.
     pub cause: Option<Cause>,
 }
 
-pub(crate) fn with_cause(fault: Fault, cause: Option<Cause>) -> FileFault
+pub(crate) fn fault_with_cause(fault: Fault, cause: Option<Cause>) -> FileFault
     ensures fault { result.fault ≡ fault }
     ensures cause { result.cause ≡ cause }
 {
@@ -35,7 +35,7 @@ impl From<OpenError> for FileFault {
             OpenError::Io(error) if error.kind() == ErrorKind::OutOfMemory => Fault::Memory,
             _ => Fault::Store,
         };
-        with_cause(fault, of_opening(&error))
+        fault_with_cause(fault, of_opening(&error))
     }
 }
 
@@ -47,7 +47,7 @@ impl From<Error> for FileFault {
             Error::SqliteFailure(ErrorCode::OutOfMemory) => Fault::Memory,
             _ => Fault::Store,
         };
-        with_cause(fault, of_database(&error))
+        fault_with_cause(fault, of_database(&error))
     }
 }
 
@@ -56,9 +56,9 @@ impl From<sqlite_wal::Error> for FileFault {
 
     fn from(error: sqlite_wal::Error) -> FileFault {
         match error {
-            sqlite_wal::Error::OutOfMemory => with_cause(Fault::Memory, None),
+            sqlite_wal::Error::OutOfMemory => fault_with_cause(Fault::Memory, None),
             sqlite_wal::Error::Io(error) => FileFault::from(error),
-            _ => damaged(),
+            _ => damaged_fault(),
         }
     }
 }
@@ -68,8 +68,8 @@ impl From<io::Error> for FileFault {
 
     fn from(error: io::Error) -> FileFault {
         match error.kind() {
-            ErrorKind::OutOfMemory => with_cause(Fault::Memory, None),
-            other => with_cause(Fault::Store, io_cause_of(other)),
+            ErrorKind::OutOfMemory => fault_with_cause(Fault::Memory, None),
+            other => fault_with_cause(Fault::Store, io_cause_of(other)),
         }
     }
 }
@@ -78,7 +78,7 @@ impl From<AllocError> for FileFault {
     ghost from_gives = { λ error fault. IsFileFault fault };
 
     fn from(_: AllocError) -> FileFault {
-        with_cause(Fault::Memory, None)
+        fault_with_cause(Fault::Memory, None)
     }
 }
 
@@ -87,21 +87,21 @@ pub(crate) fn create_fault_of(kind: ErrorKind) -> FileFault
     ensures { IsFileFault result }
 {
     match kind {
-        ErrorKind::OutOfMemory => with_cause(Fault::Memory, None),
-        other => with_cause(Fault::Store, create_cause_of(other)),
+        ErrorKind::OutOfMemory => fault_with_cause(Fault::Memory, None),
+        other => fault_with_cause(Fault::Store, create_cause_of(other)),
     }
 }
 
-pub(crate) fn damaged() -> FileFault
+pub(crate) fn damaged_fault() -> FileFault
     ensures { result.fault ≡ Fault.Store }
 {
-    with_cause(Fault::Store, Some(Cause::Damaged))
+    fault_with_cause(Fault::Store, Some(Cause::Damaged))
 }
 
-pub(crate) fn in_use() -> FileFault
+pub(crate) fn in_use_fault() -> FileFault
     ensures { result.fault ≡ Fault.Store }
 {
-    with_cause(Fault::Store, Some(Cause::InUse))
+    fault_with_cause(Fault::Store, Some(Cause::InUse))
 }
 
 fn of_opening(error: &OpenError) -> Option<Cause>

@@ -3,7 +3,7 @@
 ghost use Rattle.std.specs.Prelude.{◌≡◌, ◌++◌, codes, string_bytes, IfErr, IfOk};
 ghost use Rattle.reg_desk_files.specs.Reading.{IsFileFault};
 
-use crate::file_fault::{FileFault, in_use, with_cause};
+use crate::file_fault::{FileFault, fault_with_cause, in_use_fault};
 use os::RangeLock;
 use reg_core::{Cause, Fault};
 use std::alloc::AllocError;
@@ -26,7 +26,7 @@ pub(crate) fn lock(file: &fs::File, kind: RangeLock) -> Result<(), FileFault>
     }
     let error = io::Error::from_raw_os_error(os::errno());
     match error.kind() {
-        ErrorKind::WouldBlock => Err(in_use()),
+        ErrorKind::WouldBlock => Err(in_use_fault()),
         _ => Err(FileFault::from(error)),
     }
 }
@@ -37,8 +37,8 @@ pub(crate) fn check_locked(file: &fs::File) -> Result<(), FileFault>
     ensures { IfErr result IsFileFault }
 {
     match lock(file, RangeLock::Shared) {
-        Ok(()) => Err(with_cause(Fault::Store, Some(Cause::NoFile))),
-        Err(why) if why == in_use() => Ok(()),
+        Ok(()) => Err(fault_with_cause(Fault::Store, Some(Cause::NoFile))),
+        Err(why) if why == in_use_fault() => Ok(()),
         Err(why) => Err(why),
     }
 }
@@ -47,29 +47,29 @@ pub(crate) fn lock_exclusively(rt: &HostRuntime, path: &str) -> Option<fs::File>
     let mut options = OpenOptions::new();
     options.read(true).write(true);
     match options.open(rt, path) {
-        Ok(file) => alone(file),
+        Ok(file) => locked(file),
         Err(_) => None,
     }
 }
 
-fn alone(file: fs::File) -> Option<fs::File> {
+fn locked(file: fs::File) -> Option<fs::File> {
     match lock(&file, RangeLock::Exclusive) {
         Ok(()) => Some(file),
         Err(_) => None,
     }
 }
 
-pub(crate) fn log_of(rt: &HostRuntime, path: &str) -> Result<String, AllocError>
+pub(crate) fn log_path(rt: &HostRuntime, path: &str) -> Result<String, AllocError>
     ensures { IfOk result (λ log. string_bytes log ≡ path.now ++ codes "-wal") }
 {
     with_suffix(rt, path, "-wal")
 }
 
-pub(crate) fn with_suffix(rt: &HostRuntime, path: &str, end: &str) -> Result<String, AllocError>
-    ensures { IfOk result (λ other. string_bytes other ≡ path.now ++ end.now) }
+pub(crate) fn with_suffix(rt: &HostRuntime, path: &str, suffix: &str) -> Result<String, AllocError>
+    ensures { IfOk result (λ other. string_bytes other ≡ path.now ++ suffix.now) }
 {
     let mut other = String::new(rt.alloc());
     other.push_str(path)?;
-    other.push_str(end)?;
+    other.push_str(suffix)?;
     Ok(other)
 }

@@ -19,14 +19,15 @@ pub struct Overlay<F: Source> {
     below: Option<F>,
     /// The bytes in memory, if there is no file.
     kept: Vec<u8>,
-    /// The key of the page digests.
+    /// The key of the digests by which a page that is read again is checked.
     key: u64,
+    /// How many calls failed; in `caught`, those that read bytes with another digest.
     faults: u64,
     caught: u64,
 }
 
 impl<F: Source> Overlay<F> {
-    /// Bytes in memory, with the key of the page digests.
+    /// Bytes in memory, with the key of the digests.
     pub fn copied(bytes: Vec<u8>, key: u64) -> Overlay<F>
         ensures bytes { bytes_of F.Source.bytes result ≡ bytes.items }
         ensures alone { file_below result ≡ None }
@@ -40,7 +41,7 @@ impl<F: Source> Overlay<F> {
         }
     }
 
-    /// A file that is only read, with the key of the page digests.
+    /// A file that is only read, with the key of the digests.
     pub fn over(alloc: Global, file: F, key: u64) -> Overlay<F>
         ensures bytes { bytes_of F.Source.bytes result ≡ F.Source.bytes file }
         ensures below { file_below result ≡ Some file }
@@ -156,7 +157,7 @@ impl<F: Source> Disk for Overlay<F> {
         match &self.below {
             Some(_) => refused(&mut self.faults),
             None => {
-                let written = in_memory(overwrite(&mut self.kept, at, bytes));
+                let written = io_result(overwrite(&mut self.kept, at, bytes));
                 count(&written, &mut self.faults);
                 written
             }
@@ -167,7 +168,7 @@ impl<F: Source> Disk for Overlay<F> {
         match &self.below {
             Some(_) => refused(&mut self.faults),
             None => {
-                let resized = in_memory(resize(&mut self.kept, len));
+                let resized = io_result(resize(&mut self.kept, len));
                 count(&resized, &mut self.faults);
                 resized
             }
@@ -198,7 +199,7 @@ fn refused(faults: &mut u64) -> io::Result<()>
     Err(io::Error::from(ErrorKind::ReadOnlyFilesystem))
 }
 
-fn in_memory(outcome: Result<(), AllocError>) -> io::Result<()>
+fn io_result(outcome: Result<(), AllocError>) -> io::Result<()>
     ensures variant { is_ok result ≡ is_ok outcome }
     ensures kind { finds_no_room result ≡ false }
 {

@@ -1,4 +1,4 @@
-//! Copies a register's files to one new file, which has each page as opening finds it, also those that are only in the log.
+//! Copies a register's files to one new file, which has each page as opening finds it, even if the page is only in the log.
 
 ghost use Rattle.std.specs.Prelude.{◌≡◌, ◌*◌, min, IfErr, IfOk, IsTrue, OnOk};
 ghost use Rattle.std.specs.Io.KnownBytes.{Appends};
@@ -10,7 +10,7 @@ ghost use Rattle.reg_desk_files.specs.Copied.{pages_in_order, page_bytes};
 ghost use Rattle.reg_desk_files.specs.Reading.{IsFileFault, IsUnread};
 
 use crate::file_creation::write_copy;
-use crate::file_fault::{FileFault, create_fault_of, damaged, with_cause};
+use crate::file_fault::{FileFault, create_fault_of, damaged_fault, fault_with_cause};
 use crate::overlay::overlaid;
 use crate::read_file::OpenedBy;
 use crate::read_only::{Sources, UnreadFile, is_begun, sources_at};
@@ -23,7 +23,7 @@ use sqlite_wal::{PageSize, probe_page_size};
 use std::alloc::Global;
 use std::io::Write;
 
-/// Copies a database that no program has open to write, to a path without a file, and returns how many bytes the copy has. The copy, with mode 0600, gets
+/// Copies a database that no program has open for writing, to a path without a file, and returns how many bytes the copy has. The copy, with mode 0600, gets
 /// that name once it is complete and synced. Errors: `Nothing` if there is no database yet; `Memory`; `Store` if the files can't be read, if there
 /// is a file at the other path or beside it, or if the copy can't be written. Then no copy is left.
 pub fn copy_closed(rt: &HostRuntime, path: &str, to: &str) -> Result<u64, UnreadFile>
@@ -39,10 +39,15 @@ pub fn copy_open(rt: &HostRuntime, path: &str, to: &str) -> Result<u64, UnreadFi
     copy_locked(rt, path, OpenedBy::Us, to)
 }
 
-fn copy_locked(rt: &HostRuntime, path: &str, holder: OpenedBy, to: &str) -> Result<u64, UnreadFile>
+fn copy_locked(
+    rt: &HostRuntime,
+    path: &str,
+    opened_by: OpenedBy,
+    to: &str,
+) -> Result<u64, UnreadFile>
     ensures { IfErr result IsUnread }
 {
-    copy_sources(rt, sources_at(rt, path, holder)?, to)
+    copy_sources(rt, sources_at(rt, path, opened_by)?, to)
 }
 
 fn copy_sources<F: Source + Drop>(
@@ -99,7 +104,7 @@ fn size_in<D: Disk>(files: &mut Files<D>) -> Result<PageSize, UnreadFile>
 {
     match probe_page_size(files) {
         Ok(Some(size)) => Ok(size),
-        Ok(None) => Err(UnreadFile::Fault(damaged())),
+        Ok(None) => Err(UnreadFile::Fault(damaged_fault())),
         Err(error) => Err(UnreadFile::Fault(FileFault::from(error))),
     }
 }
@@ -118,7 +123,7 @@ fn recovered_by<D: Disk + Drop>(
     ensures faults { IfErr result IsUnread }
 {
     let Ok(mut pager) = Pager::new(alloc, files, size, options) else {
-        return Err(UnreadFile::Fault(with_cause(Fault::Memory, None)));
+        return Err(UnreadFile::Fault(fault_with_cause(Fault::Memory, None)));
     };
     match pager.recover() {
         Ok(()) => Ok(pager),

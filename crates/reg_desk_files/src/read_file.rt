@@ -4,7 +4,7 @@ ghost use Rattle.std.specs.Prelude.{◌≡◌, [], false, IfErr};
 ghost use Rattle.std.specs.Fs.{asks_append, asks_create, asks_create_new, asks_truncate, asks_write};
 ghost use Rattle.reg_desk_files.specs.Reading.{IsFileFault};
 
-use crate::file_fault::{FileFault, with_cause};
+use crate::file_fault::{FileFault, fault_with_cause};
 use crate::file_locks::{check_locked, lock, with_suffix};
 use crate::source::Source;
 use os::RangeLock;
@@ -50,35 +50,35 @@ pub(crate) struct LockedFiles {
 }
 
 /// Opens the files of a database read-only, also through a symbolic link. With `Nobody`, the database's file is locked until it is dropped. Errors:
-/// `Memory`; `Store`, also if a program has the file open to write and `holder` is `Nobody`, if none has and `holder` is `Us`, or if SQLite left a
-/// rollback journal beside it, which only SQLite can play back.
+/// `Memory`; `Store`, also if a program has the file open for writing and `opened_by` is `Nobody`, if none has and `opened_by` is `Us`, or if SQLite left
+/// a rollback journal beside it, which only SQLite can play back.
 pub(crate) fn lock_files(
     rt: &HostRuntime,
     path: &str,
-    holder: OpenedBy,
+    opened_by: OpenedBy,
 ) -> Result<LockedFiles, FileFault>
     ensures { IfErr result IsFileFault }
 {
     // A path that SQLite does not read as the name of a file is refused.
     if path == ":memory:" || path.starts_with("file:") {
-        return Err(with_cause(Fault::Store, None));
+        return Err(fault_with_cause(Fault::Store, None));
     }
-    let real = fs::canonicalize(rt, path)?;
-    let db = open_regular(rt, real.as_str())?;
-    match holder {
+    let real_path = fs::canonicalize(rt, path)?;
+    let db = open_regular(rt, real_path.as_str())?;
+    match opened_by {
         OpenedBy::Nobody => lock(&db.file, RangeLock::Shared)?,
         OpenedBy::Us => check_locked(&db.file)?,
     }
-    let log = log_at(rt, real.as_str())?;
+    let log = open_log(rt, real_path.as_str())?;
     Ok(LockedFiles { log, db })
 }
 
-fn log_at(rt: &HostRuntime, path: &str) -> Result<Option<ReadFile>, FileFault>
+fn open_log(rt: &HostRuntime, path: &str) -> Result<Option<ReadFile>, FileFault>
     ensures { IfErr result IsFileFault }
 {
     let journal = with_suffix(rt, path, "-journal")?;
     if has_hot_journal(rt, journal.as_str())? {
-        return Err(with_cause(Fault::Store, None));
+        return Err(fault_with_cause(Fault::Store, None));
     }
     let log = with_suffix(rt, path, "-wal")?;
     match open_regular(rt, log.as_str()) {
@@ -88,17 +88,17 @@ fn log_at(rt: &HostRuntime, path: &str) -> Result<Option<ReadFile>, FileFault>
     }
 }
 
-/// Whether there is a rollback journal at a path that SQLite has to play back: not one that is empty or begins with a zero.
+/// Whether the path has a rollback journal that SQLite has to play back: it is not empty, and does not begin with a zero. Anything but a regular file counts as one.
 fn has_hot_journal(rt: &HostRuntime, path: &str) -> io::Result<bool> {
     match open_regular(rt, path) {
-        Ok(journal) => begins_hot(&journal),
+        Ok(journal) => is_hot(&journal),
         Err(error) if error.kind() == ErrorKind::NotFound => Ok(false),
         Err(error) if error.kind() == ErrorKind::Unsupported => Ok(true),
         Err(error) => Err(error),
     }
 }
 
-fn begins_hot(journal: &ReadFile) -> io::Result<bool> {
+fn is_hot(journal: &ReadFile) -> io::Result<bool> {
     if journal.size()? == 0 {
         return Ok(false);
     }
@@ -107,13 +107,13 @@ fn begins_hot(journal: &ReadFile) -> io::Result<bool> {
     Ok(first[0] != 0)
 }
 
-/// Opens a regular file read-only. It must be no symbolic link, and have no second name (hard link): another log could be beside that.
+/// Opens a regular file read-only. It must be no symbolic link, and have no second name (hard link), beside which another log could be.
 fn open_regular(rt: &HostRuntime, path: &str) -> io::Result<ReadFile> {
     // A pipe is not opened: that would wait for a writer.
     if !fs::symlink_metadata(rt, path)?.is_file() {
         return Err(ErrorKind::Unsupported.into());
     }
-    let file = to_read().open(rt, path)?;
+    let file = read_options().open(rt, path)?;
     let (found, named) = (file.metadata()?, fs::symlink_metadata(rt, path)?);
     let is_named = found.dev() == named.dev() && found.ino() == named.ino();
     if !is_named || !found.is_file() || found.nlink() != 1 {
@@ -122,7 +122,7 @@ fn open_regular(rt: &HostRuntime, path: &str) -> io::Result<ReadFile> {
     Ok(ReadFile { file })
 }
 
-fn to_read() -> OpenOptions
+fn read_options() -> OpenOptions
     ensures writes { asks_write result ≡ false }
     ensures appends { asks_append result ≡ false }
     ensures cuts { asks_truncate result ≡ false }

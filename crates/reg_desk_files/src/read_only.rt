@@ -11,7 +11,7 @@ ghost use Rattle.reg_desk_files.specs.Reading.{IsFileFault, IsUnread};
 
 use crate::file::options_for;
 use crate::file_check::{FileContent, probe_content};
-use crate::file_fault::{FileFault, damaged};
+use crate::file_fault::{FileFault, damaged_fault};
 use crate::overlay::{Overlay, overlaid};
 use crate::read_file::{LockedFiles, OpenedBy, ReadFile, lock_files};
 use crate::source::Source;
@@ -46,17 +46,16 @@ impl From<FileFault> for UnreadFile {
 /// The files of a database, which are only read, with the options to open it.
 #[derive(Drop)]
 pub struct Sources<F: Source> {
-    /// The bytes of the log.
+    /// The bytes of the log (`-wal`).
     pub log: Vec<u8>,
-    /// The database's file.
     pub db: F,
-    /// The key of the page digests.
+    /// The key of the digests by which a page that is read again is checked.
     pub key: u64,
     /// The options, such as the size of the page cache.
     pub options: Options,
 }
 
-/// Opens the files at a path read-only, also through a symbolic link. It creates no file, and copies the log into memory. Until they are dropped,
+/// Opens the files at a path read-only, also through a symbolic link. It creates no file, and copies the log into memory. Until the result is dropped,
 /// no program can open them for writing. Errors: `Memory`; `Store` if the files can't be opened, with the cause.
 pub fn read_at(rt: &HostRuntime, path: &str) -> Result<Sources<ReadFile>, FileFault>
     ensures { IfErr result IsFileFault }
@@ -64,16 +63,16 @@ pub fn read_at(rt: &HostRuntime, path: &str) -> Result<Sources<ReadFile>, FileFa
     sources_at(rt, path, OpenedBy::Nobody)
 }
 
-/// As [`read_at`], for files that this program may have open.
+/// As [`read_at`], for files that `opened_by` has open for writing.
 pub(crate) fn sources_at(
     rt: &HostRuntime,
     path: &str,
-    holder: OpenedBy,
+    opened_by: OpenedBy,
 ) -> Result<Sources<ReadFile>, FileFault>
     ensures { IfErr result IsFileFault }
 {
     let options = options_for(rt, path)?;
-    let LockedFiles { log, db } = lock_files(rt, path, holder)?;
+    let LockedFiles { log, db } = lock_files(rt, path, opened_by)?;
     let log = match &log {
         Some(log) => copy_of(rt.alloc(), log)?,
         None => Vec::new(rt.alloc()),
@@ -92,10 +91,10 @@ pub(crate) fn sources_at(
 pub fn check_database(rt: &HostRuntime, path: &str) -> Result<(), UnreadFile>
     ensures { IfErr result IsUnread }
 {
-    look_into(rt.alloc(), read_at(rt, path)?)
+    check_sources(rt.alloc(), read_at(rt, path)?)
 }
 
-fn look_into<F: Source + Drop>(alloc: Global, sources: Sources<F>) -> Result<(), UnreadFile>
+fn check_sources<F: Source + Drop>(alloc: Global, sources: Sources<F>) -> Result<(), UnreadFile>
     ensures { IfErr result IsUnread }
 {
     let mut files = overlaid(alloc, sources.log, sources.db, sources.key);
@@ -159,7 +158,7 @@ pub(crate) fn is_begun<D: Disk>(alloc: Global, files: &mut Files<D>) -> Result<(
     match probe_content(alloc, files)? {
         FileContent::PossibleDatabase => Ok(()),
         FileContent::Nothing => Err(UnreadFile::Nothing),
-        FileContent::Other => Err(UnreadFile::Fault(damaged())),
+        FileContent::Other => Err(UnreadFile::Fault(damaged_fault())),
     }
 }
 

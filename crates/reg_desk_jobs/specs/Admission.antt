@@ -52,7 +52,7 @@ after_request_if now None admission = admission
 
 -- ---- the limits
 
--- 503 if the clock is too far ahead, or less than a tenth of the cap is left, which is for the control socket (RFC 9110 15.6.4);
+-- 503 if the clock is too far ahead, or less than a tenth of the cap is left, which only the control socket may use (RFC 9110 15.6.4);
 -- 429 with three open requests for the serial number (RFC 6585 4)
 abbrev pub limit_by : RequestLoad → Bool → Option ℕ
 limit_by request_load ahead =
@@ -66,7 +66,7 @@ limit_at admission records now serial =
     if is_rate_reached now admission.recent then Some 429
     else limit_by (request_load_in records now serial 3) (is_ahead now records.last admission.accepted)
 
--- a request is within the limits, if it is one for a serial number
+-- a request is within the limits; one for no serial number always is
 abbrev pub IsWithin : Admission → Records → ℕ → Option ℕ → Type 0
 IsWithin admission records now None = Unit {0}
 IsWithin admission records now (Some serial) = limit_at admission records now serial ≡ None

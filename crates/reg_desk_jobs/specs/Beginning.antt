@@ -26,7 +26,7 @@ abbrev pub ready_of : Result Answered Memory → Result (ReadyOrUnsigned Answere
 ready_of (Ok answered) = Ok (Ready answered)
 ready_of (Err memory) = Err memory
 
--- only the register leaves a response to be signed, also after the limits of an open desk
+-- only the register leaves a response to be signed, also for a request that an open desk first compares with its limits
 abbrev pub MayLeave : Dispatch → Type 0
 MayLeave ToRegister = Unit {0}
 MayLeave ToLimits = Unit {0}

@@ -1,4 +1,4 @@
--- The meaning of a line at the control socket: one of its own words, or a command line.
+-- The meaning of a line at the control socket: one of its own words, or a command line, which scripts also have.
 use Rattle.std.specs.Prelude.{◌≡◌, ◌⊎◌, ℕ, List, [], ◌∷◌, ◌++◌, codes, bytes_eq, if◌then◌else◌, IsFalse, IsTrue, MatchOption, Option, Some, None, option_map}
 use Rattle.std.specs.Option.{option_map_or}
 use Rattle.reg_core.specs.Calendar.{moment_of}

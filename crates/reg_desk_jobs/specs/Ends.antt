@@ -180,7 +180,7 @@ module _ {M O D S R W : Type 0} (machines : Machine M O D S R) (offices : Office
       × UsesRegister machines offices machine machine' path unsigned (λ identity. Reschedules steps set)
       × PrintsSetResult (codes "schedule set\n") contents writer writer' set result))
 
-  -- a key identifier for the issuer of the register at a path (RFC 5280 5.2.1): the word is checked before the path is opened
+  -- a key identifier for the issuer of the register at a path (RFC 5280 5.2.1): its hexadecimal is checked before the path is opened
   abbrev pub KeyIdAt : List ℕ → List ℕ → Result (Unit {0}) Failure → Type 0
   KeyIdAt path key_id result =
       ((why : Failure) × (result ≡ Err why) × IsNoIdentifier key_id why × (writer' ≡ writer)
@@ -333,11 +333,11 @@ module _ {M O D S R E W : Type 0} (machines : Machine M O D S R) (offices : Offi
       × ServedAt contents writer writer' (IsBoundOn machines endpoint control)
       (EndsEarly machines.failed machines.waited) endpoint.port requests inputs result))
 
-  -- that many requests
+  -- as many requests as the job says
   abbrev pub ServeAt : ServeJob → Result (Unit {0}) Failure → Type 0
   ServeAt it = AtPort it.file it.signer it.responder it.published it.endpoint None it.requests
 
-  -- requests and lines, up to the greatest count: the program ends before
+  -- requests and lines, up to 2^64 - 1 requests: the program ends before
   abbrev pub OpenAt : OpenJob → Result (Unit {0}) Failure → Type 0
   OpenAt it =
       AtPort it.file it.signer it.responder it.published it.endpoint (Some it.control) 18446744073709551615

@@ -68,8 +68,8 @@ unfoldable pub request_by : List ℕ → List ℕ → List ℕ → Option Entry
 request_by number digits word = do
   id ← number_of number
   serial ← serial_of digits
-  label ← label_of word
-  Some (Request id serial label)
+  name ← label_of word
+  Some (Request id serial name)
 
 -- the request that fields name
 unfoldable pub request_named : List (List ℕ) → Option Entry
@@ -79,13 +79,13 @@ request_named (number ∷ digits ∷ []) = decision_by number digits
 request_named (number ∷ digits ∷ word ∷ []) = request_by number digits word
 request_named (number ∷ digits ∷ word ∷ more ∷ rest) = None
 
--- the entry for the fields after the answer: its bytes, the microseconds, and the request that they name; `None` if they name none
+-- the entry for the fields after the answer, of which a space makes the first one empty: bytes, microseconds, and a request; `None` if they name none
 unfoldable pub named_in : List (List ℕ) → Option Logged
 named_in [] = None
-named_in (front ∷ []) = None
-named_in (front ∷ bytes ∷ []) = None
-named_in (front ∷ bytes ∷ micros ∷ []) = None
-named_in (front ∷ bytes ∷ micros ∷ word ∷ rest) =
+named_in (empty ∷ []) = None
+named_in (empty ∷ bytes ∷ []) = None
+named_in (empty ∷ bytes ∷ micros ∷ []) = None
+named_in (empty ∷ bytes ∷ micros ∷ word ∷ rest) =
     if bytes_eq word (codes "request") then Some (option_map_or Command (request_named rest) Unknown)
     else None
 

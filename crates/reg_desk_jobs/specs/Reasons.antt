@@ -23,7 +23,7 @@ latest_text at = codes "notAfter at most " ++ moment_text at
 unfoldable pub ahead_text : ℕ → List ℕ
 ahead_text last = codes "the clock is more than 30 days past " ++ moment_text last
 
--- a reason with the number of an order
+-- a reason with the number of an order or a CRL
 abbrev pub order_text : List ℕ → ℕ → List ℕ → List ℕ
 order_text prefix order end = prefix ++ decimal order ++ end
 

@@ -26,8 +26,8 @@ number_now numbers logged =
 -- its serial number
 abbrev pub text_to_send : List Renumbered → LoggedExchange → Entry → List ℕ
 text_to_send numbers logged_exchange Line = logged_exchange.asked
-text_to_send numbers logged_exchange (Request id serial label) =
-    codes "request" ++ (32 ∷ serial_text serial) ++ (32 ∷ label)
+text_to_send numbers logged_exchange (Request id serial name) =
+    codes "request" ++ (32 ∷ serial_text serial) ++ (32 ∷ name)
 text_to_send numbers logged_exchange (Decision id serial) =
     first_word logged_exchange.asked ++ (32 ∷ decimal (number_now numbers id)) ++ (32 ∷ serial_text serial)
 
@@ -40,14 +40,14 @@ abbrev pub agrees : LoggedExchange → Entry → List ℕ → Bool
 agrees logged_exchange Line reply =
     bytes_eq (first_word reply) (first_word logged_exchange.answered)
     && bytes_eq (second_word reply) (second_word logged_exchange.answered)
-agrees logged_exchange (Request id serial label) reply = bytes_eq (first_word reply) (codes "request")
+agrees logged_exchange (Request id serial name) reply = bytes_eq (first_word reply) (codes "request")
 agrees logged_exchange (Decision id serial) reply =
     bytes_eq (first_word reply) (first_word logged_exchange.answered)
 
 -- the number that a reply gives to a request
 abbrev pub renumbered : Entry → List ℕ → List Renumbered
 renumbered Line reply = []
-renumbered (Request id serial label) reply =
+renumbered (Request id serial name) reply =
     option_map_or (λ number. record { logged = id; given = number } ∷ []) (number_of (second_word reply)) []
 renumbered (Decision id serial) reply = []
 

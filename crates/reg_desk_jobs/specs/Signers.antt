@@ -16,7 +16,7 @@ use Rattle.reg_desk_cli.specs.declared.job.ResponderChoice.{ResponderChoice}
 use Rattle.reg_desk_cli.specs.declared.job.ResponderChoice.TheVariants.{Issuer, Delegate}
 use Rattle.reg_desk_cli.specs.declared.job.SignerAddress.{SignerAddress}
 
--- the signer of CRLs that the command line names. Without one, a placeholder digest; but no signer if the OCSP responder has a key of its own
+-- the signer of CRLs that the options name. Without one, a placeholder digest; but no signer if the OCSP responder has a key of its own
 abbrev pub signs_crls : Option SignerAddress → ResponderChoice → CrlSigner
 signs_crls (Some holder) responder = KeyAt holder
 signs_crls None (Issuer certificate) = Digest

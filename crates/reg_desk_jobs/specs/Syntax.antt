@@ -21,7 +21,7 @@ fields_wanted word =
     else if bytes_eq word (codes "status") || bytes_eq word (codes "listing") then Some (Serial ∷ [])
     else None
 
--- a field has its form
+-- whether the text of a field is well-formed
 abbrev pub is_written : Field → List ℕ → Bool
 is_written Name text = is_some (label_of text)
 is_written Ground text = is_some (label_of text)
@@ -33,7 +33,7 @@ is_written Serial text = is_some (serial_of text)
 is_written NotBefore text = is_some (moment_of text)
 is_written NotAfter text = is_some (moment_of text)
 
--- the first field that is missing, has another form, or comes after the last one
+-- the first field that is missing, malformed, or one too many
 abbrev pub first_wrong : List Field → List (List ℕ) → Option WrongField
 first_wrong [] [] = None
 first_wrong [] (text ∷ rest) = Some TooMany

@@ -112,7 +112,7 @@ IsDueUnsigned tally records None =
     (read : Option ReadCrl) × IsLatestRead tally records read
     × ((asked : Option ℕ) → due_after_latest read asked ≡ asked)
 
--- the numbers of a register at a moment: its counts, when its next CRL is due, and its standing; or why they can't be read
+-- the numbers of a register at a moment: its counts, when its next CRL is due, and its summary; or why they can't be read
 abbrev pub HasFound : Tally → Records → ℕ → Result Numbers Fault → Type 0
 HasFound tally records now (Ok numbers) =
     Has AskCounts CountsAre records now (Ok numbers.counts) × HasDue tally records now (Ok numbers.due)

@@ -1,5 +1,5 @@
-//! Which requests for revocation an open desk takes over HTTP. Commands at the control socket have no such limits, so that the office can
-//! revoke while clients flood the port.
+//! Which requests for revocation an open desk takes over HTTP. Commands at the control socket have no such limits, so that the
+//! operator can revoke while clients flood the port.
 
 ghost use Rattle.std.specs.Prelude.{◌≡◌, IfOk, None, replicate};
 ghost use Rattle.reg_office_api.specs.Calls.{LeadsIn, LooksIn};
@@ -25,7 +25,7 @@ const MOST_RECENT: usize = 100;
 
 const MINUTE: u64 = 60;
 
-/// When the last hundred requests for revocation came over HTTP, as a ring: the oldest is at `next`.
+/// When the last hundred requests for revocation came over HTTP that the rate limit let through, as a ring: the oldest is at `next`.
 #[derive(Clone, Copy)]
 pub(crate) struct RecentRequests {
     pub(crate) moments: [Option<Moment>; MOST_RECENT],
@@ -33,7 +33,7 @@ pub(crate) struct RecentRequests {
 }
 
 impl RecentRequests {
-    /// Whether a hundred requests came within the minute up to a moment.
+    /// Whether these hundred came within the minute up to a moment.
     fn is_rate_reached(&self, now: Moment) -> bool
         ensures { result ≡ reached_at now self.now }
     {
@@ -52,7 +52,7 @@ impl RecentRequests {
     }
 }
 
-/// What decides whether an open desk admits a request for revocation, besides the records.
+/// The state by which an open desk admits requests for revocation, besides the records.
 #[derive(Clone, Copy)]
 pub(crate) struct Admission {
     pub(crate) recent: RecentRequests,
@@ -72,8 +72,8 @@ impl Admission {
     }
 }
 
-/// Answers a request at the route of requests for revocation, or leaves a response to be signed. A request beyond the limits is refused with 429
-/// or 503, and not entered.
+/// Answers a `POST /requests`, or any other request at that route. One for revocation beyond the limits is refused with 429 or 503, and not
+/// entered.
 pub(crate) fn begin_admitted<M: Machine>(
     alloc: Global,
     office: &mut M::Office,

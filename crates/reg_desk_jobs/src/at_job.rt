@@ -1,4 +1,4 @@
-//! The job `at`: lines sent to the control socket of an open desk, or rows as lines, and its replies.
+//! The job `at`: sends lines, or rows as lines, to the control socket of an open desk, and writes its replies.
 
 ghost use Rattle.std.specs.Prelude.{◌≡◌, ◌⊎◌, ◌↔◌, IsFalse, IsTrue, IfErr, IfOk, MatchResult};
 ghost use Rattle.std.specs.Io.{StopsAt};
@@ -15,7 +15,7 @@ use std::alloc::Global;
 use std::io::{BufRead, BufReader, Read, Write};
 use std::os::unix::net::UnixStream;
 
-/// What comes next in an input.
+/// The next line of an input, if there is one.
 #[derive(Drop)]
 pub(crate) enum Next {
     /// A line, with its LF.
@@ -37,7 +37,8 @@ enum Step {
     End,
 }
 
-/// Sends each line of standard input to the control socket at a path, and writes its reply. A last line without its line end is not sent.
+/// Sends each line of standard input to the control socket at a path, and writes its reply. Errors: `Read` if no program listens
+/// there; else those of [`exchange_lines`].
 pub fn at<M: Machine, R: Read, W: Write>(
     alloc: Global,
     machine: &M,
@@ -127,6 +128,7 @@ pub(crate) fn both(first: bool, second: bool) -> bool
     first && second
 }
 
+/// `Ok`, or `Refused` if a reply was a refusal or a fault.
 pub(crate) fn ended(is_accepted: bool) -> Result<(), Failure>
     ensures { MatchResult result (λ done. IsTrue is_accepted)
         (λ why. (why ≡ Failure.Refused) × IsFalse is_accepted) }
@@ -138,6 +140,7 @@ pub(crate) fn ended(is_accepted: bool) -> Result<(), Failure>
     }
 }
 
+/// The failure at a last line without its line end, by whether all replies before it were accepted.
 pub(crate) fn cut_off(is_accepted: bool) -> Failure
     ensures { ((result ≡ Failure.NoLineEnd) × IsTrue is_accepted)
         ⊎ ((result ≡ Failure.RefusedNoLineEnd) × IsFalse is_accepted) }
@@ -206,6 +209,7 @@ pub(crate) fn request_reply<C: BufRead, S: Write>(
     next_reply(alloc, incoming)
 }
 
+/// Reads the next line of an input; `Read` if the input fails.
 pub(crate) fn next_line<R: BufRead>(alloc: Global, input: &mut R) -> Result<Next, Failure>
     ensures ok { IfOk result (NextIs (R.remaining input.old) (R.remaining input.new)) }
     ensures err { IfErr result IsConversationFault }

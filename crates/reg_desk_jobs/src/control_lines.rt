@@ -30,7 +30,7 @@ use reg_office_api::{LineReply, Office};
 use std::alloc::Global;
 
 /// Answers a line at the control socket at a moment, counts it, and logs it if there is a log. `began` is when the desk began to answer it, in
-/// microseconds. `accepted` is the moment of the last `accept-clock` line, which this line may be.
+/// microseconds of the monotonic clock. `accepted` is the moment of the last `accept-clock` line, which this line may be.
 pub(crate) fn answer_counted<M: Machine>(
     alloc: Global,
     office: &mut M::Office,
@@ -216,7 +216,7 @@ fn has_command(line: &[u8]) -> bool
     }
 }
 
-/// Runs a command line, given without its line end, at a moment. Memory for its reply is reserved before it runs.
+/// Runs a line that scripts also have, given without its line end, at a moment. Memory for its reply is reserved before it runs.
 fn answer_command_line<M: Machine>(
     alloc: Global,
     office: &mut M::Office,
@@ -239,7 +239,7 @@ fn answer_command_line<M: Machine>(
     reply
 }
 
-/// Writes the reply to a command line, which has run; `room` is the empty buffer for it. If the line was refused, keeps the reason for `why`.
+/// Writes the reply to such a line, which has run; `room` is the empty buffer for it. If the line was refused, keeps the reason for `why`.
 pub(crate) fn answer_command<M: Machine>(
     alloc: Global,
     office: &mut M::Office,

@@ -14,13 +14,13 @@ use std::alloc::{AllocError, Global};
 /// The result of a line at the control socket.
 #[derive(Clone, Copy)]
 pub(crate) enum LineOutcome {
-    /// A command, a query, or an `ocsp` line that failed: its kind, and its outcome.
+    /// A command, a query, or an `ocsp` line without a response: its kind, and its outcome.
     Completed(LineKind, Outcome),
     /// An OCSP request that got a response; `true` if the response has only a status (RFC 6960 4.2.1).
     Response(bool),
-    /// Another word, which succeeded.
+    /// A word that only the control socket has, which succeeded.
     Done,
-    /// Another word, which failed.
+    /// Any other failure: of such a word, or before a command ran, such as `bad-clock`.
     Failed(Failure),
     /// No copy was created, because of this fault. It says nothing about the register's own file.
     CopyFault(Fault),
@@ -50,6 +50,7 @@ impl LineOutcome {
         }
     }
 
+    /// How the line is counted: as accepted, as refused or as a fault.
     pub(crate) fn kind(&self) -> LineReply
         ensures { result ≡ kind_of self.now }
     {
@@ -130,7 +131,7 @@ pub(crate) struct ControlReply {
 }
 
 impl ControlReply {
-    /// The reply to a command line. It is written into `room`, which is empty, without an allocation.
+    /// The reply to a line that scripts also have. It is written into `room`, which is empty, without an allocation.
     pub(crate) fn of(answered: Answered, room: Vec<u8>) -> ControlReply
         requires empty { room.items ≡ [] }
         requires room { 84 ≤ vec_capacity room }
@@ -151,6 +152,7 @@ impl ControlReply {
         ControlReply::made(alloc, with_lf(alloc, line), line_outcome)
     }
 
+    /// The reply with the line of a fault or a refusal, if no command ran.
     pub(crate) fn fault(alloc: Global, fault: Fault) -> ControlReply
         ensures { IsLineReply (fault_line fault) (LineOutcome.Failed (Failure.Fault fault)) result }
     {

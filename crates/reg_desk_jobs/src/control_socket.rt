@@ -12,7 +12,7 @@ use std::io::ErrorKind;
 
 const OWNER_ONLY: u32 = 0o600;
 
-/// The most connections that can be waiting when the mode is set.
+/// The most waiting connections that are closed once the mode is set (Linux's default `net.core.somaxconn`).
 const MOST_WAITING: usize = 4_096;
 
 /// Creates a Unix socket at a path to which only its owner may connect, and listens on it without blocking. A stale socket, on which no program

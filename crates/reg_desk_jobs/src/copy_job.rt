@@ -19,7 +19,6 @@ use std::io::Write;
 /// Why no copy was created: the fault, and its cause if it is known.
 #[derive(Clone, Copy, PartialEq, Eq)]
 pub struct CopyFault {
-    /// The fault.
     pub fault: Fault,
     /// The cause of the call that failed.
     pub cause: Option<Cause>,
@@ -72,8 +71,8 @@ pub(crate) fn path_in(line: &[u8]) -> Option<&str> {
     str::from_utf8(path).ok()
 }
 
-fn millis_since<M: Machine>(machine: &M, began: u64) -> u64 {
-    machine.micros().saturating_sub(began) / 1_000
+fn millis_since<M: Machine>(machine: &M, since: u64) -> u64 {
+    machine.micros().saturating_sub(since) / 1_000
 }
 
 fn copied_reply(alloc: Global, bytes: u64, millis: u64) -> ControlReply

@@ -25,9 +25,9 @@ impl<'a> CrlSigner<'a> {
         ensures { result ≡ signs_crls signer.now responder.now }
     {
         match (signer, responder) {
-            (Some(holder), _) => CrlSigner::KeyAt(SignerAddress {
-                socket: Word::of(holder.socket.as_str()),
-                algorithm: holder.algorithm,
+            (Some(signer_address), _) => CrlSigner::KeyAt(SignerAddress {
+                socket: Word::of(signer_address.socket.as_str()),
+                algorithm: signer_address.algorithm,
             }),
             (None, ResponderChoice::Issuer { .. }) => CrlSigner::Digest,
             (None, ResponderChoice::Delegate { .. }) => CrlSigner::NoSigner,

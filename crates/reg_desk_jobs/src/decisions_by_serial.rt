@@ -1,4 +1,4 @@
-//! Revokes and declines requests by number and serial number, and finds these two for the lines of the log.
+//! Revokes and declines requests by number and serial number, and finds both for the lines of the log.
 
 ghost use Rattle.std.specs.Prelude.{◌≡◌, IfSome};
 ghost use Rattle.reg_core.specs.Records.{request_in};
@@ -107,7 +107,8 @@ fn request_of_row(found: Option<Row>) -> Option<RequestRow>
     }
 }
 
-/// The number and the serial number, for the log, of the request that a line is to decide; `None` if there is no log.
+/// The number and the serial number, for the log, of the request that a line is to decide; `None` without a log,
+/// or if there is no such request.
 pub(crate) fn named_before<M: Machine>(
     alloc: Global,
     office: &mut M::Office,
@@ -147,23 +148,27 @@ fn decided_by(line: &[u8]) -> Option<u64>
     }
 }
 
-/// The request that a line entered or decided, as the log names it. `before` was looked up before a decision.
+/// The request that a line entered or decided, as the log names it. `looked_up` is from before a decision.
 pub(crate) fn named_by(
     line_outcome: &LineOutcome,
-    before: Option<NamedRequest>,
+    looked_up: Option<NamedRequest>,
 ) -> Option<NamedRequest>
-    ensures { NamesRequest line_outcome.now before result }
+    ensures { NamesRequest line_outcome.now looked_up result }
 {
     match line_outcome {
         LineOutcome::Completed(LineKind::Command(command), Ok(reply)) => named_of(
-            command, reply, before,
+            command, reply, looked_up,
         ),
         _ => None,
     }
 }
 
-fn named_of(command: &Command, reply: &Reply, before: Option<NamedRequest>) -> Option<NamedRequest>
-    ensures { NamesAccepted command.now reply.now before result }
+fn named_of(
+    command: &Command,
+    reply: &Reply,
+    looked_up: Option<NamedRequest>,
+) -> Option<NamedRequest>
+    ensures { NamesAccepted command.now reply.now looked_up result }
 {
     match (command, reply) {
         (Command::Request { serial, ground }, Reply::Request { id, .. }) => Some(NamedRequest {
@@ -171,8 +176,8 @@ fn named_of(command: &Command, reply: &Reply, before: Option<NamedRequest>) -> O
             serial: *serial,
             ground: Some(*ground),
         }),
-        (Command::Revoke { .. }, _) => before,
-        (Command::Decline { .. }, _) => before,
+        (Command::Revoke { .. }, _) => looked_up,
+        (Command::Decline { .. }, _) => looked_up,
         _ => None,
     }
 }

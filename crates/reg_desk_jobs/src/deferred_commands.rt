@@ -22,20 +22,21 @@ use reg_office_api::{OcspResponse, Office};
 use std::alloc::Global;
 use std::time::Duration;
 
-/// What is to be signed for a line: a CRL, or an OCSP response.
+/// The kind of signature that a line needs: of a CRL, or of an OCSP response.
 #[derive(Clone, Copy, PartialEq, Eq)]
 pub enum SignatureKind {
     Crl,
     Answer,
 }
 
-/// What the desk keeps of a line while its signature is made.
+/// The desk's record of a line whose signature is being made.
 #[derive(Clone, Copy)]
 pub struct LineTicket {
+    /// The kind of the signature that the line needs.
     pub(crate) wanted: SignatureKind,
     /// The moment for which the message was made.
     pub(crate) moment: Moment,
-    /// The microseconds of the clock at which the desk began.
+    /// When the desk began the line, in microseconds of the monotonic clock.
     pub(crate) began: u64,
     /// Whether the signer is not asked, because of its back-off.
     pub(crate) is_backed_off: bool,
@@ -48,30 +49,30 @@ pub(crate) struct LineSignature {
     pub(crate) preset_signature: PresetSignature,
 }
 
-/// After how many milliseconds since the desk began a line its signer counts as timed out. The line's ten seconds begin a little before that.
+/// How many milliseconds after the desk began a line its signer counts as timed out: under ten seconds, because these begin a little earlier.
 const TIMEOUT: u64 = 9_500;
 
-fn signature_kind_by(said: &CommandLine<'_>) -> Option<SignatureKind> {
-    match *said {
+fn signature_kind_by(command_line: &CommandLine<'_>) -> Option<SignatureKind> {
+    match *command_line {
         CommandLine::Command(Command::Crl) => Some(SignatureKind::Crl),
         CommandLine::Ocsp(_) => Some(SignatureKind::Answer),
         _ => None,
     }
 }
 
-fn look_at<M: Machine>(
+fn deferred_of<M: Machine>(
     alloc: Global,
     office: &mut M::Office,
-    looked: LineTicket,
-    said: &CommandLine<'_>,
+    ticket: LineTicket,
+    command_line: &CommandLine<'_>,
 ) -> Option<Deferred<LineTicket>>
     ensures { KeepsIn M.Office.Office office.old office.new }
 {
-    match *said {
-        CommandLine::Ocsp(digits) => look_at_request(alloc, office, looked, digits),
+    match *command_line {
+        CommandLine::Ocsp(digits) => look_at_request(alloc, office, ticket, digits),
         _ => Some(Deferred {
-            message: office.crl_message(alloc, looked.moment)?,
-            ticket: looked,
+            message: office.crl_message(alloc, ticket.moment)?,
+            ticket,
         }),
     }
 }
@@ -113,22 +114,22 @@ pub(crate) fn socket_of<'w>(
     ensures { socket_for signer.now responder.now wanted ≡ option_copied result }
 {
     match wanted {
-        SignatureKind::Crl => crls_at(signer),
+        SignatureKind::Crl => crl_signer_socket(signer),
         SignatureKind::Answer => match responder {
             ResponderChoice::Delegate { holder, .. } => Some(holder.socket.as_str()),
-            ResponderChoice::Issuer { .. } => crls_at(signer),
+            ResponderChoice::Issuer { .. } => crl_signer_socket(signer),
         },
     }
 }
 
-fn crls_at<'w>(signer: &Option<SignerAddress<'w>>) -> Option<&'w str>
+fn crl_signer_socket<'w>(signer: &Option<SignerAddress<'w>>) -> Option<&'w str>
     ensures { crl_socket signer.now ≡ option_copied result }
 {
     Some(signer.as_ref()?.socket.as_str())
 }
 
-/// The signature for a line, and the moment at which the line is to run: with a link, the one for which the message was made. Without a link there
-/// is no signature, and the moment is that of the clock, or [`EventLoopFault`] if the clock can't be read. `None` if a later command was accepted
+/// The signature for a line, and the moment at which the line is to run. With a connection to the signer, that is the moment of the message. Without
+/// one, there is no signature, and the moment is the clock's, or [`EventLoopFault`] if the clock can't be read. `None` if a later command was accepted
 /// meanwhile, so that the message would be another one, or if the clock is now behind the moment of the message.
 pub(crate) fn line_signature_of<M: Machine>(
     alloc: Global,
@@ -136,14 +137,14 @@ pub(crate) fn line_signature_of<M: Machine>(
     machine: &M,
     signer: &Option<SignerAddress<'_>>,
     responder: &ResponderChoice<'_>,
-    looked: LineTicket,
+    ticket: LineTicket,
     message: Vec<u8>,
     link: Option<SignatureRequest>,
 ) -> Result<Option<LineSignature>, EventLoopFault>
     ensures moves { KeepsIn M.Office.Office office.old office.new }
     ensures known { IfOk result (λ found.
         IfSome found
-        (IsLineSignature (AnsweredBySigner M.signer_answered signer.now responder.now looked.wanted)
+        (IsLineSignature (AnsweredBySigner M.signer_answered signer.now responder.now ticket.wanted)
         M.clock_reached)) }
     ensures err { OnErr result (office.new ≡ office.old) }
     ensures fails { OnErr result M.failed }
@@ -161,36 +162,36 @@ pub(crate) fn line_signature_of<M: Machine>(
             preset_signature,
         }));
     };
-    Ok(recalled::<M>(
-        alloc, office, machine, signer, responder, looked, message, link,
+    Ok(signature_if_current::<M>(
+        alloc, office, machine, signer, responder, ticket, message, link,
     ))
 }
 
 /// The signer's answer, with the moment for which the message was made; `None` if a later command was accepted, or the clock is now behind it.
-fn recalled<M: Machine>(
+fn signature_if_current<M: Machine>(
     alloc: Global,
     office: &mut M::Office,
     machine: &M,
     signer: &Option<SignerAddress<'_>>,
     responder: &ResponderChoice<'_>,
-    looked: LineTicket,
+    ticket: LineTicket,
     message: Vec<u8>,
     link: SignatureRequest,
 ) -> Option<LineSignature>
     ensures moves { KeepsIn M.Office.Office office.old office.new }
     ensures known { IfSome result
-        (IsLineSignature (AnsweredBySigner M.signer_answered signer.now responder.now looked.wanted)
+        (IsLineSignature (AnsweredBySigner M.signer_answered signer.now responder.now ticket.wanted)
         M.clock_reached) }
 {
-    if is_past(office, looked.moment) {
+    if is_past(office, ticket.moment) {
         return None;
     }
-    let moment = machine.moment_if_reached(looked.moment)?;
+    let moment = machine.moment_if_reached(ticket.moment)?;
     let answer = received_answer::<M>(
         alloc,
         signer,
         responder,
-        looked.wanted,
+        ticket.wanted,
         &message,
         Some(link),
     );
@@ -212,13 +213,16 @@ fn is_past<O: Office>(office: &mut O, moment: Moment) -> bool
 }
 
 impl<'a, 'w, M: Machine> Desk<'a, 'w, M> {
-    /// What is to be signed before a line can be answered; `None` if nothing is, or if there is no signer for it.
-    pub(crate) fn deferred_line(&mut self, said: &CommandLine<'_>) -> Option<Deferred<LineTicket>>
+    /// The message to sign before a line can be answered, empty in a back-off; `None` if there is none, or no signer for it.
+    pub(crate) fn deferred_line(
+        &mut self,
+        command_line: &CommandLine<'_>,
+    ) -> Option<Deferred<LineTicket>>
         ensures open { self.new.is_open ≡ self.old.is_open }
         ensures moves { KeepsIn M.Office.Office
             self.old.office self.new.office }
     {
-        let wanted = signature_kind_by(said)?;
+        let wanted = signature_kind_by(command_line)?;
         socket_of(self.signer, self.responder, wanted)?;
         let began = self.machine.micros();
         if wanted == SignatureKind::Answer && self.backoff.is_active(Duration::from_micros(began)) {
@@ -239,13 +243,13 @@ impl<'a, 'w, M: Machine> Desk<'a, 'w, M> {
             // The command will be refused, so nothing is signed for it.
             return None;
         }
-        let looked = LineTicket {
+        let ticket = LineTicket {
             wanted,
             moment,
             began,
             is_backed_off: false,
         };
-        look_at::<M>(self.alloc, &mut self.office, looked, said)
+        deferred_of::<M>(self.alloc, &mut self.office, ticket, command_line)
     }
 
     /// Whether commands are refused at a moment, because the clock is too far ahead.
@@ -261,17 +265,17 @@ impl<'a, 'w, M: Machine> Desk<'a, 'w, M> {
     }
 
     /// The back-off of the OCSP signer after this line: cleared if it answered or failed at once, set if it timed out, unchanged if it was not asked.
-    pub(crate) fn backoff_after(&self, looked: LineTicket, has_arrived: bool) -> Backoff {
-        let answers = socket_of(self.signer, self.responder, SignatureKind::Answer);
-        let asked = socket_of(self.signer, self.responder, looked.wanted);
-        if looked.is_backed_off || !is_same(asked, answers) {
+    pub(crate) fn backoff_after(&self, ticket: LineTicket, has_arrived: bool) -> Backoff {
+        let ocsp_socket = socket_of(self.signer, self.responder, SignatureKind::Answer);
+        let asked_socket = socket_of(self.signer, self.responder, ticket.wanted);
+        if ticket.is_backed_off || !is_same(asked_socket, ocsp_socket) {
             return self.backoff;
         }
         if has_arrived {
             return Backoff::none();
         }
         Backoff::after_failure(
-            Duration::from_micros(looked.began),
+            Duration::from_micros(ticket.began),
             Duration::from_micros(self.machine.micros()),
             Duration::from_millis(TIMEOUT),
         )
@@ -282,12 +286,12 @@ impl<'a, 'w, M: Machine> Desk<'a, 'w, M> {
         &mut self,
         line: &[u8],
         last_reason: &mut Vec<u8>,
-        looked: LineTicket,
+        ticket: LineTicket,
         known: LineSignature,
     ) -> Vec<u8>
         requires { IsLineSignature
             (AnsweredBySigner M.signer_answered self.old.signer.now self.old.responder.now
-            looked.wanted) M.clock_reached known }
+            ticket.wanted) M.clock_reached known }
         ensures open { self.new.is_open ≡ self.old.is_open }
         ensures moves { LeadsIn M.Office.Office
             (λ identity before after.
@@ -298,7 +302,7 @@ impl<'a, 'w, M: Machine> Desk<'a, 'w, M> {
             moment,
             preset_signature,
         } = known;
-        M::set_preset(&mut self.office, looked.wanted, Some(preset_signature));
+        M::set_preset(&mut self.office, ticket.wanted, Some(preset_signature));
         let mut tally = self.tally.get();
         let reply = answer_counted::<M>(
             self.alloc,
@@ -307,13 +311,13 @@ impl<'a, 'w, M: Machine> Desk<'a, 'w, M> {
             self.file,
             &mut tally,
             &mut self.admission.accepted,
-            looked.began,
+            ticket.began,
             moment,
             line,
             last_reason,
         );
         self.tally.set(tally);
-        M::set_preset(&mut self.office, looked.wanted, None);
+        M::set_preset(&mut self.office, ticket.wanted, None);
         reply
     }
 }

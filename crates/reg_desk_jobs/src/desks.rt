@@ -32,14 +32,16 @@ pub(crate) struct Desk<'a, 'w, M: Machine> {
     pub(crate) office: M::Office,
     pub(crate) alloc: Global,
     pub(crate) machine: &'a M,
+    /// Whether this is `desk open`, and not `desk serve`.
     pub(crate) is_open: bool,
+    /// The path of the register.
     pub(crate) file: &'a str,
-    /// The signers of CRLs and of OCSP responses, as the command line names them.
+    /// The signers of CRLs and of OCSP responses, as the options name them.
     pub(crate) signer: &'a Option<SignerAddress<'w>>,
     pub(crate) responder: &'a ResponderChoice<'w>,
     /// The back-off of the OCSP signer, for `ocsp` lines at the control socket.
     pub(crate) backoff: Backoff,
-    /// What was counted since the register was opened. No contract of the desk mentions it. It is a `Cell`, because `finish` takes `&self` and counts
+    /// The counts since the register was opened. No contract of the desk mentions them. They are in a `Cell`, because `finish` takes `&self` and counts
     /// a response when its signature arrives.
     pub(crate) tally: &'a Cell<Tally>,
     pub(crate) connection_totals: &'a Cell<ConnectionTotals>,
@@ -193,7 +195,7 @@ impl<'a, 'w, M: Machine> Handler for Desk<'a, 'w, M> {
 
     fn defer(&mut self, line: &[u8]) -> Option<Deferred<LineTicket>> {
         match read_line(command_in(line)?) {
-            Some(said) => self.deferred_line(&said),
+            Some(command_line) => self.deferred_line(&command_line),
             None => None,
         }
     }
@@ -228,22 +230,27 @@ impl<'a, 'w, M: Machine> Handler for Desk<'a, 'w, M> {
         ensures fails { OnErr result M.failed }
     {
         let Deferred { message, ticket } = deferred;
-        let looked = ticket;
-        let asked = ticket;
+        let signed_ticket = ticket;
+        let asked_ticket = ticket;
         let has_arrived = link.is_some();
-        let known = line_signature_of::<M>(
+        let signature = line_signature_of::<M>(
             self.alloc,
             &mut self.office,
             self.machine,
             self.signer,
             self.responder,
-            looked,
+            signed_ticket,
             message,
             link,
         )?;
-        self.backoff = self.backoff_after(asked, has_arrived);
-        match known {
-            Some(known) => Ok(Some(self.answer_with_signature(line, last_reason, ticket, known))),
+        self.backoff = self.backoff_after(asked_ticket, has_arrived);
+        match signature {
+            Some(signature) => Ok(Some(self.answer_with_signature(
+                line,
+                last_reason,
+                ticket,
+                signature,
+            ))),
             None => Ok(None),
         }
     }

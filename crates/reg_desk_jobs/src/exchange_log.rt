@@ -12,6 +12,7 @@ use std::net::SocketAddr;
 /// The name in the log of a client at the control socket, which has no address.
 pub(crate) const CONTROL_SOCKET: &str = "control";
 
+/// Logs an HTTP exchange, and how many microseconds it took.
 pub(crate) fn log_exchange<M: Machine>(
     alloc: Global,
     machine: &M,
@@ -74,6 +75,7 @@ pub(crate) fn log_line<M: Machine>(
     );
 }
 
+/// Logs that a connection ended by a fault. Without a client's address, it was one to the control socket.
 pub(crate) fn log_lost<M: Machine>(
     alloc: Global,
     machine: &M,

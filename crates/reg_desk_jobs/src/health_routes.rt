@@ -237,7 +237,7 @@ fn is_digest(algorithm: &[u8]) -> bool
     algorithm == digest.algorithm()
 }
 
-/// After a query for when the next CRL is due: if the latest CRL has no signature, keeps for `why` that the next one is due at once.
+/// After a query `next-crl`: if a signer has the key and the latest CRL has no signature, keeps for `why` that the next one is due at once.
 pub(crate) fn keep_due_reason<M: Machine>(
     alloc: Global,
     office: &mut M::Office,
@@ -275,10 +275,10 @@ fn why_at_once<M: Machine>(
 }
 
 /// Whether CRLs get a signature, a placeholder digest or neither, for the tally.
-pub(crate) fn signing_of(crls: &CrlSigner<'_>) -> CrlSigning
-    ensures { result ≡ signing_by crls.now }
+pub(crate) fn signing_of(crl_signer: &CrlSigner<'_>) -> CrlSigning
+    ensures { result ≡ signing_by crl_signer.now }
 {
-    match crls {
+    match crl_signer {
         CrlSigner::KeyAt(_) => CrlSigning::Key,
         CrlSigner::Digest => CrlSigning::Digest,
         CrlSigner::NoSigner => CrlSigning::NoSigner,

@@ -67,8 +67,8 @@ fn dispatch_of(is_open: bool, route: Route) -> Dispatch
     }
 }
 
-/// Answers the bytes that came on a connection at a moment, counts the exchange, and logs it if there is a log; or leaves a response to be signed,
-/// which is counted when it is finished.
+/// Answers, as of a moment, the bytes that came on a connection, counts the exchange, and logs it if there is a log; or leaves a response to be
+/// signed, which is counted when it is finished.
 pub(crate) fn answer_http<M: Machine>(
     alloc: Global,
     office: &mut M::Office,
@@ -115,15 +115,15 @@ pub(crate) fn answer_http<M: Machine>(
             );
             ReadyOrUnsigned::Ready(exchange.text)
         }
-        ReadyOrUnsigned::Unsigned(left) => {
+        ReadyOrUnsigned::Unsigned(response) => {
             ReadyOrUnsigned::Unsigned(unsigned_of(
-                alloc, machine, left, now, began, client, request,
+                alloc, machine, response, now, began, client, request,
             ))
         }
     }
 }
 
-/// Answers the bytes that came on a connection at a moment, or leaves a response to be signed. Memory for the text is reserved first.
+/// Answers, as of a moment, the bytes that came on a connection, or leaves a response to be signed. Memory for the text is reserved first.
 fn exchange_at<M: Machine>(
     alloc: Global,
     office: &mut M::Office,
@@ -199,7 +199,7 @@ fn ready(answered: Result<Answered, Memory>) -> Result<ReadyOrUnsigned<Answered,
     }
 }
 
-/// Answers a request at a route at a moment, or leaves a response to be signed.
+/// Answers, as of a moment, a request at a route, or leaves a response to be signed.
 fn begin_at<M: Machine>(
     alloc: Global,
     office: &mut M::Office,

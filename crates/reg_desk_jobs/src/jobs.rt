@@ -209,6 +209,7 @@ fn import_strict_rows<M: Machine, R: Read, W: Write>(
     imported
 }
 
+/// The end of a job, by the result of its run of lines or rows.
 pub(crate) fn run_ended(ran: Result<Ended, Fault>) -> Result<(), Failure>
     ensures { result ≡ exit_of_run ran }
 {
@@ -220,7 +221,7 @@ pub(crate) fn run_ended(ran: Result<Ended, Fault>) -> Result<(), Failure>
     }
 }
 
-/// Writes the bytes of a CRL of the register at a path.
+/// Writes the DER of the CRL with a number, or of the latest one, of the register at a path.
 pub fn crl<M: Machine, W: Write>(
     alloc: Global,
     machine: &mut M,
@@ -233,18 +234,19 @@ pub fn crl<M: Machine, W: Write>(
         result }
 {
     let mut register = open_unsigned(machine, path)?;
-    let given = register.crl_bytes(alloc, number);
+    let outcome = register.crl_bytes(alloc, number);
     machine.close(path, register);
-    print_result(writer, given)
+    print_result(writer, outcome)
 }
 
+/// Writes the bytes, or fails with their fault.
 pub(crate) fn print_result<W: Write>(
     writer: &mut W,
-    given: Result<Vec<u8>, Fault>,
+    outcome: Result<Vec<u8>, Fault>,
 ) -> Result<(), Failure>
-    ensures { PrintsResult W.contents writer.old writer.new (items_of given) result }
+    ensures { PrintsResult W.contents writer.old writer.new (items_of outcome) result }
 {
-    match given {
+    match outcome {
         Ok(bytes) => print_text(writer, &bytes),
         Err(fault) => Err(Failure::Fault(fault)),
     }
@@ -269,8 +271,8 @@ pub fn schedule<M: Machine, W: Write>(
     print_set_result(writer, b"schedule set\n", set)
 }
 
-/// Sets the key identifier of the issuer of the register at a path, for CRLs from the next one on (RFC 5280 5.2.1). The word is checked before
-/// the path is opened.
+/// Sets the key identifier of the issuer of the register at a path, for CRLs from the next one on (RFC 5280 5.2.1). Its hexadecimal is
+/// checked before the path is opened.
 pub fn key_identifier<M: Machine, W: Write>(
     alloc: Global,
     machine: &mut M,

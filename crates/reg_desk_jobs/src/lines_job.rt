@@ -26,6 +26,7 @@ use std::io::{Read, Write};
 #[derive(Clone, Copy)]
 struct ScriptHost<'a, M: Machine> {
     machine: &'a M,
+    /// Whether lines run at the clock's moment, and have none of their own.
     is_clocked: bool,
     /// Whether CRLs get a placeholder digest instead of a signature.
     is_unsigned: bool,
@@ -53,7 +54,7 @@ impl<'a, M: Machine> Host for ScriptHost<'a, M> {
 
 /// Runs the script of standard input over the register at a path, line by line. A strict one ends at the first refusal or fault, and runs no last
 /// line without its line end. If its last line was a refused registration, the reason is kept. If the register's first CRL gets a placeholder
-/// digest, it warns on standard error. No line runs if the clock is too far ahead, unless the operator accepts that.
+/// digest, it warns on standard error. With `--clock`, no line runs if the clock is too far ahead, unless the operator accepts that.
 pub fn script_by_lines<M: Machine, R: Read, W: Write>(
     alloc: Global,
     machine: &mut M,
@@ -87,7 +88,7 @@ pub fn script_by_lines<M: Machine, R: Read, W: Write>(
     run_ended(ran)
 }
 
-/// Whether the lines run at the machine's clock, this is too far ahead, and the operator does not accept that.
+/// Whether the lines run at the machine's clock, which is too far ahead, and the operator does not accept that.
 fn refuses_clock<M: Machine>(machine: &M, office: &mut M::Office, options: ScriptOptions) -> bool
     ensures { LooksIn M.Office.Office
         (λ records. IsTrue result → IsClockRefused options M.clock_reached records)
@@ -102,7 +103,8 @@ fn refuses_clock<M: Machine>(machine: &M, office: &mut M::Office, options: Scrip
     is_ahead_of::<M>(office, now)
 }
 
-/// Whether a moment is more than 30 days past the register's last accepted one; `false` if the register can't be read: the job will report it.
+/// Whether a moment is more than 30 days past the register's last accepted one; `false` if there is none, or if the register can't be read, which
+/// the job will report.
 pub(crate) fn is_ahead_of<M: Machine>(office: &mut M::Office, now: Moment) -> bool
     ensures { LooksIn M.Office.Office (λ records. IsTrue result → IsTrue (ahead now records.last None))
         office.old office.new }
@@ -113,6 +115,7 @@ pub(crate) fn is_ahead_of<M: Machine>(office: &mut M::Office, now: Moment) -> bo
     }
 }
 
+/// Runs a script, whose lines have their own moments, over an open register.
 pub(crate) fn run_script_over<M: Machine, R: Read, W: Write>(
     alloc: Global,
     machine: &M,

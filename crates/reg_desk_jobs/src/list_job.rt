@@ -18,6 +18,7 @@ use reg_office_api::Office;
 use std::alloc::Global;
 use std::io::Write;
 
+/// How many rows of a list are read in one call.
 const MOST_ROWS: u64 = 1_000;
 
 /// Writes a list of the register at a path, at the given moment, or else at that of the clock. Nothing is written unless
@@ -25,18 +26,18 @@ const MOST_ROWS: u64 = 1_000;
 pub fn list<M: Machine, W: Write>(
     alloc: Global,
     machine: &mut M,
-    wanted: &ListJob<'_>,
+    job: &ListJob<'_>,
     writer: &mut W,
 ) -> Result<(), Failure>
     ensures { ListAt M.Machine M.Office.Office W.contents machine.old machine.new writer.old writer.new
-        wanted.now result }
+        job.now result }
 {
-    let now = moment_of(machine, wanted.moment)?;
-    let path = wanted.file.as_str();
+    let now = moment_of(machine, job.moment)?;
+    let path = job.file.as_str();
     let mut register = open_unsigned(machine, path)?;
-    let given = list_text::<M>(alloc, &mut register, now, wanted);
+    let outcome = list_text::<M>(alloc, &mut register, now, job);
     machine.close(path, register);
-    print_result(writer, given)
+    print_result(writer, outcome)
 }
 
 fn moment_of<M: Machine>(machine: &M, wanted_moment: Option<Moment>) -> Result<Moment, Failure>
@@ -93,13 +94,13 @@ fn put(
     alloc: Global,
     text: &mut Vec<u8>,
     form: Format,
-    wanted: &Filter,
+    filter: &Filter,
     rows: &[Row],
 ) -> Result<(), Fault>
     ensures ok { OnOk result
-        (text.new.items ≡ text.old.items ++ flat_map (row_text form) (filtered_rows wanted.now rows.now)) }
+        (text.new.items ≡ text.old.items ++ flat_map (row_text form) (filtered_rows filter.now rows.now)) }
     ensures err { IfErr result (λ fault. fault ≡ Fault.Memory) }
 {
-    let kept = wanted.kept(alloc, rows).map_err(|_| Fault::Memory)?;
-    put_rows(alloc, text, form, &kept).map_err(|_| Fault::Memory)
+    let filtered = filter.kept(alloc, rows).map_err(|_| Fault::Memory)?;
+    put_rows(alloc, text, form, &filtered).map_err(|_| Fault::Memory)
 }

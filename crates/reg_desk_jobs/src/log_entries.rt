@@ -21,7 +21,7 @@ pub(crate) struct ExchangeText<'a> {
     pub(crate) behind: &'a [u8],
 }
 
-/// What `replay` sends again.
+/// A command that `replay` sends again.
 #[derive(Clone, Copy)]
 pub(crate) enum Entry {
     /// The logged line itself.
@@ -39,7 +39,7 @@ pub(crate) enum Entry {
     },
 }
 
-/// What a line of the log has for `replay`.
+/// The meaning of a line of the log for `replay`.
 #[derive(Clone, Copy)]
 pub(crate) enum Logged {
     /// No accepted command.
@@ -49,6 +49,7 @@ pub(crate) enum Logged {
     Command(Entry),
 }
 
+/// The exchange of a line of the log; `None` if the line has fewer than four quotation marks.
 #[tactic(auto, unfolding(crate::specs::LogEntries::exchange_in))]
 pub(crate) fn exchange_in(line: &[u8]) -> Option<ExchangeText<'_>>
     ensures { option_map exchange_of result ≡ exchange_in line.now }
@@ -70,11 +71,11 @@ pub(crate) fn exchange_in(line: &[u8]) -> Option<ExchangeText<'_>>
 fn split_at_quote(text: &[u8]) -> Option<(&[u8], &[u8])>
     ensures { option_map (λ p. (p.0.now, p.1.now)) result ≡ split_at_quote text.now }
 {
-    let mark = first_delimiter(text)?;
-    Some((&text[..mark], &text[mark + 1..]))
+    let quote = first_quote(text)?;
+    Some((&text[..quote], &text[quote + 1..]))
 }
 
-fn first_delimiter(text: &[u8]) -> Option<usize>
+fn first_quote(text: &[u8]) -> Option<usize>
     ensures place { result ≡ position is_quote text.now }
     ensures within { IfSome result (λ mark. mark < length text.now) }
 {
@@ -87,6 +88,7 @@ pub(crate) fn has_quote(text: &[u8]) -> bool
     text.contains(&b'"')
 }
 
+/// The meaning of an exchange; `Unknown` if another quotation mark follows, because a line before it was not written whole.
 #[tactic(auto, unfolding(crate::specs::LogEntries::logged_of))]
 pub(crate) fn logged_of(logged_exchange: &ExchangeText<'_>) -> Logged
     ensures { result ≡ logged_of (exchange_of logged_exchange.now) }
@@ -212,6 +214,7 @@ fn is_whole(text: &[u8]) -> bool
     text.len() < MOST_QUOTED && !text.contains(&b'\\')
 }
 
+/// The first word of a text; empty if there is none.
 pub(crate) fn first_word(text: &[u8]) -> &[u8]
     ensures { result.now ≡ first_word text.now }
 {

@@ -8,7 +8,7 @@ use reg_core::{Decimal, Moment};
 use reg_http::NamedRequest;
 use std::alloc::{AllocError, Global};
 
-/// The most bytes of a request or an answer that the log keeps.
+/// The most bytes of the first line of a request or an answer that the log keeps.
 pub(crate) const MOST_QUOTED: usize = 256;
 
 /// The line of an exchange, without its LF. The client's name stands there unchanged. The request and the answer are escaped: they put no control
@@ -34,7 +34,7 @@ pub(crate) fn exchange_line(
     put_number(&mut line, answered.len() as u64)?;
     put_number(&mut line, micros)?;
     put_named(&mut line, named)?;
-    put_unsigned(&mut line, signature_failed)?;
+    put_signature_failure(&mut line, signature_failed)?;
     Ok(line)
 }
 
@@ -54,6 +54,7 @@ pub(crate) fn lost_line(
     Ok(line)
 }
 
+/// Appends a space and a word.
 pub(crate) fn put_word(line: &mut Vec<u8>, word: &[u8]) -> Result<(), AllocError>
     ensures { OnOk result (line.new.items ≡ line.old.items ++ (32 ∷ word.now)) }
 {
@@ -83,7 +84,7 @@ fn put_named(line: &mut Vec<u8>, named: Option<NamedRequest>) -> Result<(), Allo
     }
 }
 
-fn put_unsigned(line: &mut Vec<u8>, signature_failed: bool) -> Result<(), AllocError>
+fn put_signature_failure(line: &mut Vec<u8>, signature_failed: bool) -> Result<(), AllocError>
     ensures { OnOk result (line.new.items ≡ line.old.items ++ unsigned_end signature_failed) }
 {
     if !signature_failed {

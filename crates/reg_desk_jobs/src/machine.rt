@@ -105,7 +105,7 @@ pub trait Machine {
     ghost failed: { Type 0 };
     /// The program waited for its sockets this number of times.
     ghost waited: { ℕ → Type 0 };
-    /// At first it has not waited.
+    /// At first it has waited 0 times.
     ghost not_waited: { waited 0 };
     /// This port of this address was bound (four bytes, RFC 791 3.1, or sixteen, RFC 4291 2).
     ghost bound: { List ℕ → ℕ → Type 0 };
@@ -144,8 +144,8 @@ pub trait Machine {
     fn remove(&mut self, path: &str)
         ensures { removed self.old path.now self.new };
 
-    /// Checks that the files at a path, which are only read, have the beginning of a database; `NotARegister` if they have none, `Store` if there
-    /// is no file.
+    /// Checks that the files at a path, which are only read, have the beginning of a database; `NotARegister` if they are empty, `Store` if there
+    /// is no file or something else in it.
     fn check_database(&self, path: &str) -> Result<(), Failure>
         ensures begun { OnOk result (begun self.now path.now) }
         ensures unread { IfErr result (unread self.now path.now) }
@@ -162,7 +162,8 @@ pub trait Machine {
     /// The bytes of the file at a path; `None` if it can't be read.
     fn file(&self, path: &str) -> Option<Vec<u8>>;
 
-    /// Reads the certificates of the responder to OCSP requests; `BadResponder` if one can't be read, is not a certificate, or has a key of another algorithm.
+    /// Reads the certificate of the responder to OCSP requests, if one is given; `BadResponder` if it can't be read or parsed, or a delegated
+    /// responder's key is not of the given algorithm.
     fn read_responder(&self, responder: &ResponderChoice<'_>) -> Result<Self::Responder, Failure>
         ensures certified { IfOk result (certified responder.now) }
         ensures told { OnErr result (HasCertificate responder.now) }
@@ -170,7 +171,7 @@ pub trait Machine {
 
     /// Opens the register of a database, which is closed if that fails: `NotARegister` and `NewVersion` for other tables; `BadSigner` if the
     /// latest CRL's algorithm can't be followed by this signer's, or the issuer's key isn't of the signer's algorithm; `BadResponder` if the
-    /// issuer's certificate has another key.
+    /// embedded certificate has another key than the issuer.
     fn open_in(
         &self,
         database: Self::Database,
@@ -218,7 +219,7 @@ pub trait Machine {
         ensures err { IfErr result (λ why. copy_failed self.old path.now to.now why self.new) }
         ensures faults { IfErr result IsFileFailure };
 
-    /// Copies the register that this program has open in the same way, between two transactions. A fault of the store also if the file at the path
+    /// In the same way, copies the register that this program has open, between two transactions. A fault of the store also if the file at the path
     /// is not the open one.
     fn copy_open(&self, path: &str, to: &str) -> Result<u64, CopyFault>
         ensures ok { IfOk result (copied_open path.now) }
@@ -285,7 +286,7 @@ pub trait Machine {
         ensures { OnOk result (socket_connected path.now) };
 
     /// Asks the signer at the socket at a path to sign a message, without blocking. Returns the connection: the bytes that will arrive on it, up to
-    /// its end, are the answer. `WouldBlock` if the socket has no room for one more connection.
+    /// its end, are the answer. `WouldBlock` if the socket has no room for one more connection, or no file descriptor is left.
     fn request_signature(&self, path: &str, message: &[u8]) -> io::Result<SignatureRequest>
         ensures asked { OnOk result (signature_requested path.now message.now) }
         ensures kept { IfOk result (IsSignatureRequest path.now message.now) };
@@ -327,7 +328,7 @@ pub trait Machine {
     /// Keeps the cause of a failed call.
     fn keep_cause(&self, cause: Option<Cause>);
 
-    /// The cause of the last failed call, if it is known.
+    /// The last cause of a failed call, if one is known.
     fn last_cause(&self) -> Option<Cause>;
 
     /// The moment of the clock, or the last possible moment if the clock is past it; `Read` if it can't be read.

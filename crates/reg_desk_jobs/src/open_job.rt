@@ -13,27 +13,27 @@ use std::io::{Read, Write};
 pub fn serve_open<M: Machine, R: Read, W: Write>(
     rt: &HostRuntime,
     machine: &mut M,
-    kept: &OpenJob<'_>,
+    job: &OpenJob<'_>,
     reader: &mut R,
     writer: &mut W,
 ) -> Result<(), Failure>
     ensures { OpenAt M.Machine M.Office.Office R.remaining W.contents machine.old machine.new
         reader.old reader.new
-        writer.old writer.new kept.now result }
+        writer.old writer.new job.now result }
 {
-    let path = kept.file.as_str();
-    let office = open_signed(machine, path, &kept.signer, &kept.responder)?;
+    let path = job.file.as_str();
+    let office = open_signed(machine, path, &job.signer, &job.responder)?;
     let (office, ending) = serve_checked(
         rt,
         machine,
         office,
         path,
-        &kept.signer,
-        &kept.responder,
-        kept.endpoint,
-        Some(kept.control.as_str()),
+        &job.signer,
+        &job.responder,
+        job.endpoint,
+        Some(job.control.as_str()),
         u64::MAX,
-        kept.published.is_some(),
+        job.published.is_some(),
         reader,
         writer,
     );

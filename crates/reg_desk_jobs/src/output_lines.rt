@@ -21,7 +21,7 @@ pub(crate) fn print_text<W: Write>(writer: &mut W, text: &[u8]) -> Result<(), Fa
     }
 }
 
-/// Writes a line, or reports that there was no memory for it.
+/// Writes a line; `Memory` if there was none for it, `Write` as [`print_text`].
 pub(crate) fn print_line<W: Write>(
     writer: &mut W,
     line: Result<Vec<u8>, AllocError>,
@@ -35,8 +35,8 @@ pub(crate) fn print_line<W: Write>(
     }
 }
 
-/// Reports on standard error why a job failed, in one line. If `is_asked`, one more line has the cause of a fault, or the reason of the refused
-/// registration that ended the job, if it is known. If a write fails, nothing more is written.
+/// Reports on standard error why a job failed: one line, or two for `RefusedNoLineEnd`. If `is_asked` and it is known, one more line has the cause
+/// (exit status 1), or why the registration that ended the job was refused (status 3). A failed write is ignored.
 pub fn report_exit<W: Write>(
     alloc: Global,
     errors: &mut W,
@@ -78,8 +78,7 @@ fn put<W: Write>(errors: &mut W, text: &[u8])
     }
 }
 
-/// Writes one line if `is_asked`: for the exit status of a fault, its cause; for that of a refusal, the reason of the refused registration. Nothing
-/// if it is not known.
+/// Writes one line if `is_asked` and it is known: for exit status 1 the cause, for 3 why a registration was refused.
 fn explain<W: Write>(
     alloc: Global,
     errors: &mut W,

@@ -20,7 +20,7 @@ use std::io::{ErrorKind, Read, Write};
 
 /// Compares the published CRL in a reader with the register, and writes a line for each item that the register lacks: the CRL number, if it is above
 /// that of the register's latest CRL, and each listed serial number that is not revoked. No record changes. Errors: `LacksPublished` if lines were
-/// written; `NotACrl` if the bytes are no CRL with a number; those of a query, of reading and of writing.
+/// written; `NotACrl` if the bytes are no CRL with a number and entries; those of a query, of reading and of writing.
 pub(crate) fn check_published<O: Office, R: Read, W: Write>(
     alloc: Global,
     office: &mut O,
@@ -136,7 +136,7 @@ fn put_unless_revoked(lines: &mut Vec<u8>, revoked: bool, serial: Serial) -> Res
     put_line(lines, b"missing revocation ", &serial.text())
 }
 
-/// Whether a serial number is revoked at the last accepted moment. This does not change with time.
+/// Whether a serial number is revoked at the last accepted moment; at any other one it is the same.
 fn is_revoked<O: Office>(
     alloc: Global,
     office: &mut O,
@@ -162,20 +162,20 @@ fn revoked_of(outcome: Outcome) -> Result<bool, Fault>
     }
 }
 
-fn put_line(lines: &mut Vec<u8>, what: &[u8], which: &[u8]) -> Result<(), Fault>
-    ensures { OnOk result (lines.new.items ≡ lines.old.items ++ (what.now ++ which.now ++ 10 ∷ [])) }
+fn put_line(lines: &mut Vec<u8>, what: &[u8], value: &[u8]) -> Result<(), Fault>
+    ensures { OnOk result (lines.new.items ≡ lines.old.items ++ (what.now ++ value.now ++ 10 ∷ [])) }
 {
-    match put_parts(lines, what, which) {
+    match put_parts(lines, what, value) {
         Ok(()) => Ok(()),
         Err(_) => Err(Fault::Memory),
     }
 }
 
-fn put_parts(lines: &mut Vec<u8>, what: &[u8], which: &[u8]) -> Result<(), AllocError>
-    ensures { OnOk result (lines.new.items ≡ lines.old.items ++ (what.now ++ which.now ++ 10 ∷ [])) }
+fn put_parts(lines: &mut Vec<u8>, what: &[u8], value: &[u8]) -> Result<(), AllocError>
+    ensures { OnOk result (lines.new.items ≡ lines.old.items ++ (what.now ++ value.now ++ 10 ∷ [])) }
 {
     lines.extend_from_slice(what)?;
-    lines.extend_from_slice(which)?;
+    lines.extend_from_slice(value)?;
     lines.push(b'\n')?;
     Ok(())
 }

@@ -7,7 +7,7 @@ ghost use Rattle.reg_desk_jobs.specs.Reasons.{IsReasonLine, ahead_text, last_sec
 
 use crate::control_reply::{ControlReply, LineOutcome};
 use crate::machine::Machine;
-use crate::syntax::{WrongField, wrong_field, wrong_words};
+use crate::syntax::{WrongField, wrong_field, wrong_field_text};
 use reg_core::{Command, Decimal, Fault, Moment, Refusal, Serial};
 use reg_lines::{Ended, RefusedCommand, read_line};
 use reg_office_api::{LineReply, Office};
@@ -21,7 +21,7 @@ const DAY: u64 = 86_400;
 pub enum Reason {
     /// There is no order with this number.
     NoOrder(u64),
-    /// The order with this number has its certificate.
+    /// The order with this number already has a certificate.
     Filled(u64),
     /// The order and the schedule allow no later notAfter than this.
     Latest(Moment),
@@ -35,6 +35,7 @@ pub enum Reason {
     Unsigned(u64),
 }
 
+/// The reply to `why`, with the connection's last reason.
 pub(crate) fn reason_reply(alloc: Global, last_reason: &[u8]) -> ControlReply
     ensures { ReportsLineOutcome result.line_outcome result.text.items }
 {
@@ -54,8 +55,8 @@ fn why_reply(alloc: Global, last_reason: &[u8]) -> Result<Vec<u8>, AllocError>
     Ok(text)
 }
 
-/// Keeps the reason, as the register gives it, for which a command was refused with this reply. If the refused line was no command, if the register
-/// gives no reason, or if there is no memory for it, keeps the reply.
+/// Keeps why a command was refused with this reply ([`reason_of`]). If the refused line was no command, if there is no such reason, or no memory for
+/// it, keeps the reply.
 pub(crate) fn keep_refusal_reason<M: Machine>(
     alloc: Global,
     office: &mut M::Office,
@@ -91,23 +92,24 @@ pub(crate) fn keep_syntax_reason(
 ) {
     if reply.line_outcome.kind() == LineReply::Refused && read_line(line).is_none() {
         keep_reason_text(
-            reason_line(alloc, b"", syntax_of(line)),
+            reason_line(alloc, b"", wrong_field_reason(line)),
             &reply.text,
             last_reason,
         );
     }
 }
 
-fn syntax_of(line: &[u8]) -> Option<Reason> {
+fn wrong_field_reason(line: &[u8]) -> Option<Reason> {
     Some(Reason::Wrong(wrong_field(line)?))
 }
 
+/// Keeps a reply as the last reason.
 pub(crate) fn keep_reply_reason(reply: &[u8], last_reason: &mut Vec<u8>) {
     last_reason.clear();
     let _ = last_reason.extend_from_slice(reply);
 }
 
-/// Why a command was refused, if it is a registration, as the register shows. No record changes.
+/// Why the register refused a registration with E08, E09 or E12; `None` for any other command or refusal. No record changes.
 fn reason_of<M: Machine>(office: &mut M::Office, refused: &RefusedCommand) -> Option<Reason>
     ensures { KeepsIn M.Office.Office office.old office.new }
 {
@@ -132,7 +134,7 @@ fn latest_of<M: Machine>(office: &mut M::Office, order: u64, not_before: Moment)
     ensures { KeepsIn M.Office.Office office.old office.new }
 {
     match office.longest(order, not_before) {
-        Ok(Some(days)) => Some(Reason::Latest(last_of(not_before, days)?)),
+        Ok(Some(days)) => Some(Reason::Latest(last_moment_of(not_before, days)?)),
         _ => None,
     }
 }
@@ -140,19 +142,19 @@ fn latest_of<M: Machine>(office: &mut M::Office, order: u64, not_before: Moment)
 /// Keeps why the last command of a run was refused, if the run ended there and the command is a registration.
 pub(crate) fn keep_reason<M: Machine>(
     office: &mut M::Office,
-    ran: &Result<Ended, Fault>,
+    run_result: &Result<Ended, Fault>,
     reason: &Cell<Option<Reason>>,
 )
     ensures { KeepsIn M.Office.Office office.old office.new }
 {
-    match *ran {
+    match *run_result {
         Ok(Ended::Refused(Some(refused))) => reason.set(reason_of::<M>(office, &refused)),
         _ => reason.set(None),
     }
 }
 
 /// The last second of that many days from a moment on, with both ends counted (RFC 5280 4.1.2.5).
-fn last_of(not_before: Moment, days: u64) -> Option<Moment>
+fn last_moment_of(not_before: Moment, days: u64) -> Option<Moment>
     ensures { IfSome result (λ at. at ≡ last_second not_before days) }
 {
     let seconds = days.checked_mul(DAY)?.checked_sub(1)?;
@@ -167,6 +169,7 @@ pub(crate) fn reason_line(alloc: Global, prefix: &[u8], reason: Option<Reason>) 
     prefix_and_end(alloc, prefix, &words).ok()
 }
 
+/// A prefix, words and an LF.
 pub(crate) fn prefix_and_end(
     alloc: Global,
     prefix: &[u8],
@@ -194,7 +197,7 @@ fn reason_words(alloc: Global, reason: Reason) -> Result<Vec<u8>, AllocError>
         Reason::Latest(at) => latest_text_of(alloc, at),
         Reason::OtherSerial(request, serial) => other_text_of(alloc, request, serial),
         Reason::ClockAhead(last) => ahead_text_of(alloc, last),
-        Reason::Wrong(wrong) => wrong_words(alloc, wrong),
+        Reason::Wrong(wrong) => wrong_field_text(alloc, wrong),
         Reason::Unsigned(number) => numbered_text(
             alloc,
             b"CRL ",
@@ -235,12 +238,12 @@ fn other_text_of(alloc: Global, request: u64, serial: Serial) -> Result<Vec<u8>,
 fn numbered_text(
     alloc: Global,
     prefix: &[u8],
-    order: u64,
+    number: u64,
     end: &[u8],
 ) -> Result<Vec<u8>, AllocError>
-    ensures { IfOk result (λ text. text.items ≡ order_text prefix.now order end.now) }
+    ensures { IfOk result (λ text. text.items ≡ order_text prefix.now number end.now) }
 {
-    let digits = Decimal::of(order);
+    let digits = Decimal::of(number);
     let mut text = Vec::from_slice(alloc, prefix)?;
     text.extend_from_slice(digits.as_bytes())?;
     text.extend_from_slice(end)?;

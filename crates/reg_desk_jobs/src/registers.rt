@@ -20,8 +20,8 @@ pub(crate) fn open_unsigned<M: Machine>(machine: &mut M, path: &str) -> Result<M
     ensures err { IfErr result (λ why. Unopened M.Machine machine.old path.now unsigned why machine.new) }
     ensures faults { IfErr result IsOpening }
 {
-    let itself = ResponderChoice::Issuer { certificate: None };
-    open_by(machine, path, &CrlSigner::NoSigner, &itself)
+    let issuer_signs = ResponderChoice::Issuer { certificate: None };
+    open_by(machine, path, &CrlSigner::NoSigner, &issuer_signs)
 }
 
 /// Opens the register at a path with the signer of its CRLs, or else a placeholder digest, and with its OCSP responder. If the responder has a key
@@ -41,23 +41,23 @@ pub(crate) fn open_signed<M: Machine>(
     open_by(machine, path, &CrlSigner::of(signer, responder), responder)
 }
 
-/// Checks first that there is a database at the path, because opening a path without one would create one.
+/// Checks that there is a database at the path before it connects: connecting would create one.
 fn open_by<M: Machine>(
     machine: &mut M,
     path: &str,
-    crls: &CrlSigner<'_>,
+    crl_signer: &CrlSigner<'_>,
     responder: &ResponderChoice<'_>,
 ) -> Result<M::Office, Failure>
     ensures ok { IfOk result (λ office.
-        Opened M.Machine machine.old path.now (crls.now, responder.now) office machine.new) }
+        Opened M.Machine machine.old path.now (crl_signer.now, responder.now) office machine.new) }
     ensures err { IfErr result (λ why.
-        Unopened M.Machine machine.old path.now (crls.now, responder.now) why machine.new) }
+        Unopened M.Machine machine.old path.now (crl_signer.now, responder.now) why machine.new) }
     ensures faults { IfErr result IsOpening }
 {
-    let loaded = machine.read_responder(responder)?;
+    let loaded_responder = machine.read_responder(responder)?;
     machine.check_database(path)?;
     let database = machine.connect(path)?;
-    machine.open_in(database, crls, loaded)
+    machine.open_in(database, crl_signer, loaded_responder)
 }
 
 /// Creates a register without records in the file at a path, which must exist. If that fails, a file without a register may be left there.

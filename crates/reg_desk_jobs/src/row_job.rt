@@ -34,7 +34,7 @@ struct RegistrationRow {
 
 /// Does a task with the certificate of each row at the control socket at a path, in the rows' order, and writes one reply for each: that to the
 /// last line sent for it. A row is `SERIAL,GROUND` to revoke, and `SERIAL,NOTBEFORE,NOTAFTER` to register. Empty lines and a header are
-/// skipped. Errors: those of [`exchange_lines`](crate::exchange_lines), except that E19, for a certificate that is already revoked, does not count as a refusal.
+/// skipped. Errors: those of [`at`](crate::at), except that E19, for a certificate that is already revoked, does not count as a refusal.
 pub fn each_row<M: Machine, R: Read, W: Write>(
     alloc: Global,
     machine: &M,
@@ -88,7 +88,7 @@ fn send_each<R: BufRead, W: Write, C: BufRead, S: Write>(
     for _ in 0..u64::MAX {
         match next_line(alloc, rows)? {
             Next::Line(line) => match send_line(alloc, task, &line, writer, incoming, sent) {
-                Ok(done) => is_done = both(is_done, done),
+                Ok(line_is_done) => is_done = both(is_done, line_is_done),
                 Err(why) => return Err(why),
             },
             Next::Cut => return Err(cut_off(is_done)),
@@ -98,7 +98,7 @@ fn send_each<R: BufRead, W: Write, C: BufRead, S: Write>(
     Err(Failure::Fault(Fault::Read))
 }
 
-/// Does the task with the certificate of a line that is not skipped, and writes the last reply. Returns whether that was no refusal and no fault.
+/// Does the task with the certificate of a line that is not skipped, and writes the last reply. Returns whether the row is done ([`is_done`]).
 fn send_line<W: Write, C: BufRead, S: Write>(
     alloc: Global,
     task: RowTask,
@@ -294,15 +294,11 @@ fn request_line(alloc: Global, row: &RevocationRow) -> Result<Vec<u8>, AllocErro
 }
 
 /// The line that revokes, with the request's number from the reply.
-fn revocation_line(
-    alloc: Global,
-    row: &RevocationRow,
-    entered: &[u8],
-) -> Result<Vec<u8>, AllocError>
-    ensures { IfOk result (λ line. line.items ≡ row_revocation row.now entered.now) }
+fn revocation_line(alloc: Global, row: &RevocationRow, reply: &[u8]) -> Result<Vec<u8>, AllocError>
+    ensures { IfOk result (λ line. line.items ≡ row_revocation row.now reply.now) }
 {
     let mut line = Vec::from_slice(alloc, b"revoke")?;
-    put_word(&mut line, second_word(without_end(entered)))?;
+    put_word(&mut line, second_word(without_end(reply)))?;
     put_word(&mut line, &row.serial.text())?;
     line.push(b'\n')?;
     Ok(line)
@@ -331,12 +327,12 @@ fn order_line(alloc: Global, terms: OrderTerms) -> Result<Vec<u8>, AllocError>
 fn registration_line(
     alloc: Global,
     row: &RegistrationRow,
-    ordered: &[u8],
+    reply: &[u8],
 ) -> Result<Vec<u8>, AllocError>
-    ensures { IfOk result (λ line. line.items ≡ row_registration row.now ordered.now) }
+    ensures { IfOk result (λ line. line.items ≡ row_registration row.now reply.now) }
 {
     let mut line = Vec::from_slice(alloc, b"register")?;
-    put_word(&mut line, second_word(without_end(ordered)))?;
+    put_word(&mut line, second_word(without_end(reply)))?;
     put_word(&mut line, &row.serial.text())?;
     put_word(&mut line, &row.not_before.text())?;
     put_word(&mut line, &row.not_after.text())?;

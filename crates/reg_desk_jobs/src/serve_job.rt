@@ -34,32 +34,32 @@ const LOOPBACK: [u8; 4] = [127, 0, 0, 1];
 
 const LOOPBACK_V6: [u8; 16] = [0, 0, 0, 0, 0, 0, 0, 0, 0, 0, 0, 0, 0, 0, 0, 1];
 
-/// Answers `serving.requests` requests over a register, which is opened before the port is bound. If a published CRL is given, `reader` has its bytes, and a
-/// register that lacks any of it is not served.
+/// Answers as many HTTP connections as the job says, over a register, which is opened before the port is bound. If a published CRL is given,
+/// `reader` has its bytes, and a register that lacks any of it is not served.
 pub fn serve<M: Machine, R: Read, W: Write>(
     rt: &HostRuntime,
     machine: &mut M,
-    serving: &ServeJob<'_>,
+    job: &ServeJob<'_>,
     reader: &mut R,
     writer: &mut W,
 ) -> Result<(), Failure>
     ensures { ServeAt M.Machine M.Office.Office R.remaining W.contents machine.old machine.new
         reader.old reader.new
-        writer.old writer.new serving.now result }
+        writer.old writer.new job.now result }
 {
-    let path = serving.file.as_str();
-    let office = open_signed(machine, path, &serving.signer, &serving.responder)?;
+    let path = job.file.as_str();
+    let office = open_signed(machine, path, &job.signer, &job.responder)?;
     let (office, ending) = serve_checked(
         rt,
         machine,
         office,
         path,
-        &serving.signer,
-        &serving.responder,
-        serving.endpoint,
+        &job.signer,
+        &job.responder,
+        job.endpoint,
         None,
-        u64::from(serving.requests),
-        serving.published.is_some(),
+        u64::from(job.requests),
+        job.published.is_some(),
         reader,
         writer,
     );
@@ -183,7 +183,7 @@ fn event_loop_at<H: Handler, M: Machine>(
     match control_path {
         None => event_loop_over(rt, listener, None),
         Some(path) => match create_control_socket(machine, path) {
-            Ok(control_path) => event_loop_over(rt, listener, Some(control_path)),
+            Ok(control) => event_loop_over(rt, listener, Some(control)),
             Err(_) => Err(Failure::Fault(Fault::Read)),
         },
     }
@@ -201,11 +201,11 @@ fn listen<M: Machine>(machine: &M, endpoint: Endpoint) -> io::Result<TcpListener
 fn event_loop_over<H: Handler>(
     rt: &HostRuntime,
     listener: TcpListener,
-    control_path: Option<UnixListener>,
+    control: Option<UnixListener>,
 ) -> Result<EventLoop<H>, Failure>
     ensures { IfErr result (λ why. (why ≡ Failure.Fault Fault.Read) ⊎ (why ≡ Failure.Fault Fault.Memory)) }
 {
-    match EventLoop::new(rt, listener, control_path, MOST_HTTP_CONNECTIONS) {
+    match EventLoop::new(rt, listener, control, MOST_HTTP_CONNECTIONS) {
         Ok(event_loop) => Ok(event_loop),
         Err(error) if error.kind() == ErrorKind::OutOfMemory => {
             Err(Failure::Fault(Fault::Memory))

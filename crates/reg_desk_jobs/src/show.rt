@@ -17,19 +17,19 @@ use reg_core_lists::{Cursor, Format, Row, put_rows};
 use reg_office_api::Office;
 use std::alloc::{AllocError, Global};
 
-/// How many subscribers are read in one call.
-const SUBSCRIBERS: u64 = 250;
+/// How many subscribers one call of [`Office::page`] reads.
+const SUBSCRIBERS_READ: u64 = 250;
 
 const SERIAL_BYTES: usize = 20;
 
-const WORDS: &[u8] =
+const HELP_LINE: &[u8] =
     b"help: subscriber NAME | order SUBSCRIBER DAYS | register ORDER SERIAL NOTBEFORE NOTAFTER | request SERIAL GROUND | decline REQUEST [SERIAL] | revoke REQUEST [SERIAL] | crl | status SERIAL | counts | listing SERIAL | overdue | next-crl | ocsp HEX | show request REQUEST | show SERIAL | show subscriber NAME | why | accept-clock MOMENT | schedule MOMENT=DAYS .. | copy PATH | help";
 
 pub(crate) fn answer_help(alloc: Global) -> ControlReply
     ensures told { IsReplyText (help_text ++ 10 ∷ []) result.text.items }
     ensures line_outcome { ReportsLineOutcome result.line_outcome result.text.items }
 {
-    ControlReply::line(alloc, WORDS, LineOutcome::Done)
+    ControlReply::line(alloc, HELP_LINE, LineOutcome::Done)
 }
 
 /// Shows a row at a moment, in the form of `list --json`. No record changes.
@@ -148,7 +148,7 @@ fn find_subscriber<O: Office>(
     let shown = Shown::Subscriber(name);
     let mut from = Cursor::Subscribers(0);
     for _ in 0..u64::MAX {
-        let page = office.page(alloc, now, from, SUBSCRIBERS)?;
+        let page = office.page(alloc, now, from, SUBSCRIBERS_READ)?;
         match shown_among(&page.rows, &shown) {
             Some(row) => return Ok(Some(row)),
             None => {}

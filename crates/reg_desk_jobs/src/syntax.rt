@@ -1,4 +1,4 @@
-//! Finds what is wrong with a line that can't be read: the field that is missing or has another form, for `why`.
+//! Finds what is wrong with a line that can't be read, for `why`: a field that is missing, malformed, or one too many.
 
 ghost use Rattle.std.specs.Prelude.{◌≡◌, ◌++◌, [], IfOk, is_some, option_map};
 ghost use Rattle.reg_core.specs.Calendar.{moment_of};
@@ -27,7 +27,7 @@ pub enum Field {
 /// What is wrong with the fields of a command.
 #[derive(Clone, Copy, PartialEq, Eq)]
 pub enum WrongField {
-    /// This field has another form.
+    /// This field is malformed.
     Form(Field),
     Missing(Field),
     /// There is a field after the last one.
@@ -52,7 +52,7 @@ const DECISION: &[Field] = &[Field::Request, Field::Serial];
 
 const STATUS: &[Field] = &[Field::Serial];
 
-/// What is wrong with the fields of a line that can't be read; `None` if its word is no command with fields.
+/// What is wrong with the fields of a line that can't be read; `None` if its word is no command with fields, or no field is wrong.
 pub(crate) fn wrong_field(line: &[u8]) -> Option<WrongField>
     ensures { result ≡ wrong_in (fields_of line.now) }
 {
@@ -127,7 +127,8 @@ fn is_moment(text: &[u8]) -> bool
     Moment::read(text).is_some()
 }
 
-pub(crate) fn wrong_words(alloc: Global, wrong: WrongField) -> Result<Vec<u8>, AllocError>
+/// The text of `why` for a wrong field.
+pub(crate) fn wrong_field_text(alloc: Global, wrong: WrongField) -> Result<Vec<u8>, AllocError>
     ensures { IfOk result (λ text. text.items ≡ wrong_text wrong) }
 {
     match wrong {

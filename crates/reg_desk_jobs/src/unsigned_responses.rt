@@ -44,29 +44,29 @@ pub struct Unsigned {
 pub(crate) fn unsigned_of<M: Machine>(
     alloc: Global,
     machine: &M,
-    left: UnsignedResponse,
+    response: UnsignedResponse,
     moment: Moment,
     began: u64,
     client: SocketAddr,
     request: &Collected,
 ) -> Unsigned
-    ensures draft { result.draft ≡ left.draft }
+    ensures draft { result.draft ≡ response.draft }
     ensures moment { result.moment ≡ moment }
-    ensures route { result.route ≡ left.route }
+    ensures route { result.route ≡ response.route }
 {
-    let UnsignedResponse { route, draft } = left;
+    let UnsignedResponse { route, draft } = response;
     Unsigned {
         draft,
         moment,
         route,
         began,
         client,
-        asked: kept_of(alloc, machine, request.as_slice()),
+        asked: log_prefix_of(alloc, machine, request.as_slice()),
     }
 }
 
 /// The first bytes of the request; empty if there is no log or no memory.
-fn kept_of<M: Machine>(alloc: Global, machine: &M, request: &[u8]) -> Vec<u8> {
+fn log_prefix_of<M: Machine>(alloc: Global, machine: &M, request: &[u8]) -> Vec<u8> {
     if !machine.has_log() {
         return Vec::new(alloc);
     }
@@ -133,7 +133,7 @@ fn signature_of<M: Machine>(
     }
 }
 
-/// The signer's answer on the connection on which it was asked to sign this message.
+/// The signer's answer, if this is the connection on which it was asked to sign this message.
 pub(crate) fn received_answer<M: Machine>(
     alloc: Global,
     signer: &Option<SignerAddress<'_>>,

@@ -10,7 +10,7 @@ use reg_der::tags::{GENERALIZED_TIME, INTEGER, SEQUENCE, TAGGED_0, UTC_TIME};
 use reg_der::take;
 use reg_der::values::{expect, optional, whole};
 
-/// notAfter of a certificate in DER. `None` for other bytes.
+/// notAfter of a certificate in DER. `None` for other bytes, and if it is no [`Moment`].
 pub(crate) fn not_after(certificate: &[u8]) -> Option<Moment>
     ensures found { IfSome result (λ at. not_after_at certificate.now ≡ Some (moment_text at)) }
     ensures none { IfNone result

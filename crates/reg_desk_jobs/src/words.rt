@@ -57,6 +57,7 @@ pub(crate) struct SerialDecision {
     pub(crate) serial: Serial,
 }
 
+/// Reads the meaning of a line.
 pub(crate) fn read_word(alloc: Global, line: &[u8]) -> Result<ControlWord<'_>, AllocError>
     ensures { IfOk result (IsWord line.now) }
 {
@@ -117,6 +118,7 @@ fn read_shown(mut fields: Fields<'_>) -> Option<Shown>
     }
 }
 
+/// Reads `revoke N SERIAL` or `decline N SERIAL`.
 pub(crate) fn serial_decision_in(text: &[u8]) -> Option<SerialDecision>
     ensures { result ≡ serial_decision_in (fields_of text.now) }
 {

@@ -18,7 +18,7 @@ abbrev pub is_none : Option ℕ → Bool
 is_none (Some at) = false
 is_none None = true
 
--- the moment of the last command, if the clock is behind it; now, if the clock is too far ahead, or past its end
+-- the moment of the last command, if the clock is behind it; now, if the clock is too far ahead, or at or past `clock_end`
 abbrev pub clock_of : ℕ → Result Numbers Fault → Option ℕ → Option ℕ
 clock_of now (Ok numbers) accepted = cond (is_ahead now numbers.summary.last accepted) (Some now) None
 clock_of now (Err (Refused (ClockBack last))) accepted = Some last
@@ -85,7 +85,7 @@ abbrev pub since_text : Option ℕ → List ℕ
 since_text (Some at) = 34 ∷ moment_text at ++ 34 ∷ []
 since_text None = codes "null"
 
--- a member: its name, and since when it fails
+-- a member: its name, and the moment that its field has, or null
 abbrev pub member : List ℕ → Option ℕ → List ℕ
 member name since = name ++ since_text since
 

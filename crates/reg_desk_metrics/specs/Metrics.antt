@@ -74,7 +74,7 @@ requests_text None = []
 requests_text (Some counted) =
     sample OPEN.now counted.waiting ++ sample OVERDUE.now counted.overdue ++ sample COUNTED.now counted.at
 
--- the name of a route, and of a status, by its index
+-- the label of a route, and of a status, by its index
 unfoldable pub route_name : ℕ → List ℕ
 route_name index =
     if index == 0 then codes "/ocsp"
@@ -147,7 +147,7 @@ signers_text tally =
     ++ sample OCSP_FAILING.now (moment_or_none tally.ocsp.failing_since)
     ++ sample STORE_FAILING.now (moment_or_none tally.store_since)
 
--- the connections: open and accepted ones; then those that ended by a fault
+-- the connections: open and accepted ones; then lost ones, by cause
 unfoldable pub connections_text : ConnectionTotals → List ℕ
 connections_text connection_totals =
     sample OPEN_HTTP.now connection_totals.open_http ++ sample OPEN_CONTROL.now connection_totals.open_control
@@ -183,7 +183,7 @@ unfoldable pub sum_of : List ℕ → ℕ → ℕ
 sum_of buckets zero = 0
 sum_of buckets (suc index) = min (sum_of buckets index + slice_index_or buckets index 0) greatest
 
--- the first buckets in order, each with the counts of those below it
+-- the first buckets in order, each with the sum of its count and of those of the buckets below it
 unfoldable pub buckets_text : List ℕ → ℕ → List ℕ
 buckets_text buckets zero = []
 buckets_text buckets (suc index) =

@@ -35,7 +35,7 @@ bumped counts index = slice_set counts index (one_more (slice_index_or counts in
 abbrev pub with_amount : List ℕ → ℕ → ℕ → List ℕ
 with_amount sums index amount = slice_set sums index (min (slice_index_or sums index 0 + amount) greatest)
 
--- the numbers of the routes, and of the statuses
+-- the index of a route, and of a status
 abbrev pub route_number : Route → ℕ
 route_number routes.Ocsp = 0
 route_number routes.OcspRest = 1
@@ -49,7 +49,7 @@ route_number routes.Health = 8
 route_number routes.Metrics = 9
 route_number routes.Other = 10
 
--- the last number is for no answer, and for any other status
+-- the last index is for no answer, and for any other status
 unfoldable pub code_number : Option ℕ → ℕ
 code_number None = 11
 code_number (Some code) =
@@ -164,7 +164,7 @@ abbrev pub counted_crl_outcome : CrlSigning → SignatureOutcome → SignatureOu
 counted_crl_outcome NoSigner signature_outcome = signature.NotRequested
 counted_crl_outcome other signature_outcome = signature_outcome
 
--- the effects of an exchange on the signatures of CRLs and of OCSP responses, and on the store
+-- the effects of an exchange or a line on the signatures of CRLs and of OCSP responses, and on the store
 abbrev pub outcomes_counted : ℕ → SignatureOutcome → SignatureOutcome → StoreEffect → Tally → Tally
 outcomes_counted now crl ocsp effect tally = record tally {
   crls = signing_after (counted_crl_outcome tally.crl_signing crl) now tally.crls;
@@ -204,7 +204,7 @@ is_key NoSigner = false
 abbrev pub has_crl_key : Tally → Bool
 has_crl_key tally = is_key tally.crl_signing
 
--- what was read in a CRL, if that has this number
+-- the CRL that was read last, if it has this number
 abbrev pub read_with : ℕ → Option ReadCrl → Option ReadCrl
 read_with number None = None
 read_with number (Some read) = if read.number == number then Some read else None
@@ -212,7 +212,7 @@ read_with number (Some read) = if read.number == number then Some read else None
 abbrev pub read_of : ℕ → Tally → Option ReadCrl
 read_of number tally = read_with number tally.read
 
--- what was read in a CRL is kept
+-- the CRL that was read last is kept
 abbrev pub with_read : ReadCrl → Tally → Tally
 with_read read tally = record tally { read = Some read }
 

@@ -9,7 +9,7 @@ use reg_core::Moment;
 const MOST_AHEAD: u64 = 2_592_000;
 
 /// Whether the clock is more than 30 days past the last accepted moment, and also more than 30 days past the moment that the operator accepted, if any.
-/// A register without an accepted moment has nothing to compare the clock with.
+/// `false` for a register without an accepted moment: there is nothing to compare the clock with.
 pub fn is_ahead(now: Moment, last: Moment, accepted: Option<Moment>) -> bool
     ensures { result ≡ ahead now last accepted }
 {

@@ -1,7 +1,7 @@
 //! Whether all is well with an open register; if not, what fails, and since when.
 
 ghost use Rattle.std.specs.Prelude.{◌≡◌, ◌++◌, IfOk, OnOk};
-ghost use Rattle.reg_desk_metrics.specs.Healths.{clock_of as clock_spec, crl_since as crl_since_spec, crl_text as crl_spec, is_crl_due_at_once as lacks_crl, health_of, health_text, is_none as is_without, is_filling as fills, is_well as all_well, if_past as past_spec, member, rows_since as all_row_lines, signers_text, since_text, health_member, store_since_at as store_spec};
+ghost use Rattle.reg_desk_metrics.specs.Healths.{clock_of as clock_spec, crl_since as crl_since_spec, crl_text as crl_spec, is_crl_due_at_once as due_at_once, health_of, health_text, is_none as is_without, is_filling as fills, is_well as all_well, if_past as past_spec, member, rows_since as rows_spec, signers_text, since_text, health_member, store_since_at as store_spec};
 
 use crate::ahead::is_ahead;
 use crate::numbers::Found;
@@ -13,7 +13,7 @@ use std::alloc::{AllocError, Global};
 /// What is not well with an open register. All is well if each is `None`, and `is_crl_due_at_once` is false.
 #[derive(Clone, Copy, PartialEq, Eq)]
 pub struct Health {
-    /// The moment of the last command, if the clock is behind it; now, if the clock is too far ahead or past the last moment that a register accepts.
+    /// The moment of the last command, if the clock is behind it; now, if the clock is too far ahead, or at or past `CLOCK_END`.
     pub(crate) clock: Option<Moment>,
     /// The next CRL is due at once: there is none yet, or the latest one has a placeholder digest and the desk has a signer.
     pub(crate) is_crl_due_at_once: bool,
@@ -40,8 +40,8 @@ impl Health {
             crl: crl_since(now, found),
             crl_signer: tally.crls.failing_since,
             ocsp_signer: tally.ocsp.failing_since,
-            rows: rows_of(now, found),
-            store: store_of(now, found, tally.store_since),
+            rows: rows_failing_since(now, found),
+            store: store_failing_since(now, found, tally.store_since),
         }
     }
 
@@ -100,7 +100,7 @@ fn clock_of(now: Moment, found: &Found, accepted: Option<Moment>) -> Option<Mome
 }
 
 fn is_crl_due_at_once(found: &Found) -> bool
-    ensures { result ≡ lacks_crl found.now }
+    ensures { result ≡ due_at_once found.now }
 {
     match found {
         Ok(numbers) => is_none(numbers.due),
@@ -127,8 +127,8 @@ fn past(now: Moment, due: Option<Moment>) -> Option<Moment>
     }
 }
 
-fn rows_of(now: Moment, found: &Found) -> Option<Moment>
-    ensures { result ≡ all_row_lines now found.now }
+fn rows_failing_since(now: Moment, found: &Found) -> Option<Moment>
+    ensures { result ≡ rows_spec now found.now }
 {
     match found {
         Ok(numbers) if is_filling(&numbers.summary) => Some(now),
@@ -155,7 +155,7 @@ fn is_filling(summary: &RegisterSummary) -> bool
 }
 
 /// Since when the store fails: by the tally, or else now if the register can't be read.
-fn store_of(now: Moment, found: &Found, since: Option<Moment>) -> Option<Moment>
+fn store_failing_since(now: Moment, found: &Found, since: Option<Moment>) -> Option<Moment>
     ensures { result ≡ store_spec now found.now since }
 {
     match *found {

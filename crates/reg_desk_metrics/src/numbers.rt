@@ -3,7 +3,7 @@
 use reg_core::{Counts, Fault, Moment};
 use reg_office_api::RegisterSummary;
 
-/// What a register has at a moment.
+/// A register's numbers at a moment.
 #[derive(Clone, Copy, PartialEq, Eq)]
 pub struct Numbers {
     pub counts: Counts,
@@ -37,7 +37,7 @@ pub enum CrlSigning {
     NoSigner,
 }
 
-/// What was read in a CRL.
+/// A CRL that the desk read, to find out whether it is signed.
 #[derive(Clone, Copy, PartialEq, Eq)]
 pub struct ReadCrl {
     pub number: u64,
@@ -48,11 +48,11 @@ pub struct ReadCrl {
 /// Counts of connections.
 #[derive(Clone, Copy, PartialEq, Eq)]
 pub struct ConnectionTotals {
-    /// Open connections at the port, and at the control socket.
+    /// Open connections at the port, and at the control socket; then all connections that were accepted at the port.
     pub open_http: u64,
     pub open_control: u64,
     pub accepted: u64,
-    /// Connections that ended by a fault, and why.
+    /// Lost connections: broken, out of time, evicted to make room for another, out of memory.
     pub broken: u64,
     pub late: u64,
     pub evicted: u64,

@@ -9,7 +9,7 @@ use reg_core::Moment;
 use reg_http::{Exchange, Route};
 use reg_office_api::{LineEffects, LineReply, SignatureOutcome, StoreEffect};
 
-/// How many statuses are counted apart (the last is for any other, and for no answer), pairs with a route, buckets, and routes.
+/// How many statuses are counted apart (the last is for any other, and for no answer), pairs of route and status, buckets, and routes.
 pub(crate) const CODES: usize = 12;
 
 pub(crate) const ANSWERS: usize = 132;
@@ -21,13 +21,13 @@ pub(crate) const ROUTES: usize = 11;
 /// What was counted.
 #[derive(Clone, Copy)]
 pub struct Tally {
-    /// Answers by route and status: the index is the route's number times `CODES`, plus the status's number.
+    /// Answers by route and status: the index is that of the route times `CODES`, plus that of the status.
     pub(crate) answers: [u64; ANSWERS],
     /// Lines at the control socket that were accepted, that were refused, and whose reply was a fault.
     pub(crate) accepted: u64,
     pub(crate) refused: u64,
     pub(crate) faults: u64,
-    /// HTTP exchanges and lines by how long they took.
+    /// HTTP exchanges and lines by how long they took; the upper bounds are in `bucket_of`.
     pub(crate) buckets: [u64; BUCKETS],
     /// How long all of them took, in microseconds.
     pub(crate) micros: u64,
@@ -45,7 +45,7 @@ pub struct Tally {
     pub(crate) crl_signing: CrlSigning,
     /// notAfter of the responder's certificate (RFC 5280 4.1.2.5), if it is known.
     pub(crate) responder_ends: Option<Moment>,
-    /// What was read in the CRL that was read last.
+    /// The CRL that was read last.
     pub(crate) read: Option<ReadCrl>,
 }
 
@@ -74,7 +74,7 @@ fn is_ocsp(route: Route) -> bool
 }
 
 /// Whether an exchange gave an OCSP response, which has status 200 (RFC 6960 A.2).
-fn sent_response(exchange: &Exchange) -> bool
+fn has_ocsp_response(exchange: &Exchange) -> bool
     ensures { result ≡ has_response exchange.now }
 {
     match exchange.status {
@@ -102,7 +102,7 @@ fn route_number(route: Route) -> usize
     }
 }
 
-/// The number of a status; the last number is for no answer, and for any other status.
+/// The index of a status; the last one is for no answer, and for any other status.
 #[tactic(auto, unfolding(crate::specs::Tallies::code_number))]
 fn code_number(status: Option<u16>) -> usize
     ensures number { result ≡ number_of_code status }
@@ -240,7 +240,7 @@ impl Tally {
         }
     }
 
-    /// What was read in the CRL with this number, if that was read last.
+    /// The CRL that was read last, if it has this number.
     pub fn read_crl(&self, number: u64) -> Option<ReadCrl>
         ensures { result ≡ read_of number self.now }
     {
@@ -250,7 +250,7 @@ impl Tally {
         }
     }
 
-    /// Keeps what was read in a CRL.
+    /// Keeps the CRL that was read last.
     pub fn keep_crl(&mut self, read: ReadCrl)
         ensures { self.new ≡ with_read read self.old }
     {
@@ -286,7 +286,7 @@ impl Tally {
     fn add_failure(&mut self, exchange: &Exchange)
         ensures { self.new ≡ with_failure exchange.now self.old }
     {
-        if !sent_response(exchange) {
+        if !has_ocsp_response(exchange) {
             return;
         }
         match (exchange.signature, exchange.store) {

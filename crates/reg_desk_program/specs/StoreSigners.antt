@@ -23,7 +23,7 @@ SignerAtPath (KeyAt holder) path = path ≡ Some holder.socket
 -- A store before and after the records were read; and the responder to OCSP requests, which may be the signer of CRLs.
 module _ {C : Type 0} (g : Ghosts C) (old new : Held C) (answers : Identity → Responder)
     (identity : Identity) where
-  -- The signer is the holder with the issuer's key, or the digest; a CRL with its algorithm may follow the latest CRL; and the responder's
+  -- The signer is the one at this address, with the issuer's key, or the digest; a CRL with its algorithm may follow the latest CRL; and the responder's
   -- certificate, if the issuer's key signs its responses, has that key.
   pub record SignsAfter (holder : Option SignerAddress) (latest : Option (List ℕ)) : Type 0 where
     pub told : (records : Records) → Shows g old records → HasCleanDisk (state g new)

@@ -18,7 +18,7 @@ impl AuditProgress {
     pub(crate) fn of(host: &Host<'_>) -> AuditProgress {
         AuditProgress {
             rt: host.rt,
-            shows_progress: host.has_terminal,
+            shows_progress: host.shows_progress,
             rows: 0,
             crls: 0,
             last_shown: seconds(&host.rt),

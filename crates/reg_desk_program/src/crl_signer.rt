@@ -38,7 +38,7 @@ use sqlite::Alter;
 ///
 /// # Errors
 ///
-/// `BadResponder` if the issuer's certificate has another key; else `BadSigner`, with its cause kept in the host, if the issuer's key does not fit
+/// `BadResponder` if the embedded certificate has another key than the issuer; else `BadSigner`, with its cause kept in the host, if the issuer's key does not fit
 /// the algorithm, or the latest CRL has another algorithm or one that is unknown here; `Memory`, `Store`.
 #[tactic(auto, using(crate::proofs::Missing::opens_faulty))]
 pub(crate) fn signer_for<C: Alter>(
@@ -57,7 +57,7 @@ pub(crate) fn signer_for<C: Alter>(
 {
     let latest = latest_crl(tables)?;
     match crls {
-        CrlSigner::KeyAt(holder) => signer_after(host, tables, &latest, Some(holder), responder),
+        CrlSigner::KeyAt(address) => signer_after(host, tables, &latest, Some(address), responder),
         CrlSigner::Digest => signer_after(host, tables, &latest, None, responder),
         CrlSigner::NoSigner => signer_without_process(host, tables, &latest, responder),
     }
@@ -96,6 +96,7 @@ fn unreachable_address(latest: &Option<Vec<u8>>) -> Option<SignerAddress<'static
     })
 }
 
+/// The signer at an address, or the placeholder digest, once it was compared with the issuer's key and the latest CRL.
 #[tactic(auto, using(crate::proofs::Missing::opens_faulty))]
 fn signer_after<C: Alter>(
     host: &Host<'_>,
@@ -141,10 +142,15 @@ fn open_signer(
         ≡ option_map (λ holder. holder.socket) (option_copied address.entry)) }
     ensures faults { IfErr result IsOpening }
 {
-    let Some(holder) = address else {
+    let Some(signer_address) = address else {
         return Ok(KeyOrDigest::Digest(DigestSeal));
     };
-    match key_signer(&host.rt, holder.socket.as_str(), holder.algorithm, key) {
+    match key_signer(
+        &host.rt,
+        signer_address.socket.as_str(),
+        signer_address.algorithm,
+        key,
+    ) {
         Ok(signer) => Ok(signer),
         Err(Failure::BadSigner) => {
             host.keep_cause(Some(Cause::OtherKey));
@@ -154,6 +160,7 @@ fn open_signer(
     }
 }
 
+/// A signer at a socket, with this key; `BadSigner` if the key does not fit the algorithm.
 pub(crate) fn key_signer(
     rt: &HostRuntime,
     socket: &str,

@@ -30,9 +30,9 @@ pub fn run_desk(rt: &HostRuntime, invocation: &Invocation<'_>) -> u8 {
     let mut host = Host {
         rt: *rt,
         last_cause: &last_cause,
-        has_log: invocation.has_log,
+        logs_to_stderr: invocation.has_log,
         log_file,
-        has_terminal: errors.is_terminal(),
+        shows_progress: errors.is_terminal(),
     };
     let mut output = CountedOutput::of(rt, &invocation.job, &last_cause);
     perform_unreported(

@@ -13,9 +13,9 @@ use std::cell::Cell;
 use std::io::{Read, Write};
 
 /// Does a job on a machine, over standard input and output, and returns its exit status: 0 if it is done; 3 if a reply at the control socket, or in
-/// a strict script or import, was a refusal or a fault, a replay stopped, or the last line has no line end; else 1. Reports a failure on standard error.
-/// If `is_explained`, one more line has the cause of a fault, if the machine knows it, or the reason of the refused registration that ended a
-/// strict script or import.
+/// a strict script or import, was a refusal or a fault, a replay stopped, or their last line has no line end; else 1. Reports a failure on standard
+/// error. If `is_explained` and it is known, one more line has the cause (status 1), or why the registration that ended a strict script or import
+/// was refused (status 3).
 pub fn perform<M: Machine, R: Read, W: Write, E: Write>(
     rt: &HostRuntime,
     machine: &mut M,
@@ -86,11 +86,18 @@ fn run<M: Machine, R: Read, W: Write>(
             file: None,
             signer: Some(_),
         } => Err(Failure::BadSigner),
-        Job::Lines(lined) => script_by_lines(alloc, machine, lined, reason, reader, writer),
+        Job::Lines(line_script) => script_by_lines(
+            alloc,
+            machine,
+            line_script,
+            reason,
+            reader,
+            writer,
+        ),
         Job::Import(rows) => import_rows(alloc, machine, rows, reason, reader, writer),
         Job::Crl { file, number } => crl(alloc, machine, file.as_str(), *number, writer),
-        Job::Serve(serving) => serve(rt, machine, serving, reader, writer),
-        Job::Open(kept) => serve_open(rt, machine, kept, reader, writer),
+        Job::Serve(serve_job) => serve(rt, machine, serve_job, reader, writer),
+        Job::Open(open_job) => serve_open(rt, machine, open_job, reader, writer),
         Job::At {
             control_path,
             rows: None,
@@ -128,7 +135,7 @@ fn run<M: Machine, R: Read, W: Write>(
             key_id,
             writer,
         ),
-        Job::Listing(wanted) => list(alloc, machine, wanted, writer),
+        Job::Listing(list_job) => list(alloc, machine, list_job, writer),
         Job::Copy { file, path } => copy(alloc, machine, file.as_str(), path.as_str(), writer),
         Job::Audit { file } => audit(alloc, &*machine, file.as_str(), writer),
     }

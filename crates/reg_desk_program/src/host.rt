@@ -47,10 +47,10 @@ use std::{fs, io, thread};
 
 const OWNER_ONLY: u32 = 0o600;
 
-/// The error numbers for too many open files, in this process (EMFILE) and in the system (ENFILE).
-const TOO_MANY_HERE: i32 = 24;
+/// Too many open files: in this process, and in the system.
+const EMFILE: i32 = 24;
 
-const TOO_MANY: i32 = 23;
+const ENFILE: i32 = 23;
 
 /// The most tries for the lock of a folder, and the pause between two of them: ten seconds in all.
 const MOST_LOCK_TRIES: u32 = 2_000;
@@ -64,14 +64,15 @@ pub struct Host<'a> {
     /// The last cause of a failed call, if one is known.
     pub(crate) last_cause: &'a Cell<Option<Cause>>,
     /// Whether exchanges are logged on standard error.
-    pub(crate) has_log: bool,
+    pub(crate) logs_to_stderr: bool,
     /// The path of the file in which exchanges are logged, if one is given.
     pub(crate) log_file: Option<&'a str>,
     /// Whether an audit shows its progress on standard error.
-    pub(crate) has_terminal: bool,
+    pub(crate) shows_progress: bool,
 }
 
 impl<'a> Host<'a> {
+    /// The failure for files that could not be read. Keeps its cause, if it has one.
     pub(crate) fn unread(&self, why: UnreadFile) -> Failure
         requires { IsUnread why }
         ensures told { result ≡ failure_of why }
@@ -116,7 +117,7 @@ impl<'a> Host<'a> {
 }
 
 /// Most methods make one library call with the arguments that they were given. No clause can state what that call did outside the program, so
-/// its relation of [`Machine`] states nothing here (`Unspecified`).
+/// the method's relation in [`Machine`] states nothing here (`Unspecified`).
 impl<'a> Machine for Host<'a> {
     ghost use Rattle.std.specs.Prelude.{false};
     ghost use Rattle.std.proofs.Common.{inr, refl};
@@ -315,14 +316,14 @@ impl<'a> Machine for Host<'a> {
 
     fn micros(&self) -> u64 {
         match self.rt.monotonic() {
-            Ok(passed) => micros_of(passed),
+            Ok(time) => micros_of(time),
             Err(_) => 0,
         }
     }
 
     fn millis(&self) -> io::Result<u64> {
-        let passed = self.rt.monotonic()?;
-        Ok(micros_of(passed) / 1_000)
+        let time = self.rt.monotonic()?;
+        Ok(micros_of(time) / 1_000)
     }
 
     fn wait(&self, poll: &mut Poll, events: &mut Events, longest: Duration) -> io::Result<()> {
@@ -342,9 +343,9 @@ impl<'a> Machine for Host<'a> {
     }
 
     fn lock_folder(&self, path: &str) -> io::Result<File> {
-        let folder = File::open(&self.rt, folder_of(path))?;
-        lock_once_free(&self.rt, &folder)?;
-        Ok(folder)
+        let lock = File::open(&self.rt, folder_of(path))?;
+        lock_once_free(&self.rt, &lock)?;
+        Ok(lock)
     }
 
     fn create_socket(&self, lock: &File, path: &str) -> io::Result<UnixListener> {
@@ -383,14 +384,14 @@ impl<'a> Machine for Host<'a> {
 
     fn request_signature(&self, path: &str, message: &[u8]) -> io::Result<SignatureRequest> {
         match SignatureRequest::send_to(&self.rt, path, message) {
-            Ok(link) => Ok(link),
+            Ok(request) => Ok(request),
             Err(error) => Err(as_would_block(error)),
         }
     }
 
     fn connect_to_signer(&self, path: &str) -> io::Result<SignatureRequest> {
         match SignatureRequest::connect(&self.rt, path) {
-            Ok(link) => Ok(link),
+            Ok(request) => Ok(request),
             Err(error) => Err(as_would_block(error)),
         }
     }
@@ -419,11 +420,11 @@ impl<'a> Machine for Host<'a> {
     }
 
     fn has_log(&self) -> bool {
-        self.has_log || self.log_file.is_some()
+        self.logs_to_stderr || self.log_file.is_some()
     }
 
     fn log(&self, line: &[u8]) {
-        if self.has_log {
+        if self.logs_to_stderr {
             self.warn(line);
         }
         if let Some(path) = self.log_file {
@@ -473,11 +474,10 @@ fn seconds_of(time: io::Result<Duration>) -> io::Result<u64>
     }
 }
 
-fn micros_of(passed: Duration) -> u64 {
-    passed
-        .as_secs()
+fn micros_of(time: Duration) -> u64 {
+    time.as_secs()
         .saturating_mul(1_000_000)
-        .saturating_add(u64::from(passed.subsec_micros()))
+        .saturating_add(u64::from(time.subsec_micros()))
 }
 
 /// The folder that contains a path.
@@ -505,7 +505,7 @@ fn lock_once_free(rt: &HostRuntime, folder: &File) -> io::Result<()> {
 /// The error of a connection to a signer. Too many open files become `WouldBlock`, since the request can be sent once another file is closed.
 fn as_would_block(error: io::Error) -> io::Error {
     match error.raw_os_error() {
-        Some(TOO_MANY_HERE | TOO_MANY) => io::Error::from(ErrorKind::WouldBlock),
+        Some(EMFILE | ENFILE) => io::Error::from(ErrorKind::WouldBlock),
         _ => error,
     }
 }

@@ -12,6 +12,7 @@ pub(crate) enum Input {
 }
 
 impl Input {
+    /// Opens the file that a job reads; standard input if it reads none.
     pub(crate) fn of(rt: &HostRuntime, job: &Job<'_>) -> io::Result<Input> {
         match job {
             Job::At {

@@ -1,4 +1,4 @@
-//! Each function here does nothing when it runs: its contract is a law, and the check proves it.
+//! Laws: functions that do nothing when they run, and whose contracts state what the prover has proved.
 
 ghost use Rattle.reg_office.specs.Following.{IsDigestSigner};
 ghost use Rattle.reg_desk_program.specs.Audited.{FoundSound, StandsOnceAudited};
@@ -29,10 +29,10 @@ pub fn without_a_key_only_digests_are_made<D: Device>()
 /// A stop at any moment of a job leaves the records that its replies reported, or these after one more change.
 ///
 /// Between its opening and its closing by a job, [`perform`](crate::perform) changes the records that stand in a register only as the replies report
-/// (`UsesRegister` in `Ends`). A register of this program's version that is opened has the sound records that its file showed (`begins`).
+/// (`UsesRegister` of reg_desk_jobs). A register of this program's version that is opened has the sound records that its file showed (`begins`).
 /// After a stop at any moment (`leaves`), a register that is opened again from what the disk kept has the records that stood, or these after one
-/// more change, for which no acceptance was replied. So no accepted command is lost. Which change that is, among commands run one after another,
-/// is stated by [`reg_office::laws::a_register_opened_after_a_stop_stands_after_a_prefix`].
+/// more change, for which no acceptance was replied. So no accepted command is lost. For commands run one after another,
+/// [`reg_office::laws::a_register_opened_after_a_stop_stands_after_a_prefix`] states which change that is.
 ///
 /// The model of a stop is a disk that refuses each call from that moment on, and a client that receives no later reply. A reply is written
 /// only after its call.

@@ -20,7 +20,7 @@ use reg_office::Responder;
 use std::fs;
 use std::io::ErrorKind;
 
-/// A responder that signs with the signer of CRLs, with the certificate in the file at a path, if one is given.
+/// A responder that signs with the signer of CRLs, and embeds the certificate in the file at a path, if one is given.
 pub(crate) fn issuer_responder(
     host: &Host<'_>,
     path: &Option<Word<'_>>,
@@ -40,25 +40,25 @@ pub(crate) fn issuer_responder(
     }
 }
 
-/// A responder with a key of its own, with the certificate in the file at a path.
+/// A responder with a key and a signer of its own, and the certificate in the file at a path.
 pub(crate) fn delegate_responder(
     host: &Host<'_>,
     path: &Word<'_>,
-    holder: &SignerAddress<'_>,
+    address: &SignerAddress<'_>,
 ) -> Result<Responder<FileSigner>, Failure>
     ensures ok { IfOk result (λ responder.
-        (crls : Identity) → IsDelegate holder.now
+        (crls : Identity) → IsDelegate address.now
         (answers_by ⟦<FileSigner as Signer>⟧.identity crls responder)) }
     ensures faults { IfErr result IsOpening }
 {
     let certificate = certificate_at(host, path.as_str())?;
-    if !is_key_identifier(holder.algorithm, certificate.algorithm()) {
+    if !is_key_identifier(address.algorithm, certificate.algorithm()) {
         return Err(Failure::BadResponder);
     }
     match key_signer(
         &host.rt,
-        holder.socket.as_str(),
-        holder.algorithm,
+        address.socket.as_str(),
+        address.algorithm,
         certificate.key(),
     ) {
         Ok(signer) => Ok(Responder::Delegate(signer, certificate)),
@@ -88,6 +88,7 @@ fn certificate_at(host: &Host<'_>, path: &str) -> Result<Certificate, Failure>
     }
 }
 
+/// Whether the certificate that OCSP answers of the issuer embed, if any, has the issuer's key.
 pub(crate) fn embedded_key_fits(responder: &Responder<FileSigner>, key: &[u8]) -> bool
     ensures { IsTrue result → (crls : Identity)
         → EmbeddedKeyFits key.now (answers_by ⟦<FileSigner as Signer>⟧.identity crls responder.now) }

@@ -51,19 +51,19 @@ pub(crate) fn create_over<C: Alter, S: Signer + Drop>(
 pub(crate) fn office_over<C: Alter>(
     host: &Host<'_>,
     connection: Connection<C>,
-    crls: &CrlSigner<'_>,
+    crl_signer: &CrlSigner<'_>,
     responder: Responder<FileSigner>,
 ) -> Result<Office<C, FileSigner>, (Failure, Connection<C>)>
     requires { connection.in_transaction ≡ false }
     ensures opened { IfOk result (λ office.
-        OpensOver C.Store connection crls.now office.store (seen ⟦<FileSigner as Signer>⟧ office).1) }
+        OpensOver C.Store connection crl_signer.now office.store (seen ⟦<FileSigner as Signer>⟧ office).1) }
     ensures responder { IfOk result (λ office. office.responder ≡ responder) }
     ensures err { IfErr result (λ left. IsOpening left.0) }
 {
     match Store::open(host.rt.alloc(), connection) {
         Ok(store) => {
             let mut store = store;
-            match signer_for(host, &mut store, crls, &responder) {
+            match signer_for(host, &mut store, crl_signer, &responder) {
                 Ok(signer) => Ok(Office::answering(store, signer, responder)),
                 Err(why) => Err((why, store.into_connection())),
             }
@@ -87,7 +87,7 @@ pub(crate) fn close<D: Disk + Drop>(connection: Connection<FileStore<D>>) {
 pub(crate) fn preset_wanted(
     signer: &mut FileSigner,
     responder: &mut Responder<FileSigner>,
-    wanted: SignatureKind,
+    kind: SignatureKind,
     preset_signature: Option<PresetSignature>,
 )
     ensures { signatory_of ⟦<FileSigner as Signer>⟧.identity (⟦<FileSigner as Signer>⟧.identity signer.new)
@@ -95,8 +95,10 @@ pub(crate) fn preset_wanted(
         ≡ signatory_of ⟦<FileSigner as Signer>⟧.identity (⟦<FileSigner as Signer>⟧.identity signer.old)
         responder.old }
 {
-    match (wanted, responder) {
-        (SignatureKind::Answer, Responder::Delegate(own, _)) => own.set_preset(preset_signature),
+    match (kind, responder) {
+        (SignatureKind::Answer, Responder::Delegate(own_signer, _)) => own_signer.set_preset(
+            preset_signature,
+        ),
         _ => signer.set_preset(preset_signature),
     }
 }

@@ -7,12 +7,12 @@ use std::io::{IsTerminal, Stdout, Write};
 use std::time::Clock;
 use std::{fs, io};
 
-/// The size of a file, in bytes, from which on its opening is shown.
+/// A file of at least this many bytes has its opening shown.
 const LARGE: u64 = 67_108_864;
 
 const MEGABYTE: u64 = 1_000_000;
 
-/// Standard output, to which a long job writes a line for each line or row that is done. Standard error has their number, at most once a second.
+/// Standard output, to which a long job writes a line for each line or row that is done. Standard error gets their number, at most once a second.
 #[derive(Drop)]
 pub(crate) struct CountedOutput<'a> {
     rt: &'a HostRuntime,
@@ -20,8 +20,8 @@ pub(crate) struct CountedOutput<'a> {
     last_cause: &'a Cell<Option<Cause>>,
     shows_progress: bool,
     lines: u64,
-    /// The seconds of the clock at the start, and when progress was last shown.
-    began: u64,
+    /// The seconds of the monotonic clock at the start, and when progress was last shown.
+    started_at: u64,
     last_shown: u64,
 }
 
@@ -41,7 +41,7 @@ impl<'a> CountedOutput<'a> {
             last_cause,
             shows_progress,
             lines: 0,
-            began: now,
+            started_at: now,
             last_shown: now,
         }
     }
@@ -53,11 +53,11 @@ impl<'a> CountedOutput<'a> {
             return;
         }
         self.last_shown = now;
-        let gone = now.saturating_sub(self.began);
-        let each = self.lines.checked_div(gone).unwrap_or(self.lines);
+        let elapsed = now.saturating_sub(self.started_at);
+        let per_second = self.lines.checked_div(elapsed).unwrap_or(self.lines);
         let lines = self.lines;
         // A line that can't be written is left out.
-        drop(eprintln!(self.rt; "{lines} lines done, {each} a second"));
+        drop(eprintln!(self.rt; "{lines} lines done, {per_second} a second"));
     }
 }
 
@@ -116,14 +116,14 @@ fn is_long(job: &Job<'_>) -> bool {
 fn file_of<'a>(job: &Job<'a>) -> Option<&'a str> {
     match job {
         Job::Script { file, .. } => Some(file.as_ref()?.as_str()),
-        Job::Lines(lined) => Some(lined.file.as_str()),
+        Job::Lines(script) => Some(script.file.as_str()),
         Job::Import(rows) => Some(rows.file.as_str()),
         Job::Crl { file, .. } => Some(file.as_str()),
-        Job::Serve(serving) => Some(serving.file.as_str()),
-        Job::Open(kept) => Some(kept.file.as_str()),
+        Job::Serve(serve_job) => Some(serve_job.file.as_str()),
+        Job::Open(open_job) => Some(open_job.file.as_str()),
         Job::Schedule { file, .. } => Some(file.as_str()),
         Job::KeyId { file, .. } => Some(file.as_str()),
-        Job::Listing(wanted) => Some(wanted.file.as_str()),
+        Job::Listing(list_job) => Some(list_job.file.as_str()),
         Job::Audit { file } => Some(file.as_str()),
         // A copy reads the file's bytes, and does not open the register.
         Job::Copy { .. } => None,

@@ -99,7 +99,7 @@ module _ {H T : Type 0} (answers : H → List ℕ → Outcome T → H → Type 0
   IsAnsweredOnce finishes arrived gone stage.Draining ended = WasAnswered finishes arrived gone
 
 module _ {S H T L : Type 0} (contents remaining : S → Option (List ℕ)) (g : Ghosts H T L) where
-  -- an HTTP connection, whether or not more of its request is received: its request is answered once
+  -- the request of an HTTP connection is answered at most once, whether or not more of it is received
   pub record HasServed (first : S) (connection : HttpConnection S H T L) : Type 0 where
     pub arrived : List ℕ
     pub gone : List ℕ

@@ -44,12 +44,12 @@ module _ {H S : Type 0} where
       × (new.arrived.items ≡ drop end old.arrived.items))
       ⊎ ((unsent_of old.unsent ≡ [] → HasNoLine old.arrived.items) × (t ≡ s) × SameLines old new)
 
-  -- the message for the first line was made, and the line was not answered; or no line was considered
+  -- the first line was not answered, but its message may have been made; or no line was considered
   abbrev pub DefersFirstLine : (H → List ℕ → H → Type 0) → H → H → ControlConnection S → Type 0
   DefersFirstLine defers s t old =
       ((end : ℕ) × FirstLineEnds old.arrived.items end × defers s (take end old.arrived.items) t) ⊎ (t ≡ s)
 
-  -- that line was then answered like any other; or its message was made again, and the kept bytes did not change
+  -- that line was then answered like any other; or it still was not, and the kept bytes did not change
   abbrev pub AnswersDeferred
       : (H → List ℕ → List ℕ → H → Type 0) → (H → List ℕ → H → Type 0) → H → H → ControlConnection S
       → ControlConnection S → Type 0
@@ -71,7 +71,7 @@ abbrev pub GathersOn
 GathersOn remaining old new =
     Gathers (remaining old.link) (remaining new.link) old.arrived.items new.arrived.items new.has_ended
 
--- whether nothing more comes on a connection after receiving ended in this way
+-- whether nothing more comes on a connection after a read with this result
 abbrev pub ends_by : Received → Bool
 ends_by received.Whole = false
 ends_by received.Blocked = false

@@ -14,7 +14,7 @@ use std::io;
 use std::io::ErrorKind;
 use std::net::SocketAddr;
 
-const MOST_ACCEPTED: usize = 64;
+const MOST_AT_ONCE: usize = 64;
 
 /// A listener, and the accepted connection that waits for a slot, if one does.
 #[derive(Drop)]
@@ -24,7 +24,7 @@ pub(crate) struct Acceptor {
     next: Option<(TcpStream, SocketAddr)>,
     /// Whether another connection may be waiting at the listener.
     may_have_more: bool,
-    /// Whether one is taken to wait: the listener was ready, with none accepted since.
+    /// Whether one is assumed to wait: the listener was ready, with none accepted since.
     has_more: bool,
     /// Whether there was no descriptor for a waiting connection, and no HTTP connection whose descriptor could be freed for it.
     pub(crate) is_short: bool,
@@ -58,8 +58,8 @@ impl Acceptor {
         self.next.is_some() || (self.may_have_more && self.accepted < most)
     }
 
-    /// Accepts waiting connections: at most [`MOST_ACCEPTED`] in a call, and `most` in all. If a waiting connection can't be accepted, or there is no slot for it, evicts
-    /// an HTTP connection. If there is none, the next call tries again if descriptors ran out; any other error is an [`EventLoopFault`].
+    /// Accepts waiting connections: at most [`MOST_AT_ONCE`] in a call, and `most` in all. If a waiting connection can't be accepted, or there is no slot for it, evicts
+    /// an HTTP connection. If there is none to evict, the next call tries again if descriptors ran out; any other error is an [`EventLoopFault`].
     pub(crate) fn accept_all<H: Handler>(
         &mut self,
         most: u64,
@@ -71,8 +71,8 @@ impl Acceptor {
         ensures within { self.old.accepted ≤ most → self.new.accepted ≤ most }
         ensures fails { OnErr result H.failed }
     {
-        self.try_again();
-        for _ in 0..MOST_ACCEPTED {
+        self.clear_short();
+        for _ in 0..MOST_AT_ONCE {
             if !self.accept(most, connections, shared, handler, now)? {
                 return Ok(());
             }
@@ -80,7 +80,7 @@ impl Acceptor {
         Ok(())
     }
 
-    fn try_again(&mut self)
+    fn clear_short(&mut self)
         ensures { self.new.accepted ≡ self.old.accepted }
     {
         if self.is_short {
@@ -151,16 +151,16 @@ impl Acceptor {
 
     fn after_fault<H: Handler>(
         &mut self,
-        why: &io::Error,
+        error: &io::Error,
         connections: &mut HttpConnections<H>,
         shared: &mut Shared,
     ) -> Result<(), EventLoopFault>
-        requires { AcceptFails H.failed why.now }
+        requires { AcceptFails H.failed error.now }
         ensures same { self.new.accepted ≡ self.old.accepted }
         ensures kept { self.old.has_more ≡ false → connections.new ≡ connections.old }
         ensures fails { OnErr result H.failed }
     {
-        match why.kind() {
+        match error.kind() {
             ErrorKind::WouldBlock => {
                 self.may_have_more = false;
                 Ok(())
@@ -168,7 +168,7 @@ impl Acceptor {
             ErrorKind::Interrupted | ErrorKind::ConnectionAborted => Ok(()),
             // There may be no descriptor; Linux reports this even if no connection waits.
             _ if !self.has_more => {
-                self.poll_again(&shared.poller);
+                self.reregister(&shared.poller);
                 Ok(())
             }
             _ if connections.slots.reserved() > 0 => {
@@ -176,7 +176,7 @@ impl Acceptor {
                 Ok(())
             }
             // Control connections and signature requests have all descriptors.
-            _ if is_out_of_descriptors(why) => {
+            _ if is_out_of_descriptors(error) => {
                 self.may_have_more = false;
                 self.is_short = true;
                 Ok(())
@@ -186,13 +186,13 @@ impl Acceptor {
     }
 
     /// Registers the listener again, so that it is reported as ready if a connection waits. If that fails, assumes that one does.
-    fn poll_again(&mut self, poller: &Poller)
+    fn reregister(&mut self, poller: &Poller)
         ensures { self.new.accepted ≡ self.old.accepted }
     {
-        let is_polled = poller
+        let is_registered = poller
             .register(&mut self.listener, HTTP_LISTENER, Interest::READABLE, true)
             .is_ok();
-        self.may_have_more = !is_polled;
-        self.has_more = !is_polled;
+        self.may_have_more = !is_registered;
+        self.has_more = !is_registered;
     }
 }

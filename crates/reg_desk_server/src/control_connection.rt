@@ -15,16 +15,19 @@ use reg_io::first_delimiter;
 use std::alloc::Global;
 use std::io::{ErrorKind, Read};
 
+/// A connection that sends this many bytes without an LF is closed.
 const LONGEST_LINE: usize = 8_194;
 
 const MOST_READS: usize = 4;
 
-/// How often a line's signature is requested in the background, at most. After that the line is answered at once, and the loop waits for its signer.
+/// How often, at most, a line's signature is requested in the background. After that, answering the line blocks the loop while the signer signs.
 const MOST_DEFERRALS: u32 = 3;
 
+/// A client's connection at the control socket.
 #[derive(Drop)]
 pub struct ControlConnection<S: Link> {
     pub(crate) link: S,
+    /// The bytes that came and were not answered yet.
     pub(crate) arrived: Vec<u8>,
     pub(crate) unsent: Unsent,
     pub(crate) has_ended: bool,
@@ -57,6 +60,7 @@ impl<S: Link> ControlConnection<S> {
         }
     }
 
+    /// Sends more of the reply; once it is sent, reads until a line is whole.
     pub fn advance(&mut self, read_buffer: &mut [u8]) -> Next
         ensures advances { Advances S.Write.contents S.Read.remaining self.old self.new }
 

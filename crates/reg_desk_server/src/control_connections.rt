@@ -6,10 +6,10 @@ ghost use Rattle.reg_desk_server.specs.Handling.{AnsweredLines};
 use crate::control_connection::ControlConnection;
 use crate::handler::{ConnectionFault, EventLoopFault, Handler};
 use crate::http_connection::Next;
-use crate::http_connections::SWEEP;
+use crate::http_connections::SWEEP_MILLIS;
 use crate::poller::{CONTROL_LISTENER, FIRST_CONTROL, Poller, is_out_of_descriptors};
 use crate::shared::{LostConnection, Shared};
-use crate::signature_requests::PAUSE;
+use crate::signature_requests::PAUSE_MILLIS;
 use crate::slots::Slots;
 use crate::waiting_line::WaitingLine;
 use mio::Interest;
@@ -65,8 +65,8 @@ impl<H: Handler> ControlConnections<H> {
     /// The longest time that the loop may block while a line waits for a signature.
     pub(crate) fn longest_wait(&self) -> Duration {
         match &self.waiting {
-            Some(waiting) if waiting.link.is_none() => Duration::from_millis(PAUSE),
-            Some(_) => Duration::from_millis(SWEEP),
+            Some(waiting) if waiting.link.is_none() => Duration::from_millis(PAUSE_MILLIS),
+            Some(_) => Duration::from_millis(SWEEP_MILLIS),
             None => Duration::MAX,
         }
     }
@@ -76,8 +76,7 @@ impl<H: Handler> ControlConnections<H> {
         self.waiting = None;
     }
 
-    /// Accepts connections while slots are free; others wait in the kernel's backlog. If there is no descriptor, the next call tries
-    /// again.
+    /// Accepts connections while slots are free; others wait in the kernel's backlog. If there is no descriptor, the next call tries again.
     pub(crate) fn accept_all(&mut self, shared: &mut Shared) {
         if self.is_short {
             self.is_short = false;
@@ -208,7 +207,7 @@ impl<H: Handler> ControlConnections<H> {
             self.drive(slot, connection, shared);
             return line_answered;
         }
-        waiting.begin(handler, &shared.poller);
+        waiting.connect_and_send(handler, &shared.poller);
         self.waiting = Some(waiting);
         Ok(())
     }
@@ -235,7 +234,7 @@ impl<H: Handler> ControlConnections<H> {
         match connection.defer(handler) {
             Some(deferred) => {
                 let mut waiting = WaitingLine::new(slot, connection, deferred, now);
-                waiting.begin(handler, &shared.poller);
+                waiting.connect_and_send(handler, &shared.poller);
                 self.waiting = Some(waiting);
                 Ok(())
             }

@@ -8,10 +8,10 @@ use crate::acceptor::Acceptor;
 use crate::control_connections::ControlConnections;
 use crate::handler::{ConnectionCounts, EventLoopFault, Handler};
 use crate::http_connection::HttpConnection;
-use crate::http_connections::{HttpConnections, MOST_HTTP_CONNECTIONS, SWEEP};
+use crate::http_connections::{HttpConnections, MOST_HTTP_CONNECTIONS, SWEEP_MILLIS};
 use crate::poller::{
-    CONTROL_LISTENER, FIRST_CONTROL, FIRST_HTTP, FIRST_SIGNATURE, HTTP_LISTENER, LINE, LINE_ENDED,
-    MOST_SIGNATURES,
+    CONTROL_LISTENER, FIRST_CONTROL, FIRST_HTTP, FIRST_SIGNATURE, HTTP_LISTENER, LINE_SIGNER,
+    LINE_SIGNER_ENDED, MOST_SIGNATURES,
 };
 use crate::shared::{LostConnection, Shared};
 use crate::signature_requests::{Pending, Requester, SignatureRequests, TIMEOUT_MILLIS};
@@ -22,7 +22,8 @@ use std::io::ErrorKind;
 use std::net::Net;
 use std::time::Duration;
 
-const IDLE: u64 = 3_600;
+/// The longest time, in seconds, for which the loop blocks if no HTTP connection is open.
+const IDLE_SECS: u64 = 3_600;
 
 /// The event loop of one thread: the connections that a handler answers.
 #[derive(Drop)]
@@ -94,7 +95,7 @@ impl<H: Handler> EventLoop<H> {
     }
 
     /// Closes the HTTP connections: sends the answers that are made, and finishes those that wait for a signature, until no connection is
-    /// left. Reports the connections that end by a fault to the handler.
+    /// left. Reports lost connections to the handler.
     pub fn finish(&mut self, handler: &H) -> Result<(), EventLoopFault> {
         let most = self.acceptor.accepted;
         self.http.close_all(&mut self.shared);
@@ -120,7 +121,7 @@ impl<H: Handler> EventLoop<H> {
         }
     }
 
-    /// Waits for events, then reads, writes and accepts, and finds the connections whose time is over.
+    /// Waits for events, then reads, writes and accepts, and finds the connections whose time is over. Returns the milliseconds of the clock.
     fn poll(&mut self, handler: &H, most: u64) -> Result<u64, EventLoopFault>
         ensures ok { OnOk result ((count : ℕ) → H.waited count → H.waited (count + 1)) }
         ensures fails { OnErr result H.failed }
@@ -151,9 +152,9 @@ impl<H: Handler> EventLoop<H> {
         }
         let is_short = self.acceptor.is_short || self.control.is_short;
         let idle = if self.http.slots.reserved() == 0 && !is_short {
-            Duration::from_secs(IDLE)
+            Duration::from_secs(IDLE_SECS)
         } else {
-            Duration::from_millis(SWEEP)
+            Duration::from_millis(SWEEP_MILLIS)
         };
         idle.min(for_signatures)
     }
@@ -166,10 +167,10 @@ impl<H: Handler> EventLoop<H> {
         } else if token < FIRST_SIGNATURE {
             let slot = token.saturating_sub(FIRST_CONTROL);
             self.control.advance(slot, &mut self.shared);
-        } else if token < LINE {
+        } else if token < LINE_SIGNER {
             self.signatures
                 .mark_ended(token.saturating_sub(FIRST_SIGNATURE));
-        } else if token <= LINE_ENDED {
+        } else if token <= LINE_SIGNER_ENDED {
             self.advance_line(token);
         } else {
             let slot = token.saturating_sub(FIRST_HTTP);
@@ -180,7 +181,7 @@ impl<H: Handler> EventLoop<H> {
     /// Advances the control line that waits for a signature: the connection to the signer is ready, or has ended.
     fn advance_line(&mut self, token: usize) {
         if let Some(waiting) = &mut self.control.waiting {
-            if token == LINE_ENDED {
+            if token == LINE_SIGNER_ENDED {
                 waiting.mark_ended();
             } else {
                 waiting.send_on(&self.shared.poller);
@@ -322,7 +323,7 @@ impl<H: Handler> EventLoop<H> {
         }
         for _ in 0..MOST_HTTP_CONNECTIONS {
             match self.signatures.take_expired(now) {
-                Some(late) => self.complete(late.requester, false, handler, now),
+                Some(expired) => self.complete(expired.requester, false, handler, now),
                 None => return,
             }
         }

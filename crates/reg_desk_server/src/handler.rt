@@ -13,7 +13,7 @@ use std::time::Duration;
 #[derive(Clone, Copy, Debug, PartialEq, Eq)]
 pub struct EventLoopFault;
 
-/// The fault by which a connection ended.
+/// Why a connection was lost.
 #[derive(Clone, Copy, Debug, PartialEq, Eq)]
 pub enum ConnectionFault {
     /// The client broke the connection off, or it can't be polled.
@@ -41,7 +41,7 @@ pub struct Deferred<T> {
     pub ticket: T,
 }
 
-/// Answers requests and lines, one after the other. While a signature is requested for one of them, others are answered.
+/// Answers requests and lines, one after the other. While a signature is awaited, other requests are answered, but no line after the one that awaits it.
 /// Only one type, in another crate, implements it. It is a trait because the clauses of the event loop quantify over its relations.
 pub trait Handler {
     ghost use Rattle.std.specs.Prelude.{◌≡◌, ◌+◌, ℕ, List, IsTrue, IfErr, IfOk, OnErr, OnOk, MatchOption};
@@ -62,7 +62,7 @@ pub trait Handler {
     // This text is the reply to this line, with the handler before and after it.
     ghost answers_line: { Self → List ℕ → List ℕ → Self → Type 0 };
 
-    // The handler made the message for this line, and has not answered it; the handler before and after.
+    // The handler has not answered this line, and may have made its message; the handler before, and after.
     ghost defers: { Self → List ℕ → Self → Type 0 };
 
     // This text finishes the answer that was left to be signed.
@@ -88,7 +88,7 @@ pub trait Handler {
     fn millis(&self) -> Result<u64, EventLoopFault>
         ensures { OnErr result failed };
 
-    /// Blocks until something is ready, at most for `longest`.
+    /// Blocks until a socket is ready, at most for `longest`.
     fn wait(
         &self,
         poll: &mut Poll,
@@ -113,8 +113,8 @@ pub trait Handler {
         ensures err { OnErr result (self.new ≡ self.old) }
         ensures fails { OnErr result failed };
 
-    /// Requests the signature of an answer that is to be signed, without blocking. Returns the connection on which the signature will come, up to its end. The error
-    /// is `WouldBlock` if the signer has no room for one more connection.
+    /// Requests the signature of an answer that is to be signed, without blocking. Returns the connection to the signer: the signature is all that the signer sends
+    /// on it. The error is `WouldBlock` if the signer's backlog is full, or if no descriptor is left.
     fn request_signature(&self, ticket: &Self::Ticket) -> io::Result<SignatureRequest>;
 
     /// The text that finishes an answer that is to be signed. `link` is the connection on which its signature was requested, once it is at its end; `None` if there
@@ -122,7 +122,7 @@ pub trait Handler {
     fn finish(&self, ticket: Self::Ticket, link: Option<SignatureRequest>) -> Vec<u8>
         ensures { finishes self.now ticket result.items };
 
-    /// Answers one line of a control connection. Only the handler writes `last_reason`, which is empty when the connection begins.
+    /// Answers one line of a control connection. The handler keeps in `last_reason`, which is empty at first, what the line `why` reports.
     fn answer_line(
         &mut self,
         line: &[u8],
@@ -137,7 +137,7 @@ pub trait Handler {
     fn defer(&mut self, line: &[u8]) -> Option<Deferred<Self::Line>>
         ensures { defers self.old line.now self.new };
 
-    /// Connects to the signer for a line, without blocking. The error is `WouldBlock` if the signer has no room for one more connection.
+    /// Connects to the signer for a line, without blocking. The error is `WouldBlock` as for [`Handler::request_signature`].
     fn connect_to_signer(&self, ticket: &Self::Line) -> io::Result<SignatureRequest>;
 
     /// Answers a line whose message was made. `link` is the connection on which the message was sent, once it is at its end; `None` if there is no
@@ -155,9 +155,9 @@ pub trait Handler {
         ensures err { OnErr result ((self.new ≡ self.old) × (last_reason.new ≡ last_reason.old)) }
         ensures fails { OnErr result failed };
 
-    /// Reports that the connection from an address ended by a fault; a control connection has no address.
+    /// Reports that the connection from an address was lost; a control connection has no address.
     fn report_lost(&self, client: Option<SocketAddr>, why: ConnectionFault);
 
-    /// Receives the numbers of connections, in each iteration before anything is answered.
+    /// Receives the numbers of connections, in each iteration of `serve_all` before anything is answered.
     fn keep_counts(&self, connection_counts: ConnectionCounts);
 }

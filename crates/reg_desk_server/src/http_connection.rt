@@ -22,7 +22,7 @@ use std::{io, mem};
 const TIMEOUT_MILLIS: u64 = 30_000;
 
 /// For how many milliseconds after its answer the bytes that a client still sends are dropped.
-const LINGER: u64 = 1_000;
+const LINGER_MILLIS: u64 = 1_000;
 
 const MOST_DROPPED: usize = 32;
 
@@ -81,13 +81,14 @@ pub struct HttpConnection<S: Link, H: Handler> {
     pub(crate) fault: Option<ConnectionFault>,
     /// Whether the client closed its sending side while it waits for its answer.
     pub(crate) has_ended: bool,
+    /// In milliseconds of the handler's clock.
     pub(crate) deadline: u64,
     pub(crate) number: u64,
     pub(crate) is_registered: bool,
 }
 
 impl<S: Link, H: Handler> HttpConnection<S, H> {
-    /// A connection from an address, accepted at this moment, in milliseconds of a monotonic clock.
+    /// A connection from an address, accepted at this moment, in milliseconds of a monotonic clock. Later connections have greater numbers.
     pub fn new(
         alloc: Global,
         link: S,
@@ -127,7 +128,7 @@ impl<S: Link, H: Handler> HttpConnection<S, H> {
         self.deadline <= now
     }
 
-    /// Keeps and returns the fault because of which the connection is to be answered before its request is whole, if there is one at this moment.
+    /// Keeps and returns the fault, if there is one now, because of which the connection is to be answered before its request is whole.
     pub fn record_fault(&mut self, now: u64) -> Option<ConnectionFault>
         ensures same_link { self.new.link ≡ self.old.link }
         ensures same_stage { self.new.stage ≡ self.old.stage }
@@ -142,6 +143,7 @@ impl<S: Link, H: Handler> HttpConnection<S, H> {
         self.fault
     }
 
+    /// How many bytes of the answer are not sent yet.
     pub fn unsent(&self) -> usize {
         match &self.stage {
             Stage::Sending(unsent, _) => unsent.len(),
@@ -157,7 +159,7 @@ impl<S: Link, H: Handler> HttpConnection<S, H> {
     {
         match &self.stage {
             Stage::Receiving(_) => self.receive(read_buffer),
-            Stage::Signing(..) => self.wait(read_buffer),
+            Stage::Signing(..) => self.drop_received(read_buffer),
             Stage::Sending(..) => self.send_on(now),
             Stage::Draining => self.drain(read_buffer),
         }
@@ -192,7 +194,7 @@ impl<S: Link, H: Handler> HttpConnection<S, H> {
     }
 
     /// Drops the bytes that a client sends while it waits for its answer, and notices if it is gone.
-    fn wait(&mut self, read_buffer: &mut [u8]) -> Next
+    fn drop_received(&mut self, read_buffer: &mut [u8]) -> Next
         ensures { Drops S.Read.remaining self.old self.new }
     {
         match drop_all(&mut self.link, read_buffer) {
@@ -218,8 +220,8 @@ impl<S: Link, H: Handler> HttpConnection<S, H> {
         ensures all { IfNone result (HasUnsentText self.new.stage []) }
     {
         match &mut self.stage {
-            Stage::Sending(unsent, is_last) => match unsent.send_on(&mut self.link) {
-                Sent::All if *is_last => Some(Next::Close),
+            Stage::Sending(unsent, closes_after) => match unsent.send_on(&mut self.link) {
+                Sent::All if *closes_after => Some(Next::Close),
                 Sent::All => None,
                 Sent::Blocked | Sent::More => Some(Next::Poll(Interest::WRITABLE)),
                 Sent::Broken => Some(Next::Close),
@@ -237,7 +239,7 @@ impl<S: Link, H: Handler> HttpConnection<S, H> {
         ensures drains { self.new.stage ≡ Stage.Draining }
     {
         self.stage = Stage::Draining;
-        self.deadline = now.saturating_add(LINGER);
+        self.deadline = now.saturating_add(LINGER_MILLIS);
         match self.link.finish() {
             Ok(()) => Next::Poll(Interest::READABLE),
             Err(_) => Next::Close,
@@ -253,7 +255,7 @@ impl<S: Link, H: Handler> HttpConnection<S, H> {
         }
     }
 
-    /// Answers the bytes that came of the request, also if it is incomplete. Returns whether the answer is to be signed. A connection that has an
+    /// Answers the bytes that came of the request, even if it is incomplete. Returns whether the answer is to be signed. A connection that has an
     /// answer, or waits for one, is not answered again.
     #[tactic(auto, using(crate::proofs::Exchanges::exchanged_none))]
     pub fn answer(
@@ -302,8 +304,8 @@ impl<S: Link, H: Handler> HttpConnection<S, H> {
         ensures kept { SameLinkAndFault self.old self.new }
     {
         // It can close at once if nothing is unread, or if there is no answer to lose.
-        let is_last = is_exact || text.is_empty();
-        self.stage = Stage::Sending(Unsent::new(text), is_last);
+        let closes_after = is_exact || text.is_empty();
+        self.stage = Stage::Sending(Unsent::new(text), closes_after);
         self.deadline = now.saturating_add(TIMEOUT_MILLIS);
     }
 
@@ -343,7 +345,10 @@ impl<S: Link, H: Handler> HttpConnection<S, H> {
                 self.start_sending(finished, is_exact, now);
             }
             Stage::Receiving(collected) => self.stage = Stage::Receiving(collected),
-            Stage::Sending(unsent, is_last) => self.stage = Stage::Sending(unsent, is_last),
+            Stage::Sending(unsent, closes_after) => self.stage = Stage::Sending(
+                unsent,
+                closes_after,
+            ),
             Stage::Draining => {}
         }
     }

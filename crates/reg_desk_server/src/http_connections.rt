@@ -20,7 +20,7 @@ pub const MOST_HTTP_CONNECTIONS: usize = 1_000;
 const MOST_UNSENT: usize = 67_108_864;
 
 /// How many milliseconds pass between two searches for connections whose time is up.
-pub(crate) const SWEEP: u64 = 250;
+pub(crate) const SWEEP_MILLIS: u64 = 250;
 
 /// Which connections may be evicted: those without an answer; those with one; those whose answer is not wholly sent, except one slot.
 #[derive(Clone, Copy)]
@@ -31,7 +31,7 @@ enum Selection {
 }
 
 impl Selection {
-    fn takes<H: Handler>(self, connection: &HttpConnection<TcpStream, H>, slot: usize) -> bool {
+    fn includes<H: Handler>(self, connection: &HttpConnection<TcpStream, H>, slot: usize) -> bool {
         match self {
             Selection::Unanswered => !connection.has_answer(),
             Selection::Answered => connection.has_answer(),
@@ -118,8 +118,8 @@ impl<H: Handler> HttpConnections<H> {
         let _ = self.due.push(slot);
     }
 
-    /// Closes a connection that was taken out of its slot. Reports the fault if its answer is not wholly sent and no fault of it was reported
-    /// before.
+    /// Closes a connection that was taken out of its slot. It is lost if it awaits a signature or its answer is not wholly sent; that is reported
+    /// unless a fault of it was reported before.
     fn close(
         &mut self,
         slot: usize,
@@ -167,17 +167,17 @@ impl<H: Handler> HttpConnections<H> {
         found
     }
 
-    /// The number of the connection in a slot if it meets the criterion, or else the greatest number, which no connection has.
+    /// The number of the connection in a slot if the selection includes it, or else the greatest number, which no connection has.
     fn number_at(&self, slot: usize, selection: Selection) -> u64 {
         match self.slots.get(slot) {
-            Some(connection) if selection.takes(connection, slot) => connection.number,
+            Some(connection) if selection.includes(connection, slot) => connection.number,
             _ => u64::MAX,
         }
     }
 
     /// Looks for connections whose time is up: one that still receives is answered, and any other is closed.
     pub(crate) fn sweep(&mut self, shared: &mut Shared, now: u64) {
-        if now.saturating_sub(self.swept) < SWEEP {
+        if now.saturating_sub(self.swept) < SWEEP_MILLIS {
             return;
         }
         self.swept = now;
@@ -207,7 +207,7 @@ impl<H: Handler> HttpConnections<H> {
         }
     }
 
-    /// Limits the unsent bytes of all connections to `MOST_UNSENT`: closes the oldest whose answer is not wholly sent, except the newest answer.
+    /// Limits the unsent bytes of all connections to `MOST_UNSENT`, 64 MiB: closes the oldest whose answer is not wholly sent, except the newest answer.
     pub(crate) fn limit_unsent(&mut self, newest: usize, shared: &mut Shared) {
         for _ in 0..MOST_HTTP_CONNECTIONS {
             if self.unsent <= MOST_UNSENT {

@@ -14,14 +14,15 @@ use std::time::Duration;
 const MOST_EVENTS: usize = 1_024;
 
 /// The error numbers for too many open files, in this process (EMFILE) and in the system (ENFILE).
-const TOO_MANY_HERE: i32 = 24;
+const EMFILE: i32 = 24;
 
-const TOO_MANY: i32 = 23;
+const ENFILE: i32 = 23;
 
+/// How many signatures for HTTP answers can be requested at once.
 pub(crate) const MOST_SIGNATURES: usize = 32;
 
-/// The tokens of the listeners. After them come those of the control connections, of the signature requests, of the signer's connection for a
-/// line, and of the HTTP connections.
+/// The tokens of the listeners. After them come those of the control connections, of the signature requests, of the connection to the signer for
+/// a line, and of the HTTP connections.
 pub(crate) const HTTP_LISTENER: usize = 0;
 
 pub(crate) const CONTROL_LISTENER: usize = 1;
@@ -30,12 +31,12 @@ pub(crate) const FIRST_CONTROL: usize = 2;
 
 pub(crate) const FIRST_SIGNATURE: usize = 10;
 
-pub(crate) const LINE: usize = FIRST_SIGNATURE + MOST_SIGNATURES;
+pub(crate) const LINE_SIGNER: usize = FIRST_SIGNATURE + MOST_SIGNATURES;
 
-/// The connection with the token `LINE` is at its end.
-pub(crate) const LINE_ENDED: usize = LINE + 1;
+/// Reported instead of `LINE_SIGNER` if the connection with that token is at its end.
+pub(crate) const LINE_SIGNER_ENDED: usize = LINE_SIGNER + 1;
 
-pub(crate) const FIRST_HTTP: usize = LINE + 2;
+pub(crate) const FIRST_HTTP: usize = LINE_SIGNER + 2;
 
 /// Polls connections, and keeps the tokens of those that are ready in this iteration.
 #[derive(Drop)]
@@ -94,7 +95,7 @@ impl Poller {
             .is_ok()
     }
 
-    /// Blocks until something is ready, at most for `longest`. Then `tokens` has what is ready; a signature is ready once its connection is at its end.
+    /// Blocks until a socket is ready, at most for `longest`. Then `tokens` has those that are ready; a signature request is ready once its connection is at its end.
     pub(crate) fn poll<H: Handler>(
         &mut self,
         handler: &H,
@@ -118,11 +119,11 @@ impl Poller {
 
 /// The token to report for an event: that of a signature request only if its connection is at its end.
 fn ready_token(token: usize, is_ended: bool) -> Option<usize> {
-    if FIRST_SIGNATURE <= token && token < LINE && !is_ended {
+    if FIRST_SIGNATURE <= token && token < LINE_SIGNER && !is_ended {
         return None;
     }
-    if token == LINE && is_ended {
-        return Some(LINE_ENDED);
+    if token == LINE_SIGNER && is_ended {
+        return Some(LINE_SIGNER_ENDED);
     }
     Some(token)
 }
@@ -131,7 +132,7 @@ pub(crate) fn is_out_of_descriptors(error: &io::Error) -> bool
     ensures { MatchBool result (IsOutOfDescriptors error.now) (IsOutOfDescriptors error.now → ⊥) }
 {
     match error.raw_os_error() {
-        Some(TOO_MANY_HERE | TOO_MANY) => true,
+        Some(EMFILE | ENFILE) => true,
         _ => false,
     }
 }

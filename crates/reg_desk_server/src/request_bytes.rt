@@ -10,7 +10,7 @@ use std::io::{ErrorKind, Read};
 
 const MOST_READS: usize = 32;
 
-/// How receiving ended: there is a whole request; nothing more has come yet; more may have come; nothing more will come; the connection failed; or
+/// The result of a read: there is a whole request; nothing more has come yet; more may have come; nothing more will come; the connection failed; or
 /// there was no memory for the last bytes that came.
 #[derive(Clone, Copy)]
 pub(crate) enum Received {

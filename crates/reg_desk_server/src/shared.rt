@@ -35,14 +35,14 @@ impl Shared {
     }
 }
 
-/// A connection that ended by a fault; a control connection has no address.
+/// A lost connection; a control connection has no address.
 #[derive(Clone, Copy)]
 pub(crate) struct LostConnection {
     pub(crate) client: Option<SocketAddr>,
     pub(crate) why: ConnectionFault,
 }
 
-/// The connections that ended by a fault and were not reported yet, in the order in which they ended.
+/// The lost connections that were not reported yet, in the order in which they were lost.
 #[derive(Drop)]
 pub(crate) struct LostConnections {
     pub(crate) unreported: Vec<LostConnection>,

@@ -8,11 +8,10 @@ use std::time::Duration;
 /// How many milliseconds a signature may take, from when its answer was begun.
 pub(crate) const TIMEOUT_MILLIS: u64 = 10_000;
 
-/// How many milliseconds pass before a signer without room for one more connection is asked again.
-pub(crate) const PAUSE: u64 = 10;
+/// How many milliseconds pass after a request that would block before a signature is requested again.
+pub(crate) const PAUSE_MILLIS: u64 = 10;
 
-/// How often the loop polls for a signature without blocking, for one or two hundred microseconds, before it blocks. Most signatures arrive by then,
-/// and to be woken takes as long as to sign.
+/// How many times the loop polls for a signature, in 100 or 200 microseconds in all, before it blocks: most arrive by then, and waking up takes as long as signing.
 const POLLS: u32 = 100;
 
 /// An HTTP connection that waits for a signature: its slot, and its number, which no other connection has.
@@ -22,14 +21,15 @@ pub(crate) struct Requester {
     pub(crate) number: u64,
 }
 
-/// A signature that is to be requested, and when its time is up.
+/// A signature that an answer needs, and when its time is up.
 #[derive(Clone, Copy)]
 pub(crate) struct Pending {
     pub(crate) requester: Requester,
+    /// In milliseconds of the handler's clock.
     pub(crate) deadline: u64,
 }
 
-/// A signature that was requested on a connection, which is kept with the requester.
+/// A requested signature. The requester's HTTP connection keeps the connection to the signer.
 #[derive(Clone, Copy)]
 pub(crate) struct Requested {
     pub(crate) pending: Pending,
@@ -42,9 +42,9 @@ pub(crate) struct Requested {
 pub(crate) struct SignatureRequests {
     queue: VecDeque<Pending>,
     requested: Vec<Option<Requested>>,
-    /// Until when the signer is not asked, because it had no room for one more connection.
+    /// Until when no signature is requested, because the last request would have blocked.
     paused: Option<u64>,
-    /// How often the loop still polls for a signature before it blocks.
+    /// How many polls for a signature are left before the loop blocks.
     polls: u32,
 }
 
@@ -69,19 +69,19 @@ impl SignatureRequests {
             .is_ok()
     }
 
-    /// The longest time that the loop may block: not at all while it polls for a signature, and `PAUSE` if the signer is to be asked again.
+    /// The longest time that the loop may block: zero while `polls` are left, of which this call uses one; `PAUSE_MILLIS` during a pause.
     pub(crate) fn longest_wait(&mut self) -> Duration {
         if self.polls > 0 {
             self.polls = self.polls.saturating_sub(1);
             return Duration::ZERO;
         }
         match self.paused {
-            Some(_) => Duration::from_millis(PAUSE),
+            Some(_) => Duration::from_millis(PAUSE_MILLIS),
             None => Duration::MAX,
         }
     }
 
-    /// The next of the queue, and a free index for it; `None` if the signer is not asked now, no index is free, or the queue is empty.
+    /// The next of the queue, and a free index for it; `None` during a pause, if no index is free, or if the queue is empty.
     pub(crate) fn next(&mut self, now: u64) -> Option<(Pending, usize)> {
         if let Some(paused) = self.paused {
             if now < paused {
@@ -93,9 +93,9 @@ impl SignatureRequests {
         Some((self.queue.pop_front()?, index))
     }
 
-    /// Puts one back to the front of the queue, because the signer had no room for one more connection at this moment.
+    /// Puts a signature back at the head of the queue, because its request would have blocked, and begins a pause.
     pub(crate) fn requeue(&mut self, pending: Pending, now: u64) {
-        self.paused = Some(now.saturating_add(PAUSE));
+        self.paused = Some(now.saturating_add(PAUSE_MILLIS));
         // There is capacity for it: it was taken from there.
         let _ = self.queue.push_front(pending);
     }

@@ -9,7 +9,7 @@ const LONGEST_PIECE: usize = 65_536;
 
 const MOST_WRITES: usize = 4;
 
-/// How sending ended: all is sent; the connection accepts no more yet; it may accept more; or it is broken.
+/// The result of a write: all is sent; the connection accepts no more yet; it may accept more; or it is broken.
 #[derive(Clone, Copy)]
 pub(crate) enum Sent {
     All,

@@ -2,7 +2,7 @@
 
 use crate::control_connection::ControlConnection;
 use crate::handler::{Deferred, Handler};
-use crate::poller::{LINE, Poller};
+use crate::poller::{LINE_SIGNER, Poller};
 use crate::unsent::{Sent, Unsent};
 use mio::Interest;
 use mio::net::UnixStream;
@@ -72,8 +72,8 @@ impl<H: Handler> WaitingLine<H> {
         };
     }
 
-    /// Connects to the signer, if it is not connected yet, and sends the message. If the signer has no room for a connection, a later call tries again.
-    pub(crate) fn begin(&mut self, handler: &H, poller: &Poller) {
+    /// Connects to the signer, if it is not connected yet, and sends the message. If connecting would block, a later call tries again.
+    pub(crate) fn connect_and_send(&mut self, handler: &H, poller: &Poller) {
         if self.link.is_some() {
             return;
         }
@@ -104,7 +104,7 @@ impl<H: Handler> WaitingLine<H> {
                 return;
             }
         };
-        let is_polled = poller.register_again(link, LINE, interest, &mut self.is_registered);
+        let is_polled = poller.register_again(link, LINE_SIGNER, interest, &mut self.is_registered);
         self.progress = if is_polled {
             progress
         } else {
