@@ -12,6 +12,7 @@ import time
 from concurrent.futures import ThreadPoolExecutor
 from pathlib import Path
 
+from lib import faults
 from lib.authority import until
 from lib.program import LONGEST, Control, Opened, environment, free_port, moment_of, parted, program, read_all, seconds_of
 from lib.trial import Skipped, each, test
@@ -26,16 +27,6 @@ def listening_at(port):
     rows = [it.split() for name in ("tcp", "tcp6") for it in open(f"/proc/net/{name}").read().splitlines()[1:]]
     local = [row[1].split(":") for row in rows if row[3] == LISTENS]
     return [address for address, at in local if int(at, 16) == port]
-
-
-def is_open_elsewhere(folder):
-    """Whether another process has a folder open."""
-    found, path = set(), os.path.realpath(folder)
-    for process in Path("/proc").glob("[0-9]*"):
-        # A process, or a descriptor of it, may be gone by now.
-        with contextlib.suppress(OSError):
-            found |= {process.name for it in (process / "fd").iterdir() if os.readlink(it) == path}
-    return bool(found - {str(os.getpid())})
 
 
 @test
@@ -128,14 +119,16 @@ def eight_desks_that_open_at_one_stale_socket(t):
 
 @test
 def the_lock_of_the_folder_of_a_control_socket(t):
-    """A desk waits while another program holds the lock, and releases it before it listens."""
+    """A desk waits while another program holds the lock, and releases it before it listens. It runs in another folder."""
     t.register()
-    folder = os.open(t.room, os.O_RDONLY)
+    (t.room / "sockets").mkdir()
+    folder = os.open(t.room / "sockets", os.O_RDONLY)
     fcntl.flock(folder, fcntl.LOCK_EX)
+    tried = lambda: (t.room / "count").exists() and faults.counted(t.room / "count")["lock"]
     with ThreadPoolExecutor(1) as pool:
-        opening = pool.submit(t.open)
-        until(lambda: is_open_elsewhere(t.room), "a desk that has the folder open", seconds=10)
-        t.same((t.room / "counter").exists(), False, "whether there is a socket")
+        opening = pool.submit(t.open, "ca.db", "--control", "sockets/counter", faults=faults.environment(count=t.room / "count", only="sockets"))
+        until(tried, "a desk that tries to lock the folder", seconds=20)
+        t.same((t.room / "sockets/counter").exists(), False, "whether there is a socket")
         fcntl.flock(folder, fcntl.LOCK_UN)
         opening.result()
     fcntl.flock(folder, fcntl.LOCK_EX | fcntl.LOCK_NB)

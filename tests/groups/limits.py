@@ -3,6 +3,7 @@ that other tests leave out: times in the log, in replies and on a terminal, and 
 
 import base64
 import contextlib
+import fcntl
 import os
 import pty
 import re
@@ -142,6 +143,18 @@ def the_sixth_crl_of_a_connection_holds_up_nobody(t):
             t.same(parted(desk.send(COUNTS))[0], 200, "GET /counts meanwhile")
         signs.set()
         t.same(control.file.readline(), b"crl 6 entries 0\n")
+
+
+@test(seconds=2)
+def a_desk_tries_to_lock_the_folder_of_its_control_socket_for_ten_seconds(t):
+    """Two thousand times, with five milliseconds between two. Here it does not sleep."""
+    t.register()
+    folder = os.open(t.room, os.O_RDONLY)
+    t.callback(os.close, folder)
+    fcntl.flock(folder, fcntl.LOCK_EX)
+    ran, count = faults.run(t, ["open", "ca.db", "--port", free_port(), "--control", "counter", "--unsigned"], only=t.room.name, awake=1)
+    t.same((ran.status, ran.out, ran.err), (1, b"", b"F4 read\n"))
+    t.same(count["lock"], 2_000, "attempts")
 
 
 # Long runs
