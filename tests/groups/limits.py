@@ -146,6 +146,23 @@ def the_sixth_crl_of_a_connection_holds_up_nobody(t):
 
 
 @test(seconds=2)
+def at_waits_for_room_in_the_queue_of_a_control_socket(t):
+    tried = lambda: (t.room / "count").exists() and faults.counted(t.room / "count")["connect"]
+    with ThreadPoolExecutor(1) as pool, full_queue(t, "counter") as server:
+        ran = pool.submit(t.desk, "at", "counter", given="counts\n", faults=faults.environment(count=t.room / "count"))
+        authority.until(tried, "that it connects")
+        # Time in which it could give up.
+        time.sleep(0.5)
+        t.true(not ran.done(), "it has ended")
+        server.accept()[0].close()
+        peer, _ = server.accept()
+        with peer:
+            t.same(peer.recv(100), b"counts\n", "the line")
+            peer.sendall(b"good\n")
+        t.same((ran.result().status, ran.result().out), (0, b"good\n"))
+
+
+@test(seconds=2)
 def a_desk_tries_to_lock_the_folder_of_its_control_socket_for_ten_seconds(t):
     """Two thousand times, with five milliseconds between two. Here it does not sleep."""
     t.register()
@@ -764,12 +781,12 @@ def a_script_waits_for_a_signer_whose_queue_is_full(t):
 
 
 @contextlib.contextmanager
-def full_queue(t):
-    """A signer's socket whose queue is full until a connection is accepted (`signs`)."""
+def full_queue(t, path="ca.sign"):
+    """A socket, of a signer for example, whose queue is full until a connection is accepted (`signs`)."""
     with socket.socket(socket.AF_UNIX) as server, socket.socket(socket.AF_UNIX) as filled:
-        server.bind(str(t.room / "ca.sign"))
+        server.bind(str(t.room / path))
         server.listen(0)
-        filled.connect(str(t.room / "ca.sign"))
+        filled.connect(str(t.room / path))
         yield server
 
 
