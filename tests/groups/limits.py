@@ -273,6 +273,24 @@ def the_last_answer_is_sent_whole_however_long_it_takes(t):
         t.true(len(read_all(slow)) > 12_000_000, "the answer of the slow client is cut off")
 
 
+@test(seconds=4)
+def the_oldest_connection_is_evicted_after_a_thousand_others_too(t):
+    t.register()
+    desk = Passing(t)
+    t.tool("prlimit", "--pid", desk.desk.process.pid, f"--nofile={desk.before + 2}:{desk.before + 2}")
+    held = []
+    for others in (500, 700):
+        for _ in range(others):
+            t.same(parted(desk.desk.send(COUNTS))[0], 200, "another one")
+        held.append(desk.comes(COUNTS[:9]))
+    with desk.desk.connect() as newest:
+        held[0].settimeout(20)
+        t.same(read_all(held[0]), b"", "the oldest is evicted, with no answer")
+        for it in (held[1], newest):
+            it.sendall(COUNTS[9:] if it is held[1] else COUNTS)
+            t.same(parted(read_all(it))[0], 200, "the others")
+
+
 # File descriptors
 
 
