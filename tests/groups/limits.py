@@ -458,6 +458,17 @@ def a_lost_connection_is_logged_although_nothing_else_happens(t):
 
 
 @test
+def a_client_is_late_after_49_days_too(t):
+    """Then the milliseconds of the monotonic clock have more than 32 bits."""
+    t.register()
+    desk = Passing(t)
+    desk.advance(2**32 - 10_000 - desk.millis)
+    first = desk.comes(COUNTS[:9])
+    desk.advance(30_000)
+    desk.loses(first, why="late")
+
+
+@test
 def a_connection_ends_with_its_answer(t):
     """The desk waits for no more of a client whose request had nothing behind it. No time passes."""
     t.register()
