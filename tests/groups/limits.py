@@ -615,6 +615,7 @@ def a_terminal_shows_the_lines_and_how_many_a_second(t):
     t.same(on_a_terminal(t, "script", "ca.db", given=given, tick=1_000), [f"{at} lines done, 1 a second" for at in (1, 2, 3)])
     replies = ["good 0 revoked 0 expired 0"] * 3
     t.same(on_a_terminal(t, "script", "ca.db", given=given, replies=pty, tick=1_000), replies, "where the replies are shown, too")
+    t.same(t.desk("script", "ca.db", given=given, faults=faults.environment(tick=1_000)).err, b"", "where standard error is no terminal")
     (t.room / "passed").write_bytes(bytes(8))
     t.same(on_a_terminal(t, "script", "ca.db", given=given, passed=t.room / "passed"), [], "what it shows in less than a second")
 
@@ -653,6 +654,7 @@ def a_terminal_shows_the_rows_and_crls_of_an_audit(t):
     t.same((list(rows), list(crls)), (sorted(rows), sorted(crls)), "they grow")
     t.true(rows[-1] >= 50, f"{rows[-1]} rows of more than 50 certificates")
     t.same(crls[-1], 4, "CRLs")
+    t.same(t.desk("audit", "ca.db", faults=faults.environment(tick=1_000)).err, b"", "where standard error is no terminal")
     (t.room / "passed").write_bytes(bytes(8))
     t.same(on_a_terminal(t, "audit", "ca.db", passed=t.room / "passed"), [], "what it shows in less than a second")
 
@@ -664,6 +666,7 @@ def a_terminal_shows_that_a_large_file_is_opened(t):
         os.truncate(t.room / "large.db", size)
         t.same([it for it in on_a_terminal(t, "crl", "large.db") if it.startswith("opening")], shown, f"a file of {size} bytes")
     os.truncate(t.room / "large.db", 67_108_864)
+    t.true(b"opening" not in t.desk("crl", "large.db").err, "it is shown where standard error is no terminal")
     opens = ("--port", free_port(), "--control", "counter", "--unsigned")
     for words in (["script"], ["script", "--clock"], ["import", "--now", DAY], ["serve", *opens[:2], "--requests", 1], ["open", *opens], ["schedule", f"{DAY}=90"],
                   ["key-id", "0102"], ["list", "orders"], ["audit"]):
