@@ -397,9 +397,20 @@ def a_client_that_closed_its_side(t, desk):
     client.shutdown(socket.SHUT_WR)
 
 
+def a_signer_that_had_no_room(t, desk):
+    connects = lambda: faults.counted(t.room / "count")["connect"]
+    before = connects()
+    with ThreadPoolExecutor(1) as pool, full_queue(t) as server:
+        answer = pool.submit(desk.ask, "POST", "/ocsp", asks(1))
+        authority.until(lambda: connects() > before + 1, "that it is asked again")
+        signs(server)
+        t.true(ANY_SIGNATURE in answer.result(), "the answer has no signature")
+
+
 # How often the desk may wake up in a second.
 IDLE = {"nobody": (lambda t, desk: None, 1), "eight control connections": (eight_control_connections, 1), "a silent client": (a_silent_client, 8),
-        "a client that closed its side": (a_client_that_closed_its_side, 8)}
+        "a client that closed its side": (a_client_that_closed_its_side, 8),
+        "a signer that had no room": (a_signer_that_had_no_room, 1)}
 
 
 @each(IDLE, seconds=3)
@@ -929,6 +940,24 @@ def a_crl_at_the_control_socket_waits_for_a_signer_whose_queue_is_full(t):
             t.same((crl.done(), parted(desk.send(COUNTS))[0]), (False, 200), "whether it is answered, and GET /counts meanwhile")
             signs(server)
             t.same(crl.result(), "crl 1 entries 0")
+
+
+@test
+def a_signer_that_has_no_room_is_asked_again_after_ten_milliseconds(t):
+    t.register(key=P256_KEY)
+    have_passed(t, 0)
+    with full_queue(t):
+        desk = t.open("ca.db", *SIGNING, faults=faults.environment(passed=t.room / "passed", count=t.room / "count"))
+        client, request = t.enter_context(desk.connect()), asks(1)
+        client.sendall(b"POST /ocsp HTTP/1.1\r\nContent-Length: %d\r\n\r\n" % len(request) + request)
+        authority.until(lambda: program.is_read(client), "that the request is read")
+        asked = []
+        for millis in (0, 0, 9, 9, 10):
+            have_passed(t, millis)
+            # An iteration of the event loop, and what is left of it, is behind two answers.
+            t.same([parted(desk.send(COUNTS))[0] for _ in range(2)], [200, 200])
+            asked.append(faults.counted(t.room / "count")["connect"])
+        t.same([it - asked[0] for it in asked], [0, 0, 0, 0, 1], "further attempts")
 
 
 @each({"an answer": "answer", "a line": "line"}, seconds=2)
