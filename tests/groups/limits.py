@@ -819,8 +819,11 @@ def a_script_waits_for_a_signer_whose_queue_is_full(t):
 
         signer = threading.Thread(target=signs, daemon=True)
         signer.start()
-        ran = t.desk("script", "ca.db", *SIGNING, given=f"{DAY} crl\n")
+        begun = time.monotonic()
+        ran = t.desk("script", "ca.db", *SIGNING, given=f"{DAY} crl\n", faults=faults.environment(count=t.room / "count"))
         t.same((ran.status, ran.lines, ran.err), (0, ["crl 1 entries 0"], b""), "the CRL")
+        attempts = faults.counted(t.room / "count")["connect"]
+        t.true(attempts <= 100 * (time.monotonic() - begun) + 1, f"{attempts} attempts, with fewer than ten milliseconds between two")
 
 
 @contextlib.contextmanager
