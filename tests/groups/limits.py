@@ -999,6 +999,21 @@ def a_copy_is_reported_once_its_folder_is_synced(t):
 
 
 @test
+def a_copy_has_one_name_before_its_folder_is_synced(t):
+    """One that has two when the machine stops is not opened."""
+    t.register()
+    (t.room / "copies").mkdir()
+    with ThreadPoolExecutor(1) as pool:
+        ran = pool.submit(t.desk, "copy", "ca.db", "copies/copy.db", faults=faults.environment(slow_open=t.room / "goes-on", only="copies"))
+        authority.until(lambda: (t.room / "goes-on.waits").exists(), "that the desk opens the folder")
+        names = sorted(it.name for it in (t.room / "copies").iterdir())
+        (t.room / "goes-on").touch()
+        t.same((names, ran.result().status), (["copy.db"], 0), "its names, and the status")
+
+
+
+
+@test
 def a_register_with_a_second_name_is_not_opened(t):
     t.register()
     os.link(t.room / "ca.db", t.room / "second.db")
