@@ -1011,6 +1011,19 @@ def a_copy_has_one_name_before_its_folder_is_synced(t):
         t.same((names, ran.result().status), (["copy.db"], 0), "its names, and the status")
 
 
+@each({"an audit": ["audit", "ca.db"], "a copy": ["copy", "ca.db", "copy.db"]})
+def a_register_is_locked_before_its_log_is_opened(t, words):
+    """Else another program could copy the log into the file meanwhile, and begin a new one."""
+    t.register()
+    with ThreadPoolExecutor(1) as pool:
+        ran = pool.submit(t.desk, *words, faults=faults.environment(slow_open=t.room / "goes-on", only="ca.db-wal"))
+        authority.until(lambda: (t.room / "goes-on.waits").exists(), "that the desk opens the log")
+        other = t.desk("script", "ca.db", "--why", given=f"{DAY} subscriber acme\n")
+        (t.room / "goes-on").touch()
+        t.same((other.status, other.out, other.err), (1, b"", b"F2 store\n  in use by another program\n"), "the other program")
+        t.same(ran.result().status, 0, words[0])
+
+
 
 
 @test
