@@ -1024,6 +1024,14 @@ def a_register_is_locked_before_its_log_is_opened(t, words):
         t.same(ran.result().status, 0, words[0])
 
 
+@each({"an empty one": b"", "one that begins with a zero": bytes(512)})
+def a_journal_that_has_nothing_to_play_back_is_passed_over(t, octets):
+    """As SQLite does (its file format, 3)."""
+    t.register()
+    (t.room / "ca.db-journal").write_bytes(octets)
+    t.same(t.done("audit", "ca.db"), "sound, 0 certificates, 0 revoked, 0 CRLs\n")
+    t.same(t.done("copy", "ca.db", "copy.db").split()[0], "copied")
+    t.same(t.done("script", "ca.db", given=f"{DAY} subscriber acme\n"), "subscriber 1\n")
 
 
 @test
