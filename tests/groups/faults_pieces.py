@@ -1,6 +1,8 @@
 """Reads and writes move one byte: the output is the same, byte for byte. They fail at standard input, standard output and the sockets: `F4 read` comes after the
 replies to the whole lines before it, and after `F5 write` the register has the command whose reply was cut."""
 
+import re
+
 from lib import faults, program
 from lib.faults import LIFE, REGISTERED
 from lib.trial import each, test
@@ -48,6 +50,17 @@ def an_open_desk_in_pieces(t, size):
     t.same([opened.ask(*it) for it in asked], wanted, "HTTP in pieces")
     ran = t.desk("at", "counter", given="status 05\nrequest 05 asked\nrevoke 1\nstatus 05\n", faults=faults.environment(only=WIRES, short=size))
     t.same(ran.lines, ["good", "request 1 due 2026-01-03T00:00:00Z", "revoked", f"revoked {LATER} reason 0"], "the counter in pieces")
+
+
+@each({"standard error": ("stderr", ["--log"]), "a file": ("ca.log", ["--log-file", "ca.log"])})
+def a_log_in_pieces(t, only, words):
+    t.register()
+    t.clock(DAY)
+    desk = t.open("ca.db", *words, faults=faults.environment(only=only, short=1))
+    t.same(t.control().ask("subscriber acme"), "subscriber 1")
+    desk.end()
+    told = desk.stderr.name if only == "stderr" else t.room / "ca.log"
+    t.same(re.sub(r"\d+\n$", "N\n", open(told).read()), f'{DAY} control "subscriber acme" "subscriber 1" 13 N\n')
 
 
 @each({"one byte": 1, "two bytes": 2}, seconds=2)
