@@ -645,6 +645,11 @@ def what_is_at_its_path(t):
     t.same(process.stdout.readline(), b"ecdsa-sha256 at stale.sign\n", "where a socket was left")
     t.true(signature(t.room / "stale.sign", b"a message") != b"", "it signs there")
     process.stdout.close()
+    with socket.socket(socket.AF_UNIX) as stale:
+        stale.bind(str(t.room / "other.sign"))
+    (t.room / "link.sign").symlink_to("other.sign")
+    ran = t.tried(native.signer(), it.key, "link.sign", timeout=30)
+    t.same((ran.returncode, ran.stderr, os.readlink(t.room / "link.sign")), (1, b"desk-signer: link.sign: Address already in use\n", "other.sign"), "where a link to a socket lies")
 
 
 @test(seconds=3)
