@@ -79,9 +79,9 @@ def sound_run(t, words, given=""):
 
 
 def counted(path):
-    """How many calls of each kind there were."""
+    """How many calls of each kind there were. The file is empty at first."""
     with open(path, "rb") as it:
-        return dict(zip(COUNTED, struct.unpack(f"<{len(COUNTED)}Q", it.read())))
+        return dict(zip(COUNTED, struct.unpack(f"<{len(COUNTED)}Q", it.read() or bytes(8 * len(COUNTED)))))
 
 
 def run(t, words, given=b"", count="count", clock=None, **told):
