@@ -38,8 +38,8 @@ abbrev pub DeniedBy : AuditResult → Records → DerivedRows → Type 0
 DeniedBy (Broken row) records columns = Denies row records columns
 DeniedBy _ records columns = Unit {0}
 
--- what a result says of the tables that were read: they have an older version and its office; or the program's version and an
--- office, with another schema than a register's (`OtherSchema`), or with that of a register (`Sound` and `Broken`)
+-- what a result says of the tables that were read: an older version, with its row of `office`; or the program's version, with its row
+-- of `office`, and another schema than a register's (`OtherSchema`) or a register's (`Sound` and `Broken`)
 abbrev pub ReportsTables : AuditResult → Database → Type 0
 ReportsTables Older db = (office : OlderOffice) × HasVersionAndOffice db (Some office)
 ReportsTables OtherSchema db = HasVersionAndOffice db None × (db.schema ≢ register_schema)

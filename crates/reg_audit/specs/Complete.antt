@@ -48,7 +48,7 @@ pub record AreCounted {A : Type 0} (well : A → Type 0) (stored : A → Row) (r
   pub are : rows ≡ counted_rows (map stored these)
   pub each : AllByRecursion well these
 
--- the one row of the office, and the steps of the schedule, are those of an issuer, a policy and a moment
+-- the one row of `office`, and the steps of the schedule, are those of an issuer, a policy and a moment
 pub record AreOffice (trees : Trees) : Type 0 where
   pub days : ℤ
   pub issuer : Issuer
@@ -58,7 +58,7 @@ pub record AreOffice (trees : Trees) : Type 0 where
   pub schedule : trees 17 ≡ map stored_step policy.schedule
   pub in_range : IsPolicy policy
 
--- the rows of each table are those of some records, or some derived rows
+-- ---- the rows of each table, by the number of its B-tree in `register_schema`, are those of some records, or some derived rows
 abbrev pub SubscribersAgree : Trees → Type 0
 SubscribersAgree trees =
     AreKeyed {A = SubscriberRow} (λ _. Unit {0}) stored_subscriber (λ row. row.id) (trees 1)
@@ -86,12 +86,12 @@ LettersAgree trees = AreCounted {A = Standing} (λ row. IsSerial row.serial) sto
 abbrev pub ListingsAgree : Trees → Type 0
 ListingsAgree trees = AreCounted {A = Listed} (λ row. IsSerial row.serial) stored_listed (trees 15)
 
--- the one row of the counts
+-- the one row of the table `kept`
 pub record AreCounts (rows : List Row) : Type 0 where
   pub counts : Counts
   pub are : rows ≡ stored_counts counts ∷ []
 
--- the numbers of the one row that was read of the office: one, version, crl_life, ocsp_life, cap, last_at
+-- the numbers of the one row that was read of `office`: one, version, crl_life, ocsp_life, cap, last_at
 pub record IsTermsOf (rows : List Row) (found : Found) : Type 0 where
   pub row : Row
   pub only : rows ≡ row ∷ []
@@ -104,7 +104,7 @@ pub record ShowSome (db : Database) : Type 0 where
   pub columns : DerivedRows
   pub both : AreRecordsAndDerived db records columns
 
--- the tables show some reached records, in which each CRL has the bytes of its entries, and the derived rows that follow from
+-- the tables show some sound records (`Reached`), in which each CRL has the bytes of its entries, and derived rows that match
 -- them
 pub record ShowsSound (db : Database) : Type 0 where
   pub records : Records

@@ -1,4 +1,4 @@
--- How an audit ends that does not find all rows sound.
+-- The faults of an audit that does not find all rows sound.
 use Rattle.std.specs.Prelude.{◌≢◌, Result, IfErr}
 use Rattle.reg_core.specs.Records.{Records}
 use Rattle.reg_core.specs.Reached.{Reached, ReachedRows}
@@ -25,7 +25,7 @@ abbrev pub fault_of_check : CheckFault → AuditFault
 fault_of_check found.Memory = Memory
 fault_of_check (found.Broken broken) = Broken broken
 
--- the fault is a broken row, not a lack of memory or a failure of the database
+-- the fault is a broken row, not out of memory or a failure of the database
 abbrev pub EndsAtBrokenRow : AuditFault → Type 0
 EndsAtBrokenRow Memory = ⊥
 EndsAtBrokenRow Store = ⊥
@@ -46,8 +46,8 @@ IsBrokenRow Store = ⊥
 IsBrokenRow (Broken broken) = broken.why ≢ OtherBytes
 
 -- What a broken row disproves of the records and derived rows that tables show. `whole`: not all of this holds: the records have
--- a register's values and are reached, each CRL has the bytes of its entries, the derived rows follow from the records, and
--- `days` of the office is a number that a schedule can have. `rows`: the same without the bytes of CRLs, unless these are the defect.
+-- a register's values and are sound (`Reached`), each CRL has the bytes of its entries, the derived rows match, and the column
+-- `days` of `office` is a number that a schedule can have. `rows`: the same without the bytes of CRLs, unless these are the defect.
 pub record Denies (row : Row) (records : Records) (columns : DerivedRows) : Type 0 where
   pub whole : HasValues records → Reached IsSomeCrl records → Kept columns records → HasAllowedDays columns
       → ⊥

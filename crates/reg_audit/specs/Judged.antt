@@ -16,8 +16,8 @@ use Rattle.reg_audit.specs.Presumed.{IsPresumed}
 use Rattle.reg_audit.specs.ReadableValues.{IsSoundRegister}
 use Rattle.reg_audit.specs.AuditResults.{CountedBy, DeniedBy, IsSound, ReportsTables}
 
--- `Sound`: whatever records the tables show are sound; there are some, if the presumed facts hold; their numbers are reported. `Broken`: there
--- are none. Other results say which tables there are. A fault is one of the version, of memory or of the database. No table changes.
+-- `Sound`: all records that the tables show are sound, and their numbers are reported; there are such records if the presumed facts hold.
+-- `Broken`: the tables show no sound records. Other results say which tables there are. No error is `NotEmpty`. No table changes.
 pub record IsJudged {S : Type 0} (g : Ghosts S) (old new : Held S)
     (result : Result AuditResult StoreFault) : Type 0 where
   pub sound : (records : Records) (columns : DerivedRows) → ShowsBoth g old records columns

@@ -3,7 +3,7 @@ use Rattle.std.specs.Prelude.{◌≡◌, length}
 use Rattle.reg_core.specs.Records.{Records}
 use Rattle.reg_audit_rows.specs.declared.audit_result.Audited.{Audited}
 
--- the certificates, the revocations and the CRLs of the records were counted
+-- the numbers are those of the records' certificates, revocations and CRLs
 pub record AreNumbersOf (records : Records) (found : Audited) : Type 0 where
   pub certificates : found.certificates ≡ length records.certificates
   pub revoked : found.revoked ≡ length records.revocations

@@ -11,16 +11,16 @@ use Rattle.reg_store_tables.specs.Kept.{Kept}
 use Rattle.reg_audit.specs.Stored.{IsSomeCrl}
 pub use Rattle.reg_store_tables.specs.RecordValues.{IsValidity, AreMomentAndReason, HasValues}
 
--- the column `days` of the office is a number that a schedule can have
+-- the column `days` of `office` is a number that a schedule can have
 abbrev pub HasAllowedDays : DerivedRows → Type 0
 HasAllowedDays columns = (days : ℕ) × (columns.days ≡ pos days) × IsDays days
 
--- reached records with the bytes of their CRLs, derived tables that match them, and days that a schedule can allow
+-- sound records (`Reached`) with the bytes of their CRLs, derived tables that match them, and a column `days` that a schedule can have
 abbrev pub IsSoundRegister : Records → DerivedRows → Type 0
 IsSoundRegister records columns = Reached IsSomeCrl records × Kept columns records × HasAllowedDays columns
 
 -- each value is one that a register's records and derived rows can have; this is so if the records have a register's values and
--- are sound, and the derived rows follow from them
+-- are sound, and the derived rows match them
 pub record AreReadable (records : Records) (columns : DerivedRows) : Type 0 where
   pub office : records.last < clock_end
   pub subscribers : AllByRecursion (λ row. IsLabel row.name) records.subscribers

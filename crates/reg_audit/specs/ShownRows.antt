@@ -1,4 +1,4 @@
--- The columns of the rows of the office and of the derived tables, in order, as an audit reads them.
+-- The columns of the rows of `office` and of the derived tables, in order, as an audit reads them.
 use Rattle.std.specs.Prelude.{[], ◌∷◌}
 use Rattle.sqlite_value.specs.declared.value.Value.TheVariants.{Text}
 use Rattle.sqlite_value.specs.Order.{Row}

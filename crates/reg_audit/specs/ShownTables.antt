@@ -1,4 +1,4 @@
--- How the clauses of an audit begin: for whatever records and derived rows the tables show, or the rows that were read show.
+-- The hypotheses of an audit's clauses: the tables, or the rows that were read, show some records and derived rows.
 use Rattle.std.specs.Prelude.{List, Result, Vec}
 use Rattle.sqlite_trees.specs.declared.store.Store.{Ghosts}
 use Rattle.sqlite_value.specs.Order.{Row}
@@ -31,7 +31,7 @@ OnEachRead whats all items Has =
     (records : Records) → (columns : DerivedRows) → AreRead records columns whats all items
     → Has records columns
 
--- the same for the statements of all tables
+-- the same for the statements that read all tables
 abbrev pub OnAllRead : {Z : Type 0} → List (Vec Row Z) → (Records → DerivedRows → Type 0) → Type 0
 OnAllRead all Has = OnEachRead whole all (λ rows. rows.items) Has
 

@@ -17,7 +17,7 @@ pub record IsSomeCrl (crl : CertList) (bytes : List ℕ) : Type 0 where
   pub whole : IsCrlOf algorithm crl bytes
   pub short : length bytes ≤ 268435456
 
--- one row of each serial number, and no more than a CRL may list
+-- at most one row for each serial number, and at most 1,000,000 rows
 pub record CanList (listed : List Listed) : Type 0 where
   pub differ : KeysDiffer (λ row. row.serial) listed
   pub few : length listed ≤ 1000000

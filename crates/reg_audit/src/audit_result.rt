@@ -52,7 +52,7 @@ fn is_over_register<S: Alter>(alloc: Global, conn: &Connection<S>) -> Result<boo
 /// right bytes (`Denies`). `Older` and `OtherSchema` say which tables there are (`ReportsTables`).
 ///
 /// # Errors
-/// `NotARegister` and `NewVersion`, as from [`reg_store_opening::open`]; `Memory`; `Store` if the database fails.
+/// `NotARegister` and `NewVersion`, as from [`reg_store_opening::open`]; `Memory`; `Store` as from [`crate::audit`].
 pub fn judge<S: Alter, W: ProgressObserver>(
     alloc: Global,
     conn: &mut Connection<S>,

@@ -28,8 +28,8 @@ use reg_store_tables::sql_values::number_at;
 use sqlite::Row;
 use std::alloc::Global;
 
-/// What an audit reads after the rows of all tables, in this order: rowids, the office and the schedule.
-pub(crate) const BESIDE: [AuditQuery; 7] = [
+/// The statements that an audit runs after [`crate::whole_audit::TABLE_QUERIES`], in this order: rowids, `office` and the schedule.
+pub(crate) const OTHER_QUERIES: [AuditQuery; 7] = [
     AuditQuery::CertificateRowids,
     AuditQuery::RevocationRowids,
     AuditQuery::StandingRowids,
@@ -200,7 +200,7 @@ fn check_office(alloc: Global, office: &[Row], steps: &[Row]) -> Result<(), Audi
 }
 
 /// Checks that the rows of all tables are those of records. `all` has the rows that were read for each item of
-/// [`crate::whole_audit::WHOLE`], and `more` those for each item of [`BESIDE`].
+/// [`crate::whole_audit::TABLE_QUERIES`], and `more` those for each item of [`OTHER_QUERIES`].
 pub(crate) fn check_complete(
     alloc: Global,
     all: &[Vec<Row>],

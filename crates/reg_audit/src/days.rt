@@ -25,7 +25,7 @@ fn are_allowed(row: &Row) -> bool
 }
 
 /// Checks that the column `days` of `office`, the longest validity at creation, is a number that a schedule can have. `more` has the
-/// rows that were read for each item of [`crate::complete::BESIDE`].
+/// rows that were read for each item of [`crate::complete::OTHER_QUERIES`].
 pub(crate) fn check_days(more: &[Vec<Row>]) -> Result<(), AuditFault>
     ensures allowed { OnEachRead read_besides more.now (λ rows. rows.items)
         (λ records columns. OnOk result (HasAllowedDays columns)) }

@@ -4,7 +4,7 @@ use reg_audit_rows::{BrokenRow, CheckFault, Defect, RegisterTable};
 use reg_store_tables::DatabaseFault;
 use std::alloc::AllocFailed;
 
-/// Why an audit does not end with `Sound`.
+/// Why [`audit`](crate::audit) does not find all rows sound.
 #[derive(Clone, Copy, PartialEq, Eq)]
 pub enum AuditFault {
     Memory,

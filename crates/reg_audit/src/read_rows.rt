@@ -36,7 +36,7 @@ pub(crate) fn rows_at(all: &[Vec<Row>], row_index: usize) -> &[Row]
     }
 }
 
-/// Checks that the rows, which were read for each item of [`crate::whole_audit::WHOLE`], are those of a register.
+/// Checks that the rows, which were read for each item of [`crate::whole_audit::TABLE_QUERIES`], are those of a register.
 pub(crate) fn check_read(alloc: Global, all: &[Vec<Row>]) -> Result<Audited, AuditFault>
     ensures sound { OnAllRead all.now
         (λ records columns. IfOk result (λ _. ReachedRows records × Kept columns records)) }

@@ -1,4 +1,4 @@
-//! The SQL statements of an audit: they read the rows of each table in the order of its rowids, and the rowids alone.
+//! The SQL statements of an audit: some read the rows of each table in the order of its rowids, others only the rowids.
 
 ghost use Rattle.std.specs.Prelude.{◌≡◌};
 ghost use Rattle.reg_audit.specs.ReadTexts.{text_of};

@@ -37,10 +37,10 @@ const SEQUENCE: u8 = 0x30;
 
 const MOST_ALGORITHM: usize = 1_024;
 
-/// The most octets of a CRL. By the contracts of `reg_crl`, a CRL that a register issues has little more than half as many at most.
+/// The most octets of a CRL, 2^28. By the contracts of `reg_crl`, a register issues no CRL with much more than half as many.
 const MOST_CRL: usize = 268_435_456;
 
-fn other_bytes(number: u64) -> AuditFault
+fn other_bytes_fault(number: u64) -> AuditFault
     ensures { ¬ IsBrokenRow result }
 {
     AuditFault::Broken(BrokenRow {
@@ -51,14 +51,14 @@ fn other_bytes(number: u64) -> AuditFault
 }
 
 /// The value that follows the tbsCertList of a CRL (RFC 5280 5.1.1).
-fn value_behind_signed(crl: &[u8]) -> Option<Tlv<'_>>
+fn value_after_tbs(crl: &[u8]) -> Option<Tlv<'_>>
     ensures exact { Gives (λ value. record { tag = value.tag; contents = value.contents.now }) result
         (behind_signed crl.now) }
     ensures value { IfSome result (λ value. IsTlv value.raw.now value.tag value.contents.now) }
 {
     let (list, _) = take(crl)?;
-    let (_, behind_tbs) = take(list.contents)?;
-    let (algorithm, _) = take(behind_tbs)?;
+    let (_, after_tbs) = take(list.contents)?;
+    let (algorithm, _) = take(after_tbs)?;
     Some(algorithm)
 }
 
@@ -81,13 +81,13 @@ fn algorithm_in(crl: &[u8]) -> Option<&[u8]>
     ensures one { (list : CertList) → (is : IsSomeCrl list crl.now)
         → IsSomeAnd result (λ found. found.now ≡ is.algorithm) }
 {
-    match value_behind_signed(crl) {
+    match value_after_tbs(crl) {
         Some(value) => as_algorithm(value),
         None => None,
     }
 }
 
-/// Checks that the bytes are the CRL of these entries, with the algorithm that they name.
+/// Checks that the bytes are the CRL of these entries, with the algorithm that the bytes name.
 fn check_bytes(
     alloc: Global,
     issuer: &Issuer,
@@ -105,21 +105,21 @@ fn check_bytes(
     ensures rows { IfErr result (λ fault. ¬ IsBrokenRow fault) }
 {
     if bytes.len() > MOST_CRL {
-        return Err(other_bytes(crl.number));
+        return Err(other_bytes_fault(crl.number));
     }
     // No row is read with such a thisUpdate. The test shows the prover that nextUpdate is a moment.
     if crl.this_update >= Moment::CLOCK_END {
-        return Err(other_bytes(crl.number));
+        return Err(other_bytes_fault(crl.number));
     }
     match algorithm_in(bytes) {
         Some(algorithm) => {
             match check_crl(alloc, issuer, algorithm, crl_life, listed, crl, bytes) {
                 Ok(()) => Ok(()),
                 Err(CheckFault::Memory) => Err(AuditFault::Memory),
-                Err(CheckFault::Broken(_)) => Err(other_bytes(crl.number)),
+                Err(CheckFault::Broken(_)) => Err(other_bytes_fault(crl.number)),
             }
         }
-        None => Err(other_bytes(crl.number)),
+        None => Err(other_bytes_fault(crl.number)),
     }
 }
 
@@ -145,7 +145,7 @@ fn check_stored<S: Alter>(
 {
     match reg_store_tables::crl(conn, crl.number)? {
         Some(bytes) => check_bytes(alloc, issuer, crl_life, listed, crl, &bytes),
-        None => Err(other_bytes(crl.number)),
+        None => Err(other_bytes_fault(crl.number)),
     }
 }
 
@@ -192,7 +192,7 @@ fn terms<S: Alter>(conn: &mut Connection<S>) -> Result<(Issuer, u64), DatabaseFa
 }
 
 /// Checks that the stored bytes of each CRL are those of its entries, with any one algorithm and any signature. `all` has the
-/// rows that were read for each item of [`crate::whole_audit::WHOLE`]. The observer is called after each CRL.
+/// rows that were read for each item of [`crate::whole_audit::TABLE_QUERIES`]. The observer is called after each CRL.
 pub(crate) fn check_crls<S: Alter, W: ProgressObserver>(
     alloc: Global,
     conn: &mut Connection<S>,

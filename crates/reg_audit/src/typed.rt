@@ -1,4 +1,4 @@
-//! Reads typed values from the rows of a table. A row with a value that no register writes is reported as broken.
+//! Reads typed values from the rows of a table. A row with a value of another type, or an invalid value, is reported as broken.
 
 ghost use Rattle.std.specs.Prelude.{◌≡◌, [], ◌∷◌, List, map, IfOk};
 ghost use Rattle.std.specs.List.{AllByRecursion};

@@ -12,7 +12,7 @@ ghost use Rattle.reg_audit.specs.Faults.{IsDenied};
 ghost use Rattle.reg_audit.specs.ReadableValues.{IsSoundRegister};
 ghost use Rattle.reg_audit.specs.ShownTables.{OnShown};
 
-use crate::complete::{BESIDE, check_complete};
+use crate::complete::{OTHER_QUERIES, check_complete};
 use crate::days::check_days;
 use crate::fault::AuditFault;
 use crate::observer::{NoProgress, ProgressObserver};
@@ -24,8 +24,8 @@ use reg_audit_rows::Audited;
 use sqlite::{Alter, Connection};
 use std::alloc::Global;
 
-/// The tables, in the order in which they are read.
-const WHOLE: [AuditQuery; 10] = [
+/// The statements that read all tables, in the order in which they run.
+const TABLE_QUERIES: [AuditQuery; 10] = [
     AuditQuery::Office,
     AuditQuery::Subscribers,
     AuditQuery::Orders,
@@ -41,15 +41,15 @@ const WHOLE: [AuditQuery; 10] = [
 /// Reads all rows of a register's tables, and checks that they show sound records, and that the status letters, counts and
 /// CRL entries are those that follow from the records ([`reg_audit_rows::check`]). Then it reads each CRL in turn, and checks
 /// that its bytes encode the entries that the records have for it (RFC 5280 5.1), with the algorithm that the CRL names and
-/// any signature ([`reg_audit_rows::check_crl`]). Last, it reads the rowids, the office and the schedule. It verifies no
+/// any signature ([`reg_audit_rows::check_crl`]). Last, it reads the rowids, `office` and the schedule. It verifies no
 /// signature, does not check the schema, changes nothing, and reports its progress to the observer.
 ///
 /// A row with a value that the register's types can't hold is reported as broken. `IsDenied` says what a broken row disproves.
 /// If the tables have a register's schema (`AreTables`) and the audit succeeds, they show sound records (`ShowsSound`).
 ///
 /// # Errors
-/// `Broken` with a row that breaks a rule; `Memory`; `Store` if the database fails, or if its issuer or policy is one that
-/// no register writes.
+/// `Broken` with a row that breaks a rule; `Memory`; `Store` if the database fails, or if its issuer, policy, version or the
+/// rowid in `kept` is one that no register writes.
 pub fn audit<S: Alter, W: ProgressObserver>(
     alloc: Global,
     conn: &mut Connection<S>,
@@ -65,10 +65,10 @@ pub fn audit<S: Alter, W: ProgressObserver>(
         (λ records columns. IfErr result (λ fault. IsDenied fault records columns)) }
     ensures looked { Looked S.Store conn.old conn.new }
 {
-    let all = read_each(alloc, conn, &WHOLE, observer)?;
+    let all = read_each(alloc, conn, &TABLE_QUERIES, observer)?;
     let audited = check_read(alloc, &all)?;
     check_crls(alloc, conn, &all, observer)?;
-    let more = read_each(alloc, conn, &BESIDE, &mut NoProgress)?;
+    let more = read_each(alloc, conn, &OTHER_QUERIES, &mut NoProgress)?;
     check_complete(alloc, &all, &more)?;
     check_days(&more)?;
     Ok(audited)

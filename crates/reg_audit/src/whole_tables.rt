@@ -39,7 +39,7 @@ fn read_whole<S: Alter>(
     read(conn, text(what))
 }
 
-/// All rows of each of these tables. The observer gets the count of rows read.
+/// The rows that each of these statements returns. The observer gets their count.
 pub(crate) fn read_each<S: Alter, W: ProgressObserver>(
     alloc: Global,
     conn: &mut Connection<S>,

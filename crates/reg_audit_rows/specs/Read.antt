@@ -45,7 +45,7 @@ abbrev pub HaveSubscribers : List SubscriberRow → List OrderRow → Type 0
 HaveSubscribers subscribers orders =
     AllByRecursion (λ row. IsSome (subscriber_in subscribers row.subscriber)) orders
 
--- a validity is no longer than the order that was looked up
+-- a validity is no longer than the days of the order that was looked up
 abbrev pub IsAsOrdered : CertRow → Option OrderRow → Type 0
 IsAsOrdered certificate order = IsSomeAnd order (λ found. validity_seconds certificate ≤ 86400 * found.days)
 

@@ -16,7 +16,7 @@ pub enum RegisterTable {
 /// What is wrong with a row.
 #[derive(Clone, Copy, PartialEq, Eq)]
 pub enum Defect {
-    /// The last accepted moment is at or past the clock's end.
+    /// The last accepted moment is at or past `CLOCK_END`.
     PastClockEnd,
     /// No command can have set the last accepted moment: there is no subscriber, and it is neither 0 nor the thisUpdate of a CRL.
     NeverAccepted,
@@ -63,9 +63,9 @@ pub enum Defect {
     DerivedMismatch,
     /// Its bytes are not those of a CRL with the entries that the records have for it (RFC 5280 5.1).
     OtherBytes,
-    /// The counts are not those of the letters.
+    /// The counts in `kept` are not those of the letters in `standing`.
     WrongCounts,
-    /// It has a value that no register writes, or a table that must have one row has none or several.
+    /// It has a value of another type or an invalid value, or a table that must have one row has none or several.
     NoValue,
 }
 

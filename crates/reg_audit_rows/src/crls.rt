@@ -26,9 +26,9 @@ fn signature_in(crl: &[u8]) -> Option<&[u8]>
     ensures { Gives (λ signature. signature.now) result (signature_at crl.now) }
 {
     let (list, _) = take(crl)?;
-    let (_, behind_tbs) = take(list.contents)?;
-    let (_, behind_algorithm) = take(behind_tbs)?;
-    let (bits, _) = take(behind_algorithm)?;
+    let (_, after_tbs) = take(list.contents)?;
+    let (_, after_algorithm) = take(after_tbs)?;
+    let (bits, _) = take(after_algorithm)?;
     let (_, signature) = bits.contents.split_first()?;
     Some(signature)
 }
@@ -134,7 +134,7 @@ fn check_bytes(
 }
 
 /// Checks that the bytes of a CRL are those of the entries that the records have for it, with this algorithm and any signature of at
-/// most 65,536 bytes. Errors: `Memory`; `Broken` if they are others. It walks `listed`, sorts the entries, and compares the bytes.
+/// most 65,536 bytes. Errors: `Memory`; `Broken` if the bytes differ, or if the CRL would have over 1,000,000 entries or two for one serial number.
 pub fn check_crl(
     alloc: Global,
     issuer: &Issuer,

@@ -15,7 +15,7 @@ use reg_core::{CertRow, Counts, CrlRow, Moment, RevocationRow, Serial, Status, s
 use std::alloc::Global;
 use std::collections::BTreeMap;
 
-/// The state of a certificate at the last accepted moment.
+/// The state of a certificate at the last accepted moment, stored in `standing` as G, R or X.
 #[derive(Clone, Copy, PartialEq, Eq)]
 pub enum Letter {
     Good,
@@ -23,7 +23,7 @@ pub enum Letter {
     Expired,
 }
 
-/// A certificate's state letter.
+/// A row of `standing`: a certificate's state letter.
 #[derive(Clone, Copy)]
 pub struct Standing {
     pub serial: Serial,
@@ -31,7 +31,7 @@ pub struct Standing {
     pub letter: Letter,
 }
 
-/// A revocation's entry in CRLs, with its first CRL, its certificate's notAfter, and the last CRL that lists it, if that has been issued.
+/// A row of `listed`: a revocation's CRL entry, the numbers of the first CRL that lists it and of the last, if that has been issued, and notAfter.
 #[derive(Clone, Copy)]
 pub struct Listed {
     pub serial: Serial,
@@ -134,7 +134,7 @@ fn is_past(crl: &CrlRow, first: u64, not_after: Moment) -> bool
     first <= crl.number && not_after < crl.this_update
 }
 
-/// The number of the first CRL, from the number `first` on, whose thisUpdate is after `not_after`; a binary search.
+/// The number of the first CRL, from the number `first` on, whose thisUpdate is after `not_after`, if there is one; a binary search.
 fn last_listing(crls: &[CrlRow], first: u64, not_after: Moment) -> Option<u64>
     ensures { NumberedFrom (λ crl. crl.number) 1 crls.now → NeverDecreases (λ crl. crl.this_update) crls.now
         → result ≡ last_in crls.now first not_after }
@@ -146,7 +146,7 @@ fn last_listing(crls: &[CrlRow], first: u64, not_after: Moment) -> Option<u64>
     }
 }
 
-fn end_of(certificate: Option<CertRow>) -> Moment
+fn not_after_or_epoch(certificate: Option<CertRow>) -> Moment
     ensures { result ≡ found_end certificate }
 {
     match certificate {
@@ -169,7 +169,7 @@ pub(crate) fn listings(
 {
     let mut made = Vec::new(alloc);
     for revocation in revocations {
-        let not_after = end_of(certificates.get(&revocation.serial).copied());
+        let not_after = not_after_or_epoch(certificates.get(&revocation.serial).copied());
         made.push(Listed {
             serial: revocation.serial,
             at: revocation.at,
@@ -208,7 +208,7 @@ pub(crate) fn check_counts(rows: &[Standing], counts: Counts) -> Result<(), Chec
     }
 }
 
-/// The index of the first row that differs from the wanted row with that index, or the number of rows if only wanted ones follow.
+/// The index of the first row that differs from the wanted row with that index; the number of rows if only wanted ones follow; `None` if all agree.
 fn first_difference<T: HasSerial>(held: &[T], wanted: &[T]) -> Option<usize>
     ensures { MatchOption result (held.now ≡ wanted.now) (λ _. held.now ≢ wanted.now) }
 {

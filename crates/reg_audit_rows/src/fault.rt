@@ -17,7 +17,7 @@ impl From<Memory> for CheckFault {
 
     ghost from_gives = { λ _ fault. fault ≡ Lacked };
 
-    fn from(_lacking: Memory) -> CheckFault {
+    fn from(_memory: Memory) -> CheckFault {
         CheckFault::Memory
     }
 }

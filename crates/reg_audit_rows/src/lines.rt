@@ -77,10 +77,10 @@ fn with(text: Vec<u8>, more: &[u8]) -> Result<Vec<u8>, AllocError>
     Ok(text)
 }
 
-fn with_number(text: Vec<u8>, word: &[u8], number: u64) -> Result<Vec<u8>, AllocError>
-    ensures { IfOk result (λ made. made.items ≡ text.items ++ word.now ++ decimal number) }
+fn with_number(text: Vec<u8>, label: &[u8], number: u64) -> Result<Vec<u8>, AllocError>
+    ensures { IfOk result (λ made. made.items ≡ text.items ++ label.now ++ decimal number) }
 {
-    let text = with(text, word)?;
+    let text = with(text, label)?;
     with(text, Decimal::of(number).as_bytes())
 }
 

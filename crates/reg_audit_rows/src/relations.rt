@@ -59,8 +59,8 @@ fn certificate_defect(certificate: &CertRow, order: Option<OrderRow>) -> Option<
     let Some(order) = order else {
         return Some(Defect::NoOrder);
     };
-    let begins = certificate.not_before.secs();
-    let seconds = certificate.not_after.secs().saturating_sub(begins) + 1;
+    let not_before_secs = certificate.not_before.secs();
+    let seconds = certificate.not_after.secs().saturating_sub(not_before_secs) + 1;
     if seconds > order.days.saturating_mul(SECONDS_OF_DAY) {
         return Some(Defect::TooLong);
     }
@@ -86,7 +86,7 @@ pub(crate) fn are_as_ordered(
     Ok(())
 }
 
-/// Why a request is not for a certificate that had not ended; `None` if it is.
+/// Why a request can't have been received for its certificate; `None` if it can.
 fn request_defect(request: &RequestRow, certificate: Option<CertRow>) -> Option<Defect>
     ensures { NoDefectIff (IsInTime request.now certificate) result }
 {

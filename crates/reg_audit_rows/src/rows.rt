@@ -28,7 +28,8 @@ use reg_core::{
 use std::alloc::Global;
 use std::collections::BTreeMap;
 
-/// The rows of each table that is not derived, in the order of its rowids. The CRLs are without their bytes.
+/// The rows of each table that is not derived, in the order of its rowids, the policy's cap and the last accepted moment. The CRLs are without
+/// their bytes.
 #[derive(Clone, Copy)]
 pub struct Rows<'a> {
     pub cap: u64,
@@ -170,8 +171,8 @@ fn check_last_set(rows: &Rows<'_>) -> Result<(), CheckFault>
     ensures ok { OnOk result (IsLastSet rows.now) }
     ensures broken { NotBrokenIf (IsLastSet rows.now) result }
 {
-    let is_begun = !rows.subscribers.is_empty() || rows.last == Moment::EPOCH;
-    if is_begun || is_issued_at(rows.crls, rows.last) {
+    let needs_no_crl = !rows.subscribers.is_empty() || rows.last == Moment::EPOCH;
+    if needs_no_crl || is_issued_at(rows.crls, rows.last) {
         Ok(())
     } else {
         Err(broken_at(RegisterTable::Office, 0, Defect::NeverAccepted))

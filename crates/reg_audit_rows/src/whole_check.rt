@@ -1,4 +1,4 @@
-//! The whole check of rows that were read.
+//! Checks all rows that were read: those of the records, then the derived ones.
 
 ghost use Rattle.std.specs.Prelude.{◌≡◌, OnOk};
 ghost use Rattle.reg_core.specs.Records.{Records};

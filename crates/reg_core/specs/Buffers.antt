@@ -1,4 +1,4 @@
--- What a call that succeeds or fails does to a buffer.
+-- The effects on a buffer of a call that succeeds or fails.
 use Rattle.std.specs.Prelude.{◌≡◌, ◌<◌, ◌+◌, ◌++◌, ℕ, List, Result, Vec, IfOk, OnErr, OnOk, length, vec_capacity}
 
 -- if the call succeeds, it has appended these items

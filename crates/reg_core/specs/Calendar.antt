@@ -68,7 +68,7 @@ pub record IsCivil (c : Civil) : Type 0 where
   pub minute : c.minute < 60
   pub second : c.second < 60
 
--- each field has as many digits as the texts have for it, at most
+-- each field fits into the digits that a text has for it: four for the year, two for any other
 pub record HasDigits (c : Civil) : Type 0 where
   pub year : c.year < 10000
   pub month : c.month < 100
@@ -129,6 +129,6 @@ utc_text seconds = utc_time (civil_of seconds)
 unfoldable pub general_text : ℕ → List ℕ
 general_text seconds = generalized_time (civil_of seconds)
 
--- a byte within the range of those in the register's text (`-`, digits, `:`, `T`, `Z`): no space, no line end, none above 127
+-- a byte from `-` (45) to `Z` (90), as each byte of a moment's text is: no space, no line end, none above 127
 abbrev pub IsTextByte : ℕ → Type 0
 IsTextByte byte = (45 ≤ byte) × (byte ≤ 90)

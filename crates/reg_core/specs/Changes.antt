@@ -1,4 +1,4 @@
--- The changes of the records by accepted commands. Each also sets the last accepted moment.
+-- The changes of the records by accepted commands, which also set the last accepted moment, and by a new schedule, which doesn't.
 use Rattle.std.specs.Prelude.{◌≡◌, ◌≤◌, ◌+◌, ℕ, true, cond, ◌==◌, List, [], ◌∷◌, ◌++◌, map, length, None, IsSomeAnd}
 use Rattle.reg_core.specs.Crls.{next_number}
 use Rattle.reg_core.specs.Records.{Records, Crl, certificate_in, revocation_in}
@@ -59,7 +59,7 @@ changed_by records now (Revocation row not_after) = with_revocation records now 
 changed_by records now (NewCrl row der) =
     with_crl records now (record { number = row.number; this_update = row.this_update; bytes = der.now })
 
--- what a decision ensures of a change at a moment: an id or a number is the next one; a certificate is new and not
+-- the properties that a decision at this moment ensures of a change: an id or a number is the next one; a certificate is new and not
 -- expired; a revoked certificate is registered with this notAfter, not expired, and was not revoked
 abbrev pub Fits : Records → ℕ → Change → Type 0
 Fits records now Touch = Unit {0}

@@ -1,5 +1,5 @@
--- The checks of each command, in their order. Each check gives a refusal if it applies; the command is refused with the
--- first of them.
+-- The checks of each command, in their order. A check that fails gives a refusal, else `None`; the command is refused with the
+-- first refusal. `full`: the table to which the command would add a row has as many rows as the policy allows.
 use Rattle.std.specs.Prelude.{ℕ, Bool, true, not, cond, ◌||◌, ◌==◌, ◌+◌, ◌-◌, ◌*◌, min, nat_le, nat_lt, List, [], ◌∷◌, ◌++◌, Option, Some, None, Result, Ok, Err}
 pub use Rattle.reg_core.specs.Calendar.{clock_end}
 use Rattle.reg_core.specs.Label.{is_name}
@@ -47,7 +47,7 @@ subscriber_checks name by_name full =
     ∷ when full Full
     ∷ []
 
--- an order of a registered subscriber, for at most the greatest of the longest validities
+-- an order of a registered subscriber, for 1 day up to the most days of any step of the schedule
 abbrev pub order_checks : Terms → Option SubscriberRow → ℕ → Bool → List (Option Refusal)
 order_checks policy subscriber days full =
     where_none subscriber NoSubscriber

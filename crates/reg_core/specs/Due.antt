@@ -23,7 +23,7 @@ abbrev pub overdue : Records → ℕ → List RequestRow
 overdue records moment =
     filter (λ request. is_open records moment request && nat_lt (deadline request) moment) records.requests
 
--- how many requests are overdue, and the id of the first
+-- how many requests there are, and the id of the first; `None` if there is none
 abbrev pub overdue_report : List RequestRow → Option Overdue
 overdue_report [] = None
 overdue_report (request ∷ rest) = Some (record { count = length (request ∷ rest); first = request.id })
@@ -33,7 +33,7 @@ abbrev pub unlisted : Records → List RevocationRow
 unlisted records =
     filter (λ revocation. nat_le (next_number records.crls) revocation.first) records.revocations
 
--- the moment of the earliest revocation
+-- the moment of the earliest revocation; `None` if there is none
 abbrev pub earliest : List RevocationRow → Option ℕ
 earliest [] = None
 earliest (revocation ∷ rest) = Some (before revocation.at (earliest rest))

@@ -1,4 +1,4 @@
--- Reached records: sound ones with what every command keeps besides. An audit checks this.
+-- Reached records: sound records with more that every command keeps. `desk audit` checks this.
 use Rattle.std.specs.Prelude.{◌≡◌, ◌⊎◌, ℕ, ◌*◌, ◌<◌, ◌≤◌, ◌==◌, false, List, [], IfSome, IsSomeAnd, IsTrue}
 use Rattle.std.specs.List.{AllByRecursion, list_any}
 use Rattle.reg_core.specs.Checks.{clock_end, validity_seconds}
@@ -59,7 +59,7 @@ pub record ReachedRevocations (last : ℕ) (certificates : List CertRow) (reques
       IfSome (revocation_in revocations request.serial)
       (λ revocation. request.received ≤ revocation.at)) requests
 
--- the rows are sound, the policy is valid, and so are these values; while there is no subscriber, only CRLs set the last accepted moment
+-- the policy is valid and each table is reached; without a subscriber, the last accepted moment is 0 or the thisUpdate of a CRL
 pub record ReachedRows (records : Records) : Type 0 where
   pub policy : IsPolicy records.policy
   pub before_clock_end : records.last < clock_end

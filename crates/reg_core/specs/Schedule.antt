@@ -36,7 +36,7 @@ days_of_last [] = 0
 days_of_last (step ∷ []) = step.1
 days_of_last (step ∷ next ∷ rest) = days_of_last (next ∷ rest)
 
--- the longest validity from a moment on: the days of the last step that is not after the moment
+-- the longest validity, in days, for a notBefore at this moment: the days of the last step that is not after it
 abbrev pub longest_at : List (ℕ × ℕ) → ℕ → ℕ
 longest_at steps moment = days_of_last (filter (λ step. nat_le step.0 moment) steps)
 
@@ -63,6 +63,6 @@ same_steps_equivalence =
     lists_equiv (and_equiv (on_equiv (λ (step : ℕ × ℕ). step.0) nat_eq_equiv)
     (on_equiv (λ (step : ℕ × ℕ). step.1) nat_eq_equiv))
 
--- so it is symmetric and transitive, which `PartialEq` requires
+-- `same_steps` is symmetric and transitive, which `PartialEq` requires
 pub same_steps_both_ways : IsPartialEquivalence same_steps
 same_steps_both_ways = partial_equiv_from_equiv same_steps_equivalence

@@ -94,7 +94,7 @@ refusal records now command =
     first_of_all
     (clock_checks now records.last ++ cond (is_repeat records command) [] (checks records now command))
 
--- the row of a new request
+-- the row of a new request; by the checks `word` names a ground, so `Asked` never replaces another word
 abbrev pub request_row : Records → ℕ → ℕ → List ℕ → RequestRow
 request_row records now serial word = record {
   id = length records.requests + 1;

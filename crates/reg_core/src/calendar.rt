@@ -20,6 +20,7 @@ pub struct Civil {
 impl Civil {
     ghost use Rattle.reg_core.specs.Calendar.{IsCivil, IsCivilAt, HasDigits, civil_of, date_time};
 
+    /// The date and time at this many seconds after 1970-01-01T00:00:00Z.
     pub(crate) fn at(seconds: u64) -> Civil
         requires { IsMoment seconds }
         ensures exact { result ≡ civil_of seconds }
@@ -80,7 +81,7 @@ impl Civil {
         ]
     }
 
-    /// The fields of such a text, even if there is no such date or time; `None` for other bytes.
+    /// The fields of a text `YYYY-MM-DDTHH:MM:SSZ`, even if there is no such date or time; `None` for other bytes.
     #[tactic(auto, unfolding(crate::specs::Calendar::date_time))]
     pub(crate) fn read(text: &[u8]) -> Option<Civil>
         ensures { MatchOption result ((c : Civil) → HasDigits c → text.now ≢ date_time c)
@@ -128,6 +129,7 @@ fn digits(number: u8) -> [u8; 2]
     [b'0' + number / 10, b'0' + number % 10]
 }
 
+/// The number in the two digits from index `at` on; `None` if one of them isn't a digit.
 fn number(text: &[u8], at: usize) -> Option<u8>
     requires { at + 2 ≤ length text.now }
     ensures { MatchOption result ((n : ℕ) → ¬ (Spells text.now at n)) (Spells text.now at) }

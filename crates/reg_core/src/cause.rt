@@ -8,6 +8,7 @@ use std::io::ErrorKind;
 #[derive(Clone, Copy, PartialEq, Eq)]
 pub enum Cause {
     NoFile,
+    /// Permission denied, or the file system is read-only.
     NoRight,
     /// Another program has the file open, or listens at the socket.
     InUse,
@@ -17,6 +18,7 @@ pub enum Cause {
     /// Something exists at the path already.
     Taken,
     PortInUse,
+    /// The machine's clock can't be read.
     Clock,
     /// The latest CRL was signed with another algorithm than the signer's.
     OtherAlgorithm,
@@ -24,10 +26,12 @@ pub enum Cause {
     UnknownAlgorithm,
     /// The issuer's key is not of the signer's algorithm.
     OtherKey,
+    /// The option `--days` is out of its range; the next three are for the options with their names.
     Days,
     CrlLife,
     OcspLife,
     Cap,
+    /// The steps of a schedule are invalid.
     Steps,
 }
 
@@ -38,33 +42,33 @@ impl Cause {
         ensures { result ≡ cause_line self.now }
     {
         match *self {
-            Cause::NoFile => words(b"  no such file"),
-            Cause::NoRight => words(b"  permission denied, or the file system is read-only"),
-            Cause::InUse => words(b"  in use by another program"),
-            Cause::Damaged => words(b"  damaged, or not a database: check the path and the disk"),
-            Cause::DiskFull => words(b"  disk full"),
-            Cause::Taken => words(b"  the path already exists: give another one"),
-            Cause::PortInUse => words(b"  port in use"),
-            Cause::Clock => words(b"  the machine's clock can't be read"),
-            Cause::OtherAlgorithm => words(
+            Cause::NoFile => line_of(b"  no such file"),
+            Cause::NoRight => line_of(b"  permission denied, or the file system is read-only"),
+            Cause::InUse => line_of(b"  in use by another program"),
+            Cause::Damaged => line_of(b"  damaged, or not a database: check the path and the disk"),
+            Cause::DiskFull => line_of(b"  disk full"),
+            Cause::Taken => line_of(b"  the path already exists: give another one"),
+            Cause::PortInUse => line_of(b"  port in use"),
+            Cause::Clock => line_of(b"  the machine's clock can't be read"),
+            Cause::OtherAlgorithm => line_of(
                 b"  the latest CRL has another algorithm: give that --algorithm",
             ),
-            Cause::UnknownAlgorithm => words(
+            Cause::UnknownAlgorithm => line_of(
                 b"  the latest CRL has an unknown algorithm: run desk audit",
             ),
-            Cause::OtherKey => words(b"  --algorithm does not fit the issuer's key"),
-            Cause::Days => words(b"  --days: 1 to 398"),
-            Cause::CrlLife => words(b"  --crl-life: 1 to 863999"),
-            Cause::OcspLife => words(b"  --ocsp-life: 28800 to 863999"),
-            Cause::Cap => words(b"  --cap: 1 to 1000000"),
-            Cause::Steps => words(
+            Cause::OtherKey => line_of(b"  --algorithm does not fit the issuer's key"),
+            Cause::Days => line_of(b"  --days: 1 to 398"),
+            Cause::CrlLife => line_of(b"  --crl-life: 1 to 863999"),
+            Cause::OcspLife => line_of(b"  --ocsp-life: 28800 to 863999"),
+            Cause::Cap => line_of(b"  --cap: 1 to 1000000"),
+            Cause::Steps => line_of(
                 b"  1 to 16 MOMENT=DAYS, ascending from 1970-01-01, DAYS 1 to 398",
             ),
         }
     }
 }
 
-fn words(text: &[u8]) -> Label
+fn line_of(text: &[u8]) -> Label
     requires not_empty { 1 ≤ length text.now }
     requires short { length text.now ≤ 64 }
     ensures { result ≡ text.now }
@@ -72,7 +76,7 @@ fn words(text: &[u8]) -> Label
     Label::joined(text, b"")
 }
 
-/// The cause of a failed system call, by the kind of its error; `None` for other kinds.
+/// The cause of a failed system call, by the kind of its error; `None` if the kind has no cause here.
 pub fn io_cause_of(kind: ErrorKind) -> Option<Cause>
     ensures no_file { kind ≡ ErrorKind.NotFound → result ≡ Some Cause.NoFile }
     ensures no_right { kind ≡ ErrorKind.PermissionDenied → result ≡ Some Cause.NoRight }
@@ -89,7 +93,7 @@ pub fn io_cause_of(kind: ErrorKind) -> Option<Cause>
     }
 }
 
-/// The cause if a new file could not be created, by the kind of the error; `None` for other kinds.
+/// The cause if a new file could not be created, by the kind of the error; `None` if the kind has no cause here.
 pub fn create_cause_of(kind: ErrorKind) -> Option<Cause>
     ensures taken { kind ≡ ErrorKind.AlreadyExists → result ≡ Some Cause.Taken }
     ensures no_right { kind ≡ ErrorKind.PermissionDenied → result ≡ Some Cause.NoRight }
@@ -101,7 +105,7 @@ pub fn create_cause_of(kind: ErrorKind) -> Option<Cause>
     }
 }
 
-/// The cause if a port could not be bound, by the kind of the error; `None` for other kinds.
+/// The cause if a port could not be bound, by the kind of the error; `None` if the kind has no cause here.
 pub fn port_cause_of(kind: ErrorKind) -> Option<Cause>
     ensures in_use { kind ≡ ErrorKind.AddrInUse → result ≡ Some Cause.PortInUse }
     ensures no_right { kind ≡ ErrorKind.PermissionDenied → result ≡ Some Cause.NoRight }

@@ -1,7 +1,7 @@
 use crate::moment::Moment;
 use crate::rows::{CertRow, CrlRow, OrderRow, RequestRow, RevocationRow, SubscriberRow};
 
-/// What an accepted command changes in the records. Each change also sets the last accepted moment.
+/// The change of the records by an accepted command. Each change also sets the last accepted moment.
 #[derive(Clone, Copy)]
 pub enum Change<'a> {
     /// Only the last accepted moment: the certificate was registered already.

@@ -5,10 +5,9 @@ use crate::moment::Moment;
 use crate::refusal::Fault;
 use crate::serial::Serial;
 
-/// A command, which changes the register.
+/// A command, which changes the register. A subscriber, an order or a request is given by its id.
 #[derive(Clone, Copy, PartialEq, Eq)]
 pub enum Command {
-    /// Enters a subscriber.
     Subscriber {
         name: Label,
     },
@@ -29,7 +28,6 @@ pub enum Command {
         serial: Serial,
         ground: Label,
     },
-    /// Declines a request.
     Decline {
         request: u64,
     },
@@ -37,14 +35,12 @@ pub enum Command {
     Revoke {
         request: u64,
     },
-    /// Issues a CRL.
     Crl,
 }
 
 /// A query, which reads the register and changes nothing.
 #[derive(Clone, Copy, PartialEq, Eq)]
 pub enum Query {
-    /// The status of a serial number.
     Status(Serial),
     /// How many registered certificates are good, revoked and expired.
     Counts,
@@ -52,7 +48,6 @@ pub enum Query {
     Listing(Serial),
     /// The open requests past their deadline.
     Overdue,
-    /// When the next CRL is due.
     NextCrl,
 }
 
@@ -80,9 +75,9 @@ pub struct Counts {
 /// The CRLs that list a revoked serial number.
 #[derive(Clone, Copy, PartialEq, Eq)]
 pub struct Listing {
-    /// The number of the first CRL that can list it.
+    /// The number of the first CRL that lists it, which may not be issued yet.
     pub first: u64,
-    /// The number of the last CRL that lists it, once that is issued.
+    /// The number of the last CRL that lists it; `None` until that is issued.
     pub last: Option<u64>,
 }
 
@@ -101,13 +96,11 @@ pub enum Reply {
     Subscriber { id: u64 },
     /// The id of the order that was entered.
     Order { id: u64 },
-    /// The certificate was registered.
     Registered,
     /// The same certificate, equal in all fields, was registered already.
     Same,
     /// The id of the request, and its deadline.
     Request { id: u64, due: Moment },
-    /// The request was declined.
     Declined,
     /// The certificate was revoked; `late` if that was after the request's deadline.
     Revoked { late: bool },

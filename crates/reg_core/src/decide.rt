@@ -73,7 +73,7 @@ pub fn decide_order(
     })
 }
 
-/// The row of the new certificate, or `None` if the same certificate, equal in all fields, is registered already. `order` is the
+/// The row of the new certificate `wanted`, or `None` if one equal in all fields is registered already. `order` is the
 /// order to fill, `by_order` the certificate that fills it already, `by_serial` the one that has the serial number already.
 /// Refusals: those of [`clock`]; then `NoOrder`, `OrderFilled`, `SerialTaken`, `BadValidity`, `TooLong`, `Ended`, `Full`.
 pub fn decide_register(
@@ -101,6 +101,7 @@ pub fn decide_register(
         return Err(Refusal::SerialTaken);
     }
     check_validity(head, &wanted, &order)?;
+    // Only for its refusal `Full`: a certificate has no id.
     next_id(head)?;
     Ok(Some(wanted))
 }
@@ -120,13 +121,13 @@ pub fn decide_request(
         return Err(Refusal::UnknownSerial);
     };
     let serial = certificate.serial;
-    let named = Ground::read(word.as_bytes())?;
+    let ground = Ground::read(word.as_bytes())?;
     check_live(head.now, Some(certificate), revocation)?;
     let id = next_id(head)?;
     Ok(RequestRow {
         id,
         serial,
-        ground: named,
+        ground,
         received: head.now,
         declined: false,
     })
@@ -184,7 +185,7 @@ pub fn decide_crl(head: &Head, latest: Option<CrlRow>) -> Result<CrlRow, Refusal
     ensures { DecidesCrl head.entry.now latest result }
 {
     clock(head.now, head.last)?;
-    if has_no_room(head) {
+    if is_full(head) {
         return Err(Refusal::Full);
     }
     Ok(CrlRow {
@@ -193,23 +194,25 @@ pub fn decide_crl(head: &Head, latest: Option<CrlRow>) -> Result<CrlRow, Refusal
     })
 }
 
+/// The id of the new row; `Full` if the table is full.
 fn next_id(head: &Head) -> Result<u64, Refusal>
     ensures { IsDecidedBy (when (head_is_full head.entry.now) Refusal.Full)
         (λ id. id ≡ head.entry.now.held + 1) result }
 {
-    if has_no_room(head) {
+    if is_full(head) {
         return Err(Refusal::Full);
     }
     Ok(head.held + 1)
 }
 
-fn has_no_room(head: &Head) -> bool
+fn is_full(head: &Head) -> bool
     ensures full { result ≡ head_is_full head.entry.now }
     ensures room { (result ≡ false) → head.entry.now.held < 1000000 }
 {
     head.held >= head.policy.cap()
 }
 
+/// The number of the next CRL.
 fn next_number(latest: Option<CrlRow>) -> u64
     requires { IfSome latest (λ crl. crl.number < 10 ^ 18) }
     ensures { result ≡ number_after latest }
@@ -240,6 +243,7 @@ fn check_validity(head: &Head, wanted: &CertRow, order: &OrderRow) -> Result<(),
     Ok(())
 }
 
+/// Checks that the certificate is neither revoked nor past notAfter. Without a certificate or a revocation, that check passes.
 fn check_live(
     now: Moment,
     certificate: Option<CertRow>,

@@ -3,7 +3,7 @@ ghost use Rattle.reg_core.specs.Grounds.{ground_or_refusal, limit_of, reason_of}
 
 use crate::refusal::Refusal;
 
-/// A ground of revocation.
+/// A ground of revocation (docs/RULES.md, "Grounds").
 #[derive(Clone, Copy, PartialEq, Eq)]
 pub enum Ground {
     /// The subscriber asks for it.

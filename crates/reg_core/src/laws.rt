@@ -14,7 +14,7 @@ pub fn octets_are_digits()
     ensures lowest { OctetsAreLowest }
 {}
 
-/// Octets of the same count are in the order of their numbers.
+/// Octets of the same count, compared one by one, are in the order of the numbers that they encode.
 pub fn octets_in_order()
     ensures { OctetsInOrder }
 {}
@@ -28,7 +28,7 @@ pub fn one_integer()
     ensures short { IntegersAreShort }
 {}
 
-/// Serial numbers are in the order of their 20 octets, and no two have the same octets.
+/// The 20 octets of serial numbers, compared one by one, are in the order of the numbers, and no two serial numbers have the same octets.
 pub fn serials_in_order()
     ensures order { SerialsInOrder }
     ensures one { OneSerial }

@@ -22,6 +22,7 @@ impl Model for Moment {
     ghost inverse = { λ seconds. record { seconds = seconds } };
 }
 
+/// The first second that is no moment: 10000-01-01T00:00:00Z.
 const END: u64 = 253_402_300_800;
 
 impl Moment {
@@ -74,7 +75,7 @@ impl Moment {
     }
 
     /// Reads the text of a moment: `YYYY-MM-DDTHH:MM:SSZ` (RFC 3339 5.6), with a date that the calendar has, hours 00
-    /// to 23 and seconds 00 to 59. `None` for any other bytes: no other offset, no fraction, no lower case.
+    /// to 23, minutes and seconds 00 to 59. `None` for any other bytes, so for another offset than `Z`, a fraction or lower case.
     pub fn read(bytes: &[u8]) -> Option<Moment>
         ensures found { IfSome result (λ m. IsMoment m × (bytes.now ≡ moment_text m)) }
         ensures none { IfNone result ((m : ℕ) → IsMoment m → bytes.now ≢ moment_text m) }

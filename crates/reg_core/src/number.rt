@@ -1,4 +1,4 @@
-//! Decimal numbers: read from digits, and written in place, both without an allocation.
+//! Numbers: read from digits, and written as decimal digits in place, both without an allocation.
 
 ghost use Rattle.std.specs.Prelude.{◌≡◌, ℕ, ◌^◌, ◌<◌, ◌≤◌, length, IfSome, IfNone, MatchOption, SomeIff};
 ghost use Rattle.std.specs.Fmt.{decimal};
@@ -10,7 +10,8 @@ use std::marker::Model;
 /// The most digits that [`read_number`] takes: each number of that many digits is below 10^18.
 const MOST_DIGITS: usize = 18;
 
-const DECIMAL_ROOM: usize = 20;
+/// The most decimal digits of a `u64`.
+const MOST_DECIMAL_DIGITS: usize = 20;
 
 /// Reads 1 to 18 decimal digits; leading zeros are allowed. `None` for any other text.
 pub fn read_number(text: &[u8]) -> Option<u64>
@@ -43,7 +44,7 @@ pub(crate) fn read_digits(digits: &[u8], base: u32) -> Option<u128>
 #[derive(Clone, Copy)]
 pub struct Decimal {
     /// Zeros, then the text.
-    bytes: [u8; DECIMAL_ROOM],
+    bytes: [u8; MOST_DECIMAL_DIGITS],
     start: usize,
 }
 
@@ -73,8 +74,8 @@ impl Decimal {
         ensures text { result ≡ decimal number }
         ensures reads_back { number < 10 ^ 18 → IsNumberText result number }
     {
-        let mut bytes = [0; DECIMAL_ROOM];
-        let mut start = DECIMAL_ROOM;
+        let mut bytes = [0; MOST_DECIMAL_DIGITS];
+        let mut start = MOST_DECIMAL_DIGITS;
         let mut rest = number;
         while rest >= 10 {
             start -= 1;

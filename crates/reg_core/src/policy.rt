@@ -21,11 +21,8 @@ const LARGEST_CAP: u64 = 1_000_000;
 #[derive(Clone, Copy, PartialEq, Eq)]
 pub struct Policy {
     schedule: Schedule,
-    /// Seconds from a CRL's thisUpdate to its nextUpdate.
     crl_life: u64,
-    /// Seconds from an OCSP response's thisUpdate to its nextUpdate.
     ocsp_life: u64,
-    /// The most rows of a table.
     cap: u64,
 }
 

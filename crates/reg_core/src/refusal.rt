@@ -64,7 +64,7 @@ pub enum Fault {
     Refused(Refusal),
     /// F1: out of memory.
     Memory,
-    /// F2: the store failed, or has a value that no register writes.
+    /// F2: the store failed, or has an invalid value.
     Store,
     /// F3: the signer failed.
     Signer,
@@ -97,7 +97,7 @@ impl From<Memory> for Fault {
 }
 
 /// A line that is only this text.
-fn words(text: &[u8]) -> Label
+fn line_of(text: &[u8]) -> Label
     requires not_empty { 1 ≤ length text.now }
     requires short { length text.now ≤ 30 }
     ensures { result ≡ text.now }
@@ -113,33 +113,33 @@ impl Refusal {
     {
         match *self {
             Refusal::ClockBack { last } => Label::joined(b"E01 clock-back ", &last.text()),
-            Refusal::ClockEnd => words(b"E02 clock-end"),
-            Refusal::Full => words(b"E03 full"),
-            Refusal::BadName => words(b"E04 bad-name"),
+            Refusal::ClockEnd => line_of(b"E02 clock-end"),
+            Refusal::Full => line_of(b"E03 full"),
+            Refusal::BadName => line_of(b"E04 bad-name"),
             Refusal::NameTaken { id } => Label::joined(
                 b"E05 name-taken ",
                 Decimal::of(id).as_bytes(),
             ),
-            Refusal::NoSubscriber => words(b"E06 no-subscriber"),
+            Refusal::NoSubscriber => line_of(b"E06 no-subscriber"),
             Refusal::BadDays { most } => Label::joined(
                 b"E07 bad-days ",
                 Decimal::of(most).as_bytes(),
             ),
-            Refusal::NoOrder => words(b"E08 no-order"),
-            Refusal::OrderFilled => words(b"E09 order-filled"),
-            Refusal::SerialTaken => words(b"E10 serial-taken"),
-            Refusal::BadValidity => words(b"E11 bad-validity"),
-            Refusal::TooLong => words(b"E12 too-long"),
-            Refusal::Ended => words(b"E13 ended"),
-            Refusal::UnknownSerial => words(b"E14 unknown-serial"),
-            Refusal::NoHold => words(b"E15 no-hold"),
-            Refusal::BadGround => words(b"E16 bad-ground"),
-            Refusal::NoRequest => words(b"E17 no-request"),
-            Refusal::DeclinedBefore => words(b"E18 declined-before"),
+            Refusal::NoOrder => line_of(b"E08 no-order"),
+            Refusal::OrderFilled => line_of(b"E09 order-filled"),
+            Refusal::SerialTaken => line_of(b"E10 serial-taken"),
+            Refusal::BadValidity => line_of(b"E11 bad-validity"),
+            Refusal::TooLong => line_of(b"E12 too-long"),
+            Refusal::Ended => line_of(b"E13 ended"),
+            Refusal::UnknownSerial => line_of(b"E14 unknown-serial"),
+            Refusal::NoHold => line_of(b"E15 no-hold"),
+            Refusal::BadGround => line_of(b"E16 bad-ground"),
+            Refusal::NoRequest => line_of(b"E17 no-request"),
+            Refusal::DeclinedBefore => line_of(b"E18 declined-before"),
             Refusal::RevokedBefore { at } => Label::joined(b"E19 revoked-before ", &at.text()),
-            Refusal::Expired => words(b"E20 expired"),
-            Refusal::NoCrl => words(b"E21 no-crl"),
-            Refusal::Syntax => words(b"E22 syntax"),
+            Refusal::Expired => line_of(b"E20 expired"),
+            Refusal::NoCrl => line_of(b"E21 no-crl"),
+            Refusal::Syntax => line_of(b"E22 syntax"),
         }
     }
 }
@@ -152,11 +152,11 @@ impl Fault {
     {
         match *self {
             Fault::Refused(refusal) => refusal.line(),
-            Fault::Memory => words(b"F1 memory"),
-            Fault::Store => words(b"F2 store"),
-            Fault::Signer => words(b"F3 signer"),
-            Fault::Read => words(b"F4 read"),
-            Fault::Write => words(b"F5 write"),
+            Fault::Memory => line_of(b"F1 memory"),
+            Fault::Store => line_of(b"F2 store"),
+            Fault::Signer => line_of(b"F3 signer"),
+            Fault::Read => line_of(b"F4 read"),
+            Fault::Write => line_of(b"F5 write"),
         }
     }
 }

@@ -47,6 +47,7 @@ pub struct RequestRow {
     pub id: u64,
     pub serial: Serial,
     pub ground: Ground,
+    /// The moment of the command that entered it.
     pub received: Moment,
     pub declined: bool,
 }
@@ -71,7 +72,7 @@ pub struct RevocationRow {
     pub reason: u8,
     /// The id of the request that led to it.
     pub request: u64,
-    /// The number of the first CRL that can list it.
+    /// The number of the first CRL that lists it, which may not be issued yet.
     pub first: u64,
 }
 
@@ -94,7 +95,7 @@ pub struct Entry {
     pub reason: u8,
 }
 
-/// What each decision needs besides the rows: the clock, the policy, and the size of the table.
+/// The input of each decision besides the looked-up rows: the moments, the policy, and the size of the table.
 #[derive(Clone, Copy, PartialEq, Eq)]
 pub struct Head {
     /// The moment of the command.

@@ -66,10 +66,10 @@ impl Schedule {
         {
             return None;
         }
-        let mut kept = [(*start, 0); MAX_STEPS];
-        kept[..steps.len()].copy_from_slice(steps);
+        let mut padded = [(*start, 0); MAX_STEPS];
+        padded[..steps.len()].copy_from_slice(steps);
         Some(Schedule {
-            steps: kept,
+            steps: padded,
             len: steps.len(),
         })
     }

@@ -16,13 +16,11 @@ use std::marker::Model;
 /// The bytes of a serial number in [`Serial::bytes20`].
 const BYTES: usize = 20;
 
-/// The bytes of `low`.
 const LOW_BYTES: usize = 16;
 
 /// The most hexadecimal digits of a serial number in [`Serial::read`].
 const MOST_DIGITS: usize = 2 * BYTES;
 
-/// The hexadecimal digits of `low`.
 const LOW_DIGITS: usize = 2 * LOW_BYTES;
 
 /// A certificate's serial number, from 1 to 2^159 - 1 (RFC 5280 4.1.2.2). Its model in contracts is the number.
@@ -162,8 +160,7 @@ impl Serial {
         Serial::of_halves(big_endian(high), big_endian(low))
     }
 
-    /// The serial number of these bits above the lowest 128 and these lowest 128. `None` for a number out of range:
-    /// 2^159 is 2^31 times 2^128.
+    /// The serial number `high` * 2^128 + `low`. `None` for 0, and for `high` from 2^31 on, since that makes 2^159 or more.
     fn of_halves(high: u128, low: u128) -> Option<Serial>
         ensures { SomeIff result (IsSerial (high * 2 ^ 128 + low)) (high * 2 ^ 128 + low) }
     {

@@ -73,12 +73,12 @@ abbrev pub records_after_all : Records → List (ℕ × Command) → Records
 records_after_all records [] = records
 records_after_all records (timed ∷ rest) = records_after_all (records_after records timed.0 timed.1) rest
 
--- what a line that is not a command shows
+-- the observation at a line that is not a command: the answer to a query, or the entries of a CRL
 pub data Seen : Type 0 where
   answered : Result Reply Refusal → Seen
   listed : List Entry → Seen
 
--- what the lines show, each over the records after the commands before it
+-- the observations at the lines, each over the records after the commands before it
 abbrev pub seen_over : Records → List DayLine → List Seen
 seen_over records [] = []
 seen_over records (decided now command reply ∷ rest) = seen_over (records_after records now command) rest
@@ -89,7 +89,7 @@ seen_over records (deny now query refusal ∷ rest) =
     answered (answer records now query) ∷ seen_over records rest
 seen_over records (crl_has number those ∷ rest) = listed (entries records number) ∷ seen_over records rest
 
--- what the lines claim to show
+-- the observations that the lines expect
 abbrev pub seen_in : List DayLine → List Seen
 seen_in [] = []
 seen_in (decided now command reply ∷ rest) = seen_in rest
@@ -106,7 +106,7 @@ no_bytes list bytes = bytes ≡ []
 abbrev pub new_under : Terms → Records
 new_under policy = no_records (record { name = []; key = [] }) policy
 
--- a day is as its lines say: from a new register, the commands have these outcomes, and the other lines show what they claim
+-- a day is as its lines say: from a new register, the commands have these outcomes, and the observations at the other lines are those that they expect
 pub record DayUnder (policy : Terms) (lines : List DayLine) : Type 0 where
   pub run :
       Run no_bytes (new_under policy) (commands_of lines) (outcomes_of lines)

@@ -91,7 +91,7 @@ CountsMove before (Ok (Revoked late)) after =
     (after.good + 1 ≡ before.good) × (after.revoked ≡ before.revoked + 1) × (after.expired ≡ before.expired)
 CountsMove before outcome after = after ≡ before
 
--- a certificate that is not revoked, and whose notAfter is in a span of time
+-- a certificate is good at `moment`, and its notAfter is not before `moment` but before `later`
 abbrev pub ends_between : Records → ℕ → ℕ → CertRow → Bool
 ends_between records moment later row =
     is_good (status records row.serial moment) && nat_le moment row.not_after && nat_lt row.not_after later

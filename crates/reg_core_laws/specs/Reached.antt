@@ -1,4 +1,4 @@
--- Reached records: what an audit checks. A new register has them, and every run and every new schedule keeps them so.
+-- Reached records, which `desk audit` checks: those of a new register with a valid policy are, and every run and valid schedule keeps them so.
 use Rattle.std.specs.Prelude.{ℕ, List, Result}
 use Rattle.reg_core.specs.Changes.{with_schedule}
 use Rattle.reg_core.specs.Crls.{CertList}
@@ -32,7 +32,7 @@ KeepsReached signed =
     → Run signed records commands outcomes after
     → Reached signed after
 
--- so does another valid schedule
+-- another valid schedule keeps the records reached
 abbrev pub SchedulesKeepReached : (CertList → List ℕ → Type 0) → Type 0
 SchedulesKeepReached signed =
     (records : Records) (schedule : List (ℕ × ℕ))

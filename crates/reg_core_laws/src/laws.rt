@@ -22,8 +22,8 @@ pub fn headline<S: SignsCrls>()
     ensures refused { (signer : S) → RefusalsChangeNothing (S.signed signer) }
 {}
 
-/// Records that are reached are sound, and an audit finds nothing wrong with them. A new register's records are reached, and every list of
-/// commands and every new schedule keeps them so.
+/// Records that are reached, which `desk audit` checks, are sound. The records of a new register with a valid policy are reached, and every
+/// list of commands and every valid new schedule keeps them so.
 pub fn reached<S: SignsCrls>()
     ensures is_sound { (signer : S) → ReachedIsSound (S.signed signer) }
     ensures created { (signer : S) → CreatedReached (S.signed signer) }

@@ -12,7 +12,7 @@ use Rattle.reg_core_lists.specs.declared.list_parameters.Params.{Params}
 use Rattle.reg_core_lists.specs.declared.cursor.Cursor.{Cursor}
 use Rattle.reg_core_lists.specs.declared.filter.Filter.{Filter}
 
--- 1 to 40 hexadecimal digits
+-- the text, if it is 1 to 40 hexadecimal digits
 abbrev pub prefix_of : List ℕ → Option (List ℕ)
 prefix_of text = if list_all is_ascii_hexdigit text && nat_le (length text) 40 then label_of text else None
 
@@ -101,7 +101,7 @@ abbrev pub cursor_at : Cursor → Option (List ℕ) → Option Cursor
 cursor_at from None = Some from
 cursor_at from (Some key) = cursor_past key from
 
--- the most rows that a page reads: the limit, of 1 to 1,000, but at most 250
+-- the most rows that a page reads: the limit, but at most 250; `None` if the limit is not 1 to 1,000
 abbrev pub at_most : Option ℕ → Option ℕ
 at_most None = Some 250
 at_most (Some limit) = if (limit == 0) || nat_lt 1000 limit then None else Some (min limit 250)
@@ -110,14 +110,14 @@ at_most (Some limit) = if (limit == 0) || nat_lt 1000 limit then None else Some 
 abbrev pub where_fits : PageQuery → Option PageQuery
 where_fits wanted = cond (fits wanted.filter wanted.from) (Some wanted) None
 
--- the query for a page: where it begins, the most rows that it reads, and its filter
+-- the query for a page, by the list's name and its parameters: where it begins, the most rows that it reads, and its filter
 abbrev pub page_query : List ℕ → List ℕ → Option PageQuery
-page_query word told =
+page_query name query =
     option_and_then
     (λ params. option_and_then
     (λ start. option_and_then
     (λ from. option_and_then (λ most.
     where_fits (record { from = from; most = most; filter = params.filter })) (at_most params.limit))
     (cursor_at start params.after))
-    (cursor_named word params.before))
-    (params_of told)
+    (cursor_named name params.before))
+    (params_of query)

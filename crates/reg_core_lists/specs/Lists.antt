@@ -22,7 +22,7 @@ use Rattle.reg_core_lists.specs.declared.rows.RevokedLine.{RevokedLine}
 use Rattle.reg_core_lists.specs.declared.rows.Row.{Row}
 use Rattle.reg_core_lists.specs.declared.rows.Row.TheVariants as kind
 
--- ---- the fields of each record; `None` if its order, subscriber or certificate is missing, which sound records rule out
+-- ---- the fields of each record; `None` if its order, subscriber, certificate or request is missing, which sound records rule out
 
 -- the subscriber of an order
 abbrev pub subscriber_of_order : Records → ℕ → Option SubscriberRow

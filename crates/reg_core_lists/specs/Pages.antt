@@ -32,11 +32,11 @@ IsPaged records now most from (Err Signer) = ⊥
 IsPaged records now most from (Err Read) = ⊥
 IsPaged records now most from (Err Write) = ⊥
 
--- the result for a page of a list, over sound rows
+-- the rows are sound, and this is the result for a page of a list
 abbrev pub IsPagedSoundly : Records → ℕ → ℕ → Cursor → Result Page Fault → Type 0
 IsPagedSoundly records now most from given = SoundRows records × IsPaged records now most from given
 
--- the result for a page of a list, over sound rows, and the records stay the same
+-- the same, and the records stay the same
 abbrev pub Pages : Records → ℕ → ℕ → Cursor → Result Page Fault → Records → Type 0
 Pages before now most from given after = IsPagedSoundly before now most from given × (after ≡ before)
 

@@ -14,11 +14,11 @@ pub enum Cursor {
         before: Moment,
         after: Option<Serial>,
     },
-    /// The open requests (not declined, and the certificate neither revoked nor expired), by id.
+    /// The open requests (not declined, and the certificate neither revoked nor expired), in the order of their ids.
     OpenRequests(u64),
-    /// The open requests whose deadline is past, by id.
+    /// The open requests whose deadline is past, in the order of their ids.
     Overdue(u64),
-    /// All requests, by id.
+    /// All requests, in the order of their ids.
     Requests(u64),
     Subscribers(u64),
     Orders(u64),
@@ -28,12 +28,12 @@ pub enum Cursor {
 impl Cursor {
     /// The list with this name, from its first row on. `ending` requires a moment, and no other list takes one. `None` for any
     /// other name.
-    pub fn named(word: &[u8], before: Option<Moment>) -> Option<Cursor>
-        ensures { result ≡ cursor_named word.now before }
+    pub fn named(name: &[u8], before: Option<Moment>) -> Option<Cursor>
+        ensures { result ≡ cursor_named name.now before }
     {
         match before {
-            Some(before) => ending(word, before),
-            None => whole(word),
+            Some(before) => ending(name, before),
+            None => without_moment(name),
         }
     }
 
@@ -58,7 +58,8 @@ impl Cursor {
         }
     }
 
-    pub(crate) fn word(self) -> &'static str
+    /// The name of the list.
+    pub(crate) fn name(self) -> &'static str
         ensures { result.now ≡ list_name self }
     {
         match self {
@@ -75,10 +76,10 @@ impl Cursor {
     }
 }
 
-fn ending(word: &[u8], before: Moment) -> Option<Cursor>
-    ensures { result ≡ cursor_named word.now (Some before) }
+fn ending(name: &[u8], before: Moment) -> Option<Cursor>
+    ensures { result ≡ cursor_named name.now (Some before) }
 {
-    if word == b"ending".as_slice() {
+    if name == b"ending".as_slice() {
         Some(Cursor::Ending {
             before,
             after: None,
@@ -88,18 +89,19 @@ fn ending(word: &[u8], before: Moment) -> Option<Cursor>
     }
 }
 
-fn whole(word: &[u8]) -> Option<Cursor>
-    ensures { result ≡ cursor_named word.now None }
+/// A list that takes no moment.
+fn without_moment(name: &[u8]) -> Option<Cursor>
+    ensures { result ≡ cursor_named name.now None }
 {
-    match word {
-        _ if word == b"revoked".as_slice() => Some(Cursor::Revoked(None)),
-        _ if word == b"certificates".as_slice() => Some(Cursor::Certificates(None)),
-        _ if word == b"open-requests".as_slice() => Some(Cursor::OpenRequests(0)),
-        _ if word == b"overdue".as_slice() => Some(Cursor::Overdue(0)),
-        _ if word == b"requests".as_slice() => Some(Cursor::Requests(0)),
-        _ if word == b"subscribers".as_slice() => Some(Cursor::Subscribers(0)),
-        _ if word == b"orders".as_slice() => Some(Cursor::Orders(0)),
-        _ if word == b"crls".as_slice() => Some(Cursor::Crls(0)),
+    match name {
+        _ if name == b"revoked".as_slice() => Some(Cursor::Revoked(None)),
+        _ if name == b"certificates".as_slice() => Some(Cursor::Certificates(None)),
+        _ if name == b"open-requests".as_slice() => Some(Cursor::OpenRequests(0)),
+        _ if name == b"overdue".as_slice() => Some(Cursor::Overdue(0)),
+        _ if name == b"requests".as_slice() => Some(Cursor::Requests(0)),
+        _ if name == b"subscribers".as_slice() => Some(Cursor::Subscribers(0)),
+        _ if name == b"orders".as_slice() => Some(Cursor::Orders(0)),
+        _ if name == b"crls".as_slice() => Some(Cursor::Crls(0)),
         _ => None,
     }
 }

@@ -7,6 +7,7 @@ use crate::rows::{CertificateLine, OrderLine, RequestHistory, RequestLine, Revok
 use reg_core::{CrlRow, Ground, Label, Listing, Moment, Serial, Status, SubscriberRow};
 use std::alloc::{AllocError, Global};
 
+/// The value of a field.
 #[derive(Clone, Copy)]
 pub(crate) enum Cell {
     Empty,
@@ -46,17 +47,17 @@ fn of_certificate(alloc: Global, line: &CertificateLine) -> Result<Vec<Field>, A
     Vec::from_slice(
         alloc,
         &[
-            named("serial", Cell::Serial(certificate.serial)),
-            named("subscriber", Cell::Number(line.subscriber.id)),
-            named("name", Cell::Text(line.subscriber.name)),
-            named("order", Cell::Number(certificate.order)),
-            named("notBefore", Cell::At(certificate.not_before)),
-            named("notAfter", Cell::At(certificate.not_after)),
-            named("status", word_of(line.status)),
-            named("revokedAt", at_of(line.status)),
-            named("reason", reason_in(line.status)),
-            named("firstCrl", first_in(line.listing)),
-            named("lastCrl", last_in(line.listing)),
+            field("serial", Cell::Serial(certificate.serial)),
+            field("subscriber", Cell::Number(line.subscriber.id)),
+            field("name", Cell::Text(line.subscriber.name)),
+            field("order", Cell::Number(certificate.order)),
+            field("notBefore", Cell::At(certificate.not_before)),
+            field("notAfter", Cell::At(certificate.not_after)),
+            field("status", status_cell(line.status)),
+            field("revokedAt", revoked_at_cell_of(line.status)),
+            field("reason", reason_cell_of(line.status)),
+            field("firstCrl", first_crl_cell(line.listing)),
+            field("lastCrl", last_crl_cell(line.listing)),
         ],
     )
 }
@@ -66,11 +67,11 @@ fn of_revocation(alloc: Global, line: &RevokedLine) -> Result<Vec<Field>, AllocE
 {
     let mut fields = of_certificate(alloc, &line.certificate)?;
     fields.extend_from_slice(&[
-        named("request", Cell::Number(line.request.id)),
-        named("ground", ground_in(line.request.ground)),
-        named("received", Cell::At(line.request.received)),
-        named("due", Cell::At(line.due)),
-        named(
+        field("request", Cell::Number(line.request.id)),
+        field("ground", ground_cell(line.request.ground)),
+        field("received", Cell::At(line.request.received)),
+        field("due", Cell::At(line.due)),
+        field(
             "lateness",
             Cell::Number(seconds_past(line.due, line.revocation.at)),
         ),
@@ -85,16 +86,16 @@ fn of_request(alloc: Global, line: &RequestLine) -> Result<Vec<Field>, AllocErro
     Vec::from_slice(
         alloc,
         &[
-            named("request", Cell::Number(request.id)),
-            named("serial", Cell::Serial(request.serial)),
-            named("ground", ground_in(request.ground)),
-            named("received", Cell::At(request.received)),
-            named("due", Cell::At(line.due)),
-            named("subscriber", Cell::Number(line.subscriber.id)),
-            named("name", Cell::Text(line.subscriber.name)),
-            named("order", Cell::Number(line.certificate.order)),
-            named("notBefore", Cell::At(line.certificate.not_before)),
-            named("notAfter", Cell::At(line.certificate.not_after)),
+            field("request", Cell::Number(request.id)),
+            field("serial", Cell::Serial(request.serial)),
+            field("ground", ground_cell(request.ground)),
+            field("received", Cell::At(request.received)),
+            field("due", Cell::At(line.due)),
+            field("subscriber", Cell::Number(line.subscriber.id)),
+            field("name", Cell::Text(line.subscriber.name)),
+            field("order", Cell::Number(line.certificate.order)),
+            field("notBefore", Cell::At(line.certificate.not_before)),
+            field("notAfter", Cell::At(line.certificate.not_after)),
         ],
     )
 }
@@ -105,9 +106,9 @@ fn of_history(alloc: Global, history: &RequestHistory) -> Result<Vec<Field>, All
     let declined = history.request.request.declined;
     let mut fields = of_request(alloc, &history.request)?;
     fields.extend_from_slice(&[
-        named("state", state_in(declined, history.status)),
-        named("decided", decided_in(declined, history.status)),
-        named("lateness", number_in(history.lateness)),
+        field("state", state_cell(declined, history.status)),
+        field("decided", decided_cell_of(declined, history.status)),
+        field("lateness", number_cell(history.lateness)),
     ])?;
     Ok(fields)
 }
@@ -118,8 +119,8 @@ fn of_subscriber(alloc: Global, subscriber: &SubscriberRow) -> Result<Vec<Field>
     Vec::from_slice(
         alloc,
         &[
-            named("subscriber", Cell::Number(subscriber.id)),
-            named("name", Cell::Text(subscriber.name)),
+            field("subscriber", Cell::Number(subscriber.id)),
+            field("name", Cell::Text(subscriber.name)),
         ],
     )
 }
@@ -130,11 +131,11 @@ fn of_order(alloc: Global, line: &OrderLine) -> Result<Vec<Field>, AllocError>
     Vec::from_slice(
         alloc,
         &[
-            named("order", Cell::Number(line.order.id)),
-            named("subscriber", Cell::Number(line.subscriber.id)),
-            named("name", Cell::Text(line.subscriber.name)),
-            named("days", Cell::Number(line.order.days)),
-            named("serial", serial_in(line.serial)),
+            field("order", Cell::Number(line.order.id)),
+            field("subscriber", Cell::Number(line.subscriber.id)),
+            field("name", Cell::Text(line.subscriber.name)),
+            field("days", Cell::Number(line.order.days)),
+            field("serial", serial_cell(line.serial)),
         ],
     )
 }
@@ -145,19 +146,20 @@ fn of_crl(alloc: Global, crl: &CrlRow) -> Result<Vec<Field>, AllocError>
     Vec::from_slice(
         alloc,
         &[
-            named("crl", Cell::Number(crl.number)),
-            named("thisUpdate", Cell::At(crl.this_update)),
+            field("crl", Cell::Number(crl.number)),
+            field("thisUpdate", Cell::At(crl.this_update)),
         ],
     )
 }
 
-fn named(name: &'static str, cell: Cell) -> Field
+/// The field with this name and value.
+fn field(name: &'static str, cell: Cell) -> Field
     ensures { field_of_text result ≡ (name.now, cell) }
 {
     Field { name, cell }
 }
 
-fn word(text: &[u8]) -> Cell
+fn text_cell(text: &[u8]) -> Cell
     requires not_empty { 1 ≤ length text.now }
     requires short { length text.now ≤ 64 }
     ensures { result ≡ Cell.Text text.now }
@@ -165,40 +167,46 @@ fn word(text: &[u8]) -> Cell
     Cell::Text(Label::joined(text, b""))
 }
 
-fn word_of(status: Status) -> Cell
+fn status_cell(status: Status) -> Cell
     ensures { result ≡ Cell.Text (status_name status) }
 {
     match status {
-        Status::Unknown => word(b"unknown"),
-        Status::Good => word(b"good"),
-        Status::Expired => word(b"expired"),
-        Status::Revoked { .. } => word(b"revoked"),
+        Status::Unknown => text_cell(b"unknown"),
+        Status::Good => text_cell(b"good"),
+        Status::Expired => text_cell(b"expired"),
+        Status::Revoked { .. } => text_cell(b"revoked"),
     }
 }
 
-fn state_in(declined: bool, status: Status) -> Cell
+fn state_cell(declined: bool, status: Status) -> Cell
     ensures { result ≡ Cell.Text (state_name declined status) }
 {
     match status {
-        _ if declined => word(b"declined"),
-        Status::Good => word(b"open"),
-        _ => word_of(status),
+        _ if declined => text_cell(b"declined"),
+        Status::Good => text_cell(b"open"),
+        _ => status_cell(status),
     }
 }
 
-fn decided_in(declined: bool, status: Status) -> Cell
+/// The moment of the revocation; empty for a declined request, because no record has that moment.
+fn decided_cell_of(declined: bool, status: Status) -> Cell
     ensures { result ≡ decided_cell declined status }
 {
-    if declined { Cell::Empty } else { at_of(status) }
+    if declined {
+        Cell::Empty
+    } else {
+        revoked_at_cell_of(status)
+    }
 }
 
+/// How many seconds `at` is after `due`; 0 if it is not.
 fn seconds_past(due: Moment, at: Moment) -> u64
     ensures { result ≡ at - due }
 {
     at.secs().saturating_sub(due.secs())
 }
 
-fn at_of(status: Status) -> Cell
+fn revoked_at_cell_of(status: Status) -> Cell
     ensures { result ≡ revoked_at_cell status }
 {
     match status {
@@ -208,7 +216,7 @@ fn at_of(status: Status) -> Cell
 }
 
 /// The reasonCode of a revocation (RFC 5280 5.3.1).
-fn reason_in(status: Status) -> Cell
+fn reason_cell_of(status: Status) -> Cell
     ensures { result ≡ reason_cell status }
 {
     match status {
@@ -217,7 +225,7 @@ fn reason_in(status: Status) -> Cell
     }
 }
 
-fn first_in(listing: Option<Listing>) -> Cell
+fn first_crl_cell(listing: Option<Listing>) -> Cell
     ensures { result ≡ first_listing listing }
 {
     match listing {
@@ -226,16 +234,16 @@ fn first_in(listing: Option<Listing>) -> Cell
     }
 }
 
-fn last_in(listing: Option<Listing>) -> Cell
+fn last_crl_cell(listing: Option<Listing>) -> Cell
     ensures { result ≡ last_listing_cell listing }
 {
     match listing {
-        Some(listing) => number_in(listing.last),
+        Some(listing) => number_cell(listing.last),
         None => Cell::Empty,
     }
 }
 
-fn number_in(number: Option<u64>) -> Cell
+fn number_cell(number: Option<u64>) -> Cell
     ensures { result ≡ number_or_empty number }
 {
     match number {
@@ -244,7 +252,7 @@ fn number_in(number: Option<u64>) -> Cell
     }
 }
 
-pub(crate) fn serial_in(serial: Option<Serial>) -> Cell
+pub(crate) fn serial_cell(serial: Option<Serial>) -> Cell
     ensures { result ≡ serial_or_empty serial }
 {
     match serial {
@@ -253,20 +261,20 @@ pub(crate) fn serial_in(serial: Option<Serial>) -> Cell
     }
 }
 
-fn ground_in(ground: Ground) -> Cell
+fn ground_cell(ground: Ground) -> Cell
     ensures { result ≡ Cell.Text (ground_name ground) }
 {
     match ground {
-        Ground::Asked => word(b"asked"),
-        Ground::Unauthorized => word(b"unauthorized"),
-        Ground::KeyCompromise => word(b"key-compromise"),
-        Ground::ControlLost => word(b"control-lost"),
-        Ground::Affiliation => word(b"affiliation"),
-        Ground::Superseded => word(b"superseded"),
-        Ground::Cessation => word(b"cessation"),
-        Ground::Misuse => word(b"misuse"),
-        Ground::NameNotPermitted => word(b"name-not-permitted"),
-        Ground::Nonconforming => word(b"nonconforming"),
-        Ground::Inaccurate => word(b"inaccurate"),
+        Ground::Asked => text_cell(b"asked"),
+        Ground::Unauthorized => text_cell(b"unauthorized"),
+        Ground::KeyCompromise => text_cell(b"key-compromise"),
+        Ground::ControlLost => text_cell(b"control-lost"),
+        Ground::Affiliation => text_cell(b"affiliation"),
+        Ground::Superseded => text_cell(b"superseded"),
+        Ground::Cessation => text_cell(b"cessation"),
+        Ground::Misuse => text_cell(b"misuse"),
+        Ground::NameNotPermitted => text_cell(b"name-not-permitted"),
+        Ground::Nonconforming => text_cell(b"nonconforming"),
+        Ground::Inaccurate => text_cell(b"inaccurate"),
     }
 }

@@ -14,7 +14,7 @@ pub struct Filter {
     pub subscriber: Option<Label>,
     /// The first hexadecimal digits of the serial number, in either case, with or without its leading zeros.
     pub serial: Option<Label>,
-    /// The first second of a period.
+    /// The first second of a period in which the row's time (`time_of_row`) must be.
     pub from: Option<Moment>,
     /// The first second after that period.
     pub to: Option<Moment>,
@@ -51,11 +51,11 @@ impl Filter {
     fn keeps(&self, row: &Row) -> bool
         ensures { result ≡ keeps self.now row.now }
     {
-        let is_named = is_of(&self.subscriber, name_of_row(row));
-        let is_numbered = begins(&self.serial, serial_of_row(row));
-        let is_past_from = is_from(self.from, time_of_row(row));
-        let is_before_to = is_before(self.to, time_of_row(row));
-        is_named && is_numbered && is_past_from && is_before_to
+        let name_fits = is_wanted_name(&self.subscriber, name_of_row(row));
+        let serial_fits = has_wanted_prefix(&self.serial, serial_of_row(row));
+        let time_is_from = is_from(self.from, time_of_row(row));
+        let time_is_before = is_before(self.to, time_of_row(row));
+        name_fits && serial_fits && time_is_from && time_is_before
     }
 }
 
@@ -104,7 +104,8 @@ fn time_of_row(row: &Row) -> Option<Moment>
 
 // ---- whether a field satisfies a condition
 
-fn is_of(wanted: &Option<Label>, name: Option<Label>) -> bool
+/// Whether the name is the wanted one, if one is wanted.
+fn is_wanted_name(wanted: &Option<Label>, name: Option<Label>) -> bool
     ensures { result ≡ wanted_field bytes_eq wanted.now name }
 {
     match wanted {
@@ -116,7 +117,8 @@ fn is_of(wanted: &Option<Label>, name: Option<Label>) -> bool
     }
 }
 
-fn begins(wanted: &Option<Label>, serial: Option<Serial>) -> bool
+/// Whether the serial number begins with the wanted digits, if digits are wanted.
+fn has_wanted_prefix(wanted: &Option<Label>, serial: Option<Serial>) -> bool
     ensures { result ≡ wanted_field begins_with wanted.now serial }
 {
     match wanted {
@@ -146,13 +148,13 @@ fn zeros_of(text: &[u8]) -> usize
     ensures zeros { result ≡ position_or_len (λ byte. not (byte == 48)) text.now }
     ensures within { result ≤ length text.now }
 {
-    match first_other(text) {
+    match first_nonzero(text) {
         Some(index) => index,
         None => text.len(),
     }
 }
 
-fn first_other(text: &[u8]) -> Option<usize>
+fn first_nonzero(text: &[u8]) -> Option<usize>
     ensures { result ≡ position (λ byte. not (byte == 48)) text.now }
 {
     text.iter().position(|byte| *byte != b'0')

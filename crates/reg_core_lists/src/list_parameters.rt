@@ -11,11 +11,12 @@ use crate::filter::Filter;
 use reg_core::{Label, Moment, read_number};
 
 /// The greatest `limit`.
-const LONGEST_LIMIT: u64 = 1_000;
+const GREATEST_LIMIT: u64 = 1_000;
 
 /// The most rows that a page reads, whatever its `limit`, so that no other client waits long.
 const MOST_ROWS: u64 = 250;
 
+/// The number of different parameters.
 const MOST_PARAMS: usize = 7;
 
 /// The most hexadecimal digits of a serial number.
@@ -41,12 +42,12 @@ pub struct PageQuery {
 /// Reads the query for a page, from the list's name and its parameters. The page reads at most 250 rows. `None` if there is no
 /// such list, if a parameter is repeated or is none of the seven, if a value can't be read, if the limit is not 1 to 1,000, or
 /// if the rows of the list don't have the fields that the filter needs.
-pub fn read_page(word: &[u8], query: &[u8]) -> Option<PageQuery>
-    ensures { result ≡ page_query word.now query.now }
+pub fn read_page(name: &[u8], query: &[u8]) -> Option<PageQuery>
+    ensures { result ≡ page_query name.now query.now }
 {
     let params = read_params(query)?;
-    let from = cursor_of(Cursor::named(word, params.before)?, params.after)?;
-    let most = rows_of(params.limit)?;
+    let from = cursor_past_key(Cursor::named(name, params.before)?, params.after)?;
+    let most = most_rows(params.limit)?;
     if !params.filter.fits(from) {
         return None;
     }
@@ -57,7 +58,7 @@ pub fn read_page(word: &[u8], query: &[u8]) -> Option<PageQuery>
     })
 }
 
-fn cursor_of(from: Cursor, after: Option<Label>) -> Option<Cursor>
+fn cursor_past_key(from: Cursor, after: Option<Label>) -> Option<Cursor>
     ensures { result ≡ cursor_at from after }
 {
     match after {
@@ -66,11 +67,11 @@ fn cursor_of(from: Cursor, after: Option<Label>) -> Option<Cursor>
     }
 }
 
-fn rows_of(limit: Option<u64>) -> Option<u64>
+fn most_rows(limit: Option<u64>) -> Option<u64>
     ensures { result ≡ at_most limit }
 {
     match limit {
-        Some(limit) if limit == 0 || limit > LONGEST_LIMIT => None,
+        Some(limit) if limit == 0 || limit > GREATEST_LIMIT => None,
         Some(limit) if limit < MOST_ROWS => Some(limit),
         _ => Some(MOST_ROWS),
     }
@@ -112,30 +113,32 @@ fn behind(text: &[u8], index: usize) -> &[u8]
     &text[index + 1..]
 }
 
+/// The index of the first such byte; the length of the text if there is none.
 fn index_of(text: &[u8], wanted: u8) -> usize
     ensures index { result ≡ position_or_len (λ byte. byte == wanted) text.now }
     ensures within { result ≤ length text.now }
 {
-    match first_of(text, wanted) {
+    match position_of(text, wanted) {
         Some(index) => index,
         None => text.len(),
     }
 }
 
-fn first_of(text: &[u8], wanted: u8) -> Option<usize>
+fn position_of(text: &[u8], wanted: u8) -> Option<usize>
     ensures { result ≡ position (λ byte. byte == wanted) text.now }
 {
     text.iter().position(|byte| *byte == wanted)
 }
 
-fn with_parameter(params: Params, piece: &[u8]) -> Option<Params>
-    ensures { result ≡ with_parameter params piece.now }
+/// The parameters with one more, as `NAME=VALUE`.
+fn with_parameter(params: Params, parameter: &[u8]) -> Option<Params>
+    ensures { result ≡ with_parameter params parameter.now }
 {
-    let end = index_of(piece, b'=');
-    if end == piece.len() {
+    let end = index_of(parameter, b'=');
+    if end == parameter.len() {
         return None;
     }
-    with_value(params, &piece[..end], behind(piece, end))
+    with_value(params, &parameter[..end], behind(parameter, end))
 }
 
 /// The parameters with one more. `None` if it is given already, is none of the seven, or its value can't be read.

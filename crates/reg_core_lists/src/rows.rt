@@ -1,3 +1,5 @@
+//! The rows of lists.
+
 use crate::cursor::Cursor;
 use reg_core::{
     CertRow, CrlRow, Listing, Moment, OrderRow, RequestRow, RevocationRow, Serial, Status,
@@ -43,7 +45,7 @@ pub struct RequestHistory {
     pub request: RequestLine,
     /// The status of its certificate.
     pub status: Status,
-    /// How many seconds it was open after its deadline. `None` if it was declined: no record has the moment of that.
+    /// For how many seconds it was open after its deadline, or has been until now. `None` if it was declined: no record has the moment of that.
     pub lateness: Option<u64>,
 }
 
@@ -59,9 +61,12 @@ pub struct OrderLine {
 /// A row of a list.
 #[derive(Clone, Copy)]
 pub enum Row {
+    /// A row of `certificates` or `ending`.
     Certificate(CertificateLine),
     Revoked(RevokedLine),
+    /// A row of `open-requests` or `overdue`.
     Request(RequestLine),
+    /// A row of `requests`.
     History(RequestHistory),
     Subscriber(SubscriberRow),
     Order(OrderLine),

@@ -8,7 +8,7 @@ ghost use Rattle.reg_core_lists.specs.Texts.{header_text, member_rest, member_te
 ghost use Rattle.reg_core.specs.Buffers.{AppendsOnOk};
 
 use crate::cursor::Cursor;
-use crate::fields::{Cell, Field, fields_of, serial_in};
+use crate::fields::{Cell, Field, fields_of, serial_cell};
 use crate::rows::Row;
 use reg_core::Decimal;
 use std::alloc::{AllocError, Global};
@@ -22,16 +22,17 @@ pub enum Format {
     Json,
 }
 
-const OF_CERTIFICATES: &str =
+// The names are those of `fields.rt`, in the same order.
+const CERTIFICATES_HEADER: &str =
     "serial,subscriber,name,order,notBefore,notAfter,status,revokedAt,reason,firstCrl,lastCrl\n";
 
-const OF_REVOCATIONS: &str =
+const REVOCATIONS_HEADER: &str =
     "serial,subscriber,name,order,notBefore,notAfter,status,revokedAt,reason,firstCrl,lastCrl,request,ground,received,due,lateness\n";
 
-const OF_REQUESTS: &str =
+const REQUESTS_HEADER: &str =
     "request,serial,ground,received,due,subscriber,name,order,notBefore,notAfter\n";
 
-const OF_HISTORIES: &str =
+const HISTORIES_HEADER: &str =
     "request,serial,ground,received,due,subscriber,name,order,notBefore,notAfter,state,decided,lateness\n";
 
 /// The header of a list as CSV, with its LF.
@@ -39,10 +40,10 @@ pub fn header(from: Cursor) -> &'static str
     ensures { result.now ≡ header_text from }
 {
     match from {
-        Cursor::Revoked(_) => OF_REVOCATIONS,
-        Cursor::Certificates(_) | Cursor::Ending { .. } => OF_CERTIFICATES,
-        Cursor::OpenRequests(_) | Cursor::Overdue(_) => OF_REQUESTS,
-        Cursor::Requests(_) => OF_HISTORIES,
+        Cursor::Revoked(_) => REVOCATIONS_HEADER,
+        Cursor::Certificates(_) | Cursor::Ending { .. } => CERTIFICATES_HEADER,
+        Cursor::OpenRequests(_) | Cursor::Overdue(_) => REQUESTS_HEADER,
+        Cursor::Requests(_) => HISTORIES_HEADER,
         Cursor::Subscribers(_) => "subscriber,name\n",
         Cursor::Orders(_) => "order,subscriber,name,days,serial\n",
         Cursor::Crls(_) => "crl,thisUpdate\n",
@@ -180,7 +181,7 @@ pub fn page_text(
     ensures { IfOk result (λ text. text.items ≡ page_body from next rows.now) }
 {
     let mut out = Vec::from_slice(alloc, b"{\"list\":\"")?;
-    out.extend_from_slice(from.word().as_bytes())?;
+    out.extend_from_slice(from.name().as_bytes())?;
     out.extend_from_slice(b"\",\"next\":")?;
     put_next(&mut out, next)?;
     out.extend_from_slice(b",\"rows\":[")?;
@@ -199,13 +200,14 @@ fn put_next(out: &mut Vec<u8>, next: Option<Cursor>) -> Result<(), AllocError>
     }
 }
 
+/// The key after which the list continues.
 fn key_of(from: Cursor) -> Cell
     ensures { result ≡ key_cell from }
 {
     match from {
-        Cursor::Revoked(after) => serial_in(after),
-        Cursor::Certificates(after) => serial_in(after),
-        Cursor::Ending { before: _, after } => serial_in(after),
+        Cursor::Revoked(after) => serial_cell(after),
+        Cursor::Certificates(after) => serial_cell(after),
+        Cursor::Ending { before: _, after } => serial_cell(after),
         Cursor::OpenRequests(after) => Cell::Number(after),
         Cursor::Overdue(after) => Cell::Number(after),
         Cursor::Requests(after) => Cell::Number(after),

@@ -12,20 +12,20 @@ use Rattle.reg_der.specs.ValueReading.{value_at}
 use Rattle.reg_crl.specs.Crl.{certificate_list, tbs_of}
 use Rattle.reg_crl.specs.Signing.{IsAlgorithm}
 
--- a UTCTime or a GeneralizedTime (RFC 5280 4.1.2.5)
+-- the tag is that of a UTCTime or a GeneralizedTime (RFC 5280 4.1.2.5)
 abbrev pub is_time : ℕ → Bool
 is_time tag = (tag == 0x17) || (tag == 0x18)
 
--- what follows a Time
+-- the bytes after a Time
 unfoldable pub time_at : List ℕ → Option (List ℕ)
 time_at bytes = value_at bytes >>= λ time. if is_time time.0.tag then Some time.1 else None
 
--- what follows nextUpdate, which may be left out (RFC 5280 5.1.2.5)
+-- the bytes after nextUpdate, which may be left out (RFC 5280 5.1.2.5)
 unfoldable pub after_next_update : List ℕ → Option (List ℕ)
 after_next_update [] = Some []
 after_next_update (first ∷ rest) = if is_time first then time_at (first ∷ rest) else Some (first ∷ rest)
 
--- what follows version, signature, issuer, thisUpdate and nextUpdate in a TBSCertList (RFC 5280 5.1.2)
+-- the bytes after version, signature, issuer, thisUpdate and nextUpdate in a TBSCertList (RFC 5280 5.1.2)
 unfoldable pub header_at : List ℕ → Option (List ℕ)
 header_at bytes = do
   version ← optional_at 0x02 bytes
@@ -34,7 +34,7 @@ header_at bytes = do
   after ← time_at issuer.1
   after_next_update after
 
--- extnID and extnValue of an Extension, and what follows (RFC 5280 4.1)
+-- extnID and extnValue of an Extension, and the bytes after it (RFC 5280 4.1)
 unfoldable pub crl_extension_at : List ℕ → Option ((List ℕ × List ℕ) × List ℕ)
 crl_extension_at bytes = do
   extension ← expect_at 0x30 bytes
@@ -49,7 +49,7 @@ crl_number_of [] = None
 crl_number_of (first ∷ rest) =
     if nat_lt first 0x80 && nat_le (length (first ∷ rest)) 8 then Some (value (first ∷ rest)) else None
 
--- the value of the first CRL number extension, 2.5.29.20, in Extensions (RFC 5280 5.2.3). The fuel is their length: each has at least one octet.
+-- the value of the first CRL number extension, 2.5.29.20, in Extensions (RFC 5280 5.2.3). `fuel` bounds the recursion; it is their length, because each has at least one octet.
 abbrev pub number_among : ℕ → List ℕ → Option ℕ
 number_among fuel [] = None
 number_among zero (first ∷ rest) = None
@@ -81,7 +81,7 @@ certificate_list_at bytes = do
   signature ← whole_at 0x03 algorithm.1
   tbs_cert_list_at tbs.0
 
--- the contents octets of the serial number of an entry of revokedCertificates, and what follows the entry (RFC 5280 5.1.2.6)
+-- the contents octets of the serial number of an entry of revokedCertificates, and the bytes after the entry (RFC 5280 5.1.2.6)
 unfoldable pub revoked_entry_at : List ℕ → Option (List ℕ × List ℕ)
 revoked_entry_at bytes = do
   entry ← expect_at 0x30 bytes

@@ -1,11 +1,11 @@
--- The result of asking a signer for a signature.
+-- The result of a call of `Signer::sign`.
 use Rattle.std.specs.Prelude.{◌≡◌, ℕ, ◌-◌, ◌^◌, ◌<◌, ◌≤◌, List, length, Result, Vec, IfOk, IsErrOf, OnOk}
 use Rattle.std.specs.Global.{Global}
 use Rattle.reg_crl.specs.Signing.{Identity}
 use Rattle.reg_crl.specs.declared.signer.SignFault.{SignFault}
 use Rattle.reg_crl.specs.declared.signer.SignFault.TheVariants.{Device, Memory}
 
--- A signer was asked to sign a message: it was `old` before and is `new` after. It gave a signature of its identity, or a fault. The count of
+-- The signer is `old` before the call and `new` after it. It returned a signature by its algorithm and key, or a fault. The count of
 -- failures rises if the device failed, and stays otherwise. At u64::MAX it can't rise, so the signer doesn't report a failed device.
 pub record SignsOrFails {S : Type 0} (identity : S → Identity) (signs : Identity → List ℕ → List ℕ → Type 0)
     (failure_count : S → ℕ)

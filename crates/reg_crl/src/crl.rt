@@ -11,7 +11,7 @@ use reg_der::tags::{ENUMERATED, OBJECT_IDENTIFIER, OCTET_STRING, PRIMITIVE_0, SE
 use reg_der::{Issuer, put, put_bits, put_number, put_raw, put_serial, put_utc_or_general};
 use std::alloc::Global;
 
-/// The number of version 2 (RFC 5280 5.1.2.1).
+/// The INTEGER that means version 2 (RFC 5280 5.1.2.1).
 const VERSION_2: u64 = 1;
 
 /// The reason `unspecified`: the reason code extension is left out for it (RFC 5280 5.3.1).
@@ -27,7 +27,7 @@ const REASON_CODE: [u8; 3] = [0x55, 0x1D, 0x15];
 const AUTHORITY_KEY_IDENTIFIER: [u8; 3] = [0x55, 0x1D, 0x23];
 
 /// The TBSCertList of a CRL (RFC 5280 5.1.2), the part that is signed; at most 2^27 bytes. The entries ascend strictly by
-/// serial number, and there are at most 1,000,000. The algorithm has at most 1,024 bytes.
+/// serial number, and there are at most 1,000,000. `algorithm` is an AlgorithmIdentifier, of at most 1,024 bytes.
 #[tactic(auto, unfolding(crate::specs::Crl::tbs_cert_list))]
 pub fn crl_tbs(
     alloc: Global,
@@ -107,12 +107,12 @@ fn put_revoked_certificates(
     put(out, SEQUENCE, &contents)
 }
 
+/// The contents of revokedCertificates.
 fn revoked(alloc: Global, entries: &[Entry]) -> Result<Vec<u8>, Memory>
     ensures bytes { ItemsOnOk result (flat_map revoked_certificate entries.now) }
     ensures short { IfOk result (λ bytes. length bytes.items ≤ 59 * length entries.now) }
 {
     let mut out = Vec::new(alloc);
-    // One buffer serves all entries.
     let mut buffer = Vec::new(alloc);
     for entry in entries {
         put_revoked_certificate(&mut out, &mut buffer, *entry)?;
@@ -120,7 +120,7 @@ fn revoked(alloc: Global, entries: &[Entry]) -> Result<Vec<u8>, Memory>
     Ok(out)
 }
 
-/// Appends one entry. Its contents are made in `buffer`, which is cleared first.
+/// Appends one entry. `buffer`, which is cleared first, gets its contents.
 #[tactic(auto, unfolding(crate::specs::Crl::revoked_certificate))]
 fn put_revoked_certificate(
     out: &mut Vec<u8>,

@@ -56,6 +56,7 @@ fn serial_octets(entries: &[u8]) -> Option<(&[u8], &[u8])>
     Some((serial.contents, rest))
 }
 
+/// The number and the entries, from the contents of a TBSCertList.
 #[tactic(auto, unfolding(crate::specs::Reading::tbs_cert_list_at))]
 fn parts(bytes: &[u8]) -> Option<ParsedCrl<'_>>
     ensures { Gives (λ crl. (crl.number, crl.revoked.now)) result (tbs_cert_list_at bytes.now) }
@@ -68,7 +69,7 @@ fn parts(bytes: &[u8]) -> Option<ParsedCrl<'_>>
     })
 }
 
-/// What follows version, signature, issuer, thisUpdate and nextUpdate.
+/// The bytes after version, signature, issuer, thisUpdate and nextUpdate.
 #[tactic(auto, unfolding(crate::specs::Reading::header_at))]
 fn skip_header(bytes: &[u8]) -> Option<&[u8]>
     ensures { Gives (λ x. x.now) result (header_at bytes.now) }
@@ -79,7 +80,7 @@ fn skip_header(bytes: &[u8]) -> Option<&[u8]>
     skip_next_update(skip_time(rest)?)
 }
 
-/// What follows a Time (RFC 5280 5.1.2.4).
+/// The bytes after a Time (RFC 5280 5.1.2.4).
 #[tactic(auto, unfolding(crate::specs::Reading::time_at))]
 fn skip_time(bytes: &[u8]) -> Option<&[u8]>
     ensures { Gives (λ x. x.now) result (time_at bytes.now) }
@@ -92,6 +93,7 @@ fn skip_time(bytes: &[u8]) -> Option<&[u8]>
     }
 }
 
+/// The bytes after nextUpdate, which may be absent.
 #[tactic(auto, unfolding(crate::specs::Reading::after_next_update))]
 fn skip_next_update(bytes: &[u8]) -> Option<&[u8]>
     ensures { Gives (λ x. x.now) result (after_next_update bytes.now) }
@@ -118,13 +120,14 @@ fn number_among(extensions: &[u8]) -> Option<u64>
     while !rest.is_empty() {
         let (identifier, value, after) = next_extension(rest)?;
         if identifier == CRL_NUMBER.as_slice() {
-            return number_of(whole(INTEGER, value)?);
+            return number_of_integer(whole(INTEGER, value)?);
         }
         rest = after;
     }
     None
 }
 
+/// The extnID and the extnValue of the first extension, and the extensions after it.
 #[tactic(auto, unfolding(crate::specs::Reading::crl_extension_at))]
 fn next_extension(bytes: &[u8]) -> Option<(&[u8], &[u8], &[u8])>
     ensures exact { Gives (λ x. ((x.0.now, x.1.now), x.2.now)) result (crl_extension_at bytes.now) }
@@ -138,7 +141,7 @@ fn next_extension(bytes: &[u8]) -> Option<(&[u8], &[u8], &[u8])>
 }
 
 /// The number with the contents octets of an INTEGER (X.690 8.3). `None` if it is negative, or has no octets or more than eight.
-fn number_of(octets: &[u8]) -> Option<u64>
+fn number_of_integer(octets: &[u8]) -> Option<u64>
     ensures { result ≡ crl_number_of octets.now }
 {
     if octets.is_empty() || octets[0] >= 0x80 || octets.len() > 8 {

@@ -40,13 +40,11 @@ pub trait Signer {
     ghost use Rattle.reg_crl.specs.Signing.{Identity, IsAlgorithm};
     ghost use Rattle.reg_crl.specs.Signatures.{SignsOrFails};
 
-    // Its algorithm and public key, which no call changes.
     ghost identity: { Self → Identity };
 
     // With this algorithm and key, the message (second) has the signature (third).
     ghost signs: { Identity → List ℕ → List ℕ → Type 0 };
 
-    // How many failures of the device it has counted.
     ghost failure_count: { Self → ℕ };
 
     /// The AlgorithmIdentifier of the signatures (RFC 5280 4.1.1.2): one value of tag 30h, at most 1,024 bytes.
@@ -54,12 +52,12 @@ pub trait Signer {
         ensures value { result.now ≡ (identity self.now).algorithm }
         ensures within { IsAlgorithm result.now };
 
-    /// The public key, if the key is in a device that a caller can also ask for a signature; `None` if there is no such device.
+    /// The public key, if the key is in a device from which a caller can also request signatures itself; `None` if there is no such device.
     fn public_key(&self) -> Option<&[u8]>
         ensures { IfSome (option_copied result) (λ key. key ≡ (identity self.now).public_key) };
 
     /// A signature of the message, of at most 65,536 bytes. `Device` if the device failed: then the count of failures rises. At
-    /// `u64::MAX` it can't rise, and `Device` isn't returned.
+    /// `u64::MAX` it can't rise, and the fault is `Memory`.
     fn sign(&mut self, alloc: Global, message: &[u8]) -> Result<Vec<u8>, SignFault>
         ensures { SignsOrFails identity signs failure_count self.old self.new message.now result };
 

@@ -41,7 +41,7 @@ module _ {D : Type 0} (g : Ghosts D) where
       × ¬ (HasSignatureForm it.algorithm (g.public_key it.device) answer))
 
   -- Without a preset, the signature is an answer of the device at its path. With one, it is an answer that another caller got there. It has at most
-  -- 4,096 bytes. Without a preset, `Device` means that the device gave no signature. The path stays the same.
+  -- 4,096 bytes. Without a preset, the fault `Device` means that the device gave no signature. The path stays the same.
   pub record AsksAtItsPath (old new : DeviceSigner D g) (message : List ℕ)
       (result : Result (Vec ℕ Global) SignFault) : Type 0 where
     pub device_answered : old.preset_signature ≡ None

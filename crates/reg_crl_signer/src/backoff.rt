@@ -24,13 +24,13 @@ impl Backoff {
         Backoff { since: None }
     }
 
-    /// The back-off after a failed exchange: it begins at `ended` if the exchange took at least the timeout; else there is none.
+    /// The back-off after a failed exchange: it begins at `ended` if the exchange elapsed at least the timeout; else there is none.
     pub fn after_failure(began: Duration, ended: Duration, timeout: Duration) -> Backoff
         ensures { MatchOption result.since (as_nanos ended - as_nanos began < as_nanos timeout)
             (λ since. (since ≡ ended) × (as_nanos timeout ≤ as_nanos ended - as_nanos began)) }
     {
-        let took = ended.saturating_sub(began);
-        if took.as_nanos() < timeout.as_nanos() {
+        let elapsed = ended.saturating_sub(began);
+        if elapsed.as_nanos() < timeout.as_nanos() {
             Backoff { since: None }
         } else {
             Backoff { since: Some(ended) }
@@ -122,7 +122,7 @@ impl<D: Device, C: Clock> Device for BackoffDevice<D, C> {
     fn exchange(&mut self, message: &[u8], room: &mut [u8]) -> Result<usize, DeviceFault> {
         match self.clock.monotonic() {
             Ok(began) => self.exchange_at(began, message, room),
-            // Without a clock the time since a timeout is unknown.
+            // If the clock fails, the time since a timeout is unknown, so the device is asked.
             Err(_) => self.device.exchange(message, room),
         }
     }

@@ -36,8 +36,8 @@ pub trait Device {
     fn public_key(&self) -> &[u8]
         ensures { result.now ≡ public_key self.now };
 
-    /// Sends the whole message, and reads the answer up to its end into the front of `room`. Returns the answer's length, which
-    /// is less than that of `room`. Never reads more bytes than `room` has.
+    /// Sends the whole message, and reads the answer up to its end into the beginning of `room`. Returns the answer's length,
+    /// which is less than that of `room`. Never reads more bytes than `room` has.
     fn exchange(&mut self, message: &[u8], room: &mut [u8]) -> Result<usize, DeviceFault>
         requires { length room.old ≤ 4097 }
         ensures { Exchanges public_key device_path device_answered answers fails

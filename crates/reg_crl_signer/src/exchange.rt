@@ -45,6 +45,7 @@ pub struct SocketDevice<L: DeviceConnection> {
 }
 
 impl<L: DeviceConnection> SocketDevice<L> {
+    /// The device that listens at `path`. `key` has the bits of its subjectPublicKey.
     pub fn new(rt: HostRuntime, path: String, key: Vec<u8>) -> SocketDevice<L>
         ensures path { result.path ≡ path }
         ensures key { result.key ≡ key }

@@ -16,12 +16,12 @@ pub enum KeyOrDigest<D: Device> {
     Key(DeviceSigner<D>),
     /// No key: a placeholder digest instead of a signature.
     Digest(DigestSeal),
-    /// No signer: each request is a failure, and counted here.
+    /// No signer, with the digest's algorithm: each request is a failure, and counted here.
     NoSigner(DigestSeal, u64),
 }
 
 impl<D: Device + Drop> KeyOrDigest<D> {
-    /// This signer, but with nobody in place of the placeholder digest.
+    /// This signer, but `NoSigner` in place of the placeholder digest.
     pub fn without_digest(self) -> KeyOrDigest<D>
         ensures key { key_of D.Device result ≡ key_of D.Device self }
         ensures same_identity { either_identity D.Device result ≡ either_identity D.Device self }

@@ -26,7 +26,7 @@ pub struct SignatureRequest {
 
 impl SignatureRequest {
     /// Asks the signer at a path to sign a message. Errors: those of [`SignatureRequest::connect`]; out of memory; `BrokenPipe` if the message can't
-    /// be sent at once (the socket's buffer may not hold some hundred thousand bytes); those of the shutdown of the sending side.
+    /// be sent at once (a message of several hundred thousand bytes may not fit into the socket's buffer); those of the shutdown of the sending side.
     pub fn send_to(rt: &HostRuntime, path: &str, message: &[u8]) -> io::Result<SignatureRequest>
         ensures { IfOk result (IsSignatureRequest path.now message.now) }
     {
@@ -111,10 +111,10 @@ impl DeviceConnection for SignatureRequest {
         ensures ok { IfOk result (IsSignatureRequest path.now []) }
         ensures err { Unit {0} }
     {
-        let kept = String::from_str(rt.alloc(), path)?;
+        let own_path = String::from_str(rt.alloc(), path)?;
         Ok(SignatureRequest {
             stream: UnixStream::connect(rt, path)?,
-            path: kept,
+            path: own_path,
             message: Vec::new(rt.alloc()),
         })
     }

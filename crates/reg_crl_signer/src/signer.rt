@@ -49,8 +49,8 @@ impl<D: Device + Drop> DeviceSigner<D> {
         })
     }
 
-    /// Presets the next signature: the answer that another caller got from the device at the same path for a message, or that it got none. The next
-    /// `sign` then doesn't ask the device, and fails for any other message. `None` removes the preset.
+    /// Presets the next signature: the answer that another caller got from the device at the same path for a message, or that there was none. The
+    /// next `sign` then doesn't ask the device, and fails for any other message. `None` removes the preset.
     pub fn set_preset(&mut self, preset_signature: Option<PresetSignature>)
         requires { IsPreset (D.signer_answered (D.device_path self.old.device)) preset_signature }
         ensures preset_signature { self.new.preset_signature ≡ preset_signature }

@@ -44,7 +44,7 @@ identifier_at bytes =
     then Some (record { first = value (take 8 x.0.contents); octets = drop 8 x.0.contents }, x.1)
     else None
 
--- all key identifiers in the bytes. The fuel is the number of bytes: each key identifier has at least one.
+-- all key identifiers in the bytes. `fuel` bounds the recursion; it is the number of bytes, because each key identifier has at least one.
 abbrev pub identifiers_by : ℕ → List ℕ → Option (List KeyIdentifier)
 identifiers_by fuel [] = Some []
 identifiers_by zero (first ∷ rest) = None
@@ -103,7 +103,7 @@ with_identifier issuer first octets =
       key = issuer.key;
     }
 
--- after that, the issuer has the same Name and key, the new key identifier from that CRL on, and its former ones in earlier CRLs
+-- with one more key identifier, the issuer has the same Name and key, the new key identifier from that CRL on, and its former ones in earlier CRLs
 pub record HasIdentifier (issuer : core.Issuer) (first : ℕ) (octets : List ℕ) : Type 0 where
   pub within : IsIssuer (with_identifier issuer first octets)
   pub name : name_of (with_identifier issuer first octets) ≡ name_of issuer
@@ -113,6 +113,7 @@ pub record HasIdentifier (issuer : core.Issuer) (first : ℕ) (octets : List ℕ
   pub earlier : (number : ℕ) → number < first
       → key_identifier_at (with_identifier issuer first octets) number ≡ key_identifier_at issuer number
 
+-- the law of `with_identifier`
 abbrev pub IdentifiersFollow : Type 0
 IdentifiersFollow =
     (issuer : core.Issuer) (first : ℕ) (octets : List ℕ) → IsIssuer issuer → first < 2 ^ 64 → IsLabel octets
@@ -124,5 +125,6 @@ pub record IsPlain (issuer : core.Issuer) : Type 0 where
   pub name : name_of issuer ≡ issuer.name
   pub none : (number : ℕ) → key_identifier_at issuer number ≡ None
 
+-- an issuer whose stored name is a Name has no key identifiers
 abbrev pub NamesArePlain : Type 0
 NamesArePlain = (issuer : core.Issuer) → IsIssuerName issuer.name → IsPlain issuer

@@ -27,7 +27,7 @@ last_at tag (first ∷ rest) = whole_at tag (first ∷ rest) >>= λ x. Some (Som
 
 -- ---- items up to the end
 
--- all items in the bytes. The fuel is the number of bytes: each item has at least one.
+-- all items in the bytes, which `item` reads one by one. `fuel` bounds the recursion; it is the number of bytes, because each item has at least one.
 abbrev pub items_at : {X : Type 0} → (List ℕ → Option (X × List ℕ)) → ℕ → List ℕ → Option (List X)
 items_at item fuel [] = Some []
 items_at item zero (first ∷ rest) = None

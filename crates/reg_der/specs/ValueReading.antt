@@ -49,7 +49,7 @@ pub record TakesValue (bytes : List ℕ) (parts : Parts) (rest : List ℕ) : Typ
   pub taken : Takes bytes (tlv parts.tag parts.contents) rest
   pub fits : IsTlv (tlv parts.tag parts.contents) parts.tag parts.contents
 
--- what is read is a value at the front of the bytes
+-- reading gives a value at the front of the bytes
 abbrev pub ReadsValues : Type 0
 ReadsValues =
     (bytes : List ℕ) (x : Parts × List ℕ) → IsBytes bytes → value_at bytes ≡ Some x → TakesValue bytes x.0 x.1

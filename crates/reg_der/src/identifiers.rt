@@ -9,9 +9,11 @@ use reg_core::Label;
 /// The tag octet [0] of a key identifier (RFC 5280 4.2.1.1).
 pub(crate) const KEY_IDENTIFIER: u8 = 0x80;
 
-const NUMBER_OCTETS: usize = 8;
+/// The octets of the first CRL's number, before those of the key identifier.
+const NUMBER_LENGTH: usize = 8;
 
-const MOST_OCTETS: usize = 72;
+/// The most octets of both: the number, and a key identifier of 64.
+const LONGEST_CONTENTS: usize = 72;
 
 /// A key identifier that was set for an issuer, and the number of the first CRL that has it.
 #[derive(Clone, Copy, PartialEq, Eq)]
@@ -20,6 +22,7 @@ pub struct KeyIdentifier {
     pub octets: Label,
 }
 
+/// The key identifier at the front, and the bytes after it.
 #[tactic(auto, unfolding(crate::specs::Authority::identifier_at))]
 fn first_element(bytes: &[u8]) -> Option<(KeyIdentifier, &[u8])>
     ensures exact { Gives (λ x. (x.0, x.1.now)) result (authority.identifier_at bytes.now) }
@@ -27,12 +30,12 @@ fn first_element(bytes: &[u8]) -> Option<(KeyIdentifier, &[u8])>
 {
     let (value, rest) = take(bytes)?;
     if value.tag != KEY_IDENTIFIER
-        || value.contents.len() <= NUMBER_OCTETS
-        || value.contents.len() > MOST_OCTETS
+        || value.contents.len() <= NUMBER_LENGTH
+        || value.contents.len() > LONGEST_CONTENTS
     {
         return None;
     }
-    let (first, octets) = value.contents.split_at(NUMBER_OCTETS);
+    let (first, octets) = value.contents.split_at(NUMBER_LENGTH);
     let identifier = KeyIdentifier {
         first: number(first),
         octets: Label::joined(octets, &[]),

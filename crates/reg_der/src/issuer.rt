@@ -41,7 +41,6 @@ impl From<AllocError> for IssuerFault {
 pub struct Issuer {
     /// The DER value of the Name, and after it the key identifiers that were set, the latest first.
     name: Vec<u8>,
-    /// The contents of the subjectPublicKey BIT STRING, without the octet that counts unused bits.
     key: Vec<u8>,
 }
 
@@ -170,24 +169,26 @@ fn parts(kept: &[u8]) -> (&[u8], &[u8])
     }
 }
 
+/// Whether the bytes are a stored name: a Name, and then key identifiers and nothing else.
 fn is_kept(kept: &[u8]) -> bool
     ensures { IsTrue result ↔ IsKept kept.now }
 {
-    let (name, behind) = parts(kept);
-    is_name(name) && are_identifiers(behind)
+    let (name, identifiers) = parts(kept);
+    is_name(name) && are_identifiers(identifiers)
 }
 
+/// The stored name `kept` with one more key identifier.
 fn kept_with(alloc: Global, kept: &[u8], first: u64, octets: &[u8]) -> Result<Vec<u8>, Memory>
     requires { length octets.now ≤ 64 }
     ensures { IfOk result (λ made. made.items
         ≡ (name_in kept.now ++ identifier_value first octets.now)
         ++ others_than first (after_name kept.now)) }
 {
-    let (name, behind) = parts(kept);
-    let mut made = copy_of(alloc, name)?;
-    put_identifier(alloc, &mut made, first, octets)?;
-    put_raw(&mut made, others_than(behind, first))?;
-    Ok(made)
+    let (name, identifiers) = parts(kept);
+    let mut stored = copy_of(alloc, name)?;
+    put_identifier(alloc, &mut stored, first, octets)?;
+    put_raw(&mut stored, others_than(identifiers, first))?;
+    Ok(stored)
 }
 
 /// Appends a key identifier, and the number of the first CRL that has it.

@@ -19,8 +19,8 @@ pub fn values_have_sizes()
     ensures { ValuesHaveSizes }
 {}
 
-/// `value_at`, the function that `take` computes (`exact`), reads exactly the value at the front of bytes: what it reads is one, and
-/// it reads each one.
+/// `value_at`, the function that `take` computes (`exact`), gives only values at the front of the bytes, and gives each value
+/// that is there.
 pub fn values_are_read()
     ensures reads { ReadsValues }
     ensures again { ReadsAgain }

@@ -67,7 +67,7 @@ fn length(bytes: &[u8]) -> Option<(usize, &[u8])>
     }
 }
 
-/// The contents whose length is at the front, and the bytes after them.
+/// The contents, whose length octets are at the front, and the bytes after them.
 #[tactic(auto, unfolding(crate::specs::ValueReading::counted_at))]
 fn counted(bytes: &[u8]) -> Option<(&[u8], &[u8])>
     ensures exact { Gives (λ x. (x.0.now, x.1.now)) result (counted_at bytes.now) }
@@ -80,6 +80,7 @@ fn counted(bytes: &[u8]) -> Option<(&[u8], &[u8])>
     Some(rest.split_at(length))
 }
 
+/// The tag and the contents of the value at the front, and the bytes after it.
 #[tactic(auto, unfolding(crate::specs::ValueReading::value_at))]
 fn first_element(bytes: &[u8]) -> Option<(u8, &[u8], &[u8])>
     ensures exact { Gives (λ x. (record { tag = x.0; contents = x.1.now }, x.2.now)) result

@@ -1,4 +1,4 @@
-//! Appends DER values to a vector. Each call appends exactly one value ([`put_raw`]: the bytes), or leaves the vector as it was.
+//! Appends DER values to a vector. Each `put_` call appends exactly one value ([`put_raw`]: the bytes), or leaves the vector as it was.
 //! It allocates at most once, for the whole value, and only if the vector hasn't the capacity for it.
 
 ghost use Rattle.std.specs.Prelude.{◌≡◌, ℕ, List, ◌∷◌, ◌++◌, ◌+◌, ◌≤◌, ◌<◌, ◌%◌, ◌^◌, length, OnOk, OnErr, vec_capacity};
@@ -13,7 +13,7 @@ use crate::times::{general_text, utc_text};
 use reg_core::{Memory, Moment, Serial};
 use std::alloc::Global;
 
-/// A length below this is one octet. Others are one octet with this plus the count of the digits, and then the digits (X.690 8.1.3).
+/// A length below this is one octet. A longer one is this plus the count of its octets, in one octet, and then its octets (X.690 8.1.3).
 const LONG_FORM: u8 = 128;
 
 /// The last year that is written as a UTCTime (RFC 5280 4.1.2.5).
@@ -47,7 +47,6 @@ pub fn put_raw(out: &mut Vec<u8>, bytes: &[u8]) -> Result<(), Memory>
     out.extend_from_slice(bytes).map_err(|_| Memory)
 }
 
-/// A copy of bytes, or `Memory`.
 pub fn copy_of(alloc: Global, bytes: &[u8]) -> Result<Vec<u8>, Memory>
     ensures { ItemsOnOk result bytes.now }
 {

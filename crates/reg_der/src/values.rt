@@ -36,7 +36,7 @@ pub fn whole(tag: u8, bytes: &[u8]) -> Option<&[u8]>
     }
 }
 
-/// The contents of the value at the front, and the bytes after it; no contents, and all bytes, if the first is not this tag. `None` if the tag begins no value.
+/// The contents of the value at the front, and the bytes after it; `(None, bytes)` if the first byte is not this tag. `None` if it is, but no value is there.
 #[tactic(auto, unfolding(crate::specs::TaggedValues::optional_at))]
 pub fn optional(tag: u8, bytes: &[u8]) -> Option<(Option<&[u8]>, &[u8])>
     ensures exact { Gives (λ x. (option_copied x.0, x.1.now)) result (optional_at tag bytes.now) }

@@ -23,7 +23,7 @@ pub record AnswerEffects : Type 0 where
   pub store : StoreEffect
   pub named : Option NamedRequest
 
--- the same for an answer
+-- the same, of an answer as the program makes it
 abbrev pub answer_effects : Answered → AnswerEffects
 answer_effects answered = record {
   response = shown answered.answer;

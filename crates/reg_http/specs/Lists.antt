@@ -17,12 +17,12 @@ use Rattle.reg_http.specs.AnswerEffects.{AnswerEffects, plain, fault_effects}
 use Rattle.reg_http.specs.declared.lists.ListRequest.{ListRequest}
 use Rattle.reg_http.specs.declared.lists.ListRequest.TheVariants.{OnlyGet, Unreadable, Page}
 
--- the page that is wanted; `Unreadable` if the list or its query can't be read
+-- the page that is requested; `Unreadable` if the list or its query can't be read
 abbrev pub or_unread : Option PageQuery → ListRequest
 or_unread (Some wanted) = Page wanted
 or_unread None = Unreadable
 
--- the page that is wanted by a path `/list/WORD` and its query
+-- the page that a path `/list/WORD` and its query request
 abbrev pub page_of_path : List ℕ → List ℕ → ListRequest
 page_of_path path decoded_query =
     if starts_with (λ a b. a == b) path (codes "/list/")
@@ -37,7 +37,7 @@ page_in target =
 abbrev pub list_request : List ℕ → List ℕ → ListRequest
 list_request method target = if bytes_eq method (codes "GET") then page_in target else OnlyGet
 
--- the body with the wanted rows of a page
+-- the body with the rows of a page that the filter keeps
 abbrev pub wanted_body : PageQuery → PageOf → List ℕ
 wanted_body wanted given = page_body wanted.from given.next (filtered_rows wanted.filter given.rows.items)
 

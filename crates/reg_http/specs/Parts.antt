@@ -1,4 +1,4 @@
--- The meaning of a request, from the values of Rust types that it was read as.
+-- The meaning of a request, from the Rust value that was read from it.
 use Rattle.std.specs.Prelude.{ℕ, List, codes}
 use Rattle.reg_http.specs.RoutedRequests.{RoutedRequest, refused, method_not_allowed, unread, malformed, ocsp_of, crl_of, status_of, counts_of, request_of}
 use Rattle.reg_http.specs.declared.parts.Call.{Call}

@@ -6,7 +6,7 @@ use Rattle.reg_http.specs.declared.paths.Found.{Found}
 use Rattle.reg_http.specs.declared.route.Route.{Route}
 use Rattle.reg_http.specs.declared.route.Route.TheVariants.{Ocsp, OcspRest, Crl, CrlNumber, Status, Counts, Requests, Other}
 
--- what a path has after its prefix: nothing, one segment, or any bytes, slashes too
+-- what a path has after its prefix: nothing, one segment, or one or more bytes, slashes too
 pub data Ending : Type 0 where
   here : Ending
   one : Ending
@@ -39,7 +39,7 @@ path_after [] path = Some path
 path_after (x ∷ prefix) [] = None
 path_after (x ∷ prefix) (b ∷ path) = if x == b then path_after prefix path else None
 
--- the rest fits the ending: it is empty, a segment without a slash, or any bytes but none
+-- the rest, if it fits the ending: it is empty, a segment without a slash, or one or more bytes
 abbrev pub ended : Ending → List ℕ → Option (List ℕ)
 ended here [] = Some []
 ended here (b ∷ left) = None
@@ -66,13 +66,13 @@ route_in (l ∷ ls) path = or_next l.to (left l.prefix l.ending path) (route_in 
 unfoldable pub route : List ℕ → Route × List ℕ
 route path = route_in table path
 
--- the same for what the program found
+-- the route and the variable part that the program found
 abbrev pub route_seen : Found → Route × List ℕ
 route_seen found = (found.route, found.rest.now)
 
 -- ---- the router
 
--- an ending among the tokens of a pattern
+-- the tokens of an ending in the router's patterns
 abbrev pub mark : Ending → List ℕ
 mark here = []
 mark one = param_token ∷ []
@@ -90,7 +90,7 @@ passed CrlNumber path = 5
 passed Status path = 8
 passed _ path = length path
 
--- the route is that of the path, which is long enough for it
+-- this is the route of the path, which is at least as long as the route's prefix
 pub record IsRoute (path : List ℕ) (which : Route) : Type 0 where
   pub route_is : (which, drop (passed which path) path) ≡ route path
   pub long : passed which path ≤ length path

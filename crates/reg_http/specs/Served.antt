@@ -35,7 +35,7 @@ module _ {S : Type 0} (runs : S → ℕ → Command → Result Reply Fault → S
       × IsText response now text)
       ⊎ ((t ≡ s) × (text ≡ memory_text))
 
-  -- the whole response to a request that was read was written; or a prefix, if the writer failed; or there was no memory for it
+  -- the whole response to a request was written; or a prefix of it, if the writer failed; or there was no memory for it
   abbrev pub ReplyEnds
       : ℕ → S → S → Part → Option (List ℕ) → Option (List ℕ) → Result (Unit {0}) Fault → Type 0
   ReplyEnds now s t part out written (Ok done) =

@@ -16,7 +16,7 @@ use reg_io::ReadyOrUnsigned;
 use reg_ocsp::Draft;
 use reg_office_api::{OcspResponse, SignatureOutcome, StoreEffect};
 
-/// What the log names of a request for revocation that was entered or decided.
+/// A request for revocation that was entered or decided, as the log names it.
 #[derive(Clone, Copy)]
 pub struct NamedRequest {
     pub id: u64,
@@ -100,7 +100,7 @@ pub(crate) fn outcome_answer(buffer: Vec<u8>, outcome: Outcome) -> Answered
     }
 }
 
-/// The answer to a request for revocation, with what the log names of it if it was entered.
+/// The answer to a request for revocation, with its [`NamedRequest`] if it was entered.
 pub(crate) fn request_answer(
     buffer: Vec<u8>,
     serial: Serial,
@@ -141,7 +141,7 @@ pub(crate) fn crl_answer(buffer: Vec<u8>, given: Result<Vec<u8>, Fault>) -> Answ
     }
 }
 
-fn ocsp_answer_of(response: OcspResponse) -> Answered
+fn ocsp_answered(response: OcspResponse) -> Answered
     ensures { answer_effects result ≡ ocsp_effects (Ok (response.kind, response.bytes.items)) }
 {
     let OcspResponse { bytes, kind } = response;
@@ -163,7 +163,7 @@ pub(crate) fn begun_answer(
     ensures { BeginsOcsp given result }
 {
     match given {
-        Ok(ReadyOrUnsigned::Ready(response)) => ReadyOrUnsigned::Ready(ocsp_answer_of(response)),
+        Ok(ReadyOrUnsigned::Ready(response)) => ReadyOrUnsigned::Ready(ocsp_answered(response)),
         Ok(ReadyOrUnsigned::Unsigned(draft)) => ReadyOrUnsigned::Unsigned(draft),
         Err(_) => ReadyOrUnsigned::Ready(answer_of_fault(buffer, Fault::Memory)),
     }

@@ -18,7 +18,7 @@ use reg_office_api::{SignatureOutcome, StoreEffect};
 use std::alloc::Global;
 
 /// The bytes that are reserved for the text of a response before the office is called. The response to each request for revocation fits, and
-/// so do most OCSP responses. So there is no lack of memory for them after the call.
+/// so do most OCSP responses. So their text needs no memory after the call.
 const TEXT_ROOM: usize = 4_096;
 
 /// Reserves memory for the text of a response.
@@ -60,7 +60,7 @@ impl Exchange {
         }
     }
 
-    /// An exchange for whose answer there was no memory: the constant text of status 500, written into `buffer`.
+    /// The exchange if there was no memory for the answer: the constant text of status 500, written into `buffer`.
     pub fn out_of_memory(route: Route, mut buffer: Vec<u8>) -> Exchange
         requires empty { buffer.items ≡ [] }
         requires buffer { 512 ≤ vec_capacity buffer }
@@ -103,7 +103,7 @@ impl Exchange {
         }
     }
 
-    /// An exchange with the OCSP response that was begun at a moment and is finished now; out of memory, one with an empty text.
+    /// An exchange with the OCSP response that was begun at `now`, or with status 500 if that is `Memory`. Its text is empty if there is no memory for it.
     pub fn finished(
         alloc: Global,
         route: Route,

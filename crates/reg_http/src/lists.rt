@@ -1,5 +1,5 @@
-//! Requests for lists, `GET /list/WORD?after=KEY&limit=N&before=MOMENT` with a filter. Only an open desk answers them; `serve`
-//! has no such route.
+//! Requests for lists, `GET /list/WORD?after=KEY&limit=N&before=MOMENT` with a filter. Only an open desk answers them; for
+//! [`serve_one`](crate::serve_one) the route does not exist.
 
 ghost use Rattle.std.specs.Prelude.{◌≡◌, IfOk, OnErr};
 ghost use Rattle.reg_office_api.specs.Calls.{LooksIn};
@@ -69,29 +69,29 @@ fn page_at(alloc: Global, target: &str) -> Result<ListRequest, Memory>
         Some((path, query)) => (path, query),
         None => (target, ""),
     };
-    let mut plain_query = Vec::new(alloc);
+    let mut decoded_query = Vec::new(alloc);
     if percent_decode(query.as_bytes())
-        .append_to(&mut plain_query)
+        .append_to(&mut decoded_query)
         .is_err()
     {
         return Err(Memory);
     }
-    Ok(page_behind(path.as_bytes(), &plain_query))
+    Ok(page_of_parts(path.as_bytes(), &decoded_query))
 }
 
-fn page_behind(path: &[u8], plain_query: &[u8]) -> ListRequest
-    ensures { result ≡ page_of_path path.now plain_query.now }
+fn page_of_parts(path: &[u8], decoded_query: &[u8]) -> ListRequest
+    ensures { result ≡ page_of_path path.now decoded_query.now }
 {
     if !path.starts_with(b"/list/") {
         return ListRequest::Unreadable;
     }
-    match read_page(&path[b"/list/".len()..], plain_query) {
+    match read_page(&path[b"/list/".len()..], decoded_query) {
         Some(wanted) => ListRequest::Page(wanted),
         None => ListRequest::Unreadable,
     }
 }
 
-/// The answer with the wanted rows of a page, or with the fault that the office returned.
+/// The answer with the rows of a page that the filter keeps, or with the fault that the office returned.
 fn answer_page(
     alloc: Global,
     wanted: &PageQuery,
@@ -100,7 +100,7 @@ fn answer_page(
     ensures { IfOk result (λ answered. answer_effects answered ≡ given_page wanted.now given.now) }
 {
     match given {
-        Ok(page) => match wanted_text(alloc, wanted, page) {
+        Ok(page) => match filtered_text(alloc, wanted, page) {
             Ok(text) => Ok(Answered::plain(json(status::OK, text))),
             Err(_) => Err(Memory),
         },
@@ -108,7 +108,7 @@ fn answer_page(
     }
 }
 
-fn wanted_text(alloc: Global, wanted: &PageQuery, page: &Page) -> Result<Vec<u8>, AllocError>
+fn filtered_text(alloc: Global, wanted: &PageQuery, page: &Page) -> Result<Vec<u8>, AllocError>
     ensures { IfOk result (λ text. text.items ≡ wanted_body wanted.now page.now) }
 {
     let rows = wanted.filter.kept(alloc, &page.rows)?;

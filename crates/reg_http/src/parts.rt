@@ -36,6 +36,7 @@ pub(crate) enum Meaning {
 pub(crate) enum Call {
     /// The request is refused with this status.
     Refused(u16),
+    /// Another method than the only one of the route.
     OnlyGet,
     OnlyPost,
     /// A number, a serial number or a body can't be read.
@@ -103,7 +104,7 @@ fn serial_in(value: &Value) -> Option<Serial>
     Serial::read(string_at(value, "serial")?.as_bytes())
 }
 
-fn word_in(value: &Value) -> Option<Label>
+fn ground_in(value: &Value) -> Option<Label>
     ensures { result ≡ option_and_then label_in (text_at (codes "ground") (view value.now)) }
 {
     Label::of(string_at(value, "ground")?.as_bytes())
@@ -114,7 +115,7 @@ fn request_in(value: &Value) -> Call
     ensures { request_of_call result ≡ revocation_request (wanted_of (view value.now)) }
 {
     match serial_in(value) {
-        Some(serial) => match word_in(value) {
+        Some(serial) => match ground_in(value) {
             Some(word) => Call::Request { serial, word },
             None => Call::Unreadable,
         },
@@ -122,7 +123,7 @@ fn request_in(value: &Value) -> Call
     }
 }
 
-/// Text that is not JSON can't be read; a lack of memory is [`Memory`].
+/// `Unreadable` for text that is not JSON; [`Memory`] if out of memory.
 fn unread(error: &Error) -> Result<Meaning, Memory>
     ensures { IfOk result (λ part. ¬ (IsMemory error.now) × (part ≡ Meaning.Other Call.Unreadable)) }
 {
@@ -146,7 +147,12 @@ fn request_part(alloc: Global, body: &[u8]) -> Result<Meaning, Memory>
     }
 }
 
-fn part_at(alloc: Global, method: &Method, found: Found<'_>, body: &[u8]) -> Result<Meaning, Memory>
+fn meaning_at(
+    alloc: Global,
+    method: &Method,
+    found: Found<'_>,
+    body: &[u8],
+) -> Result<Meaning, Memory>
     ensures { IfOk result (λ part.
         request_of_part body.now part ≡ asked_at method.now found.entry.route found.entry.rest.now body.now) }
 {
@@ -182,5 +188,5 @@ pub(crate) fn meaning_of(
         return Ok(Meaning::Other(Call::Refused(status::BAD_REQUEST)));
     }
     let found = find_route(alloc, path_of(target))?;
-    part_at(alloc, method, found, body)
+    meaning_at(alloc, method, found, body)
 }

@@ -61,7 +61,7 @@ fn find_which(alloc: Global, path: &str) -> Result<Route, Memory>
     requires { All (λ byte. byte < 256) path.now }
     ensures { IfOk result (IsRoute path.now) }
 {
-    // Nearly all requests have this path, so it needs no router.
+    // Most requests have this path, so no router is built for it.
     if is_ocsp(path) {
         return Ok(Route::Ocsp);
     }

@@ -5,7 +5,7 @@ ghost use Rattle.std.specs.List.{position};
 ghost use Rattle.reg_http.specs.RoutedRequests.{path_of as path_in};
 ghost use Rattle.reg_http.specs.RouteNames.{ends_path as ends_a_path, prefix_to, is_space, named_path, named_route, route_at as route_of_path};
 
-/// A route, with any variable part of the path.
+/// A route, whatever the variable part of the path is.
 #[derive(Clone, Copy, PartialEq, Eq)]
 pub enum Route {
     Ocsp,

@@ -1,4 +1,4 @@
-//! Serves one request. An open desk calls `begin` instead, since it waits for signatures.
+//! Serves one request over any reader and writer. The program calls `begin` instead, which can leave a response to be signed.
 
 ghost use Rattle.std.specs.Prelude.{◌≡◌, ◌≢◌, ◌≤◌, ◌⊎◌, [], ℕ, List, IfErr, OnOk, vec_capacity};
 ghost use Rattle.std.specs.Io.KnownBytes.{Appends};
@@ -117,8 +117,8 @@ fn reply<W: Write, O: Office>(
 ///
 /// # Errors
 ///
-/// [`Fault::Read`] if the reader fails or ends within the request, and [`Fault::Memory`] if out of memory before the request
-/// is answered: then nothing was written, and the office did not change. [`Fault::Write`] if the writer fails or accepts no
+/// [`Fault::Read`] if the reader fails or ends within the request, and [`Fault::Memory`] if out of memory to read the request
+/// or to refuse it: then nothing was written, and the office did not change. [`Fault::Write`] if the writer fails or accepts no
 /// more bytes: then only a prefix of the response was written, and the office is as it was after the answer.
 pub fn serve_one<R: Read, W: Write, O: Office>(
     alloc: Global,

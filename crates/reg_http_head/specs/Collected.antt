@@ -41,7 +41,7 @@ Knows bytes (Unmarked count) = (count ≤ length bytes) × IsUnmarked bytes coun
 Knows bytes (Refused count status) = (count ≤ length bytes) × IsRefusedRequest bytes count status
 Knows bytes (Asked head) = NeedsBytes bytes head
 
--- what is known after all of the bytes were searched: if no head ends in them, they are fewer than the most bytes of a head
+-- what is known after all of the bytes were searched: if no head ends in them, they are fewer than 8,192
 abbrev pub IsAllKnown : List ℕ → ScanState → Type 0
 IsAllKnown bytes (Unmarked count) = (count ≡ length bytes) × (count < longest_head) × IsUnmarked bytes count
 IsAllKnown bytes (Refused count status) = (count ≤ length bytes) × IsRefusedRequest bytes count status

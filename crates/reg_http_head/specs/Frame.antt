@@ -16,7 +16,7 @@ pub data Part : Type 0 where
   refused : ℕ → Part
   asked : List ℕ → List ℕ → List ℕ → Part
 
--- the bytes are a head and the whole of its body, with this meaning
+-- the bytes begin with a head and the whole of its body, with this meaning
 pub record AsksFor (took method target body : List ℕ) : Type 0 where
   pub end : ℕ
   pub head : RequestHead

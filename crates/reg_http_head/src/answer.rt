@@ -1,9 +1,8 @@
-//! An answer, before it is written.
+//! The answer to one request, before it is written. Contracts describe its parts as bytes.
 
 ghost use Rattle.std.specs.Prelude.{◌≤◌, length, option_map};
 ghost use Rattle.reg_http_head.specs.Allow.{allowed};
 
-/// The answer to one request. Contracts describe its parts as bytes.
 #[derive(Drop)]
 pub struct Answer {
     pub status: u16,

@@ -25,7 +25,7 @@ pub(crate) struct HeadSpans {
 }
 
 impl HeadSpans {
-    /// The method. It is a token, so the only error is a lack of memory.
+    /// The method. It is a token, so the only error is out of memory.
     pub(crate) fn method_in(self, alloc: Global, head: &[u8]) -> Result<Method, Memory>
         requires { ∥ HoldsHead head.now self ∥₁ }
         ensures { IfOk result (λ method. method ≡ span_bytes head.now self.method) }

@@ -8,7 +8,6 @@ use crate::request::{BLANK_LINE, LONGEST_HEAD};
 use crate::status;
 use reg_io::first_delimiter;
 
-/// What is known about the first bytes.
 #[derive(Clone, Copy)]
 pub(crate) enum ScanState {
     /// No head ends in the first bytes, up to this count.

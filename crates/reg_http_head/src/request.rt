@@ -25,7 +25,6 @@ pub enum Request {
     /// The head is refused with this status, before any route is found.
     Refused(u16),
     Asked {
-        /// The method (RFC 9110 9.1).
         method: Method,
         /// The target, as it stands in the request line (RFC 9112 3.2).
         target: String,

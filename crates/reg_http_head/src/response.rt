@@ -38,7 +38,6 @@ fn put_line(out: &mut Vec<u8>, start: &[u8], value: &[u8])
     put(out, b"\r\n");
 }
 
-/// The phrase of a status code (RFC 9112 4).
 fn phrase(code: u16) -> &'static [u8]
     ensures text { result.now ≡ phrase code }
     ensures short { length result.now ≤ 31 }
@@ -139,7 +138,7 @@ pub fn put_answer(text: &mut Vec<u8>, answer: &Answer, now: Moment) -> Result<()
     }
 }
 
-/// The constant response for a lack of memory.
+/// The constant response of a desk that is out of memory.
 #[tactic(auto, unfolding(crate::specs::Response::memory_text, crate::specs::Response::field_line))]
 pub fn memory_fault() -> &'static [u8]
     ensures text { result.now ≡ memory_text }

@@ -1,12 +1,11 @@
 //! The status codes with which the desk answers (RFC 9110 15).
 
-/// 200: the answer is in the body.
 pub const OK: u16 = 200;
-/// 400: the request can't be read.
+
 pub const BAD_REQUEST: u16 = 400;
 /// 404: no route has the path, or there is no such CRL.
 pub const NOT_FOUND: u16 = 404;
-/// 405: the route has another method than the request.
+
 pub const METHOD_NOT_ALLOWED: u16 = 405;
 /// 409: the register refuses the request.
 pub const CONFLICT: u16 = 409;
@@ -18,7 +17,7 @@ pub const PAYLOAD_TOO_LARGE: u16 = 413;
 pub const TOO_MANY_REQUESTS: u16 = 429;
 /// 431: the head is longer than 8,192 bytes, or has more than 64 fields (RFC 6585 5).
 pub const HEADERS_TOO_LARGE: u16 = 431;
-/// 500: a fault of the desk.
+
 pub const INTERNAL_SERVER_ERROR: u16 = 500;
 /// 503: the open desk is not healthy, its clock is too far ahead, or it keeps the rest of the requests table for the control socket.
 pub const SERVICE_UNAVAILABLE: u16 = 503;

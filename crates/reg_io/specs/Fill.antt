@@ -19,7 +19,7 @@ kept_of_reading size (Delimiter end buffered) = buffered
 kept_of_reading size Full = size
 kept_of_reading size (End buffered) = buffered
 
--- what holds after a read: the buffer has the first delimiter, or is full without a delimiter, or the reader is at its end
+-- a read stopped: the buffer has the first delimiter, or is full without a delimiter, or the reader is at its end
 abbrev pub ReadStopsAt : List ℕ → List ℕ → Option (List ℕ) → Reached → Type 0
 ReadStopsAt delimiter buffer left (Delimiter end buffered) =
     (end ≤ buffered) × FirstDelimiter delimiter buffer end

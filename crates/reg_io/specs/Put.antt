@@ -17,7 +17,7 @@ PrefixOfFirst =
     (old new : Option (List ℕ)) (first second : List ℕ) → AppendsPrefix old new first
     → AppendsPrefix old new (first ++ second)
 
--- so are the whole first part and then a proper prefix of the second
+-- if the first part and then a proper prefix of the second were appended, that is a proper prefix of both parts together
 abbrev pub PrefixOfSecond : Type 0
 PrefixOfSecond =
     (old middle new : Option (List ℕ)) (first second : List ℕ) → Appends old middle first

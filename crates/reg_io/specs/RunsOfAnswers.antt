@@ -19,7 +19,7 @@ RunsGoOn {S = S} {Q = Q} {A = A} answers =
     → Answered answers s asked given m → Answered answers m more others t
     → Answered answers s (asked ++ more) (given ++ others) t
 
--- so are a run and one more step
+-- a run and one more step are a run, too
 abbrev pub RunsStepOn : {S Q A : Type 0} → (S → Q → A → S → Type 0) → Type 0
 RunsStepOn {S = S} {Q = Q} {A = A} answers =
     (s m t : S) (asked : List Q) (given : List A) (q : Q) (a : A)

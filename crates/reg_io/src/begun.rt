@@ -1,5 +1,3 @@
-//! A result that is ready, or one that must be signed first.
-
 /// A result that is ready, or what must be signed to complete it.
 #[derive(Drop)]
 pub enum ReadyOrUnsigned<R, U> {

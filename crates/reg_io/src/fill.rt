@@ -7,11 +7,12 @@ ghost use Rattle.reg_io.specs.Fill.{Fills, FillsShort, FillsTo};
 
 use std::io::Read;
 
-/// The reader failed, it ended before the buffer was full, or the buffer was full before the reader ended.
+/// The reader failed, it ended before the buffer was full ([`fill_exact`]), or the buffer was full before the reader ended ([`fill_to_end`]).
 #[derive(Clone, Copy, PartialEq, Eq)]
 pub struct ReadFault;
 
-/// Why a read up to a delimiter stopped: at the end of the first delimiter, with a full buffer, or at the reader's end. `buffered` bytes are in the buffer.
+/// Why a read up to a delimiter stopped: the buffer has a delimiter, the first of which ends at index `end`; the buffer is full; or the reader is at its
+/// end. The buffer has `buffered` bytes.
 #[derive(Clone, Copy, PartialEq, Eq)]
 pub enum Reached {
     Delimiter { end: usize, buffered: usize },
@@ -60,7 +61,7 @@ pub fn fill_to_delimiter<R: Read>(
     }
 }
 
-/// The end of the first delimiter in the first `buffered` bytes. The caller knows that no delimiter ends within the first `searched` bytes.
+/// The index at which the first delimiter in the first `buffered` bytes ends. The caller knows that no delimiter ends within the first `searched` bytes.
 pub fn first_delimiter(
     buf: &[u8],
     buffered: usize,

@@ -31,7 +31,7 @@ pub fn prefixes_of_two_parts()
     ensures second { PrefixOfSecond }
 {}
 
-/// An object that answers one request after another. No type implements it: it only gives the law of runs a relation.
+/// An object that answers one request after another. No type implements it: the law of runs needs only its relation `answers`.
 pub trait AnswersInTurn {
     type Asked;
 
@@ -41,7 +41,7 @@ pub trait AnswersInTurn {
     ghost answers: { Self → Self.Asked → Self.Given → Self → Type 0 };
 }
 
-/// A run can be continued by a run that begins where it ended, and by one step.
+/// A run (requests, each answered in turn) can be continued by a run that begins where it ended, and by one step.
 pub fn runs_go_on<O: AnswersInTurn>()
     ensures runs { RunsGoOn O.answers }
     ensures steps { RunsStepOn O.answers }

@@ -36,7 +36,7 @@ RunContinues is_strict reply On = IsTrue is_strict → IsAccepted reply
 RunContinues is_strict reply (Refused refused) =
     IsTrue is_strict × (¬ IsAccepted reply) × GivesReason refused reply
 
--- the bytes were written; or, after a fault, a prefix of them
+-- the bytes were written; or, after a fault, a proper prefix of them (`out` is the output before, `out'` after)
 abbrev pub Wrote : Option (List ℕ) → Option (List ℕ) → List ℕ → Result (Unit {0}) WriteFault → Type 0
 Wrote out out' bytes (Ok done) = Appends out out' bytes
 Wrote out out' bytes (Err fault) = AppendsPrefix out out' bytes

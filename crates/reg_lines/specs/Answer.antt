@@ -73,20 +73,20 @@ module _ {S : Type 0} (answers : S → ℕ → Call → S → Type 0) where
       ((now : ℕ) × (command : List ℕ) × HasMoment line now command × ComesTo now s command answered t)
       ⊎ (HasNoMoment line × (answered ≡ unreadable) × (t ≡ s))
 
-  -- a line of an input: a command line at a moment of a clock, or a line of a script
+  -- a line of an input: a command line at a moment that the clock has reached, or a line of a script
   abbrev pub LineComesTo : (ℕ → Type 0) → Bool → S → List ℕ → Answered → S → Type 0
-  LineComesTo told true = λ s line answered t. (now : ℕ) × told now × ComesTo now s line answered t
-  LineComesTo told false = TimedComesTo
+  LineComesTo reached true = λ s line answered t. (now : ℕ) × reached now × ComesTo now s line answered t
+  LineComesTo reached false = TimedComesTo
 
 -- a line and its reply, by its result
 abbrev pub Replied : {S : Type 0} → (S → List ℕ → Answered → S → Type 0) → S → List ℕ → List ℕ → S → Type 0
 Replied comes_to s line reply t =
     (answered : Answered) × comes_to s line answered t × (reply ≡ reply_of answered)
 
--- a line of an input and its reply
+-- a line of an input and its reply; `reached` holds of the moments that the clock has reached
 abbrev pub LineReplies
     : {S : Type 0} → (S → ℕ → Call → S → Type 0) → (ℕ → Type 0) → Bool → S → List ℕ → List ℕ → S → Type 0
-LineReplies answers told is_clocked = Replied (LineComesTo answers told is_clocked)
+LineReplies answers reached is_clocked = Replied (LineComesTo answers reached is_clocked)
 
 -- the same, as an office runs it for a host
 abbrev pub HostLines : {O H : Type 0} → Office O → Host H → H → O → List ℕ → List ℕ → O → Type 0

@@ -37,7 +37,7 @@ Row = List (List ℕ)
 abbrev pub AreCsvRows : List ℕ → List Row → Type 0
 AreCsvRows text rows = AreRecords default_config st.StartRecord (strip_bom text) rows
 
--- these are its first rows
+-- these are the first rows of a text
 abbrev pub AreFirstRows : List ℕ → List Row → Type 0
 AreFirstRows text rows =
     (s : State) × (left : List ℕ) × Reached default_config st.StartRecord (strip_bom text) rows s left
@@ -58,7 +58,7 @@ abbrev pub data_rows : List Row → List Row
 data_rows [] = []
 data_rows (row ∷ rows) = if is_header row then rows else row ∷ rows
 
--- the fields of a row, after the word `register`, spell the command
+-- the word `register` and the fields of a row spell the command
 abbrev pub RowMeans : Row → Command → Type 0
 RowMeans row command = SpellsCommand command (codes "register" ∷ row)
 
@@ -71,7 +71,7 @@ RowReplies answers now s row reply t =
     ⊎ (((command : Command) → ¬ RowMeans row command)
     × (reply ≡ with_lf (outcome_line (Err (Refused Syntax)))) × (t ≡ s))
 
--- What was written for the rows of a text: the output before and after.
+-- The replies that were written for the rows of a text: the output before and after.
 module _ (text : List ℕ) (out out' : Option (List ℕ)) where
   -- only the replies to rows of the text were written: to all of them, or to the first ones
   pub record RepliedRows (Are : List ℕ → List Row → Type 0) : Type 0 where
@@ -95,20 +95,20 @@ module _ (text : List ℕ) (out out' : Option (List ℕ)) where
 -- Rows of a text that ran at a moment, in order: the office, and the output, before and after.
 module _ {S : Type 0} (answers : S → ℕ → Call → S → Type 0) (now : ℕ) (s t : S) (out out' : Option (List ℕ))
     (text : List ℕ) where
-  -- these rows
+  -- the rows that are `Are` of the text (all, or the first ones) ran, and got these replies
   abbrev pub RowsRan : (List ℕ → List Row → Type 0) → Type 0
   RowsRan Are =
       (ran : RepliedRows text out out' Are)
       × Answered (RowReplies answers now) s (data_rows ran.rows) ran.replies t
 
-  -- all rows, or the first ones
+  -- all rows ran; or, below, the first ones
   abbrev pub AllRan : Type 0
   AllRan = RowsRan AreCsvRows
 
   abbrev pub FirstRan : Type 0
   FirstRan = RowsRan AreFirstRows
 
-  -- the first rows, and one of whose reply only a prefix was written
+  -- the first rows ran, and one more, of whose reply only a proper prefix was written
   abbrev pub OneCut : Type 0
   OneCut =
       (cut : CutRow text out out') × (middle : S)

@@ -1,4 +1,4 @@
--- The grammar of command lines: the spellings of each meaning; and of lines of a script, which begin with a moment.
+-- The grammar of script lines: a moment, a space and a command line. A command line spells its meaning: its fields are how the meaning is written.
 use Rattle.std.specs.Prelude.{◌≡◌, ℕ, ◌<◌, List, [], ◌∷◌, ◌++◌, length, codes, Ok, unwrap_or}
 use Rattle.std.specs.Result.{result_ok}
 use Rattle.hex.specs.Hex.{decode_of}

@@ -1,4 +1,4 @@
--- The rows of an import as command lines.
+-- The rows of an import as lines of a script.
 use Rattle.std.specs.Prelude.{◌≡◌, ◌⊎◌, ℕ, Bool, ◌&&◌, List, [], ◌∷◌, ◌++◌, codes, cond, is_some, map, Option, Some, None, Result, Ok, Err}
 use Rattle.std.specs.List.{concat}
 use Rattle.reg_core.specs.declared.refusal.Fault.{Fault}
@@ -28,7 +28,7 @@ ListsRows text lines = (rows : List Row) × AreCsvRows text rows × (lines ≡ a
 abbrev pub line_added : Bool → Row → List ℕ
 line_added first row = cond (first && is_header row) [] (row_line (four row))
 
--- how the listing of an input ends: it was read to its end, and these are the lines of its rows; or a fault of the input, or out of memory
+-- how `lines_of_rows` ends: the input was read to its end, and these are the lines of its rows; or a fault of the input, or out of memory
 abbrev pub ListingEnds : Option (List ℕ) → Option (List ℕ) → Result (List ℕ) Fault → Type 0
 ListingEnds input input' (Ok lines) = (text : List ℕ) × TookAll input input' text × ListsRows text lines
 ListingEnds input input' (Err Read) = TookSome input input'

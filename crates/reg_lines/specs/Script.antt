@@ -44,7 +44,7 @@ line_of piece = if ends_with_byte 10 piece then strip_last 13 (strip_last 10 pie
 abbrev pub IsShort : ℕ → List ℕ → Type 0
 IsShort longest piece = length (strip_last 10 piece) ≤ longest
 
--- a command line, with its line end, has at most as many bytes as one that runs at the moment of a clock
+-- a line that runs at the moment of a clock has at most 8,171 bytes before its LF
 abbrev pub IsShortCommand : List ℕ → Type 0
 IsShortCommand = IsShort (longest_of true)
 
@@ -67,7 +67,7 @@ InputFails longest done left =
     ((length done ≡ most_lines) × (0 < length left) × (length left ≤ longest))
     ⊎ (((longest < length left) × HasNoLf left) ⊎ ((length left ≤ longest) × HasNoLf left))
 
--- What a run of lines, each of at most `longest` bytes, read and wrote: the input and the output before and after.
+-- The effects of a run of lines, each of at most `longest` bytes: the input and the output before and after.
 module _ (longest : ℕ) (input input' out out' : Option (List ℕ)) where
   -- the input was read to its end, and only the replies to its lines were written
   pub record AllLines : Type 0 where
@@ -157,9 +157,9 @@ module _ {S R W : Type 0} (answers : S → ℕ → Call → S → Type 0) (remai
       RunEnds (longest_of is_clocked) (remaining reader) (remaining reader') (contents writer)
       (contents writer') runs s t is_clocked is_strict result
 
-  -- lines that run at the moments of a clock, or at their own, up to the first refusal or to the end
+  -- lines that run at the moments of a clock, or at their own; a strict run ends at the first refusal or fault
   abbrev pub LinesEnd : (ℕ → Type 0) → Bool → Bool → Result Ended Fault → Type 0
-  LinesEnd told is_clocked = InputEnds (LineReplies answers told is_clocked) is_clocked
+  LinesEnd reached is_clocked = InputEnds (LineReplies answers reached is_clocked) is_clocked
 
   -- a script: lines that begin with their own moments; the run goes on after a refusal
   abbrev pub ScriptEnds : Result (Unit {0}) Fault → Type 0

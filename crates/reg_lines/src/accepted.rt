@@ -1,5 +1,3 @@
-//! Whether a reply is accepted.
-
 ghost use Rattle.std.specs.Prelude.{◌↔◌, IsTrue};
 ghost use Rattle.reg_lines.specs.Accepted.{IsAccepted};
 

@@ -9,7 +9,7 @@ use reg_core::{Command, Fault, Outcome, Query, Refusal};
 use reg_io::{WriteFault, write_whole};
 use std::io::Write;
 
-/// What a line asked of the office.
+/// The kind of a line, by its request to the office.
 #[derive(Clone, Copy)]
 pub enum LineKind {
     /// Nothing: it can't be read.
@@ -22,6 +22,7 @@ pub enum LineKind {
 /// The reply to an OCSP request.
 #[derive(Drop)]
 pub struct OcspReply {
+    /// `ocsp HEX`, with its LF.
     pub line: Vec<u8>,
     /// Whether the response has only a status: then it is unsigned (RFC 6960 4.2.1).
     pub is_refusal: bool,
@@ -30,13 +31,12 @@ pub struct OcspReply {
 /// The result of a line.
 #[derive(Drop)]
 pub enum Answered {
-    /// What the line was, and its outcome: [`Refusal::Syntax`] if it can't be read, and [`Fault::Memory`] for an OCSP request
+    /// The kind of the line, and its outcome: [`Refusal::Syntax`] if it can't be read, and [`Fault::Memory`] for an OCSP request
     /// if there is no memory for its bytes, for the response or for the reply.
     Completed(LineKind, Outcome),
     Response(OcspReply),
 }
 
-/// A command that was refused.
 #[derive(Clone, Copy)]
 pub struct RefusedCommand {
     pub command: Command,
@@ -87,7 +87,7 @@ impl Answered {
         }
     }
 
-    /// The reply. A line's outcome is written into `room`, which is empty, without an allocation.
+    /// The reply. `room`, which is empty and has the capacity, receives the line of an outcome without an allocation.
     pub fn into_reply(self, mut room: Vec<u8>) -> Vec<u8>
         requires empty { room.items ≡ [] }
         requires room { 84 ≤ vec_capacity room }

@@ -22,7 +22,6 @@ impl<'a> Model for Fields<'a> {
 }
 
 impl<'a> Fields<'a> {
-    /// The fields of a line.
     pub fn of(line: &'a [u8]) -> Fields<'a>
         ensures { result ≡ fields_of line.now }
     {
@@ -61,6 +60,7 @@ fn first_space(text: &[u8]) -> Option<usize>
     text.iter().position(|byte| *byte == b' ')
 }
 
+/// The only field; `None` for no field or more. `two` and `four` give exactly two and four fields.
 pub(crate) fn one(mut fields: Fields<'_>) -> Option<&[u8]>
     ensures { option_map (λ a. a.now) result ≡ one fields.entry }
 {

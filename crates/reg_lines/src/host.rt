@@ -1,4 +1,4 @@
-//! What a run of lines has besides its input, its output and the office.
+//! The host of a run of lines: its clock, if it has one, and its observer.
 
 use crate::answered::Answered;
 use reg_core::{Fault, Moment};
@@ -9,7 +9,6 @@ pub trait Host {
     ghost use Rattle.std.specs.Prelude.{◌≡◌, ℕ, Bool, IfErr, IfOk};
     ghost use Rattle.reg_core.specs.declared.refusal.Fault.TheVariants.{Read};
 
-    /// Lines run at the moment of the clock.
     ghost clocked: { Self → Bool };
 
     /// The clock has reached this moment.

@@ -4,14 +4,14 @@ ghost use Rattle.reg_lines.specs.Laws.{ImportsTextTwice, RegistrationsAreRead, R
 
 use reg_office_api::Office;
 
-/// The fields of a row are read as the registration that they spell, and a row means what is read from it.
+/// Four fields that write a registration are read as that registration. A row means the command that is read from it.
 pub fn rows_are_read()
     ensures read { RegistrationsAreRead }
     ensures means { RowsMeanWhatIsRead }
 {}
 
 /// If a text is imported twice at one moment, with nothing between, the second import adds no certificate, with any office and
-/// signer. Each import must have run whole, and no reply of the first may be a fault (of memory, store or signer). A row
+/// signer. Each import must have run to its end, and no reply of the first may be a fault (of memory, store or signer). A row
 /// with the reply `registered` or `same` gets the reply `same` the second time, unless there is a fault.
 pub fn import_twice<O: Office>()
     ensures { ImportsTextTwice O.signs }

@@ -10,7 +10,7 @@ ghost use Rattle.reg_lines.specs.LineReading.{subscriber_of, order_of, register_
 use crate::fields::{Fields, four, one, two};
 use reg_core::{Command, Label, Moment, Query, Serial, read_number};
 
-/// What a line means.
+/// The meaning of a line.
 #[derive(Clone, Copy)]
 pub enum CommandLine<'a> {
     Command(Command),
@@ -169,9 +169,9 @@ pub(crate) fn read_registration(
 fn read_request(fields: Fields<'_>) -> Option<Command>
     ensures { result ≡ request_of fields.entry }
 {
-    let (serial, named) = two(fields)?;
+    let (serial, name) = two(fields)?;
     let serial = Serial::read(serial)?;
-    let ground = Label::of(named)?;
+    let ground = Label::of(name)?;
     Some(Command::Request { serial, ground })
 }
 

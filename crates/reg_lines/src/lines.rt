@@ -25,6 +25,7 @@ pub const LONGEST_COMMAND: usize = LONGEST_LINE - MOMENT - 1;
 /// The most lines of a run.
 pub const MOST_LINES: u64 = 1_000_000;
 
+/// How a run goes on after a line.
 #[derive(Clone, Copy)]
 enum Next {
     /// More lines may follow: this many of their bytes are at the front of the buffer.
@@ -33,12 +34,12 @@ enum Next {
 }
 
 /// Runs each line of an input, in turn, and writes each reply before it runs the next line. The lines begin with moments of their
-/// own, as in a script, or, if the host has a clock, run at the moments of that. A strict run ends after the first reply that is
+/// own, as in a script, or, if the host has a clock, run at its moments. A strict run ends after the first reply that is
 /// a refusal or a fault, and does not run a last line without its LF.
 ///
 /// # Errors
 ///
-/// Those of [`crate::run_script`]. A line that runs at the moment of the clock has at most 8,171 bytes. [`Fault::Read`] if the clock
+/// The errors of [`crate::run_script`]. A line that runs at the moment of the clock has at most 8,171 bytes. [`Fault::Read`] if the clock
 /// can't be read: then the line did not run.
 pub fn run_lines<R: Read, W: Write, O: Office, H: Host>(
     alloc: Global,
@@ -55,14 +56,14 @@ pub fn run_lines<R: Read, W: Write, O: Office, H: Host>(
     ensures device { LinesEnd (LineCalls O.Office) R.remaining W.contents office.old office.new
         reader.old reader.new writer.old writer.new H.clock_reached (H.clocked host.now) is_strict result }
 {
-    let room = room_for(host.is_clocked());
+    let room = buffer_size(host.is_clocked());
     match vec![in alloc; 0; room] {
         Ok(mut buffer) => run_all(alloc, reader, writer, office, host, is_strict, &mut buffer),
         Err(_) => Err(Fault::Memory),
     }
 }
 
-fn room_for(is_clocked: bool) -> usize
+fn buffer_size(is_clocked: bool) -> usize
     ensures { result ≡ longest_of is_clocked + 1 }
 {
     if is_clocked {
@@ -72,7 +73,7 @@ fn room_for(is_clocked: bool) -> usize
     }
 }
 
-/// Runs each line of an input, with room for the longest line and one byte more.
+/// Runs each line of an input. `buffer` has room for the longest line and one byte more.
 fn run_all<R: Read, W: Write, O: Office, H: Host>(
     alloc: Global,
     reader: &mut R,
@@ -104,7 +105,7 @@ fn run_all<R: Read, W: Write, O: Office, H: Host>(
     end_of_input(reader, &mut buffer[..1])
 }
 
-/// Runs the next line, and says how to go on.
+/// Runs the next line, and returns whether more lines may follow.
 fn run_next<R: Read, W: Write, O: Office, H: Host>(
     alloc: Global,
     reader: &mut R,
@@ -172,6 +173,7 @@ fn answer_line<W: Write, O: Office, H: Host>(
     }
 }
 
+/// Runs a line at the moment of the host's clock, or else at its own.
 fn run_by<O: Office, H: Host>(
     alloc: Global,
     office: &mut O,
@@ -185,7 +187,7 @@ fn run_by<O: Office, H: Host>(
     ensures err { OnErr result (office.new ≡ office.old) }
 {
     if !host.is_clocked() {
-        return Ok(run_timed(alloc, office, line));
+        return Ok(run_at_own_moment(alloc, office, line));
     }
     match host.moment() {
         Ok(now) => Ok(run_line(alloc, office, now, line)),
@@ -193,7 +195,7 @@ fn run_by<O: Office, H: Host>(
     }
 }
 
-fn run_timed<O: Office>(alloc: Global, office: &mut O, line: &[u8]) -> Answered
+fn run_at_own_moment<O: Office>(alloc: Global, office: &mut O, line: &[u8]) -> Answered
     ensures { TimedComesTo (LineCalls O.Office) office.old line.now result office.new }
 {
     match take_moment(line) {

@@ -8,6 +8,7 @@ ghost use Rattle.reg_lines.specs.Script.{IsShortCommand, line_of};
 use crate::lines::LONGEST_COMMAND;
 use reg_core::Moment;
 
+/// The number of bytes of a moment's text.
 pub(crate) const MOMENT: usize = 20;
 
 /// The moment with which a line of a script begins, and the command line after it. No line has two such readings.
@@ -34,7 +35,7 @@ pub fn command_in(line: &[u8]) -> Option<&[u8]>
     Some(without_end(line))
 }
 
-/// A line without its LF, and without one CR before that.
+/// A line without its LF and without one CR before that; a line without LF stays as it is.
 pub fn without_end(line: &[u8]) -> &[u8]
     ensures { result.now ≡ line_of line.now }
 {

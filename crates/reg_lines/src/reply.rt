@@ -41,7 +41,6 @@ impl ReplyText {
         }
     }
 
-    /// The bytes of the reply.
     pub fn as_bytes(&self) -> &[u8]
         ensures { result.now ≡ self.now }
     {
@@ -68,7 +67,7 @@ impl ReplyText {
         self
     }
 
-    fn number(self, word: &[u8], value: u64) -> ReplyText
+    fn with_number(self, word: &[u8], value: u64) -> ReplyText
         requires { length self + length word.now + 20 ≤ 84 }
         ensures text { result ≡ self ++ word.now ++ decimal value }
         ensures short { length result ≤ length self + length word.now + 20 }
@@ -76,7 +75,7 @@ impl ReplyText {
         self.with(word).with(Decimal::of(value).as_bytes())
     }
 
-    fn moment(self, word: &[u8], value: Moment) -> ReplyText
+    fn with_moment(self, word: &[u8], value: Moment) -> ReplyText
         requires { length self + length word.now + 20 ≤ 84 }
         ensures text { result ≡ self ++ word.now ++ moment_text value }
         ensures short { length result ≤ length self + length word.now + 20 }
@@ -91,19 +90,19 @@ fn reply_text(reply: &Reply) -> ReplyText
     ensures short { length result ≤ 83 }
 {
     match *reply {
-        Reply::Subscriber { id } => ReplyText::new().number(b"subscriber ", id),
-        Reply::Order { id } => ReplyText::new().number(b"order ", id),
+        Reply::Subscriber { id } => ReplyText::new().with_number(b"subscriber ", id),
+        Reply::Order { id } => ReplyText::new().with_number(b"order ", id),
         Reply::Registered => ReplyText::new().with(b"registered"),
         Reply::Same => ReplyText::new().with(b"same"),
         Reply::Request { id, due } => ReplyText::new()
-            .number(b"request ", id)
-            .moment(b" due ", due),
+            .with_number(b"request ", id)
+            .with_moment(b" due ", due),
         Reply::Declined => ReplyText::new().with(b"declined"),
         Reply::Revoked { late: true } => ReplyText::new().with(b"revoked late"),
         Reply::Revoked { late: false } => ReplyText::new().with(b"revoked"),
         Reply::Crl { number, entries } => ReplyText::new()
-            .number(b"crl ", number)
-            .number(b" entries ", entries),
+            .with_number(b"crl ", number)
+            .with_number(b" entries ", entries),
         Reply::Status(status) => status_text(status),
         Reply::Counts(counts) => counts_text(counts),
         Reply::Listing(listing) => listing_text(listing),
@@ -123,8 +122,8 @@ fn status_text(status: Status) -> ReplyText
         Status::Expired => ReplyText::new().with(b"expired"),
         Status::Revoked { at, reason } => {
             ReplyText::new()
-                .moment(b"revoked ", at)
-                .number(b" reason ", u64::from(reason))
+                .with_moment(b"revoked ", at)
+                .with_number(b" reason ", u64::from(reason))
         }
     }
 }
@@ -135,9 +134,9 @@ fn counts_text(counts: Counts) -> ReplyText
     ensures short { length result ≤ 83 }
 {
     ReplyText::new()
-        .number(b"good ", counts.good)
-        .number(b" revoked ", counts.revoked)
-        .number(b" expired ", counts.expired)
+        .with_number(b"good ", counts.good)
+        .with_number(b" revoked ", counts.revoked)
+        .with_number(b" expired ", counts.expired)
 }
 
 #[tactic(auto, unfolding(crate::specs::Replies::listing_line, crate::specs::Replies::listing_by))]
@@ -148,9 +147,9 @@ fn listing_text(listing: Option<Listing>) -> ReplyText
     let Some(listing) = listing else {
         return ReplyText::new().with(b"listing none");
     };
-    let first = ReplyText::new().number(b"listing first ", listing.first);
+    let first = ReplyText::new().with_number(b"listing first ", listing.first);
     match listing.last {
-        Some(last) => first.number(b" last ", last),
+        Some(last) => first.with_number(b" last ", last),
         None => first,
     }
 }
@@ -162,8 +161,8 @@ fn overdue_text(overdue: Option<Overdue>) -> ReplyText
 {
     match overdue {
         Some(overdue) => ReplyText::new()
-            .number(b"overdue ", overdue.count)
-            .number(b" first ", overdue.first),
+            .with_number(b"overdue ", overdue.count)
+            .with_number(b" first ", overdue.first),
         None => ReplyText::new().with(b"overdue 0"),
     }
 }
@@ -174,7 +173,7 @@ fn next_crl_text(moment: Option<Moment>) -> ReplyText
     ensures short { length result ≤ 83 }
 {
     match moment {
-        Some(moment) => ReplyText::new().moment(b"next-crl ", moment),
+        Some(moment) => ReplyText::new().with_moment(b"next-crl ", moment),
         None => ReplyText::new().with(b"next-crl at-once"),
     }
 }

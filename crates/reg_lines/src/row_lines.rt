@@ -90,7 +90,7 @@ fn put_line(
     Ok(())
 }
 
-/// Appends these four fields of a row, if they spell a registration.
+/// Appends these four fields of a row, if they are a registration.
 fn put_fields(
     fields: Option<(&[u8], &[u8], &[u8], &[u8])>,
     text: &mut Vec<u8>,

@@ -100,7 +100,7 @@ pub(crate) fn run_rows<W: Write, O: Office>(
     run_each(alloc, writer, now, office, is_strict, &mut rows, &mut row)
 }
 
-/// Runs each row of a reader that has read none yet, one after the other in one record.
+/// Runs each row of a reader that has read none yet, each in the same `ByteRecord`.
 fn run_each<W: Write, O: Office>(
     alloc: Global,
     writer: &mut W,

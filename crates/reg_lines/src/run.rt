@@ -15,7 +15,7 @@ use reg_office_api::Office;
 use std::alloc::{AllocError, Global};
 
 /// The bytes of an OCSP response that has only a status (RFC 6960 4.2.1).
-const REFUSAL: usize = 5;
+const STATUS_ONLY_LENGTH: usize = 5;
 
 /// Runs a line, given without its line end, at a moment.
 pub fn run_line<O: Office>(alloc: Global, office: &mut O, now: Moment, line: &[u8]) -> Answered
@@ -63,7 +63,7 @@ fn respond(alloc: Global, response: &[u8]) -> Answered
     match response_line(alloc, response) {
         Ok(line) => Answered::Response(OcspReply {
             line,
-            is_refusal: response.len() == REFUSAL,
+            is_refusal: response.len() == STATUS_ONLY_LENGTH,
         }),
         Err(_) => no_memory(),
     }

@@ -35,8 +35,8 @@ impl Host for NoHost {
 }
 
 /// Runs each line of a script, in order, and writes each reply before it runs the next line. The input may come in pieces
-/// of any size. Memory is allocated once, before the first line; after that by the calls of the office, and for an `ocsp` line.
-/// If such an allocation fails, the reply is `F1 memory`. `F3 signer` is the reply only to a line at which the signer counted a failure.
+/// of any size. Memory is allocated once, before the first line, and later only by the calls of the office and for `ocsp`
+/// lines. If a later allocation fails, the reply is `F1 memory`. `F3 signer` is the reply only to a line at which the signer counted a failure.
 ///
 /// # Errors
 ///

@@ -1,4 +1,4 @@
-//! A strict import: it ends at the first refusal or fault, and does not run a last row without its line end.
+//! The strict import.
 
 ghost use Rattle.std.specs.Prelude.{◌≡◌};
 ghost use Rattle.reg_office_api.specs.Calls.{LeadsIn};
@@ -36,6 +36,7 @@ pub fn import_strictly<R: Read, W: Write, O: Office>(
     }
 }
 
+/// Runs each row of a text up to its last line end.
 fn run_ended<W: Write, O: Office>(
     alloc: Global,
     writer: &mut W,

@@ -40,7 +40,7 @@ pub record Form : Type 0 where
 
 -- ---- the encoding of a tree
 
--- an optional value
+-- the value with this tag and these contents, if there are contents
 abbrev pub optional : ℕ → Option (List ℕ) → List ℕ
 optional tag None = []
 optional tag (Some contents) = tlv tag contents
@@ -64,6 +64,7 @@ abbrev pub extensions : ℕ → Option (List Extension) → List ℕ
 extensions tag None = []
 extensions tag (Some es) = tlv tag (tlv 0x30 (flat_map request_extension es))
 
+-- the parameters of an algorithm, if there are any
 abbrev pub parameters : Option Parts → List ℕ
 parameters None = []
 parameters (Some any) = tlv any.tag any.contents
@@ -123,7 +124,7 @@ pub record IsSingle (s : Single) : Type 0 where
   pub target : IsTarget s.target
   pub extensions : AreExtensions s.extensions
 
--- at least one request
+-- there is at least one request, and each request and each extension is allowed
 pub record IsForm (f : Form) : Type 0 where
   pub some : 1 ≤ length f.singles
   pub each : AllByRecursion IsSingle f.singles

@@ -50,18 +50,18 @@ impl Model for Certificate {
 }
 
 impl Certificate {
-    /// A certificate from its DER; `Bad` if [`subject_public_key`] gives `None`; `Memory`.
+    /// A certificate from its DER; `Bad` if [`subject_public_key`] gives `None`; `Memory` if out of memory.
     pub fn new(alloc: Global, der: &[u8]) -> Result<Certificate, CertificateFault>
         ensures der { IfOk result (λ it. it.der ≡ der.now) }
         ensures bad { IsErrOf result CertificateFault.Bad → (algorithm key : List ℕ)
             → ¬ (IsCertificateOf der.now algorithm key) }
     {
-        let certified = match subject_public_key(der) {
-            Some(certified) => certified,
+        let public_key = match subject_public_key(der) {
+            Some(public_key) => public_key,
             None => return Err(CertificateFault::Bad),
         };
-        let algorithm = Vec::from_slice(alloc, certified.algorithm)?;
-        let key = Vec::from_slice(alloc, certified.key)?;
+        let algorithm = Vec::from_slice(alloc, public_key.algorithm)?;
+        let key = Vec::from_slice(alloc, public_key.key)?;
         let der = Vec::from_slice(alloc, der)?;
         Ok(Certificate {
             der,
@@ -118,14 +118,14 @@ pub fn subject_public_key(certificate: &[u8]) -> Option<SubjectPublicKey<'_>>
 fn read_certificate(bytes: &[u8]) -> Option<SubjectPublicKey<'_>>
     ensures { Gives key_model result (certificate_at bytes.now) }
 {
-    let part = signed_part(bytes)?;
+    let part = tbs_contents(bytes)?;
     let (info, _) = expect(SEQUENCE, after_subject(part)?)?;
     key_info(info.contents)
 }
 
 /// The contents of the TBSCertificate of a certificate.
 #[tactic(auto, unfolding(crate::specs::Certificate::signed_part_at))]
-fn signed_part(bytes: &[u8]) -> Option<&[u8]>
+fn tbs_contents(bytes: &[u8]) -> Option<&[u8]>
     ensures { Gives (λ x. x.now) result (signed_part_at bytes.now) }
 {
     if bytes.len() > LONGEST_CERTIFICATE {
@@ -157,15 +157,16 @@ fn key_info(bytes: &[u8]) -> Option<SubjectPublicKey<'_>>
     ensures { Gives key_model result (key_info_at bytes.now) }
 {
     let (algorithm, rest) = expect(SEQUENCE, bytes)?;
-    let bits = used(whole(BIT_STRING, rest)?)?;
-    let key = key_of(bits)?;
+    let bits = without_unused_bits(whole(BIT_STRING, rest)?)?;
+    let key = checked_key(bits)?;
     Some(SubjectPublicKey {
         algorithm: algorithm.raw,
         key,
     })
 }
 
-fn used(contents: &[u8]) -> Option<&[u8]>
+/// The bits in the contents of a BIT STRING; `None` if some are unused.
+fn without_unused_bits(contents: &[u8]) -> Option<&[u8]>
     ensures { Gives (λ x. x.now) result (no_unused contents.now) }
 {
     match contents {
@@ -174,7 +175,8 @@ fn used(contents: &[u8]) -> Option<&[u8]>
     }
 }
 
-fn key_of(bits: &[u8]) -> Option<&[u8]>
+/// The bits, if they can be a key: 1 to 2,048 bytes.
+fn checked_key(bits: &[u8]) -> Option<&[u8]>
     ensures { Gives (λ x. x.now) result (as_key bits.now) }
 {
     if bits.is_empty() || bits.len() > LONGEST_KEY {

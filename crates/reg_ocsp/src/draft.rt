@@ -58,7 +58,7 @@ impl Draft {
         let message = copy_of(alloc, message)?;
         let algorithm = copy_of(alloc, algorithm)?;
         let key = copy_of(alloc, key)?;
-        let certificate = copied(alloc, certificate)?;
+        let certificate = copy_of_optional(alloc, certificate)?;
         Ok(Draft {
             message,
             algorithm,
@@ -88,7 +88,7 @@ impl Draft {
         &self.key
     }
 
-    /// The whole OCSPResponse with this signature, of at most 65,536 bytes; internalError without a signature (RFC 6960 2.3).
+    /// The whole OCSPResponse with this signature (at most 65,536 bytes); internalError without one (RFC 6960 2.3).
     pub fn response(&self, alloc: Global, signature: Option<&[u8]>) -> Result<Vec<u8>, Memory>
         requires { IfSome (option_copied signature) (λ bytes. length bytes ≤ 65536) }
         ensures { ItemsOnOk result (drafted_response self.now (option_copied signature.entry)) }
@@ -106,7 +106,7 @@ impl Draft {
     }
 }
 
-fn copied(alloc: Global, bytes: Option<&[u8]>) -> Result<Option<Vec<u8>>, Memory>
+fn copy_of_optional(alloc: Global, bytes: Option<&[u8]>) -> Result<Option<Vec<u8>>, Memory>
     ensures { IfOk result (λ copy. option_map (λ it. it.items) copy ≡ option_copied bytes.entry) }
 {
     match bytes {

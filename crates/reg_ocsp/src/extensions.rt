@@ -22,7 +22,7 @@ pub(crate) struct Extension<'a> {
 /// The value of the first nonce in Extensions under this tag, which are all of the bytes. `Some(None)` if there are no bytes or no
 /// nonce; `None` if any of the Extensions is invalid.
 #[tactic(auto, unfolding(crate::specs::RequestReading::last_nonce_at))]
-pub(crate) fn last_nonce(tag: u8, bytes: &[u8]) -> Option<Option<&[u8]>>
+pub(crate) fn nonce_under(tag: u8, bytes: &[u8]) -> Option<Option<&[u8]>>
     ensures { Gives (λ x. option_copied x) result (last_nonce_at tag bytes.now) }
 {
     written_nonce(last(tag, bytes)?)
@@ -84,6 +84,7 @@ fn extension_of(bytes: &[u8]) -> Option<Extension<'_>>
     })
 }
 
+/// Whether the OID is empty, or the extension is critical and not the nonce.
 fn is_refused(identifier: &[u8], critical: Option<bool>) -> bool
     ensures { result ≡ spec.is_refused identifier.now critical }
 {

@@ -9,7 +9,7 @@ ghost use Rattle.reg_ocsp.specs.Request as grammar;
 ghost use Rattle.reg_ocsp.specs.Views.{ids_model, id_model, GivesUnlessMemory};
 
 use crate::asked::{Asked, CertId};
-use crate::extensions::last_nonce;
+use crate::extensions::nonce_under;
 use crate::fault::RequestFault;
 use reg_der::tags::{
     INTEGER, OBJECT_IDENTIFIER, OCTET_STRING, SEQUENCE, TAGGED_0, TAGGED_1, TAGGED_2,
@@ -23,6 +23,7 @@ const LONGEST_REQUEST: usize = 65_536;
 /// The INTEGER 0, which means version 1 (RFC 6960 4.1.1).
 const VERSION_1: [u8; 3] = [0x02, 0x01, 0x00];
 
+/// A nonce of 128 octets in its OCTET STRING (RFC 9654 2.1).
 const LONGEST_NONCE: usize = 131;
 
 /// Reads an OCSP request. `Malformed` exactly if the bytes are not one OCSPRequest in DER of at most 65,536 bytes, with at
@@ -64,6 +65,7 @@ fn parts(bytes: &[u8]) -> Option<(&[u8], Option<&[u8]>)>
     signed_parts(to_be_signed(bytes)?)
 }
 
+/// The contents of the TBSRequest.
 #[tactic(auto, unfolding(crate::specs::RequestReading::tbs_at))]
 fn to_be_signed(bytes: &[u8]) -> Option<&[u8]>
     ensures { Gives (λ x. x.now) result (tbs_at bytes.now) }
@@ -79,7 +81,7 @@ fn signed_parts(bytes: &[u8]) -> Option<(&[u8], Option<&[u8]>)>
     ensures { Gives (λ x. (x.0.now, option_copied x.1)) result (signed_at bytes.now) }
 {
     let (list, rest) = list(bytes)?;
-    let nonce = last_nonce(TAGGED_2, rest)?;
+    let nonce = nonce_under(TAGGED_2, rest)?;
     Some((list, echoed_nonce(nonce)))
 }
 
@@ -105,6 +107,7 @@ fn after_version(bytes: &[u8]) -> Option<&[u8]>
     }
 }
 
+/// The nonce, if it has 1 to 131 bytes: then the response repeats it.
 fn echoed_nonce(nonce: Option<&[u8]>) -> Option<&[u8]>
     ensures { option_copied result ≡ grammar.echoed_nonce (option_copied nonce.entry) }
 {
@@ -139,7 +142,7 @@ fn single(bytes: &[u8]) -> Option<(CertId<'_>, &[u8])>
 {
     let (outer, rest) = expect(SEQUENCE, bytes)?;
     let (id, extensions) = cert_id(outer.contents)?;
-    last_nonce(TAGGED_0, extensions)?;
+    nonce_under(TAGGED_0, extensions)?;
     Some((id, rest))
 }
 
@@ -150,7 +153,7 @@ fn cert_id(bytes: &[u8]) -> Option<(CertId<'_>, &[u8])>
 {
     let (outer, rest) = expect(SEQUENCE, bytes)?;
     let (algorithm, after_algorithm) = algorithm(outer.contents)?;
-    let (name_hash, key_hash, serial) = names(after_algorithm)?;
+    let (name_hash, key_hash, serial) = hashes_and_serial(after_algorithm)?;
     let id = CertId {
         raw: outer.raw,
         algorithm,
@@ -163,7 +166,7 @@ fn cert_id(bytes: &[u8]) -> Option<(CertId<'_>, &[u8])>
 
 /// issuerNameHash, issuerKeyHash, and the contents octets of serialNumber.
 #[tactic(auto, unfolding(crate::specs::RequestReading::hashes_and_serial_at))]
-fn names(bytes: &[u8]) -> Option<(&[u8], &[u8], &[u8])>
+fn hashes_and_serial(bytes: &[u8]) -> Option<(&[u8], &[u8], &[u8])>
     ensures { Gives (λ x. (x.0.now, x.1.now, x.2.now)) result (hashes_and_serial_at bytes.now) }
 {
     let (name_hash, after_name) = expect(OCTET_STRING, bytes)?;
@@ -197,6 +200,7 @@ fn algorithm(bytes: &[u8]) -> Option<(&[u8], &[u8])>
     Some((outer.raw, rest))
 }
 
+/// Whether the bytes are one value, or none.
 fn is_at_most_one(bytes: &[u8]) -> bool
     ensures { result ≡ read_all bytes.now (value_at bytes.now) }
 {
@@ -206,7 +210,7 @@ fn is_at_most_one(bytes: &[u8]) -> bool
     }
 }
 
-/// X.690 8.3.2: the first nine bits are neither all zero nor all one.
+/// Whether the contents octets of an INTEGER are the fewest: the first nine bits are neither all zero nor all one (X.690 8.3.2).
 fn is_shortest(octets: &[u8]) -> bool
     ensures { result ≡ spec.is_shortest octets.now }
 {

@@ -52,7 +52,7 @@ pub fn refusal(status: RefusalStatus) -> [u8; 5]
 ///
 /// producedAt and each thisUpdate are `now`, each nextUpdate is `next`. Each CertID is repeated byte for byte, in the order
 /// of `answers`. An expired certificate that isn't revoked is `good`, and the reason 0 is left out. There are at most
-/// 65,536 CertIDs with 65,536 bytes in all, and the nonce has at most 131, as `read_request` gives them. At most 2^27 bytes.
+/// 65,536 CertIDs with 65,536 bytes in all, and the nonce has at most 131, as `read_request` gives them. The result has at most 2^27 bytes.
 pub fn response_data(
     alloc: Global,
     issuer: &Issuer,
@@ -69,8 +69,8 @@ pub fn response_data(
     response_data_by(alloc, issuer.key(), now, next, answers, nonce)
 }
 
-/// As [`response_data`], for a responder with this key: responderID is the SHA-1 of the key, which is the bits of its
-/// subjectPublicKey (RFC 6960 4.2.1).
+/// As [`response_data`], for any responder: `key` is the bits of the responder's subjectPublicKey, and responderID is
+/// their SHA-1 (RFC 6960 4.2.1).
 #[tactic(auto, using(crate::proofs::Answering::few_answers, crate::proofs::Answering::short_answers), unfolding(crate::specs::Response::response_data))]
 pub fn response_data_by(
     alloc: Global,
@@ -153,10 +153,10 @@ pub fn basic_with(
 {
     let basic = basic_value(alloc, signed, algorithm, signature, certificate)?;
     let bytes = response_bytes(alloc, &basic)?;
-    successful(alloc, &bytes)
+    successful_value(alloc, &bytes)
 }
 
-fn successful(alloc: Global, bytes: &[u8]) -> Result<Vec<u8>, Memory>
+fn successful_value(alloc: Global, bytes: &[u8]) -> Result<Vec<u8>, Memory>
     requires { length bytes.now ≤ 2 ^ 28 }
     ensures value { ItemsOnOk result (successful_response bytes.now) }
     ensures longer { IfOk result (λ v. length v.items ≤ length bytes.now + 19) }
@@ -262,6 +262,7 @@ fn put_responder(alloc: Global, out: &mut Vec<u8>, key: &[u8]) -> Result<(), Mem
     put(out, TAGGED_2, &hash)
 }
 
+/// Appends `responses`: a SingleResponse for each answer.
 fn put_answers(
     alloc: Global,
     out: &mut Vec<u8>,
@@ -386,6 +387,7 @@ fn nonce_extension(alloc: Global, nonce: &[u8]) -> Result<Vec<u8>, Memory>
     enclosed(alloc, SEQUENCE, &fields)
 }
 
+/// The DER value with this tag and these contents.
 fn enclosed(alloc: Global, tag: u8, contents: &[u8]) -> Result<Vec<u8>, Memory>
     requires low_tag { tag % 32 < 31 }
     requires short { length contents.now < 2 ^ 32 }

@@ -52,8 +52,8 @@ abbrev pub IsNext : (Records → ℕ → Command → Type 0) → Records → Lis
 IsNext Done records [] = ⊥
 IsNext Done records (timed ∷ commands) = Done records timed.0 timed.1
 
--- The records that are left are those after a prefix of the commands: after `done`, whose outcomes are `came`, or after `done` and the next
--- command. The outcomes of the commands after `done` are refusals or faults.
+-- What a stop leaves, after a prefix of the commands: `Rests` holds of the records after `done`, whose outcomes are `came`; or `Done` holds of
+-- these records and the next command. The outcomes of the commands after `done` are refusals or faults.
 pub record PartlyRun (signs : Signs) (identity : Identity) (Rests : Records → Type 0)
     (Done : Records → ℕ → Command → Type 0)
     (records : Records) (commands : List (ℕ × Command)) (outcomes : List (Result Reply Fault)) : Type 0 where
@@ -109,7 +109,7 @@ IsOneMore signs identity records trees =
     ⊎ (((steps : List (ℕ × ℕ)) × ShowsDerivedAfterStop (with_schedule records steps) trees)
     ⊎ ((octets : List ℕ) × ShowsDerivedAfterStop (with_key_identifier records octets) trees))
 
--- if a stop after a call, or in the middle of it, leaves a register's tables, these show these records, or those after one more change
+-- if a stop after a call, or in the middle of it, leaves a register's tables, they show `records`, or the records after one more change
 abbrev pub LeavesReported : {C : Type 0} → Ghosts C → Signs → Held C → Identity → Records → Type 0
 LeavesReported g signs held identity records =
     HasCleanDisk (state g held) → (trees : Trees) → (state g held).may_leave trees → AreARegisters trees

@@ -27,7 +27,7 @@ IsBegun signs responder records now request (Ready response) =
 IsBegun signs responder records now request (Unsigned draft) = IsDraft responder records now request draft
 
 -- Whatever the store shows: the response is malformedRequest exactly if the bytes are no request, and internalError if the signer
--- failed. A draft is left only if the bytes are a request.
+-- failed. A draft is made only if the bytes are a request.
 abbrev pub RefusesRequest : List ℕ → ReadyOrUnsigned OcspResponse Drafted → Type 0
 RefusesRequest request (Ready response) =
     ((response.bytes.items ≡ refusal_response status.Malformed) ↔ HasNoReading request)

@@ -31,7 +31,7 @@ LeadsOver {C = C} g signs step =
     Leads (λ (office : Held C × Signatory). HasCleanDisk (state g office.0))
     (λ signatory office records. StandsFor g signs office signatory records) step
 
--- an office as its calls see it: its store, and its signers
+-- an office as these relations take it: its store, and the identities of its signers
 abbrev pub seen : {C S : Type 0} → Signer S → Office C S → Held C × Signatory
 seen signer office =
     (office.store, signatory_of signer.identity (signer.identity office.signer) office.responder)

@@ -17,8 +17,8 @@ use Rattle.reg_office.specs.AfterStoppedCommand.{Does}
 use Rattle.reg_office.specs.Faults.{IsOfficeFault}
 use Rattle.reg_office.specs.Stands.{Stands, HasOutcome}
 
--- The command was run: it had this outcome over the store's records, and the store shows those after it. A stop leaves the records before
--- it or after it. The signer has the same identity. `Signer` is the outcome only of a CRL for which the signer counted a failure.
+-- The command had this outcome over the store's records, and the store shows the records after it. A stop leaves the records before the
+-- command or after it. The signer has the same identity. `Signer` is the outcome only of a CRL for which the signer counted a failure.
 pub record IsCommandRun {C S : Type 0} (g : Ghosts C) (signs : Signs) (identity : S → Identity)
     (failures : S → ℕ) (old new : Held C) (signer left : S) (now : ℕ) (command : Command)
     (outcome : Result Reply Fault) : Type 0 where

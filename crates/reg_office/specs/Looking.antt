@@ -48,11 +48,11 @@ abbrev pub DecidesCommand : {C : Type 0} → Ghosts C → Held C → Held C → 
 DecidesCommand g old new now command result =
     LooksAndDecides g old new (λ records. refusal records now command) (IsAcceptance now command) result
 
--- the clock's refusal that applies to a moment
+-- the refusal of a moment by the clock checks
 abbrev pub clock_refusal : Records → ℕ → Option Refusal
 clock_refusal records now = first_of_all (clock_checks now records.last)
 
--- the refusal that applies to a query at a moment: the clock's, then its own
+-- the refusal that applies to a query at a moment: by the clock checks, or else by those of the query
 abbrev pub query_refusal : Records → ℕ → Query → Option Refusal
 query_refusal records now query = first_of_all (clock_checks now records.last ++ query_checks records query)
 

@@ -68,14 +68,15 @@ pub record AcceptedRevocation {signs : Signs} {identity : Identity}
   pub commands_are : run.commands ≡ front ++ (at, Revoke id) ∷ rest
   pub outcomes_are : run.outcomes ≡ early ++ Ok (IsRevokedNow is_late) ∷ late
 
--- a moment after a run: at or after the last accepted moment, and before the clock's end
+-- a moment after a run: at or after the last accepted moment, and before `clock_end`
 pub record IsReached (records : Records) (moment : ℕ) : Type 0 where
   pub not_back : records.last ≤ moment
   pub not_ended : moment < clock_end
 
 -- WHAT OCSP SHOWS
 
--- a response in which each CertID that names the issuer's certificate of the serial number has such a status (RFC 6960 4.2.1)
+-- a signed response in which `IsSo` holds of the status of each CertID that names the issuer's certificate of the serial number
+-- (RFC 6960 4.2.1)
 pub record ResponseHasStatuses (signs : Signs) (responder : Responder) (records : Records) (moment serial : ℕ)
     (IsSo : Status → Type 0) (asked reply : List ℕ) : Type 0 where
   pub ids : List Id
@@ -85,8 +86,8 @@ pub record ResponseHasStatuses (signs : Signs) (responder : Responder) (records 
   pub told : AllZip (λ id answer. IsMatch records.issuer id serial → IsSo answer.status)
       ids response.of_records.answers
 
--- the response to any bytes: malformedRequest if they are no request; or internalError (RFC 6960 2.3); or such a
--- response, signed
+-- the response to any bytes: malformedRequest if they are no request; or internalError (RFC 6960 2.3); or a signed response with
+-- such statuses
 abbrev pub AnswersStatuses : Signs → Responder → Records → ℕ → ℕ → (Status → Type 0)
     → List ℕ → List ℕ → Type 0
 AnswersStatuses signs responder records moment serial IsSo asked reply =
@@ -154,7 +155,7 @@ pub record IsShownEverywhere {signs : Signs} {identity : Identity} {run : SoundR
       → (outcome : Result Reply Fault)
       → IsAnswered run.after moment (AskStatus request.serial) outcome
       → (outcome ≡ Ok (StatusIs (revoked_at its.at request))) ⊎ (outcome ≡ Err Memory) ⊎ (outcome ≡ Err Store)
-  -- each CertID of an OCSP request that names the certificate is answered with this status, by any responder
+  -- in a signed response, by any responder, each CertID that names the certificate has this status
   pub by_ocsp : (moment : ℕ)
       → IsReached run.after moment
       → (responder : Responder)
@@ -166,7 +167,7 @@ pub record IsShownEverywhere {signs : Signs} {identity : Identity} {run : SoundR
   pub later : List Crl
   pub issued_later : run.after.crls ≡ its.before.crls ++ later
   pub by_crls : ListedThroughFirstPast run.after (entry_at its.at request) certificate.not_after later
-  -- and each CRL is signed over exactly its entries
+  -- and each CRL is signed over exactly its entries, or has their placeholder digest
   pub signed_so : AreSignedSo run.sound.since signs identity run.after
 
 -- NOTHING ELSE IS SHOWN AS REVOKED
@@ -188,7 +189,7 @@ pub record IsNowhereShown {signs : Signs} {identity : Identity} (run : SoundRun 
       → (told : Status)
       → IsAnswered run.after moment (AskStatus serial) (Ok (StatusIs told))
       → IsFalse (is_revoked told)
-  -- no CertID of an OCSP request that names it is answered as revoked, by any responder
+  -- in a signed response, by any responder, no CertID that names it is answered as revoked
   pub by_ocsp : (moment : ℕ)
       → IsReached run.after moment
       → (responder : Responder)
@@ -198,5 +199,5 @@ pub record IsNowhereShown {signs : Signs} {identity : Identity} (run : SoundRun 
       (λ told. IsFalse (is_revoked told)) asked reply
   -- no CRL has an entry for it
   pub by_crls : AllByRecursion (λ crl. entry_in run.after crl serial ≡ None) run.after.crls
-  -- and each CRL is signed over exactly its entries
+  -- and each CRL is signed over exactly its entries, or has their placeholder digest
   pub signed_so : AreSignedSo run.sound.since signs identity run.after

@@ -1,4 +1,4 @@
-//! Decides a command by its kind.
+//! Dispatches the commands that issue no CRL.
 
 ghost use Rattle.std.specs.Prelude.{◌≢◌, ◌<◌};
 ghost use Rattle.reg_core.specs.Calendar.{clock_end};
@@ -14,7 +14,7 @@ use reg_core::{CertRow, Command, Fault, Moment};
 use reg_store::Tables;
 use sqlite::Alter;
 
-/// Decides a command that issues no CRL: its reply, and the change to make. The store does not change yet.
+/// Decides a command that issues no CRL: its refusal, or its reply and the change to make. The store does not change yet.
 pub(crate) fn decide<C: Alter>(
     tables: &mut Tables<C>,
     now: Moment,

@@ -1,4 +1,4 @@
-//! CRLs.
+//! Makes and issues CRLs, and looks up issued ones.
 
 ghost use Rattle.std.specs.Prelude.{◌≡◌, ◌≤◌, ◌<◌, ◌+◌, length, IsErrOf, IfOk, IfErr};
 ghost use Rattle.reg_office_api.specs.Items.{items_of};
@@ -61,7 +61,7 @@ fn signed_crl<S: Signer>(
     Ok(crl_whole(alloc, &tbs, signer.algorithm(), &signature)?)
 }
 
-// The command that issues a CRL waits for its signature, so the signer is asked during its back-off, too.
+// The command that issues a CRL waits for its signature, so a signature is requested even during the signer's back-off.
 fn signature_of<S: Signer>(
     alloc: Global,
     signer: &mut S,

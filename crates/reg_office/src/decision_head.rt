@@ -35,7 +35,7 @@ pub(crate) fn head_at<C: Alter>(
     })
 }
 
-/// The same for a decision that adds no row to a table with a cap. Such a decision uses only the moments, so the policy and the size
+/// The same for a decision that adds no row to a table with a cap. Such a decision uses only the moments, so the policy and the row count
 /// here are placeholders: neither is read from the tables.
 pub(crate) fn clock_head<C: Alter>(
     tables: &mut Tables<C>,
@@ -68,7 +68,7 @@ pub(crate) fn certificate_of<C: Alter>(
 }
 
 /// Whether a register can have written this CRL number and this thisUpdate.
-fn is_within(crl: &CrlRow) -> bool
+fn can_be_written(crl: &CrlRow) -> bool
     ensures { IsTrue result → (crl.now.number < 10 ^ 18) × (crl.now.this_update < clock_end) }
 {
     crl.number < 1_000_000_000_000_000_000 && crl.this_update < Moment::CLOCK_END
@@ -83,7 +83,7 @@ pub(crate) fn latest_crl<C: Alter>(tables: &mut Tables<C>) -> Result<Option<CrlR
 {
     let latest = tables.latest_crl()?;
     match latest {
-        Some(crl) if !is_within(&crl) => Err(DatabaseFault::Store),
+        Some(crl) if !can_be_written(&crl) => Err(DatabaseFault::Store),
         _ => Ok(latest),
     }
 }

@@ -13,7 +13,7 @@ use reg_crl::{CrlSigner, Signer};
 use sqlite::Alter;
 
 /// The main theorem: what holds for every list of commands that an office runs from sound records, with any signer (RFC 5280 3.3, RFC 6960 2.2).
-/// CRLs below any one number may have the placeholder digest: they were issued before the register had a key.
+/// CRLs below some number may have the placeholder digest: they were issued before the register had a key.
 pub fn headline<S: Signer>()
     ensures created { SignedOrDigest S.Signer CreatedSound }
     ensures since { (signer : S) → RunsSince S.signs (S.identity signer) }
@@ -61,7 +61,7 @@ pub fn a_revoked_certificate_is_shown_as_revoked_everywhere<S: Signer>()
     headline::<S>();
 }
 
-/// No other serial number is shown as revoked by a status, an OCSP response or a CRL.
+/// Only serial numbers that were revoked are shown as revoked by statuses, OCSP responses and CRLs.
 pub fn nothing_else_is_shown_as_revoked<S: Signer>()
     ensures { (signer : S) (run : SoundRun S.signs (S.identity signer)) (serial : ℕ)
         → ¬ (WasRevoked run serial) → IsNowhereShown run serial }

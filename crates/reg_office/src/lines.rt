@@ -169,10 +169,10 @@ fn good_row<C: Alter>(
         (certificate_row records now certificate) None) }
 {
     let line = certificate_line(tables, now, certificate)?;
-    Ok(row_where_good(line))
+    Ok(row_if_good(line))
 }
 
-fn row_where_good(line: CertificateLine) -> Option<Row>
+fn row_if_good(line: CertificateLine) -> Option<Row>
     ensures { result ≡ cond (is_good line.status) (Some (kind.Certificate line)) None }
 {
     match line.status {
@@ -305,7 +305,7 @@ pub(crate) fn history_row<C: Alter>(
     })))
 }
 
-/// For how many seconds a request was open past its deadline; `None` if it was declined. `Store` as in [`due_of`].
+/// For how many seconds past its deadline a request was open, or has been open so far; `None` if it was declined. `Store` as in [`due_of`].
 fn lateness_of(
     now: Moment,
     request: &RequestRow,

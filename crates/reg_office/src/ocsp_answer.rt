@@ -1,4 +1,4 @@
-//! The response to an OCSP request: its ResponseData is read from the register, and then signed, here or later.
+//! The response to an OCSP request: its ResponseData is read from the register, and signed here or, later, by the caller.
 
 ghost use Rattle.std.specs.Prelude.{◌≡◌, ◌^◌, ◌≤◌, ◌↔◌, None, length, IfOk, IfSome, option_copied, unwrap_or};
 ghost use Rattle.reg_ocsp.specs.Request.{CanBeAnswered};
@@ -152,7 +152,7 @@ fn key_of<'a>(own: Option<&'a [u8]>, issuer: &'a Issuer) -> &'a [u8]
     }
 }
 
-/// The issuer, and the nextUpdate of an answer at this moment; `Clock` if the clock checks refuse the moment.
+/// The issuer, and the nextUpdate of an answer given now; `Clock` if the clock checks refuse the moment.
 fn responding<C: Alter>(
     tables: &mut Tables<C>,
     now: Moment,

@@ -7,7 +7,7 @@ use reg_core::{Memory, Refusal};
 use reg_store_tables::DatabaseFault;
 use std::alloc::AllocError;
 
-/// Why no ResponseData is made for a request that was read.
+/// `Clock`: the clock checks refuse the moment.
 #[derive(Clone, Copy, PartialEq, Eq)]
 pub(crate) enum ResponseFault {
     Clock,

@@ -110,8 +110,8 @@ impl<C: Alter, S: Signer> reg_office_api::Office for Office<C, S> {
 
     ghost answer_failures = { λ office. answer_failures_in S.Signer office };
 
-    /// If the disk fails in the commit and this closes the connection, a register that is opened again has all of the change or none of it
-    /// (clause `ran`, in its `changed`).
+    /// If the disk fails in the commit and the failure closes the connection, a register that is opened again has all of the change or none of
+    /// it (clause `ran`, in its `changed`).
     fn run_one(&mut self, alloc: Global, now: Moment, command: &Command) -> Outcome
         ensures runs { OfficeLeads C.Store S.Signer
             (CommandStep S.signs now command.now result) self.old self.new }

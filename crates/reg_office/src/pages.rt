@@ -20,7 +20,7 @@ use reg_store::{DatabaseFault, Table, Tables};
 use sqlite::Alter;
 use std::alloc::Global;
 
-/// A list whose rows are numbered from 1 on.
+/// A list over a table whose ids are 1, 2, 3 and so on.
 #[derive(Clone, Copy)]
 pub(crate) enum Numbered {
     OpenRequests,
@@ -30,7 +30,7 @@ pub(crate) enum Numbered {
     Orders,
 }
 
-/// A page of a list past a key, at a moment, over at most `most` rows.
+/// A page of a list from a cursor on, at a moment, over at most `most` rows.
 pub(crate) fn page<C: Alter>(
     tables: &mut Tables<C>,
     alloc: Global,
@@ -156,7 +156,7 @@ fn certificate_listed<C: Alter>(
     }
 }
 
-/// The serial number of the last of these certificates, if they are `most`; `None` if there are no more pages.
+/// The serial number of the last of these certificates, if they are `most`; else `None`: there are no more pages.
 fn last_certificate(found: &[CertRow], most: u64) -> Option<Serial>
     ensures { result ≡ last_of_full (λ row. row.serial) most found.now }
 {

@@ -1,4 +1,4 @@
-//! Queries.
+//! Answers queries.
 
 ghost use Rattle.std.specs.Prelude.{◌≡◌, ◌≤◌, ◌<◌, None, IfOk, IfSome, IsSome};
 ghost use Rattle.reg_core.specs.Calendar.{clock_end};
@@ -57,7 +57,7 @@ fn listing<C: Alter>(tables: &mut Tables<C>, serial: Serial) -> Result<Option<Li
     }
 }
 
-/// The moment of the earliest revocation whose first CRL has not been issued yet.
+/// The moment of the earliest revocation that no CRL lists yet; `Store` if no register can have written it.
 fn earliest_unlisted<C: Alter>(tables: &mut Tables<C>) -> Result<Option<Moment>, DatabaseFault>
     ensures looks { Learns C.Store tables.old tables.new result (λ records at.
         at ≡ earliest (unlisted records)) }

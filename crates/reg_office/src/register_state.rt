@@ -1,4 +1,4 @@
-//! Summaries of a register: its sizes and latest CRL, its open requests, and the longest validity of an order.
+//! Summaries of a register: its row counts and latest CRL, its open requests, and the longest validity for an order.
 
 ghost use Rattle.std.specs.Prelude.{◌≡◌, ◌<◌, ◌^◌, IfErr};
 ghost use Rattle.reg_office_api.specs.LookUps.{HasRequestLoad, HasLongest, HasOpen, HasSummary, IsOfStore, rows_in};

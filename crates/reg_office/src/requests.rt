@@ -1,4 +1,4 @@
-//! Requests for revocation.
+//! The commands `request`, `decline` and `revoke`.
 
 ghost use Rattle.std.specs.Prelude.{◌<◌};
 ghost use Rattle.reg_core.specs.Calendar.{clock_end};
@@ -23,7 +23,7 @@ pub(crate) struct Case {
     revocation: Option<RevocationRow>,
 }
 
-/// Decides to enter a request.
+/// Decides the command `request`. `word` is the ground.
 pub(crate) fn enter_request<C: Alter>(
     tables: &mut Tables<C>,
     now: Moment,
@@ -61,7 +61,7 @@ fn case_of<C: Alter>(tables: &mut Tables<C>, id: u64) -> Result<Case, DatabaseFa
     }
 }
 
-/// Decides to decline a request.
+/// Decides the command `decline`.
 pub(crate) fn decline<C: Alter>(
     tables: &mut Tables<C>,
     now: Moment,
@@ -75,7 +75,7 @@ pub(crate) fn decline<C: Alter>(
     Ok((Reply::Declined, Change::Decline(row.id)))
 }
 
-/// Decides to revoke the certificate of a request.
+/// Decides the command `revoke`.
 pub(crate) fn revoke<C: Alter>(
     tables: &mut Tables<C>,
     now: Moment,

@@ -24,7 +24,7 @@ pub(crate) struct ResponderFields<'a> {
     pub(crate) certificate: Option<&'a [u8]>,
 }
 
-/// What responses say of the issuer as responder, with the certificate that they include.
+/// What responses say of the issuer as responder. They include the certificate, if there is one.
 pub(crate) fn of_issuer(certificate: &Option<Certificate>) -> ResponderFields<'_>
     ensures own { option_copied result.own_key ≡ None }
     ensures certificate { option_copied result.certificate ≡ option_map (λ it. it.der) certificate.now }

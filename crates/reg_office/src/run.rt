@@ -1,4 +1,4 @@
-//! Lists of commands.
+//! Runs lists of commands.
 
 ghost use Rattle.std.specs.Prelude.{◌≡◌, ◌≤◌, length, OnErr, IsTrue};
 ghost use Rattle.sqlite.specs.Held.{state};

@@ -10,7 +10,7 @@ use Rattle.reg_core.specs.declared.refusal.Refusal.TheVariants.{NoCrl}
 use Rattle.reg_core.specs.declared.refusal.Fault.{Fault}
 use Rattle.reg_core.specs.declared.refusal.Fault.TheVariants.{Refused, Memory, Store, Signer, Read, Write}
 
--- a query's outcome: the reply or the refusal of `answer`; or, before the clock's end, out of memory or a failure of the store
+-- a query's outcome: the reply or the refusal of `answer`; or, before `clock_end`, out of memory or a failure of the store
 abbrev pub IsAnswered : Records → ℕ → Query → Result Reply Fault → Type 0
 IsAnswered records now query (Ok reply) = answer records now query ≡ Ok reply
 IsAnswered records now query (Err (Refused refusal)) = answer records now query ≡ Err refusal

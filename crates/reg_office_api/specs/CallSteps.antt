@@ -1,4 +1,4 @@
--- The outcome of each call of an office, and the records after it.
+-- The outcomes of commands, queries, OCSP requests and requests for CRLs, and the records after them.
 use Rattle.std.specs.Prelude.{◌≡◌, ℕ, List, Option, Result, Ok, Err}
 use Rattle.reg_core.specs.Records.{Records}
 use Rattle.reg_core.specs.declared.command.Command.{Command}

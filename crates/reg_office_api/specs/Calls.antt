@@ -1,4 +1,4 @@
--- Each call of an office as a relation between the office before it and the office after it.
+-- Calls of an office as relations between the office before and the office after.
 use Rattle.std.specs.Prelude.{◌≡◌, ℕ, List, Option, Result}
 use Rattle.reg_core.specs.Records.{Records}
 use Rattle.reg_core.specs.declared.command.Command.{Command}

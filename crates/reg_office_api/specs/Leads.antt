@@ -1,9 +1,9 @@
 -- What a call does to an office that keeps records.
 use Rattle.std.specs.Prelude.{◌≡◌}
 
--- A call of an office, which is `s` before and `t` after it, as a step of the records that the office keeps. If the medium has
--- returned all that was written by the end of the call, it had done so before the call too. Then, for any signers and records of
--- which `stands` holds before the call, the step leads to records of which it holds after it, for the same signers.
+-- A call of an office, which is `s` before and `t` after it, as a step of the records that the office keeps. If the disk is clean
+-- (`is_clean`) after the call, it was clean before. In that case, for any signers and records of which `stands` holds before the call,
+-- the step leads to records of which `stands` holds after the call, for the same signers.
 abbrev pub Leads : {S I R : Type 0} → (S → Type 0) → (I → S → R → Type 0)
     → (I → R → R → Type 0) → S → S → Type 0
 Leads {I = I} {R = R} is_clean stands step s t =

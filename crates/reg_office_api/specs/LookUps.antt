@@ -20,7 +20,7 @@ IsOfStore Memory = Unit {0}
 IsOfStore Store = Unit {0}
 IsOfStore other = ⊥
 
--- how many rows the tables have
+-- how many rows each table with a cap has
 abbrev pub rows_in : Records → Rows
 rows_in records = record {
   subscribers = length records.subscribers;

@@ -53,12 +53,12 @@ pub record IsResponse (signs : Signs) (responder : Responder) (records : Records
   pub of_records : IsOcspData (responder_key responder records) records now ids nonce tbs
   pub signed : response_signed_by signs responder tbs bytes
 
--- tryLater if the clock checks refuse the moment, else a response of this kind
+-- tryLater if the clock checks refuse the moment, else a response of which `IsWhole` holds
 abbrev pub IsTimely : Option Refusal → (List ℕ → Type 0) → List ℕ → Type 0
 IsTimely (Some refusal) IsWhole bytes = bytes ≡ refusal_response TryLater
 IsTimely None IsWhole bytes = IsWhole bytes
 
--- the response to a request that was read: internalError; or else tryLater if the moment is at or past the clock's end, or before
+-- the response to a request that was read: internalError; or else tryLater if the moment is at or past `clock_end`, or before
 -- the last accepted one; else the whole response
 abbrev pub IsReadReply : Signs → Responder → Records → ℕ → List Id → Option (List ℕ) → List ℕ → Type 0
 IsReadReply signs responder records now ids nonce bytes =

@@ -1,16 +1,16 @@
--- The settings of a register that calls other than commands change.
+-- How calls that are no commands change a register's settings.
 use Rattle.std.specs.Prelude.{◌≡◌, ℕ, List, Result, Ok, Err}
 use Rattle.reg_core.specs.Changes.{with_schedule}
 use Rattle.reg_core.specs.Records.{Records}
 use Rattle.reg_core.specs.declared.refusal.Fault.{Fault}
 use Rattle.reg_der.specs.Issuers.{with_key_identifier}
 
--- the records are as before but for the schedule; at a fault they stay
+-- only the schedule changes; at a fault nothing does
 abbrev pub Reschedules : List (ℕ × ℕ) → Result (Unit {0}) Fault → Records → Records → Type 0
 Reschedules steps (Ok done) before after = after ≡ with_schedule before steps
 Reschedules steps (Err fault) before after = after ≡ before
 
--- the records are as before but for the key identifier of the CRLs from the next one on; at a fault they stay
+-- only the key identifier of the CRLs from the next one on changes; at a fault nothing does
 abbrev pub Identifies : List ℕ → Result (Unit {0}) Fault → Records → Records → Type 0
 Identifies octets (Ok done) before after = after ≡ with_key_identifier before octets
 Identifies octets (Err fault) before after = after ≡ before

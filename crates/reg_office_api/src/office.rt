@@ -9,7 +9,7 @@ use reg_ocsp::Draft;
 use std::alloc::Global;
 
 /// An office that keeps the records of a register, and its signers. A clause of each call relates the records before it to those
-/// after it, provided that the medium has returned all that was written to it ([`Leads`](crate::specs::Leads)).
+/// after it, provided that the disk has returned what was written to it ([`Leads`](crate::specs::Leads)).
 pub trait Office {
     ghost use Rattle.std.specs.Prelude.{◌≡◌, ◌≤◌, ◌<◌, ◌↔◌, ◌^◌, ℕ, List, IfErr, IfOk, IsErrOf};
     ghost use Rattle.reg_office_api.specs.CallSteps.{CommandStep, QueryStep, OcspStep, CrlStep};
@@ -23,10 +23,10 @@ pub trait Office {
     ghost use Rattle.reg_core.specs.declared.refusal.Fault.TheVariants.{Signer};
     ghost use Rattle.reg_crl.specs.Signing.{Identity};
 
-    /// Whether the medium has returned all that was written to it.
+    /// Whether the disk has returned what was written to it.
     ghost is_clean: { Self → Type 0 };
 
-    /// Whether these records stand in an office that has these signers.
+    /// Whether the office has these signers and keeps these records.
     ghost stands: { Signatory → Self → Records → Type 0 };
 
     /// `signs identity message signature`: the signer with this identity gave the signature for the message.
@@ -90,7 +90,7 @@ pub trait Office {
         ensures looks { Looks is_clean stands (λ records. HasOpen records now result) self.old self.new }
         ensures faults { IfErr result IsOfStore };
 
-    /// How full the requests table is, and how many requests for a serial number are open at a moment, at most `most` of them.
+    /// How full the requests table is, and how many requests for a serial number are open at a moment, counted up to `most`.
     /// It walks the requests. Errors: `Memory`, `Store`.
     fn request_load(&mut self, now: Moment, serial: Serial, most: u64) -> Result<RequestLoad, Fault>
         requires { most < 2 ^ 63 }
@@ -98,7 +98,7 @@ pub trait Office {
             self.old self.new }
         ensures faults { IfErr result IsOfStore };
 
-    /// The longest validity in days that an order and the policy allow from a moment on; `None` where there is no such order.
+    /// The longest validity in days that an order and the policy allow from a moment on; `None` if there is no such order.
     /// Errors: `Memory`, `Store`.
     fn longest(&mut self, order: u64, not_before: Moment) -> Result<Option<u64>, Fault>
         ensures looks { Looks is_clean stands

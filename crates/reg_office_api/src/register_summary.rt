@@ -31,7 +31,7 @@ pub struct RequestLoad {
     pub last: Moment,
     /// How many rows each table may have.
     pub cap: u64,
-    /// How many requests there are.
+    /// How many requests the table has, open or not.
     pub requests: u64,
     /// How many requests for the serial number are open, counted up to the caller's limit.
     pub waiting: u64,

@@ -10,7 +10,7 @@ use crate::effects::{SignatureOutcome, StoreEffect};
 pub enum ResponseKind {
     Signed,
     Malformed,
-    /// tryLater: the register's clock refuses the moment.
+    /// tryLater: the clock checks refuse the moment.
     TryLater,
     /// internalError: the store failed.
     StoreFailure,

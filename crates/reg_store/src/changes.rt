@@ -73,7 +73,7 @@ impl<S: Alter> Store<S> {
         self.apply(now, &Change::Revocation(row, not_after))
     }
 
-    /// Adds a CRL, with its bytes. It becomes the last CRL of each revocation that has none yet and whose certificate ended before it.
+    /// Adds a CRL, with its bytes. It becomes the last CRL of each revocation that has no last one yet and whose certificate ended before it.
     pub fn add_crl(&mut self, now: Moment, row: CrlRow, der: &[u8]) -> Result<(), DatabaseFault>
         ensures { MakesChange S.Store self.old self.new now (Crl row der.entry) result }
     {
@@ -87,7 +87,7 @@ impl<S: Alter> Store<S> {
         reg_store_changes::set_schedule(&mut self.tables.connection, &schedule)
     }
 
-    /// Sets the issuer's Name and its own key identifiers. The issuer must have the same key as before; this is not checked. This is
+    /// Sets the issuer's Name and the key identifiers that were set for it. The issuer must have the same key as before; this is not checked. This is
     /// no command: nothing else changes.
     pub fn set_issuer(&mut self, issuer: &Issuer) -> Result<(), DatabaseFault>
         ensures { SetsIssuer S.Store self.old self.new issuer.now result }

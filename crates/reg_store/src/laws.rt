@@ -4,7 +4,7 @@ ghost use Rattle.reg_store.specs.OpenedAgain.{OpensEmptyOrMade, OpensWithAnIssue
 
 use sqlite::Alter;
 
-/// A stop during `create` leaves no register, or a whole one without records.
+/// A stop during `create` leaves the database as it was, or with a whole register without records.
 ///
 /// In all laws here, `IsOpenedAgain` is what `restart` of the crate `reg_store_restart` ensures over any disk that may lose what was not
 /// synced, and `IsLive` is the clause `live` of the crate `sqlite`'s `Connection::schema`.
@@ -12,7 +12,7 @@ pub fn a_register_opened_after_a_stop_during_create_is_none_or_an_empty_one<S: A
     ensures { OpensEmptyOrMade S.Store }
 {}
 
-/// A register that is opened after a stop during a migration shows the same records.
+/// A register with sound records that is opened after a stop during its migration shows the same records.
 pub fn a_register_opened_after_a_stop_during_a_migration_shows_the_same_records<S: Alter>()
     ensures { OpensWithTheSame S.Store }
 {}

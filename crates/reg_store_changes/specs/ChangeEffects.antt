@@ -1,4 +1,4 @@
--- What a change does to the derived tables.
+-- The effects of a change on the derived tables.
 use Rattle.std.specs.Prelude.{◌≡◌, ℕ, List}
 use Rattle.reg_core.specs.Records.{Crl}
 use Rattle.reg_core.specs.declared.change.Change.{Change}

@@ -1,4 +1,4 @@
--- What the steps of a change do to the database.
+-- The effects of the steps of a change on the database.
 use Rattle.std.specs.Prelude.{◌≡◌, ℕ, List, []}
 use Rattle.sqlite_trees.specs.Tree.{Trees}
 use Rattle.sqlite.specs.Effect.{Database, IsDatabase}
@@ -18,14 +18,14 @@ use Rattle.reg_store_tables.specs.Steps.{TurnsWhere}
 use Rattle.reg_store_changes.specs.ChangeEffects.{TurnsOne, derived_after, derived_rows_after}
 use Rattle.reg_store_changes.specs.DerivedEffects.{good_at, swept, with_revoked_letter, with_unlisted}
 
--- the revocation of a certificate, which had one good letter, with this notAfter
+-- a certificate with this notAfter, which had one good letter, is revoked
 abbrev pub Revokes : RevocationRow → ℕ → Database → Database → Type 0
 Revokes row not_after old new =
     (records : Records) (columns : DerivedRows) → AreRecordsAndDerived old records columns
     → (good_at row.serial columns ≡ 1) × AreRecordsAndDerived new (with_revocation records records.last row)
     (with_unlisted row not_after (with_revoked_letter row.serial columns))
 
--- the rows of a change, and the derived tables except the counts
+-- the rows of a change are written, and those of the derived tables except the counts
 pub record Puts (change : Change) (old new : Database) : Type 0 where
   pub turns : (records : Records) (columns : DerivedRows) (now : ℕ) → SoundRows records
       → Fits records now change → AreRecordsAndDerived old records columns
@@ -33,7 +33,7 @@ pub record Puts (change : Change) (old new : Database) : Type 0 where
   pub one : (records : Records) (columns : DerivedRows) → AreRecordsAndDerived old records columns
       → TurnsOne change columns
 
--- a whole change at a moment, if these counts are the stored ones
+-- a whole change is made at a moment, if these counts are the stored ones
 pub record Enters (now : ℕ) (change : Change) (counts : Counts) (old new : Database) : Type 0 where
   pub turns : (records : Records) (columns : DerivedRows) → counts ≡ columns.counts → SoundRows records
       → Fits records now change → AreRecordsAndDerived old records columns
@@ -42,7 +42,7 @@ pub record Enters (now : ℕ) (change : Change) (counts : Counts) (old new : Dat
   pub one : (records : Records) (columns : DerivedRows) → AreRecordsAndDerived old records columns
       → TurnsOne change (swept now columns)
 
--- another issuer with the same key
+-- an issuer with the same key replaces the one before
 abbrev pub Renames : Issuer → Database → Database → Type 0
 Renames issuer =
     TurnsWhere (λ records. records.issuer.key ≡ issuer.key) (λ records. with_issuer records issuer)
@@ -52,7 +52,7 @@ Renames issuer =
 abbrev pub ClearsSteps : Database → Database → Type 0
 ClearsSteps old new = (base : Trees) (steps : List (ℕ × ℕ)) → IsStaged base steps old → IsStaged base [] new
 
--- these steps replace those before
+-- these steps of the schedule replace those before
 pub record WritesSchedule (steps : List (ℕ × ℕ)) (old new : Database) : Type 0 where
   pub sound : IsSchedule steps
   pub staged : (base : Trees) (before : List (ℕ × ℕ)) → IsStaged base before old

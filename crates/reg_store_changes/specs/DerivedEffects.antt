@@ -1,4 +1,4 @@
--- What the steps of a change do to the derived tables.
+-- The effects of the steps of a change on the derived tables.
 use Rattle.std.specs.Prelude.{ℕ, ◌+◌, ◌-◌, Bool, ◌&&◌, ◌==◌, nat_lt, [], ◌∷◌, ◌++◌, map, filter, length, is_none, Some, None}
 use Rattle.reg_core.specs.declared.command.Counts.{Counts}
 use Rattle.reg_core.specs.declared.rows.RevocationRow.{RevocationRow}
@@ -60,7 +60,7 @@ has_passed now row = is_none row.last && nat_lt row.not_after now
 abbrev pub with_last_listing : ℕ → Listed → Listed
 with_last_listing number row = record row { last = Some number }
 
--- a CRL becomes the last one of each revocation that has none yet and whose certificate ended before it
+-- a CRL becomes the last one of each revocation that has no last one yet and whose certificate ended before it
 abbrev pub marked : ℕ → ℕ → DerivedRows → DerivedRows
 marked number now columns =
     record columns { listed = map (turned (has_passed now) (with_last_listing number)) columns.listed }

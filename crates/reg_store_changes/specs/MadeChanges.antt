@@ -1,4 +1,4 @@
--- What a change of any kind does, and what setting a schedule or an issuer does.
+-- The effects of a change of any kind, and of a new schedule or issuer.
 use Rattle.std.specs.Prelude.{◌≡◌, ◌≤◌, ℕ, List, Result, OnOk, OnErr}
 use Rattle.sqlite_trees.specs.declared.store.Store.{Ghosts}
 use Rattle.sqlite.specs.Held.{Held, state}

@@ -17,15 +17,18 @@ use reg_core::{CertRow, Change, Counts, CrlRow, Moment, RevocationRow};
 use reg_store_tables::{DatabaseFault, set_counts};
 use sqlite::{Alter, Transaction};
 
-fn shift(counts: Counts, ended: usize, change: &Change<'_>) -> Result<Counts, DatabaseFault>
+/// The counts after `ended` good certificates expired and the change was made.
+fn counts_after(counts: Counts, ended: usize, change: &Change<'_>) -> Result<Counts, DatabaseFault>
     ensures shifted { IfOk result (λ next. next ≡ shifted counts ended (lost change.now) (added change.now)) }
 {
-    let (lost, added) = moves_good(change);
+    let (lost, added) = revoked_and_added(change);
     let ended = ended as u64;
-    let gone = ended.checked_add(lost).ok_or(DatabaseFault::Store)?;
-    let before = counts.good.checked_add(added).ok_or(DatabaseFault::Store)?;
+    let no_longer_good = ended.checked_add(lost).ok_or(DatabaseFault::Store)?;
+    let with_added = counts.good.checked_add(added).ok_or(DatabaseFault::Store)?;
     Ok(Counts {
-        good: before.checked_sub(gone).ok_or(DatabaseFault::Store)?,
+        good: with_added
+            .checked_sub(no_longer_good)
+            .ok_or(DatabaseFault::Store)?,
         revoked: counts
             .revoked
             .checked_add(lost)
@@ -37,7 +40,8 @@ fn shift(counts: Counts, ended: usize, change: &Change<'_>) -> Result<Counts, Da
     })
 }
 
-fn moves_good(change: &Change<'_>) -> (u64, u64)
+/// How many good certificates the change revokes, and how many it adds.
+fn revoked_and_added(change: &Change<'_>) -> (u64, u64)
     ensures { result ≡ (lost change.now, added change.now) }
 {
     match *change {
@@ -47,6 +51,7 @@ fn moves_good(change: &Change<'_>) -> (u64, u64)
     }
 }
 
+/// Sets the counts and the last accepted moment.
 fn close<S: Alter>(
     tx: &mut Transaction<'_, S>,
     now: Moment,
@@ -89,6 +94,7 @@ fn revoke<S: Alter>(
     }
 }
 
+/// Adds a CRL. It becomes the last one of each revocation that has no last one yet and whose certificate ended before it.
 fn issue<S: Alter>(
     tx: &mut Transaction<'_, S>,
     row: CrlRow,
@@ -133,6 +139,6 @@ pub(crate) fn enter<S: Alter>(
 {
     let ended = expire_ended(tx, now)?;
     put(tx, change)?;
-    let next = shift(counts, ended, change)?;
+    let next = counts_after(counts, ended, change)?;
     close(tx, now, next)
 }

@@ -1,4 +1,4 @@
-//! Replaces the stored Name of the issuer, and the issuer's own key identifiers, which are stored after the Name.
+//! Replaces the stored Name of the issuer, and the key identifiers that were set for it, which are stored after the Name.
 
 ghost use Rattle.std.specs.Prelude.{◌≡◌, false};
 ghost use Rattle.reg_store_tables.specs.Stays.{Stepped};
@@ -13,6 +13,7 @@ use reg_store_tables::write_statements::{commit, write};
 use sqlite::types::ValueRef;
 use sqlite::{Alter, Connection, Transaction};
 
+/// Writes the Name and the key identifiers into the column `name`.
 fn set_name<S: Alter>(tx: &mut Transaction<'_, S>, issuer: &Issuer) -> Result<(), DatabaseFault>
     ensures made { MakesRows S.Store tx.old tx.new result (Renames issuer.now) }
     ensures stepped { Stepped S.Store tx.old tx.new }
@@ -21,7 +22,7 @@ fn set_name<S: Alter>(tx: &mut Transaction<'_, S>, issuer: &Issuer) -> Result<()
     Ok(())
 }
 
-/// Sets the issuer's Name and its own key identifiers. The issuer must have the same key as before; this is not checked. It is no
+/// Sets the issuer's Name and the key identifiers that were set for it. The issuer must have the same key as before; this is not checked. It is no
 /// command: other records, the derived tables and the last accepted moment don't change. An error changes nothing, unless the disk failed in the commit.
 pub fn set_issuer<S: Alter>(conn: &mut Connection<S>, issuer: &Issuer) -> Result<(), DatabaseFault>
     requires { conn.old.in_transaction ≡ false }

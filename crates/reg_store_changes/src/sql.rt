@@ -1,5 +1,5 @@
 //! The SQL of the statements that write. An UPDATE with a WHERE finds its rows by a key or an index, except `MARK_LISTED`,
-//! which walks the table `listed`.
+//! which scans the table `listed`.
 
 pub(crate) const SWEEP: &str =
     "UPDATE standing SET state = 'X' WHERE state = 'G' AND not_after < ?1";

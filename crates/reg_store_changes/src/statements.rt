@@ -42,7 +42,7 @@ pub fn mark_revoked<S: Alter>(
     write(tx, sql::MARK_REVOKED, &[ValueRef::Blob(&bytes)])
 }
 
-/// Records this CRL as the last one of the revocations that have none yet, and whose certificates ended before its thisUpdate.
+/// Records this CRL as the last one of each revocation that has no last one yet and whose certificate ended before its thisUpdate.
 pub(crate) fn set_last_listed<S: Alter>(
     tx: &mut Transaction<'_, S>,
     number: u64,
@@ -57,6 +57,7 @@ pub(crate) fn set_last_listed<S: Alter>(
     Ok(())
 }
 
+/// Sets the last accepted moment.
 pub(crate) fn set_last<S: Alter>(
     tx: &mut Transaction<'_, S>,
     now: Moment,
@@ -132,6 +133,7 @@ pub(crate) fn put_cert<S: Alter>(
     Ok(())
 }
 
+/// Adds the state letter `G` (good) of a certificate.
 pub(crate) fn put_letter<S: Alter>(
     tx: &mut Transaction<'_, S>,
     serial: Serial,

@@ -27,7 +27,7 @@ pub record DefinesTable (schema : Schema) (text : List ℕ) (table : Table) : Ty
   pub defined : table_defined_by text ≡ Ok table
   pub uncounted : lacks_sequence (created schema table) ≡ false
 
--- in a database with this schema, the text is one statement, which makes this index on the table with number `at`
+-- in a database with this schema, the text is one statement, which makes this index on the table with index `at`
 pub record DefinesIndex (schema : Schema) (text : List ℕ) (at : ℕ) (table : Table)
     (index : Index) : Type 0 where
   pub plain : IsPlain (understood schema text)

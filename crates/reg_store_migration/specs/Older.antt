@@ -1,4 +1,4 @@
--- What a register's file of an older version shows.
+-- The records that a register's file of an older version shows.
 use Rattle.std.specs.Prelude.{◌≡◌, ℕ, [], ◌∷◌, map}
 use Rattle.std.specs.List.{AllByRecursion}
 use Rattle.sqlite_value.specs.declared.value.Value.TheVariants.{Null, Blob}

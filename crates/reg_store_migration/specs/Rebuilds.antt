@@ -1,4 +1,4 @@
--- What the steps of a migration do to the database.
+-- The effects of the steps of a migration on the database.
 use Rattle.std.specs.Prelude.{◌≡◌, ℕ, pos, [], ◌∷◌, length, List, IsSomeAnd, IsPermutation, map}
 use Rattle.sqlite_trees.specs.Tree.{Trees}
 use Rattle.sqlite_schema.specs.declared.schema.Schema.{Schema}
@@ -115,7 +115,7 @@ pub record RebuildsDerived (last : ℕ) (old new : Database) : Type 0 where
 
 -- Tables of an older version, with this longest validity in days and this last accepted moment, become those of the program's version.
 pub record MigratesTables (version : OlderVersion) (days last : ℕ) (old new : Database) : Type 0 where
-  -- they show the same records, with derived tables that match them, and the office has the greatest days of their schedule
+  -- the tables show the same records, with derived tables that match them, and the office has the greatest days of their schedule
   pub kept : (records : Records) → IsShownByOlder version old records → SoundRows records
       → records.policy.schedule ≡ one_step days → records.last ≡ last
       → HasKept new records × HasGreatestDays new records × IsDatabase new

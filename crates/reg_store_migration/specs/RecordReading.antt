@@ -1,4 +1,4 @@
--- What is read of a register inside a transaction.
+-- The results of reading a register inside a transaction.
 use Rattle.std.specs.Prelude.{◌≡◌, ◌≤◌, ℕ, List, length}
 use Rattle.sqlite_value.specs.Order.{Row}
 use Rattle.sqlite.specs.Effect.{Database, Reads}

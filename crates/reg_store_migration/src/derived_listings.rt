@@ -17,6 +17,7 @@ use reg_store_tables::write_statements::{sql_moment, sql_number, sql_reason, wri
 use sqlite::types::ValueRef;
 use sqlite::{Alter, Transaction};
 
+/// Whether the CRL can list the revocation whose first CRL this is, and is past its certificate's notAfter.
 fn is_past(crl: &CrlRow, first: u64, not_after: Moment) -> bool
     ensures { result ≡ (nat_le first crl.now.number && nat_lt not_after crl.now.this_update) }
 {
@@ -44,6 +45,7 @@ fn sql_number_or_null(number: Option<u64>) -> Result<ValueRef<'static>, Database
     }
 }
 
+/// Inserts the row of `listed` of a revocation whose certificate has this notAfter.
 fn put_listing<S: Alter>(
     tx: &mut Transaction<'_, S>,
     row: RevocationRow,
@@ -93,6 +95,7 @@ fn rebuild_listed_rows<S: Alter>(
     Ok(())
 }
 
+/// Inserts the row of `listed` of each revocation.
 pub(crate) fn rebuild_listed<S: Alter>(tx: &mut Transaction<'_, S>) -> Result<(), DatabaseFault>
     ensures made { ContinuesRows S.Store tx.old tx.new result Relists }
     ensures stepped { Stepped S.Store tx.old tx.new }

@@ -1,4 +1,4 @@
--- What was found in the tables of an opened database.
+-- The results of `examine`: the version and the office in the tables of an opened database.
 use Rattle.std.specs.Prelude.{◌≡◌, Option, None, Some, Result, Err, IfOk, IsTrue, MatchResult}
 use Rattle.sqlite_trees.specs.declared.store.Store.{Ghosts}
 use Rattle.sqlite.specs.Effect.{Database}
@@ -21,7 +21,7 @@ HasVersionAndOffice db None = IsCurrent db
 HasVersionAndOffice db (Some older) =
     HasVersion db (version_number older.version) × ReadsOlder db older.days older.last
 
--- what was found matches the records that tables of a version show: for an older version, their schedule and their last accepted moment
+-- the result matches the records that tables of a version show: for an older version, their schedule and their last accepted moment
 abbrev pub IsFoundOf : Option OlderVersion → Records → Option OlderOffice → Type 0
 IsFoundOf None records found = found ≡ None
 IsFoundOf (Some version) records None = ⊥
@@ -34,13 +34,13 @@ found_version None = None
 found_version (Some older) = Some older.version
 
 module _ {S : Type 0} (g : Ghosts S) (old new : Held S) where
-  -- `Told` holds of a result and of the database, which was open
+  -- `IsSo` holds of a result and of the database, which was open
   abbrev pub ReportsState : {T E : Type 0} → Result T E → (T → Database → Type 0) → Type 0
-  ReportsState result Told =
+  ReportsState result IsSo =
       HasCleanDisk (state g new)
-      → IfOk result (λ found. IsTrue (state g old).is_open × Told found (state g old).now)
+      → IfOk result (λ found. IsTrue (state g old).is_open × IsSo found (state g old).now)
 
-  -- a refusal is true of the database: it has a newer version; or `Refused` holds of it
+  -- `NewVersion` is reported only of a database with a newer version, and `NotARegister` (below) only of one of which `Refused` holds
   abbrev pub ReportsNewer : {T : Type 0} → Result T StoreFault → Type 0
   ReportsNewer result = HasCleanDisk (state g new) → result ≡ Err NewVersion → IsNewer (state g old).now
 

@@ -23,7 +23,7 @@ use Rattle.reg_store_opening.specs.VersionAndOffice.{HoldsNoRegister, InRange, I
 pub record Opens {S : Type 0} (g : Ghosts S) (old new : Held S) : Type 0 where
   -- the tables still show the records that they showed
   pub shows : (records : Records) → Shows g old records → Shows g new records
-  -- and the derived tables still match them
+  -- the derived tables still match the records
   pub kept : (records : Records) → ShowsKept g old records → ShowsKept g new records
   -- the tables show sound records that older tables showed, with derived tables that match them
   pub migrated : (version : OlderVersion) (records : Records) → ShowsOlder version g old records
@@ -36,7 +36,7 @@ pub record Opens {S : Type 0} (g : Ghosts S) (old new : Held S) : Type 0 where
       → HasOfficeDays g new (greatest_of records.policy.schedule)
   -- the tables are those of a register
   pub registers : IsRegister (state g new)
-  -- they had the program's version and an office, and nothing has changed; or they had an older version and its office
+  -- the tables had the program's version and an office, and nothing has changed; or they had an older version and its office
   pub said : HasCleanDisk (state g new)
       → (Stays (state g old) (state g new) × IsCurrent (state g old).now) ⊎ IsOlder (state g old).now
   -- a stop leaves what it would have left before, or the migrated tables
@@ -54,7 +54,7 @@ pub record IsFailedOpen {S : Type 0} (g : Ghosts S) (old new : Held S) (fault : 
   pub newer : HasCleanDisk (state g new) → fault ≡ NewVersion → IsNewer (state g old).now
   -- `NotARegister` is reported only if the tables have no version or no office, or the schema is not that of the version
   pub none : HasCleanDisk (state g new) → fault ≡ NotARegister → IsNoRegister (state g old).now
-  -- and, if there is no view, only if the database has no register of any version
+  -- if there is no view, `NotARegister` is reported only if the database has no register of any version
   pub alone : HasCleanDisk (state g new) → fault ≡ NotARegister → HoldsNoRegister (state g old).now
   -- `NotEmpty` is a fault of `create`
   pub never_empty : fault ≢ NotEmpty
@@ -64,7 +64,7 @@ pub record IsFailedOpen {S : Type 0} (g : Ghosts S) (old new : Held S) (fault : 
 -- A database with no table, no index and no view, in which a register without records was created.
 pub record Creates {S : Type 0} (g : Ghosts S) (old new : Held S) (issuer : Issuer)
     (policy : Terms) : Type 0 where
-  -- it shows no records, with derived tables that match them
+  -- the tables show no records, and the derived tables match them
   pub kept : ShowsKept g new (no_records issuer policy)
   -- the office's row has the greatest days of the schedule
   pub days : HasOfficeDays g new (greatest_of policy.schedule)

@@ -1,4 +1,4 @@
--- The version and the office that the tables of an opened database have.
+-- The version and the office (the row of the table `office`) that the tables of an opened database have.
 use Rattle.std.specs.Prelude.{◌≡◌, ◌≢◌, ◌⊎◌, ◌<◌, ◌≤◌, ℕ, Bool, true, false, List, [], ◌∷◌, length, Option, None, Some, Ok, Err, IsTrue, ◌↔◌}
 use Rattle.std.specs.List.{AllByRecursion}
 use Rattle.sqlite_value.specs.declared.value.Value.TheVariants.{Blob}
@@ -131,23 +131,23 @@ HasPolicy schedule row policy =
     × (column row 2 ≡ number policy.crl_life) × (column row 3 ≡ number policy.ocsp_life)
     × (column row 4 ≡ number policy.cap)
 
--- it has this last accepted moment, which is before the clock's end
+-- the row of an office has this last accepted moment, which is before the clock's end
 abbrev pub HasLast : Row → ℕ → Type 0
 HasLast row last = (last < clock_end) × (column row 5 ≡ number last)
 
--- it has this issuer, which is within its limits
+-- the row of an office has this issuer, which is within its limits
 abbrev pub HasIssuer : Row → Issuer → Type 0
 HasIssuer row issuer = IsIssuer issuer × (column row 0 ≡ Blob issuer.name) × (column row 1 ≡ Blob issuer.key)
 
--- it has an issuer, a policy with this schedule, and a last accepted moment
+-- the row of an office has an issuer, a policy with this schedule, and a last accepted moment
 abbrev pub KeepsTo : List (ℕ × ℕ) → Row → Type 0
 KeepsTo schedule row =
     ((issuer : Issuer) × HasIssuer row issuer) × ((policy : Terms) × HasPolicy schedule row policy)
     × ((last : ℕ) × HasLast row last)
 
--- the fault for rows that are refused: out of memory; or they are no register's, and `Told` holds of them
+-- the fault for rows that are refused: out of memory; or they are no register's, for this reason
 abbrev pub Refuses : Type 0 → StoreFault → Type 0
-Refuses Told fault = (fault ≡ Memory) ⊎ ((fault ≡ NotARegister) × Told)
+Refuses Reason fault = (fault ≡ Memory) ⊎ ((fault ≡ NotARegister) × Reason)
 
 -- the row of a step: its moment and its days
 abbrev pub IsStep : Row → ℕ × ℕ → Type 0
@@ -157,7 +157,7 @@ IsStep row step = (column row 0 ≡ number step.0) × (column row 1 ≡ number s
 abbrev pub HaveSteps : List Row → List (ℕ × ℕ) → Type 0
 HaveSteps rows steps = AreSteps rows steps × HaveMoments steps
 
--- the one row of the office and the steps of its schedule, each value within its range
+-- the one row of the table `office` and the steps of the schedule, each value within its range
 abbrev pub AreOfficeRows : List Row → List Row → Type 0
 AreOfficeRows rows steps =
     (schedule : List (ℕ × ℕ)) × HaveMoments schedule × AreSteps steps schedule × IsOne (KeepsTo schedule) rows
@@ -266,7 +266,7 @@ version_or_current None = version.Third
 version_or_current (Some First) = version.First
 version_or_current (Some Second) = version.Second
 
--- a schema is found to be that of a version exactly if it is
+-- `tables` is the version whose schema this is; `None` if it is that of no version
 abbrev pub SchemaHasVersion : Option Version → Schema → Type 0
 SchemaHasVersion tables schema =
     (version : Option OlderVersion)

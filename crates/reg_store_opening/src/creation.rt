@@ -35,6 +35,7 @@ fn make_register<S: Alter>(
     fill(tx, issuer, policy)
 }
 
+/// Makes the tables and their first rows, in one transaction.
 fn found<S: Alter>(
     conn: &mut Connection<S>,
     issuer: &Issuer,

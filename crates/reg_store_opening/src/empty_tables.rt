@@ -9,6 +9,7 @@ use reg_store_migration::missing_tables::{define, make_derived_tables, make_sche
 use reg_store_tables::{DatabaseFault, schema};
 use sqlite::{Alter, Transaction};
 
+/// Makes the tables `office`, `subscriber`, `orders` and `cert`.
 fn make_entry_tables<S: Alter>(tx: &mut Transaction<'_, S>) -> Result<(), DatabaseFault>
     ensures made { Makes S.Store tx.old tx.new result (Grows no_schema entry_tables) }
     ensures stepped { Stepped S.Store tx.old tx.new }

@@ -1,4 +1,4 @@
-//! Checks that rows are those of a register's office.
+//! Checks the row of the table `office` (issuer, policy, last accepted moment) and the steps of the schedule.
 
 ghost use Rattle.std.specs.Prelude.{◌≡◌, ◌≢◌, ◌⊎◌, ◌<◌, ◌≤◌, ℕ, List, [], ◌∷◌, IfOk, IfErr, Err, MatchOption, MatchResult};
 ghost use Rattle.sqlite_value.specs.Order.{Row as Cells, column};
@@ -127,7 +127,7 @@ fn check_office_row(alloc: Global, row: &Row, schedule: Schedule) -> Result<(), 
     }
 }
 
-/// Checks that the rows are those of an office and of its schedule.
+/// Checks that the rows are those of the table `office` and of the schedule.
 pub(crate) fn check_office_rows(rows: &Vec<Row>, steps: &Vec<Row>) -> Result<(), StoreFault>
     ensures { MatchResult result (λ _. AreOfficeRows rows.now.items steps.now.items)
         (Refuses (¬ AreOfficeRows rows.now.items steps.now.items)) }
@@ -139,8 +139,8 @@ pub(crate) fn check_office_rows(rows: &Vec<Row>, steps: &Vec<Row>) -> Result<(),
     }
 }
 
-/// The days of an older office, and the schedule with this one step.
-fn days_in(row: &Row) -> Option<(u64, Schedule)>
+/// The column `days` in an older version, and the schedule with this one step.
+fn days_and_schedule(row: &Row) -> Option<(u64, Schedule)>
     ensures { MatchOption result ((days : ℕ) → IsSchedule (one_step days) → column row.now 6 ≢ number days)
         (λ found. (column row.now 6 ≡ number found.0) × (found.1 ≡ one_step found.0)) }
 {
@@ -149,12 +149,12 @@ fn days_in(row: &Row) -> Option<(u64, Schedule)>
     Some((days, schedule))
 }
 
-/// The days and the last accepted moment of the row of an older office.
+/// The days and the last accepted moment in the row of `office` of an older version.
 fn older_in(alloc: Global, row: &Row) -> Result<(u64, Moment), StoreFault>
     ensures { MatchResult result (λ found. IsOlderRow found.0 found.1 row.now)
         (Refuses ((days : ℕ) → (last : ℕ) → ¬ IsOlderRow days last row.now)) }
 {
-    match days_in(row) {
+    match days_and_schedule(row) {
         None => Err(StoreFault::NotARegister),
         Some((days, schedule)) => match last_in(row) {
             None => Err(StoreFault::NotARegister),
@@ -166,7 +166,7 @@ fn older_in(alloc: Global, row: &Row) -> Result<(u64, Moment), StoreFault>
     }
 }
 
-/// The days and the last accepted moment of an older office; `NotARegister` if the rows are not those of one.
+/// The days and the last accepted moment in the rows of `office` of an older version; `NotARegister` if they are not such rows.
 pub(crate) fn older_office_in(rows: &Vec<Row>) -> Result<(u64, Moment), StoreFault>
     ensures { MatchResult result (λ found. AreOlderOffice found.0 found.1 rows.now.items)
         (Refuses ((days : ℕ) → (last : ℕ) → ¬ AreOlderOffice days last rows.now.items)) }

@@ -12,8 +12,8 @@ ghost use Rattle.reg_store_tables.specs.Steps.{Asks, WhileOpen};
 use reg_store_tables::StoreFault;
 use sqlite::{Alter, Error, ErrorCode, Row, Transaction};
 
-/// The fault for a statement that failed: the tables are not a register's, unless memory, the disk or the limit on
-/// steps is the cause.
+/// The fault for a statement that failed: the tables are not a register's, unless memory, the disk, a closed connection or the
+/// limit on steps is the cause.
 fn unread(error: Error) -> StoreFault
     ensures call { IsTrue (is_call_error error) → IsDatabaseFault result }
     ensures other { is_call_error error ≡ false → result ≡ StoreFault.NotARegister }

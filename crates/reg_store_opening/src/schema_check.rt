@@ -9,7 +9,7 @@ use reg_store_schema::{Version, version_of};
 use sqlite::{Alter, Connection};
 use std::alloc::{AllocError, Global};
 
-/// Whether the schema has this version; `None` stands for the program's version.
+/// Whether `tables`, the version that has the schema, is `version`; `None` of `version` is the program's version.
 pub(crate) fn is_same(tables: Option<Version>, version: Option<OlderVersion>) -> bool
     ensures { IsTrue result ↔ (tables ≡ Some (version_or_current version)) }
 {

@@ -1,14 +1,14 @@
 //! The SQL of the statements that fill new tables, and of those that check existing ones.
 
-/// Inserts the one row of the office, with version 3 and 0 as last accepted moment.
+/// Inserts the one row of the table `office`, with version 3 and 0 as last accepted moment.
 pub const PUT_OFFICE: &str =
     "INSERT INTO office (one, version, name, pubkey, days, crl_life, ocsp_life, cap, last_at) VALUES (1, 3, ?1, ?2, ?3, ?4, ?5, ?6, 0)";
 
 pub const VERSION: &str = "SELECT version FROM office";
 
-/// The other columns of the office, except `days`, which in version 3 only an audit reads.
+/// The other columns of that row, except `days`, which in version 3 only an audit reads.
 pub const OFFICE: &str = "SELECT name, pubkey, crl_life, ocsp_life, cap, last_at FROM office";
 
-/// The other columns of an office of an older version. Its schedule is the one step of its `days`.
+/// The other columns of that row in an older version. The schedule is the one step of its `days`.
 pub const OLDER_OFFICE: &str =
     "SELECT name, pubkey, crl_life, ocsp_life, cap, last_at, days FROM office";

@@ -25,7 +25,7 @@ use reg_store_tables::sql::STEPS;
 use sqlite::{Alter, Connection, Transaction};
 use std::alloc::Global;
 
-/// What the office of an older version has: its version, the longest validity in days, and the last accepted moment.
+/// Values of the row of the table `office` in an older version: the version, the longest validity in days, and the last accepted moment.
 #[derive(Clone, Copy)]
 pub struct OlderOffice {
     version: OlderVersion,
@@ -74,7 +74,7 @@ fn check_older_office<S: Alter>(tx: &mut Transaction<'_, S>) -> Result<(u64, Mom
     older_office_in(&rows)
 }
 
-/// Checks the tables, the version first. Returns what an older office has; `None` if they are of the program's version.
+/// Checks the tables, the version first. Returns the values of an older version; `None` if they are of the program's version.
 fn check_tables<S: Alter>(tx: &mut Transaction<'_, S>) -> Result<Option<OlderOffice>, StoreFault>
     ensures told { ReportsState S.Store tx.old.conn.now tx.new.conn.now result
         (λ found db. HasVersionAndOffice db found) }
@@ -103,11 +103,11 @@ fn check_tables<S: Alter>(tx: &mut Transaction<'_, S>) -> Result<Option<OlderOff
     }
 }
 
-/// Checks that the tables are a register's, and returns what the office of an older version has; `None` if they are of the
+/// Checks that the tables are a register's, and returns the values of an older version; `None` if they are of the
 /// program's version. It changes nothing.
 ///
 /// # Errors
-/// `NotARegister` if the row of the office can't be read, or its version or other values are out of range; `NewVersion` if the version
+/// `NotARegister` if the row of `office` can't be read, or its version or other values are out of range; `NewVersion` if the version
 /// is above 3; `Memory`; `Store` if the database fails.
 pub fn examine<S: Alter>(conn: &mut Connection<S>) -> Result<Option<OlderOffice>, StoreFault>
     requires { conn.old.in_transaction ≡ false }

@@ -69,7 +69,7 @@ fn add_table(alloc: Global, made: &mut Schema, text: &str) -> Result<(), AllocEr
     made.tables.push(table)
 }
 
-/// Adds the index that a CREATE INDEX defines, on the table with number `at`.
+/// Adds the index that a CREATE INDEX defines, on the table with index `at`.
 fn add_index(alloc: Global, made: &mut Schema, at: usize, text: &str) -> Result<(), AllocError>
     ensures { (table : Table) → (index : Index) → slice_get made.old.tables at ≡ Some table
         → index_defined_by table text.now ≡ Ok index
@@ -108,7 +108,7 @@ pub(crate) fn add_derived_tables(alloc: Global, made: &mut Schema) -> Result<(),
     add_table(alloc, made, schema::LISTED)
 }
 
-/// Adds the schedule, and the indexes of the tables of CRLs and of state letters.
+/// Adds the table of the schedule, and one index each of the tables `crl` and `standing`.
 pub(crate) fn add_schedule_and_indexes(alloc: Global, made: &mut Schema) -> Result<(), AllocError>
     ensures { made.old ≡ with_derived_tables → OnOk result (made.new ≡ register_schema) }
 {

@@ -99,7 +99,7 @@ impl Same for Stamps {
     }
 }
 
-/// Whether two tables have the same name and tree, columns, rowid and AUTOINCREMENT.
+/// Whether two tables have the same name, B-tree, columns, rowid column and AUTOINCREMENT.
 fn have_same_columns(left: &Table, right: &Table) -> bool
     ensures { IsTrue result ↔ ((left.now.name ≡ right.now.name) × (left.now.tree ≡ right.now.tree)
         × (left.now.columns ≡ right.now.columns)
@@ -112,6 +112,7 @@ fn have_same_columns(left: &Table, right: &Table) -> bool
         && left.is_counted == right.is_counted
 }
 
+/// Whether two tables have the same PRIMARY KEY, and the same UNIQUEs with the same sort orders.
 fn have_same_keys(left: &Table, right: &Table) -> bool
     ensures { IsTrue result ↔ ((left.now.primary ≡ right.now.primary)
         × (left.now.uniques ≡ right.now.uniques) × (left.now.orders ≡ right.now.orders)) }

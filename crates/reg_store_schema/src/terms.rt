@@ -24,7 +24,7 @@ impl Same for Value {
     }
 }
 
-/// The root of a term, and the depth to which its operands are read; `None` if the term ends here, and so reads as NULL.
+/// The root of a term, and the depth to which its operands are read; `None` (read as NULL) at depth 0 or without a node.
 fn node_at<'a>(term: TermRef<'a>) -> Option<(&'a Op, usize)>
     ensures falls { IfSome result (λ found. found.1 < term.entry.depth) }
     ensures is { MatchOption result (term_to term.entry.nodes.now term.entry.depth term.entry.at ≡ lit Null)
@@ -67,7 +67,7 @@ fn same_term(left: TermRef<'_>, right: TermRef<'_>) -> bool
     let Some((first, depth)) = node_at(left) else {
         return is_null(right);
     };
-    let Some((second, below)) = node_at(right) else {
+    let Some((second, right_depth)) = node_at(right) else {
         return is_null(left);
     };
     match first {
@@ -76,28 +76,31 @@ fn same_term(left: TermRef<'_>, right: TermRef<'_>) -> bool
             _ => false,
         },
         Op::Column(slot, at) => match second {
-            Op::Column(other, place) => *slot == *other && *at == *place,
+            Op::Column(other, other_at) => *slot == *other && *at == *other_at,
             _ => false,
         },
         Op::Unary(op, a) => match second {
-            Op::Unary(by, c) => {
-                *op == *by && same_term(operand(left, depth, *a), operand(right, below, *c))
+            Op::Unary(other, c) => {
+                *op == *other
+                    && same_term(operand(left, depth, *a), operand(right, right_depth, *c))
             }
             _ => false,
         },
         Op::Binary(op, a, b) => match second {
-            Op::Binary(by, c, d) => {
-                *op == *by
-                    && same_term(operand(left, depth, *a), operand(right, below, *c))
-                    && same_term(operand(left, depth, *b), operand(right, below, *d))
+            Op::Binary(other, c, d) => {
+                *op == *other
+                    && same_term(operand(left, depth, *a), operand(right, right_depth, *c))
+                    && same_term(operand(left, depth, *b), operand(right, right_depth, *d))
             }
             _ => false,
         },
         Op::Case(test, a, b) => match second {
-            Op::Case(when, c, d) => {
-                same_term(operand(left, depth, *test), operand(right, below, *when))
-                    && same_term(operand(left, depth, *a), operand(right, below, *c))
-                    && same_term(operand(left, depth, *b), operand(right, below, *d))
+            Op::Case(other_test, c, d) => {
+                same_term(
+                    operand(left, depth, *test),
+                    operand(right, right_depth, *other_test),
+                ) && same_term(operand(left, depth, *a), operand(right, right_depth, *c))
+                    && same_term(operand(left, depth, *b), operand(right, right_depth, *d))
             }
             _ => false,
         },

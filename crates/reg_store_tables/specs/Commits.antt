@@ -1,4 +1,4 @@
--- What a transaction does, from its beginning to its end.
+-- The effects of a transaction, from its beginning to its end.
 use Rattle.std.specs.Prelude.{◌≡◌, true, false, Result, OnOk, OnErr, IsTrue}
 use Rattle.sqlite_trees.specs.Tree.{Trees}
 use Rattle.sqlite_trees.specs.declared.store.Store.{Ghosts}

@@ -1,4 +1,4 @@
--- How faults are converted: those of the database to those of a call, and these to those of the store, of commands and of queries.
+-- Conversions of faults: from the `Error` of sqlite to a `DatabaseFault`, and from that to a `StoreFault` or to the `Fault` of a command or query.
 use Rattle.sqlite.specs.declared.error.Error.{Error}
 use Rattle.sqlite.specs.declared.error.Error.TheVariants.{SqliteFailure}
 use Rattle.sqlite.specs.declared.error.ErrorCode.TheVariants.{OutOfMemory}
@@ -24,7 +24,7 @@ issuer_fault_of issuer.Memory = call.Memory
 issuer_fault_of issuer.BadName = call.Store
 issuer_fault_of issuer.BadKey = call.Store
 
--- the fault of a call if memory ran out, or a row is one that no register writes
+-- the fault of a call if memory ran out, or a row has an invalid value
 abbrev pub unshown_fault_of : RowFault → DatabaseFault
 unshown_fault_of rows.Memory = call.Memory
 unshown_fault_of (rows.At place) = call.Store

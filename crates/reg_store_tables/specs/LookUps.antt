@@ -1,4 +1,4 @@
--- What look-ups find. They change nothing.
+-- The results of look-ups, which change nothing.
 use Rattle.std.specs.Prelude.{◌≡◌, ℕ, List, Option, Result, IsTrue, IfOk, OnOk}
 use Rattle.sqlite_value.specs.Order.{Row}
 use Rattle.sqlite_trees.specs.declared.store.Store.{Ghosts}
@@ -73,7 +73,7 @@ Finds g old new result IsSo = FindsIf (λ records. Unit {0}) g old new result Is
 
 -- ---- look-ups, one after another
 
--- They change nothing, and `Tells` holds of the records, if the tables show sound records, with derived tables that match them.
+-- The look-ups change nothing, and `Tells` holds of the records, if the tables show sound records, with derived tables that match them.
 pub record LooksUp {C : Type 0} (g : Ghosts C) (old new : Held C) (Tells : Records → Type 0) : Type 0 where
   pub looked : Looked g old new
   pub found : (records : Records) → ShowsKept g old records → SoundRows records

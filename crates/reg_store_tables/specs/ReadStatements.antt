@@ -1,4 +1,4 @@
--- What a statement that only reads means.
+-- The meaning of statements that only read.
 use Rattle.std.specs.Prelude.{◌≡◌, ℕ, false, cond, IsTrue, List, [], ◌∷◌, None, Result, Ok, Err}
 use Rattle.sqlite_value.specs.declared.value.Value.TheVariants.{Text}
 use Rattle.sqlite_value.specs.Order.{Row}

@@ -158,7 +158,7 @@ longest = table_of (codes "longest") 17
     (key_column (codes "from_at") ∷ required (codes "days") Integer ∷ [])
     (Some 0) (0 ∷ []) [] [] []
 
--- the indexes crl (number, this_update) and standing (state, not_after), by the numbers of their columns
+-- the indexes crl (number, this_update) and standing (state, not_after), by the numbers of their columns; 0 is the rowid
 abbrev pub index_of : List ℕ → Table → List ℕ → Index
 index_of name table places =
     record { name = name; tree = 0; table = table.tree; columns = places; order = plain; is_unique = false }
@@ -178,7 +178,7 @@ record_tables =
     created (created (created (created (created (created (created no_schema office) subscriber) orders) cert)
     request) revocation) crl
 
--- and then the derived tables
+-- the tables of the records, and then the derived tables
 abbrev pub with_derived_tables : Schema
 with_derived_tables = created (created (created record_tables standing) kept) listed
 
@@ -186,7 +186,7 @@ with_derived_tables = created (created (created record_tables standing) kept) li
 abbrev pub all_tables : Schema
 all_tables = created (created (created (created record_tables standing) kept) listed) longest
 
--- and then the indexes: the schema of a register
+-- the schema of a register: all tables, and then the indexes
 unfoldable pub register_schema : Schema
 register_schema = indexed (indexed all_tables crl crl_at) standing standing_due
 

@@ -1,4 +1,4 @@
--- What the tables of a connection show.
+-- The records that the tables of a connection show.
 use Rattle.std.specs.Prelude.{◌≡◌, ℕ, ℤ, List, [], ◌∷◌, map, IsTrue}
 use Rattle.std.specs.List.{AllByRecursion}
 use Rattle.reg_core.specs.Serial.{IsSerial}
@@ -55,7 +55,7 @@ pub record IsShownBy (db : Database) (records : Records) : Type 0 where
   pub schema : db.schema ≡ register_schema
   pub rows : AreRows db.trees records
 
--- and its derived tables have these rows
+-- the database has a register's schema, its tables show the records, and its derived tables have these rows
 pub record AreRecordsAndDerived (db : Database) (records : Records) (columns : DerivedRows) : Type 0 where
   pub shown : IsShownBy db records
   pub kept : AreDerivedRows db.trees columns

@@ -1,4 +1,4 @@
--- What look-ups, steps of a transaction and changes leave as it was.
+-- The state that look-ups, steps of a transaction and failed changes leave as it was.
 use Rattle.std.specs.Prelude.{◌≡◌, ◌⊎◌, ◌↔◌, false, true, IsTrue, Result, OnOk, OnErr, ℕ, List, Ok}
 use Rattle.sqlite_trees.specs.Tree.{Trees}
 use Rattle.sqlite_trees.specs.declared.store.Store.{Ghosts}

@@ -1,4 +1,4 @@
--- What a step of a transaction does to the tables.
+-- The effects of a step of a transaction on the tables.
 use Rattle.std.specs.Prelude.{◌≡◌, ℕ, true, Result, IfOk, IsTrue}
 use Rattle.sqlite_trees.specs.declared.store.Store.{Ghosts}
 use Rattle.sqlite.specs.Effect.{Database, IsDatabase}
@@ -62,12 +62,12 @@ module _ {S : Type 0} (g : Ghosts S) (old new : Transaction S) where
       → IfOk result (λ _. MayMove (state g old.conn.now) (state g new.conn.now)
       (λ after. Leads before after × KeepsRows before after))
 
-  -- If the call succeeds, `Told` holds of its result and the database, which was open; nothing has changed.
+  -- If the call succeeds, `IsSo` holds of its result and the database, which was open; nothing has changed.
   abbrev pub Asks : {T E : Type 0} → Result T E → (T → Database → Type 0) → Type 0
-  Asks result Told =
+  Asks result IsSo =
       HasCleanDisk (state g new.conn.now)
-      → IfOk result (λ told. IsUnchanged (state g old.conn.now) (state g new.conn.now)
-      × Told told (state g old.conn.now).now)
+      → IfOk result (λ value. IsUnchanged (state g old.conn.now) (state g new.conn.now)
+      × IsSo value (state g old.conn.now).now)
 
 -- if the tables showed records that fit, with some derived tables, they now show the changed records and derived tables
 abbrev pub TurnsWhere : (Records → Type 0) → (Records → Records) → (DerivedRows → DerivedRows) → Database

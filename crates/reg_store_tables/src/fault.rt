@@ -12,7 +12,7 @@ use std::alloc::{AllocError, AllocFailed};
 pub enum DatabaseFault {
     /// Out of memory.
     Memory,
-    /// The database failed, or a row is one that no register writes.
+    /// The database failed, or a row has a column of another type or an invalid value.
     Store,
 }
 
@@ -21,7 +21,7 @@ pub enum DatabaseFault {
 pub enum StoreFault {
     /// Out of memory.
     Memory,
-    /// The database failed, or a row is one that no register writes.
+    /// The database failed, or a row has a column of another type or an invalid value.
     Store,
     /// The database is not empty: it has a table, an index or a view.
     NotEmpty,
@@ -36,7 +36,7 @@ pub enum StoreFault {
 pub enum RowFault {
     /// Out of memory.
     Memory,
-    /// The row with this index, counted from 0, has a value that no register writes.
+    /// The row with this index, from 0 on, has a column of another type or an invalid value.
     At(usize),
 }
 

@@ -19,6 +19,7 @@ use crate::tables::Tables;
 use reg_core::{Entry, Listing, Serial};
 use sqlite::{Alter, Row, params};
 
+/// The most entries of a CRL.
 const MOST_ENTRIES: usize = 1_000_000;
 
 fn ascends(entries: &[Entry]) -> bool
@@ -27,6 +28,7 @@ fn ascends(entries: &[Entry]) -> bool
     entries.is_sorted_by(|earlier, later| earlier.serial < later.serial)
 }
 
+/// The entries in the rows: `Store` if they are too many, or their serial numbers don't ascend.
 fn entries_of(rows: &Vec<Row>) -> Result<Vec<Entry>, DatabaseFault>
     ensures read { (shown : List Entry) → AllByRecursion (λ entry. IsSerial entry.serial) shown
         → rows.now.items ≡ map shown_entry shown → IfOk result (λ found. found.items ≡ shown) }
@@ -49,7 +51,7 @@ fn entries_of(rows: &Vec<Row>) -> Result<Vec<Entry>, DatabaseFault>
 
 impl<S: Alter> Tables<S> {
     /// The entries of an issued CRL or of the next one, by its number, in ascending order of serial number: at most 1,000,000.
-    /// `Store` too if there are more, and for a number above 2^63 - 1. It walks the table `listed`.
+    /// `Store` too if there are more, and for a number above 2^63 - 1. It scans the table `listed`.
     pub fn entries(&mut self, number: u64) -> Result<Vec<Entry>, DatabaseFault>
         ensures finds { FindsIf (λ _. number < 2 ^ 63) S.Store self.old self.new result (λ records found.
             ShowsKept S.Store self.old records → found.items ≡ entries records number) }

@@ -1,4 +1,4 @@
-//! Look-ups of the office: its issuer, its policy and the last accepted moment.
+//! Look-ups of the issuer, the policy and the last accepted moment.
 
 ghost use Rattle.std.specs.Prelude.{◌≡◌, ◌≤◌, ◌<◌, ◌+◌, ℕ, [], ◌∷◌, IfOk, IfErr};
 ghost use Rattle.sqlite_value.specs.declared.value.Value.TheVariants.{Blob};
@@ -53,6 +53,7 @@ impl<S: Alter> Tables<S> {
     }
 }
 
+/// The issuer in the columns `at` and `at + 1`.
 fn issuer_in(alloc: Global, row: &Row, at: usize) -> Result<Issuer, DatabaseFault>
     requires { at < 10 }
     ensures read { (issuer : Kept) → column row.now at ≡ Blob issuer.name
@@ -105,6 +106,7 @@ fn responding_in(alloc: Global, row: &Row) -> Result<(Moment, Issuer, u64), Data
     }
 }
 
+/// The lives of CRLs and of OCSP responses in seconds, and the cap.
 fn terms<S: Alter>(conn: &mut Connection<S>) -> Result<(u64, u64, u64), DatabaseFault>
     ensures { Finds S.Store conn.old conn.new result (λ records terms.
         (terms.0 ≡ records.policy.crl_life) × (terms.1 ≡ records.policy.ocsp_life)

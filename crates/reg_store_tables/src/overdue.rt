@@ -14,6 +14,7 @@ use crate::tables::Tables;
 use reg_core::{Moment, Overdue, RequestRow, Serial, Status, status_of};
 use sqlite::{Alter, Connection, params};
 
+/// The requests that are not declined, in the order of their ids. It scans the table `request`.
 fn undeclined<S: Alter>(conn: &mut Connection<S>) -> Result<Vec<RequestRow>, DatabaseFault>
     ensures { Finds S.Store conn.old conn.new result (λ records found.
         found.items ≡ filter (λ row. not row.declined) records.requests) }
@@ -21,7 +22,7 @@ fn undeclined<S: Alter>(conn: &mut Connection<S>) -> Result<Vec<RequestRow>, Dat
     look_up_all::<S, RequestRow>(conn, UNDECLINED, &[])
 }
 
-/// How many requests for a serial number are not declined, at most `most` of them.
+/// How many requests for a serial number are not declined, counted up to `most`.
 fn undeclined_of<S: Alter>(
     conn: &mut Connection<S>,
     serial: Serial,
@@ -73,6 +74,7 @@ impl<S: Alter> Tables<S> {
         Ok(matches!(status_of(now, certificate, revoked), Status::Good))
     }
 
+    /// Whether an undeclined request is overdue at a moment.
     fn is_late(&mut self, request: RequestRow, now: Moment) -> Result<bool, DatabaseFault>
         ensures { FindsIf (λ records. IsSome (certificate_in records.certificates request.serial))
             S.Store self.old self.new result (λ records late.
@@ -84,7 +86,7 @@ impl<S: Alter> Tables<S> {
         Ok(is_good && is_past)
     }
 
-    /// How many requests are overdue at a moment, and the least id of them. It walks the requests that are not declined.
+    /// How many requests are overdue at a moment, and the least id of them. It scans the table `request`, and looks up the certificate of each that is not declined.
     pub fn open_past_due(&mut self, now: Moment) -> Result<Option<Overdue>, DatabaseFault>
         ensures { Finds S.Store self.old self.new result (λ records report.
             report ≡ overdue_report (overdue records now)) }
@@ -99,7 +101,7 @@ impl<S: Alter> Tables<S> {
         Ok(report)
     }
 
-    /// How many requests are open at a moment. It walks the requests that are not declined.
+    /// How many requests are open at a moment. It scans the table `request`, and looks up the certificate of each that is not declined.
     pub fn open_count(&mut self, now: Moment) -> Result<u64, DatabaseFault>
         ensures { Finds S.Store self.old self.new result (λ records count.
             count ≡ length (filter (is_open records now) records.requests)) }
@@ -114,7 +116,7 @@ impl<S: Alter> Tables<S> {
         Ok(count)
     }
 
-    /// How many requests for a serial number are open at a moment, at most `most` of them. `Store` too for a `most` above 2^63 - 1.
+    /// How many requests for a serial number are open at a moment, counted up to `most`. `Store` too for a `most` above 2^63 - 1.
     pub fn open_of(&mut self, serial: Serial, now: Moment, most: u64) -> Result<u64, DatabaseFault>
         ensures { FindsIf (λ _. most < 2 ^ 63) S.Store self.old self.new result (λ records count.
             count ≡ min most (length

@@ -34,7 +34,7 @@ pub trait ShownRow {
     /// The other fields of a value are within the ranges of the register's types.
     ghost has_values: { Self.Record → Type 0 };
 
-    /// Reads a row: `None` if a column has a value that no register writes.
+    /// Reads a row: `None` if a column has another type or an invalid value.
     fn in_row(row: &Row) -> Option<Self::Record>
         ensures read { (it : Self.Record) → is_keyed it → row.now ≡ shown it
             → IfSome result (λ read. read ≡ it) }
@@ -236,7 +236,7 @@ impl ShownRow for Listing {
     }
 }
 
-/// A step of the schedule: a moment, and the days of validity from it on.
+/// A step of the schedule: a moment, and the longest validity in days from it on.
 pub struct Step;
 
 impl ShownRow for Step {
@@ -256,6 +256,7 @@ impl ShownRow for Step {
     }
 }
 
+/// A row of one number.
 pub(crate) struct Number;
 
 impl ShownRow for Number {
@@ -295,6 +296,7 @@ impl ShownRow for ClockMoment {
     }
 }
 
+/// The lives of CRLs and of OCSP responses in seconds, and the cap.
 pub(crate) struct Terms;
 
 impl ShownRow for Terms {
@@ -313,7 +315,7 @@ impl ShownRow for Terms {
     }
 }
 
-/// Reads all rows. [`RowFault::At`] has the index of the first row with a value that no register writes.
+/// Reads all rows. [`RowFault::At`] has the index of the first row with a column of another type or an invalid value.
 pub fn rows_in<T: ShownRow>(alloc: Global, rows: &[Row]) -> Result<Vec<T::Record>, RowFault>
     ensures read { (shown : List T.Record) → AllByRecursion T.is_keyed shown → rows.now ≡ map T.shown shown
         → IfOk result (λ read. read.items ≡ shown) }
@@ -331,7 +333,7 @@ pub fn rows_in<T: ShownRow>(alloc: Global, rows: &[Row]) -> Result<Vec<T::Record
     Ok(found)
 }
 
-/// Reads the only row; `None` if there is no row. `Store` if there are more rows, or if the row has a value that no register writes.
+/// Reads the only row; `None` if there is no row. `Store` if there are more rows, or if the row has a column of another type or an invalid value.
 pub(crate) fn row_in<T: ShownRow>(rows: &[Row]) -> Result<Option<T::Record>, DatabaseFault>
     ensures read { (wanted : Option T.Record) → IsRowOf T.is_keyed T.shown rows.now wanted
         → IfOk result (λ found. found ≡ wanted) }

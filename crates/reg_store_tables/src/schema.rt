@@ -1,7 +1,7 @@
 //! The SQL statements that create a register's tables and indexes, in this order. All tables are STRICT. A moment is in whole
 //! seconds. A serial number is 20 bytes in big-endian order, so that SQL sorts it by its value.
 
-/// The one row of the office: the version, the issuer, the policy except its schedule, the last accepted moment, and `days`, which in version 3 only an audit reads.
+/// The table `office` has one row: the version, the issuer, the policy except its schedule, the last accepted moment, and `days`, which in version 3 only an audit reads.
 pub const OFFICE: &str =
     "CREATE TABLE office (one INTEGER PRIMARY KEY CHECK (one = 1), version INTEGER NOT NULL, name BLOB NOT NULL, pubkey BLOB NOT NULL, days INTEGER NOT NULL, crl_life INTEGER NOT NULL, ocsp_life INTEGER NOT NULL, cap INTEGER NOT NULL, last_at INTEGER NOT NULL) STRICT";
 
@@ -29,7 +29,7 @@ pub const REVOCATION: &str =
 pub const CRL: &str =
     "CREATE TABLE crl (number INTEGER PRIMARY KEY, this_update INTEGER NOT NULL, der BLOB NOT NULL) STRICT";
 
-/// The state letter of each certificate at the last accepted moment.
+/// The state letter of each certificate at the last accepted moment: `G` (good), `R` (revoked) or `X` (expired).
 pub const STANDING: &str =
     "CREATE TABLE standing (serial BLOB NOT NULL PRIMARY KEY REFERENCES cert (serial), not_after INTEGER NOT NULL, state TEXT NOT NULL) STRICT";
 
@@ -45,8 +45,8 @@ pub const LISTED: &str =
 pub const LONGEST: &str =
     "CREATE TABLE longest (from_at INTEGER PRIMARY KEY, days INTEGER NOT NULL) STRICT";
 
-/// The index in which CRLs are found without reading their bytes.
+/// The index by which CRLs are found without reading their bytes.
 pub const CRL_AT: &str = "CREATE INDEX crl_at ON crl (number, this_update)";
 
-/// The index in which good certificates that ended are found.
+/// The index by which certificates with the letter `G` that are past notAfter are found.
 pub const STANDING_DUE: &str = "CREATE INDEX standing_due ON standing (state, not_after)";

@@ -24,6 +24,7 @@ pub enum Table {
     Crls,
 }
 
+/// The SQL that finds the number of the last row.
 fn last_row(table: Table) -> &'static str
     ensures { result.now ≡ text_of_last table }
 {

@@ -28,6 +28,7 @@ pub(crate) fn sql_key(n: u64) -> Option<Value>
 /// The longest life of a CRL or an OCSP answer, in seconds: a second less than ten days.
 const LONGEST_LIFE: u64 = 863_999;
 
+/// As [`sql_key`], with `Store` for `None`.
 pub(crate) fn sql_number(n: u64) -> Result<Value, DatabaseFault>
     ensures value { IfOk result (λ value. value ≡ number n) }
     ensures had { OnOk result (n < 2 ^ 63) }
@@ -90,6 +91,7 @@ pub fn clock_moment_at(row: &Row, at: usize) -> Option<Moment>
     }
 }
 
+/// The life in seconds in a column: at most `LONGEST_LIFE`.
 pub(crate) fn life_at(row: &Row, at: usize) -> Option<u64>
     ensures read { (n : ℕ) → column row.now at ≡ number n
         → MatchOption result (863999 < n) (λ read. read ≡ n) }

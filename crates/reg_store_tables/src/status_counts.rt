@@ -43,6 +43,7 @@ pub fn stored_counts_now<S: Alter>(conn: &mut Connection<S>) -> Result<Counts, D
     look_up_one::<S, Counts>(conn, COUNTS, &[])
 }
 
+/// How many certificates with the letter `G` are past notAfter at a moment.
 fn ended_before<S: Alter>(conn: &mut Connection<S>, now: Moment) -> Result<u64, DatabaseFault>
     ensures { Finds S.Store conn.old conn.new result (λ records ended.
         (kept : DerivedRows) → ShowsBoth S.Store conn.old records kept
