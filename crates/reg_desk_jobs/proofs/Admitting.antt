@@ -18,8 +18,14 @@ use Rattle.reg_http.proofs.PublicLaws.{nothing_added}
 use Rattle.reg_ocsp.specs.Drafts.{Drafted}
 use Rattle.reg_io.specs.declared.begun.ReadyOrUnsigned.{ReadyOrUnsigned}
 use Rattle.reg_io.specs.declared.begun.ReadyOrUnsigned.TheVariants.{Ready, Unsigned}
-use Rattle.reg_desk_jobs.specs.Admission.{BeginsAdmitted, IsWithin, MeetsLimits, RefusesAtLimit}
+use Rattle.reg_desk_jobs.specs.Admission.{BeginsAdmitted, CountsRequest, IsWithin, MeetsLimits, RefusesAtLimit}
 use Rattle.reg_desk_jobs.specs.declared.admission.Admission.{Admission}
+
+-- a request that was counted, with memory or without
+pub was_counted : {A : Type 0} (result : Result A Memory) (counted admission admission' : Admission) → admission' ≡ counted
+    → CountsRequest result counted admission admission'
+was_counted (Ok begun) counted admission admission' is = is
+was_counted (Err memory) counted admission admission' is = inr is
 
 module _ {S : Type 0} (is_clean : S → Type 0) (stands : Signatory → S → Records → Type 0) (admission : Admission) (signs : Signs) (now : ℕ) (what : RoutedRequest) where
   -- what the register begins, and what it adds

@@ -1,6 +1,6 @@
 -- An OCSP response that was left to be signed, once it is finished: an exchange over the records of where it was begun.
 use Rattle.std.proofs.Common.{◌≡◌, ℕ, Bool, List, Global, Vec, ap, inl, refl, sym, subst, ◌∙◌}
-use Rattle.std.specs.Prelude.{Option, Some, None, Result, Ok, Err, IfOk, OnOk, replicate}
+use Rattle.std.specs.Prelude.{Option, Some, None, Result, Ok, Err, IfOk, OnOk}
 use Rattle.reg_core.specs.Records.{Records}
 use Rattle.reg_core.specs.declared.memory.Memory.{Memory as NoMemory}
 use Rattle.reg_office_api.specs.Drafts.{Drafts, IsBy, IsDraft}
@@ -28,7 +28,7 @@ use Rattle.reg_crl_signer.specs.Forms.{HasForm}
 use Rattle.reg_desk_server.specs.Exchange.{Outcome, said, pending, later}
 use Rattle.reg_desk_jobs.specs.Admission.{IsWithin}
 use Rattle.reg_desk_jobs.specs.Beginning.{MayLeave}
-use Rattle.reg_desk_jobs.specs.Exchanges.{AnswersAt, AnswersAtRoute, dispatch}
+use Rattle.reg_desk_jobs.specs.Exchanges.{AnswersAt, AnswersAtRoute, admission_after, dispatch}
 use Rattle.reg_desk_jobs.specs.SignerAnswers.{AtGivenPath, AnsweredAtPath, AnsweredAtSomePath}
 use Rattle.reg_desk_jobs.specs.FinishedResponses.{FinishesUnsigned, FinishesAt, IsSignatureOf, Meets}
 use Rattle.reg_desk_jobs.specs.declared.unsigned_responses.Unsigned.{Unsigned}
@@ -82,28 +82,25 @@ module _ (signs : Signs) (signer_answered : List ℕ → List ℕ → Type 0)
     told_of signature (Ok bytes) exchange tells = tells
     told_of signature (Err memory) exchange tells = tells
 
-    -- a desk of which nothing was asked
-    unasked : Admission
-    unasked = record { recent = record { moments = replicate 100 None; next = 0 }; accepted = None }
-
     -- what the register says to an OCSP request is said at a desk, also behind its limits
-    says_left : (by : Dispatch) (method target body request : List ℕ) (it : AnswerEffects) → MayLeave by → asks_for method target body ≡ ocsp_of request
+    says_left : (admission : Admission) (by : Dispatch) (method target body request : List ℕ) (it : AnswerEffects) → MayLeave by → asks_for method target body ≡ ocsp_of request
         → Answers (Runs signs signatory) Asks (Replies signs signatory) Crls now before (asks_for method target body) it after
-        → AnswersAtRoute signs now signatory before it after by method target body
-    says_left ToRegister method target body request it to asks_it answers = answers
-    says_left ToLimits method target body request it to asks_it answers =
-        let P : RoutedRequest → Type 0 = λ what. IsWithin unasked before now (requested_serial what) in
-        (unasked, inl (subst P (sym asks_it) tt, answers))
-    says_left ToList method target body request it to asks_it answers = absurd to
-    says_left ToHealth method target body request it to asks_it answers = absurd to
-    says_left ToMetrics method target body request it to asks_it answers = absurd to
+        → AnswersAtRoute signs now admission signatory before it after by method target body
+    says_left admission ToRegister method target body request it to asks_it answers = answers
+    says_left admission ToLimits method target body request it to asks_it answers =
+        let P : RoutedRequest → Type 0 = λ what. IsWithin admission before now (requested_serial what) in
+        inl (subst P (sym asks_it) tt, answers)
+    says_left admission ToList method target body request it to asks_it answers = absurd to
+    says_left admission ToHealth method target body request it to asks_it answers = absurd to
+    says_left admission ToMetrics method target body request it to asks_it answers = absurd to
 
     -- the exchange of the register
-    pub left_exchange : (is_open : Bool) (line_outcome method target body request text : List ℕ) (draft : Drafted)
+    pub left_exchange : (admission admission' : Admission) (is_open : Bool) (line_outcome method target body request text : List ℕ) (draft : Drafted)
         → ∥ HoldsRequest line_outcome (asked method target body) ∥₁ → MayLeave (dispatch is_open (route_at (path_of target)))
         → asks_for method target body ≡ ocsp_of request → Drafts signatory before now request draft after
-        → FinishesAt signer_answered draft now text → AnswersAt is_open signs now signatory before line_outcome text after
-    left_exchange is_open line_outcome method target body request text draft holds to asks_it drafted it =
+        → FinishesAt signer_answered draft now text → admission' ≡ admission_after is_open now (asked method target body) admission
+        → AnswersAt is_open signs now admission admission' signatory before line_outcome text after
+    left_exchange admission admission' is_open line_outcome method target body request text draft holds to asks_it drafted it counted =
         let given = kinded it.signature it.finished.given in
         let replies = replies_of request draft it.signature it.finished.given drafted it.signed it.finished.made in
         let P : RoutedRequest → Type 0 = λ what. Answers (Runs signs signatory) Asks (Replies signs signatory) Crls now before what (ocsp_effects given) after in
@@ -120,9 +117,10 @@ module _ (signs : Signs) (signer_answered : List ℕ → List ℕ → Type 0)
             asked method target body,
             ocsp_effects given,
             holds,
-            says_left (dispatch is_open (route_at (path_of target))) method target body request (ocsp_effects given) to asks_it
+            says_left admission (dispatch is_open (route_at (path_of target))) method target body request (ocsp_effects given) to asks_it
                 (subst P (sym asks_it) (given, replies, refl)),
             (refl, refl, refl, told_of it.signature it.finished.given it.exchange it.finished.tells),
+            counted,
           );
           text_is = it.text_is;
           adds = nothing_added now before after drafted.1;

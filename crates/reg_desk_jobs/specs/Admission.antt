@@ -1,5 +1,5 @@
 -- Which requests for revocation an open desk takes over HTTP.
-use Rattle.std.specs.Prelude.{◌≡◌, ◌⊎◌, ℕ, Bool, true, false, ◌&&◌, ◌||◌, ◌+◌, ◌-◌, ◌/◌, ◌%◌, nat_lt, nat_le, slice_set, slice_index_or, if◌then◌else◌, Some, None, Result, Ok, Err}
+use Rattle.std.specs.Prelude.{◌≡◌, ◌⊎◌, ℕ, Bool, true, false, ◌&&◌, ◌||◌, ◌+◌, ◌-◌, ◌/◌, ◌%◌, nat_lt, nat_le, replicate, slice_set, slice_index_or, if◌then◌else◌, Some, None, Result, Ok, Err}
 use Rattle.std.specs.declared.option.Option.{Option}
 use Rattle.reg_core.specs.Records.{Records}
 use Rattle.reg_core.specs.declared.memory.Memory.{Memory}
@@ -24,6 +24,10 @@ use Rattle.reg_desk_jobs.specs.declared.admission.Admission.{Admission}
 use Rattle.reg_desk_jobs.specs.declared.admission.RecentRequests.{RecentRequests}
 
 -- ---- a hundred requests a minute
+
+-- the admission of a desk that was just opened: no request is counted, and no clock is accepted
+abbrev pub first_admission : Admission
+first_admission = record { recent = record { moments = replicate 100 None; next = 0 }; accepted = None }
 
 -- a moment is within the minute up to another
 abbrev pub is_recent : ℕ → Option ℕ → Bool
@@ -114,7 +118,7 @@ BeginsAdmitted admission signs now signatory before what (Ok (Unsigned draft)) a
     (Unsigned draft) after
 BeginsAdmitted admission signs now signatory before what (Err memory) after = after ≡ before
 
--- the same for some state of the limits
-abbrev pub AnswersLimited : Signs → ℕ → Signatory → Records → RoutedRequest → AnswerEffects → Records → Type 0
-AnswersLimited signs now signatory before what it after =
-    (admission : Admission) × AnswersAdmitted admission signs now signatory before what it after
+-- the admission after a request, which is counted; if memory ran out, it is counted or not
+abbrev pub CountsRequest : {A : Type 0} → Result A Memory → Admission → Admission → Admission → Type 0
+CountsRequest (Ok begun) counted admission admission' = admission' ≡ counted
+CountsRequest (Err memory) counted admission admission' = (admission' ≡ admission) ⊎ (admission' ≡ counted)

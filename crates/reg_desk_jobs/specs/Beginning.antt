@@ -18,6 +18,7 @@ use Rattle.reg_io.specs.declared.begun.ReadyOrUnsigned.{ReadyOrUnsigned}
 use Rattle.reg_io.specs.declared.begun.ReadyOrUnsigned.TheVariants.{Ready, Unsigned}
 use Rattle.reg_desk_jobs.specs.Exchanges.{AnswersAt, IsExchange, IsRouteOf, Says, dispatch}
 use Rattle.reg_desk_jobs.specs.FinishedResponses.{FinishesAt}
+use Rattle.reg_desk_jobs.specs.declared.admission.Admission.{Admission}
 use Rattle.reg_desk_jobs.specs.declared.http_exchanges.Dispatch.{Dispatch}
 use Rattle.reg_desk_jobs.specs.declared.http_exchanges.Dispatch.TheVariants.{ToRegister, ToLimits}
 
@@ -34,27 +35,32 @@ MayLeave other = ⊥
 
 -- the outcome of a request that was read: an answer; or, only by the register, a response to be signed; or out of memory
 abbrev pub BeginsAt
-    : Bool → Signs → ℕ → Signatory → Records → List ℕ → List ℕ → List ℕ
+    : Bool → Signs → ℕ → Admission → Signatory → Records → List ℕ → List ℕ → List ℕ
     → Result (ReadyOrUnsigned Answered Drafted) Memory → Records → Type 0
-BeginsAt is_open signs now signatory before method target body (Ok (Ready answered)) after =
-    Says signs now signatory before (answer_effects answered) after is_open (asked method target body)
+BeginsAt is_open signs now admission signatory before method target body (Ok (Ready answered)) after =
+    Says signs now admission signatory before (answer_effects answered) after is_open
+    (asked method target body)
     × AddsARequestAtMost now before after
-BeginsAt is_open signs now signatory before method target body (Ok (Unsigned draft)) after =
+BeginsAt is_open signs now admission signatory before method target body (Ok (Unsigned draft)) after =
     MayLeave (dispatch is_open (route_at (path_of target)))
     × ((request : List ℕ) × (asks_for method target body ≡ ocsp_of request)
     × Drafts signatory before now request draft after)
-BeginsAt is_open signs now signatory before method target body (Err memory) after = after ≡ before
+BeginsAt is_open signs now admission signatory before method target body (Err memory) after = after ≡ before
 
 -- the answer to the bytes that came: an exchange that is ready; or a response to be signed, such that any text that finishes it is that of an
 -- exchange. The records gain at most one request for revocation.
 abbrev pub AnswersBegun
-    : (List ℕ → List ℕ → Type 0) → Bool → Signs → ℕ → Signatory → Records → List ℕ
+    : (List ℕ → List ℕ → Type 0) → Bool → Signs → ℕ → Admission → Admission → Signatory → Records → List ℕ
     → ReadyOrUnsigned Exchange UnsignedResponse → Records → Type 0
-AnswersBegun signer_answered is_open signs now signatory before request (Ready exchange) after =
-    IsExchange is_open signs now signatory before request exchange after × AddsARequestAtMost now before after
-AnswersBegun signer_answered is_open signs now signatory before request (Unsigned left) after =
+AnswersBegun signer_answered is_open signs now admission admission' signatory before request
+    (Ready exchange) after =
+    IsExchange is_open signs now admission admission' signatory before request exchange after
+    × AddsARequestAtMost now before after
+AnswersBegun signer_answered is_open signs now admission admission' signatory before request
+    (Unsigned left) after =
     ((text : List ℕ) → FinishesAt signer_answered left.draft now text
-    → AnswersAt is_open signs now signatory before request text after) × AddsARequestAtMost now before after
+    → AnswersAt is_open signs now admission admission' signatory before request text after)
+    × AddsARequestAtMost now before after
 
 -- the route under which the exchange is counted
 abbrev pub IsBegunRoute : List ℕ → ReadyOrUnsigned Exchange UnsignedResponse → Type 0

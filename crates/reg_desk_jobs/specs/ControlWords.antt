@@ -26,6 +26,7 @@ use Rattle.reg_desk_jobs.specs.Copies.{AnswersCopy, is_copy_line}
 use Rattle.reg_desk_jobs.specs.Schedules.{SetAt}
 use Rattle.reg_desk_jobs.specs.SerialDecisions.{DecidesAt}
 use Rattle.reg_desk_jobs.specs.RowLookUps.{AnswersShown, help_text}
+use Rattle.reg_desk_jobs.specs.declared.admission.Admission.{Admission}
 use Rattle.reg_desk_jobs.specs.declared.control_reply.ControlReply.{ControlReply}
 use Rattle.reg_desk_jobs.specs.declared.words.ControlWord.{ControlWord}
 use Rattle.reg_desk_jobs.specs.declared.words.ControlWord.TheVariants.{Help, Why, Copy, Show, Decide, AcceptClock, Schedule, Line}
@@ -192,14 +193,18 @@ abbrev pub IsAcceptedAfter : List ℕ → Option ℕ → Option ℕ → Type 0
 IsAcceptedAfter line accepted accepted' =
     (accepted' ≡ accepted_by (meaning_in line) accepted) ⊎ (accepted' ≡ accepted)
 
+-- the admission after a line, which counts no request, and may set the accepted moment
+abbrev pub IsAdmissionAfter : List ℕ → Admission → Admission → Type 0
+IsAdmissionAfter line admission admission' =
+    (admission'.recent ≡ admission.recent) × IsAcceptedAfter line admission.accepted admission'.accepted
+
 -- a line of an open register at a moment; or there was no memory to read it: the reply says so, and no record changes
 abbrev pub WordAt : Option ℕ → Signs → ℕ → Signatory → Records → List ℕ → List ℕ → Records → Type 0
 WordAt accepted signs now identity before line text after =
     AnswersWord accepted signs now identity before line (meaning_in line) text after
     ⊎ (ReportsFault fault.Memory text × (after ≡ before))
 
--- the same at a moment of the clock, with any accepted moment or none
-abbrev pub Word : Signs → (ℕ → Type 0) → Signatory → Records → List ℕ → List ℕ → Records → Type 0
-Word signs clock_reached identity before line text after =
-    (accepted : Option ℕ) × (now : ℕ) × clock_reached now
-    × WordAt accepted signs now identity before line text after
+-- the same at a moment of the clock
+abbrev pub Word : Option ℕ → Signs → (ℕ → Type 0) → Signatory → Records → List ℕ → List ℕ → Records → Type 0
+Word accepted signs clock_reached identity before line text after =
+    (now : ℕ) × clock_reached now × WordAt accepted signs now identity before line text after

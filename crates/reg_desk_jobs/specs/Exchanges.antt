@@ -8,7 +8,7 @@ use Rattle.reg_http_head.specs.Collected.{HoldsRequest}
 use Rattle.reg_http_head.specs.Frame.{IsUnfinished, Part, asked, refused}
 use Rattle.reg_http.specs.Added.{AddsARequestAtMost}
 use Rattle.reg_http.specs.Answers.{Answers}
-use Rattle.reg_http.specs.RoutedRequests.{path_of, asked as asks_for}
+use Rattle.reg_http.specs.RoutedRequests.{RoutedRequest, path_of, requested_serial, asked as asks_for}
 use Rattle.reg_http.specs.Bodies.{http_refusal}
 use Rattle.reg_http.specs.Exchanges.{IsEmpty, IsMemoryAnswer, HasNoEffects, HasEffects}
 use Rattle.reg_http.specs.Lists.{RespondsList, list_request}
@@ -17,8 +17,9 @@ use Rattle.reg_http.specs.AnswerEffects.{AnswerEffects, plain}
 use Rattle.reg_http.specs.declared.exchange.Exchange.{Exchange as HttpExchange}
 use Rattle.reg_http.specs.declared.route.Route.{Route}
 use Rattle.reg_http.specs.declared.route.Route.TheVariants.{Requests, List as ListOf, Health, Metrics}
-use Rattle.reg_desk_jobs.specs.Admission.{AnswersLimited}
+use Rattle.reg_desk_jobs.specs.Admission.{AnswersAdmitted, after_request_if}
 use Rattle.reg_desk_jobs.specs.Watched.{ByGet, AnswersHealth, AnswersMetrics}
+use Rattle.reg_desk_jobs.specs.declared.admission.Admission.{Admission}
 use Rattle.reg_desk_jobs.specs.declared.http_exchanges.Dispatch.{Dispatch}
 use Rattle.reg_desk_jobs.specs.declared.http_exchanges.Dispatch.TheVariants.{ToRegister, ToLimits, ToList, ToHealth, ToMetrics}
 
@@ -34,19 +35,31 @@ dispatch true Metrics = ToMetrics
 dispatch true _ = ToRegister
 dispatch false _ = ToRegister
 
+-- the admission after this part answered a request: only `ToLimits` counts one, if it is for a serial number
+abbrev pub admission_by : Dispatch → ℕ → RoutedRequest → Admission → Admission
+admission_by ToLimits now what admission = after_request_if now (requested_serial what) admission
+admission_by other now what admission = admission
+
+-- the same at a desk that is open or not
+abbrev pub admission_after : Bool → ℕ → Part → Admission → Admission
+admission_after is_open now (refused status) admission = admission
+admission_after is_open now (asked method target body) admission =
+    admission_by (dispatch is_open (route_at (path_of target))) now (asks_for method target body) admission
+
 -- The answer to a request that was read. The register is asked at most once, and the records gain at most one request for revocation.
-module _ (signs : Signs) (now : ℕ) (signatory : Signatory) (before : Records) (it : AnswerEffects)
-    (after : Records) where
+module _ (signs : Signs) (now : ℕ) (admission : Admission) (signatory : Signatory) (before : Records)
+    (it : AnswerEffects) (after : Records) where
   -- by the part that answers
   abbrev pub AnswersAtRoute : Dispatch → List ℕ → List ℕ → List ℕ → Type 0
   AnswersAtRoute ToRegister method target body =
       Answers (Runs signs signatory) Asks (Replies signs signatory) Crls now before
       (asks_for method target body) it after
   AnswersAtRoute ToLimits method target body =
-      AnswersLimited signs now signatory before (asks_for method target body) it after
+      AnswersAdmitted admission signs now signatory before (asks_for method target body) it after
   AnswersAtRoute ToList method target body =
       RespondsList before now (list_request method target) it × (after ≡ before)
-  AnswersAtRoute ToHealth method target body = ByGet method (AnswersHealth now before) it × (after ≡ before)
+  AnswersAtRoute ToHealth method target body =
+      ByGet method (AnswersHealth admission.accepted now before) it × (after ≡ before)
   AnswersAtRoute ToMetrics method target body = ByGet method (AnswersMetrics now before) it × (after ≡ before)
 
   -- by a desk that is open or not
@@ -62,30 +75,37 @@ IsRouteOf request route =
     ⊎ ((method target body : List ℕ) × ∥ HoldsRequest request (asked method target body) ∥₁
     × (route ≡ route_at (path_of target)))
 
+-- memory ran out: a whole request is counted or not
+abbrev pub MayCount : Bool → ℕ → List ℕ → Admission → Admission → Type 0
+MayCount is_open now request admission admission' =
+    (admission' ≡ admission)
+    ⊎ ((part : Part) × ∥ HoldsRequest request part ∥₁
+    × (admission' ≡ admission_after is_open now part admission))
+
 -- One HTTP exchange (RFC 9112) of a desk at a moment, over the bytes that came on a connection. Either they begin with a whole request, which the desk
--- answered; or they do not, and it got none; or there was no memory for the exchange, and no record changed.
-abbrev pub IsExchange : Bool → Signs → ℕ → Signatory → Records → List ℕ → HttpExchange → Records → Type 0
-IsExchange is_open signs now signatory before request exchange after =
+-- answered and counted; or they do not, and it got none; or there was no memory for the exchange, and no record changed.
+abbrev pub IsExchange
+    : Bool → Signs → ℕ → Admission → Admission → Signatory → Records → List ℕ → HttpExchange → Records
+    → Type 0
+IsExchange is_open signs now admission admission' signatory before request exchange after =
     ((part : Part) × (it : AnswerEffects) × ∥ HoldsRequest request part ∥₁
-    × Says signs now signatory before it after is_open part × HasEffects now it exchange)
+    × Says signs now admission signatory before it after is_open part × HasEffects now it exchange
+    × (admission' ≡ admission_after is_open now part admission))
     ⊎ (HasNoEffects exchange × ((∥ IsUnfinished request ∥₁ × IsEmpty exchange) ⊎ IsMemoryAnswer exchange)
-    × (after ≡ before))
+    × (after ≡ before) × MayCount is_open now request admission admission')
 
 -- the same for the text alone; the records gain at most one request for revocation, and no count of certificates changes
-pub record AnswersAt (is_open : Bool) (signs : Signs) (now : ℕ) (signatory : Signatory) (before : Records)
-    (request text : List ℕ) (after : Records) : Type 0 where
+pub record AnswersAt (is_open : Bool) (signs : Signs) (now : ℕ) (admission admission' : Admission)
+    (signatory : Signatory) (before : Records) (request text : List ℕ) (after : Records) : Type 0 where
   pub exchange : HttpExchange
-  pub is_exchange : IsExchange is_open signs now signatory before request exchange after
+  pub is_exchange : IsExchange is_open signs now admission admission' signatory before request exchange after
   pub text_is : text ≡ exchange.text.items
   pub adds : AddsARequestAtMost now before after
 
 -- the same at a moment of a clock
-abbrev pub AnswersBy : Bool → Signs → (ℕ → Type 0) → Signatory → Records → List ℕ → List ℕ → Records → Type 0
-AnswersBy is_open signs clock_reached signatory before request text after =
-    (now : ℕ) × clock_reached now × AnswersAt is_open signs now signatory before request text after
-
--- ---- lines
-
--- a line whose message is made, and that is answered later, changes no record yet
-abbrev pub Unmoved : Records → List ℕ → Records → Type 0
-Unmoved before line after = after ≡ before
+abbrev pub AnswersBy
+    : Bool → Signs → (ℕ → Type 0) → Admission → Admission → Signatory → Records → List ℕ → List ℕ → Records
+    → Type 0
+AnswersBy is_open signs clock_reached admission admission' signatory before request text after =
+    (now : ℕ) × clock_reached now
+    × AnswersAt is_open signs now admission admission' signatory before request text after

@@ -14,38 +14,54 @@ use Rattle.reg_desk_cli.specs.declared.job.Loopback.{Loopback}
 use Rattle.reg_desk_cli.specs.declared.job.Loopback.TheVariants.{V4, V6}
 use Rattle.reg_desk_cli.specs.declared.failure.Failure.{Failure}
 use Rattle.reg_desk_cli.specs.declared.failure.Failure.TheVariants as failure
-use Rattle.reg_desk_jobs.specs.Exchanges.{AnswersBy, Unmoved}
+use Rattle.reg_desk_jobs.specs.Admission.{first_admission}
+use Rattle.reg_desk_jobs.specs.Exchanges.{AnswersBy}
 use Rattle.reg_desk_jobs.specs.FinishedResponses.{FinishesUnsigned, Meets}
-use Rattle.reg_desk_jobs.specs.ControlWords.{Word}
+use Rattle.reg_desk_jobs.specs.ControlWords.{IsAdmissionAfter, Word}
 use Rattle.reg_desk_jobs.specs.Signers.{AnsweredByOcspSigner}
+use Rattle.reg_desk_jobs.specs.declared.admission.Admission.{Admission}
 use Rattle.reg_desk_jobs.specs.declared.machine.Machine.{Ghosts as Machine}
 use Rattle.reg_desk_jobs.specs.declared.unsigned_responses.Unsigned.{Unsigned}
 use Rattle.reg_io.specs.Put.{AppendsPrefix}
 use Rattle.reg_io.specs.RunsOfAnswers.{Answered}
+
+-- the state of a desk: its records, and its admission, which with them decides whether a request for revocation is within the limits
+abbrev pub DeskState : Type 0
+DeskState = Records × Admission
 
 -- The outcome of a request at a desk that is open or not: the text of an exchange; or a response to be signed, such that any text that finishes it is
 -- that of an exchange. In both cases the exchange is over the records at its place among the other inputs. So each answer shows the state at a time
 -- between its request and its sending, and includes each revocation that was answered before. A signature that finishes it was given by the signer
 -- (`signer_answered`) for exactly the message that is signed.
 abbrev pub Exchanging
-    : Bool → Signs → (List ℕ → List ℕ → Type 0) → (ℕ → Type 0) → Signatory → Records → List ℕ
-    → Outcome Unsigned → Records → Type 0
+    : Bool → Signs → (List ℕ → List ℕ → Type 0) → (ℕ → Type 0) → Signatory → DeskState → List ℕ
+    → Outcome Unsigned → DeskState → Type 0
 Exchanging is_open signs signer_answered clock_reached identity before request outcome after =
     Meets (FinishesUnsigned signer_answered)
-    (λ text. AnswersBy is_open signs clock_reached identity before request text after) outcome
+    (λ text. AnswersBy is_open signs clock_reached before.1 after.1 identity before.0 request text after.0)
+    outcome
 
 -- a line at the control socket, which only an open desk has
-abbrev pub OpenWord : Bool → Signs → (ℕ → Type 0) → Signatory → Records → List ℕ → List ℕ → Records → Type 0
+abbrev pub OpenWord
+    : Bool → Signs → (ℕ → Type 0) → Signatory → DeskState → List ℕ → List ℕ → DeskState → Type 0
 OpenWord is_open signs clock_reached identity before line text after =
-    IsTrue is_open × Word signs clock_reached identity before line text after
+    IsTrue is_open × IsAdmissionAfter line before.1 after.1
+    × Word before.1.accepted signs clock_reached identity before.0 line text after.0
 
--- what requests, and lines at an open desk, did to the records: one after the other, and nothing else changed them
+-- a line whose message is made, and that is answered later, changes nothing yet
+abbrev pub Unmoved : DeskState → List ℕ → DeskState → Type 0
+Unmoved before line after = (after.0 ≡ before.0) × (after.1 ≡ before.1)
+
+-- What requests, and lines at an open desk, did to the records: one after the other, and nothing else changed them. The admission starts as
+-- `first_admission`, and only they change it.
 abbrev pub Serves
     : Bool → Signs → (List ℕ → List ℕ → Type 0) → (ℕ → Type 0) → List Input → List (Outcome Unsigned)
     → Signatory → Records → Records → Type 0
 Serves is_open signs signer_answered clock_reached inputs outcomes identity before after =
-    Answered (Handles (Exchanging is_open signs signer_answered clock_reached identity)
-    (OpenWord is_open signs clock_reached identity) Unmoved) before inputs outcomes after
+    (admission : Admission)
+    × Answered (Handles (Exchanging is_open signs signer_answered clock_reached identity)
+    (OpenWord is_open signs clock_reached identity) Unmoved)
+    (before, first_admission) inputs outcomes (after, admission)
 
 -- the same at a desk with the options' signers, over the offices of a machine
 abbrev pub ServesOn

@@ -170,10 +170,10 @@ ByGet method Says it =
     MatchBool (bytes_eq method (codes "GET")) (Says it) (it ≡ plain (method_not_allowed (codes "GET")))
 
 -- the health: from the register's numbers at a moment, the tally, and the moment that the operator accepted
-abbrev pub AnswersHealth : ℕ → Records → AnswerEffects → Type 0
-AnswersHealth now records it =
+abbrev pub AnswersHealth : Option ℕ → ℕ → Records → AnswerEffects → Type 0
+AnswersHealth accepted now records it =
     (tally : Tally) × (found : Result Numbers Fault) × HasFound tally records now found
-    × ((tally' : Tally) × (accepted : Option ℕ)
+    × ((tally' : Tally)
     × (it ≡ plain (health_response (health_of now found tally' accepted))))
 
 -- the metrics: from the register's numbers at a moment, the tally, and the totals of connections

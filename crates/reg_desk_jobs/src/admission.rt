@@ -4,7 +4,7 @@
 ghost use Rattle.std.specs.Prelude.{◌≡◌, IfOk, None, replicate};
 ghost use Rattle.reg_office_api.specs.Calls.{LeadsIn, LooksIn};
 ghost use Rattle.reg_http.specs.RoutedRequests.{asked, requested_serial};
-ghost use Rattle.reg_desk_jobs.specs.Admission.{BeginsAdmitted, IsRefusedBy, MeetsLimits, after_request, after_request_if, is_rate_reached as reached_at, limit_by, after_one_more};
+ghost use Rattle.reg_desk_jobs.specs.Admission.{BeginsAdmitted, CountsRequest, IsRefusedBy, MeetsLimits, after_request, after_request_if, first_admission, is_rate_reached as reached_at, limit_by, after_one_more};
 
 use crate::machine::Machine;
 use http::Method;
@@ -61,7 +61,9 @@ pub(crate) struct Admission {
 }
 
 impl Admission {
-    pub(crate) fn new() -> Admission {
+    pub(crate) fn new() -> Admission
+        ensures { result ≡ first_admission }
+    {
         Admission {
             recent: RecentRequests {
                 moments: [None; MOST_RECENT],
@@ -88,9 +90,9 @@ pub(crate) fn begin_admitted<M: Machine>(
         BeginsAdmitted admission.old M.Office.signs now signatory before
         (asked method.now target.now body.now) result after)
         office.old office.new }
-    ensures counted { IfOk result (λ begun.
-        admission.new ≡ after_request_if now (requested_serial (asked method.now target.now body.now))
-        admission.old) }
+    ensures counted { CountsRequest result
+        (after_request_if now (requested_serial (asked method.now target.now body.now)) admission.old)
+        admission.old admission.new }
 {
     let Some(serial) = serial_of(alloc, method, target, body)? else {
         return begin(alloc, method, target, body, now, office);

@@ -4,7 +4,7 @@ ghost use Rattle.std.specs.Prelude.{◌≡◌, IfOk, IfSome, OnErr, option_copie
 ghost use Rattle.reg_office_api.specs.Calls.{KeepsIn, LeadsIn};
 ghost use Rattle.reg_desk_jobs.specs.Deferring.{AnsweredBySigner, IsLineSignature, socket_for};
 ghost use Rattle.reg_desk_jobs.specs.Signers.{crl_socket};
-ghost use Rattle.reg_desk_jobs.specs.ControlWords.{Word};
+ghost use Rattle.reg_desk_jobs.specs.ControlWords.{IsAdmissionAfter, Word};
 
 use crate::control_lines::answer_counted;
 use crate::desks::Desk;
@@ -219,6 +219,7 @@ impl<'a, 'w, M: Machine> Desk<'a, 'w, M> {
         command_line: &CommandLine<'_>,
     ) -> Option<Deferred<LineTicket>>
         ensures open { self.new.is_open ≡ self.old.is_open }
+        ensures admission { self.new.admission ≡ self.old.admission }
         ensures moves { KeepsIn M.Office.Office
             self.old.office self.new.office }
     {
@@ -255,6 +256,7 @@ impl<'a, 'w, M: Machine> Desk<'a, 'w, M> {
     /// Whether commands are refused at a moment, because the clock is too far ahead.
     fn is_ahead(&mut self, moment: Moment) -> bool
         ensures open { self.new.is_open ≡ self.old.is_open }
+        ensures admission { self.new.admission ≡ self.old.admission }
         ensures moves { KeepsIn M.Office.Office
             self.old.office self.new.office }
     {
@@ -293,10 +295,11 @@ impl<'a, 'w, M: Machine> Desk<'a, 'w, M> {
             (AnsweredBySigner M.signer_answered self.old.signer.now self.old.responder.now
             ticket.wanted) M.clock_reached known }
         ensures open { self.new.is_open ≡ self.old.is_open }
+        ensures admission { IsAdmissionAfter line.now self.old.admission self.new.admission }
         ensures moves { LeadsIn M.Office.Office
-            (λ identity before after.
-            Word M.Office.signs M.clock_reached identity before line.now result.items after) self.old.office
-            self.new.office }
+            (λ identity before after. Word self.old.admission.accepted M.Office.signs M.clock_reached
+            identity before line.now result.items after)
+            self.old.office self.new.office }
     {
         let LineSignature {
             moment,

@@ -51,7 +51,7 @@ pub(crate) struct Desk<'a, 'w, M: Machine> {
 impl<'a, 'w, M: Machine> Handler for Desk<'a, 'w, M> {
     ghost use Rattle.std.specs.Prelude.{[], IsTrue};
     ghost use Rattle.reg_office_api.specs.Calls.{KeepsIn, LeadsIn};
-    ghost use Rattle.reg_desk_jobs.specs.ControlWords.{Word};
+    ghost use Rattle.reg_desk_jobs.specs.ControlWords.{IsAdmissionAfter, Word};
     ghost use Rattle.reg_desk_jobs.specs.Deferring.{socket_for};
     ghost use Rattle.reg_desk_jobs.specs.Exchanges.{AnswersBy};
     ghost use Rattle.reg_desk_jobs.specs.SignerAnswers.{AtGivenPath, AnsweredAtSomePath};
@@ -65,14 +65,18 @@ impl<'a, 'w, M: Machine> Handler for Desk<'a, 'w, M> {
 
     ghost answers = { λ s request outcome t. (t.is_open ≡ s.is_open) × LeadsIn M.Office.Office
         (λ identity before after. Meets (FinishesUnsigned (AnsweredAtSomePath M.signer_answered))
-        (λ text. AnswersBy s.is_open M.Office.signs M.clock_reached identity before request text after) outcome)
+        (λ text. AnswersBy s.is_open M.Office.signs M.clock_reached s.admission t.admission
+        identity before request text after) outcome)
         s.office t.office };
 
     // only an open desk has a control socket
-    ghost answers_line = { λ s line text t. IsTrue s.is_open × IsTrue t.is_open × LeadsIn M.Office.Office
-        (λ identity before after. Word M.Office.signs M.clock_reached identity before line text after) s.office t.office };
+    ghost answers_line = { λ s line text t. IsTrue s.is_open × IsTrue t.is_open
+        × IsAdmissionAfter line s.admission t.admission × LeadsIn M.Office.Office
+        (λ identity before after. Word s.admission.accepted M.Office.signs M.clock_reached
+        identity before line text after)
+        s.office t.office };
 
-    ghost defers = { λ s line t. (t.is_open ≡ s.is_open)
+    ghost defers = { λ s line t. (t.is_open ≡ s.is_open) × (t.admission ≡ s.admission)
         × KeepsIn M.Office.Office s.office t.office };
 
     ghost finishes = { λ s. FinishesUnsigned
@@ -220,12 +224,13 @@ impl<'a, 'w, M: Machine> Handler for Desk<'a, 'w, M> {
     ) -> Result<Option<Vec<u8>>, EventLoopFault>
         requires { IsTrue self.old.is_open }
         ensures ok { IfOk result (λ answered. MatchOption answered
-            ((self.new.is_open ≡ self.old.is_open)
+            ((self.new.is_open ≡ self.old.is_open) × (self.new.admission ≡ self.old.admission)
             × KeepsIn M.Office.Office self.old.office self.new.office)
-            (λ text. IsTrue self.old.is_open × IsTrue self.new.is_open × LeadsIn M.Office.Office
-            (λ identity before after.
-            Word M.Office.signs M.clock_reached identity before line.now text.items after) self.old.office
-            self.new.office)) }
+            (λ text. IsTrue self.old.is_open × IsTrue self.new.is_open
+            × IsAdmissionAfter line.now self.old.admission self.new.admission × LeadsIn M.Office.Office
+            (λ identity before after. Word self.old.admission.accepted M.Office.signs M.clock_reached
+            identity before line.now text.items after)
+            self.old.office self.new.office)) }
         ensures err { OnErr result ((self.new ≡ self.old) × (last_reason.new ≡ last_reason.old)) }
         ensures fails { OnErr result M.failed }
     {

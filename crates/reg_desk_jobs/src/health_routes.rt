@@ -48,7 +48,8 @@ pub(crate) fn answer_health<M: Machine>(
 ) -> Result<Answered, Memory>
     ensures moves { LooksIn M.Office.Office
         (λ records.
-        IfOk result (λ answered. ByGet method.now (AnswersHealth now records) (answer_effects answered)))
+        IfOk result (λ answered.
+        ByGet method.now (AnswersHealth accepted now records) (answer_effects answered)))
         office.old office.new }
     ensures recounted { IsRecounted tally.old tally.new }
 {
@@ -66,7 +67,7 @@ fn health_at<M: Machine>(
     accepted: Option<Moment>,
 ) -> Result<Answered, Memory>
     ensures moves { LooksIn M.Office.Office
-        (λ records. IfOk result (λ answered. AnswersHealth now records (answer_effects answered)))
+        (λ records. IfOk result (λ answered. AnswersHealth accepted now records (answer_effects answered)))
         office.old office.new }
     ensures recounted { IsRecounted tally.old tally.new }
 {

@@ -3,6 +3,7 @@
 ghost use Rattle.std.specs.Prelude.{◌≡◌};
 ghost use Rattle.reg_office_api.specs.Calls.{LeadsIn};
 ghost use Rattle.reg_http_head.specs.Bytes.{collected_bytes};
+ghost use Rattle.reg_http_head.specs.Frame.{asked};
 ghost use Rattle.reg_http.specs.RoutedRequests.{path_of};
 ghost use Rattle.reg_http.specs.Exchanges.{IsEmpty, HasNoEffects};
 ghost use Rattle.reg_http.specs.RouteNames.{named_route, route_at};
@@ -11,7 +12,8 @@ ghost use Rattle.reg_http.specs.declared.exchange.UnsignedResponse.{UnsignedResp
 ghost use Rattle.reg_desk_server.specs.Outcomes.{outcome_of};
 ghost use Rattle.reg_desk_jobs.specs.Beginning.{AnswersBegun, BeginsAt, IsBegunRoute, ready_of};
 ghost use Rattle.reg_desk_jobs.specs.Counted.{CountsBegun};
-ghost use Rattle.reg_desk_jobs.specs.Exchanges.{dispatch};
+ghost use Rattle.reg_desk_jobs.specs.Admission.{CountsRequest};
+ghost use Rattle.reg_desk_jobs.specs.Exchanges.{admission_after, dispatch};
 ghost use Rattle.reg_desk_jobs.specs.SignerAnswers.{AnsweredAtSomePath};
 ghost use Rattle.reg_desk_jobs.specs.Watched.{IsRecounted};
 ghost use Rattle.reg_desk_metrics.specs.declared.tally.Tally.{Tally as Tallies};
@@ -85,8 +87,8 @@ pub(crate) fn answer_http<M: Machine>(
         × IsRecounted tally.old asked
         × LeadsIn M.Office.Office
         (λ signatory before after.
-        AnswersBegun (AnsweredAtSomePath M.signer_answered) is_open M.Office.signs now signatory before
-        (collected_bytes request.now) begun after)
+        AnswersBegun (AnsweredAtSomePath M.signer_answered) is_open M.Office.signs now
+        admission.old admission.new signatory before (collected_bytes request.now) begun after)
         office.old office.new
         × CountsBegun now (collected_bytes request.now) begun (outcome_of result) asked tally.new }
 {
@@ -136,8 +138,8 @@ fn exchange_at<M: Machine>(
 ) -> ReadyOrUnsigned<Exchange, UnsignedResponse>
     ensures moves { LeadsIn M.Office.Office
         (λ signatory before after.
-        AnswersBegun (AnsweredAtSomePath M.signer_answered) is_open M.Office.signs now signatory before
-        (collected_bytes request.now) result after)
+        AnswersBegun (AnsweredAtSomePath M.signer_answered) is_open M.Office.signs now
+        admission.old admission.new signatory before (collected_bytes request.now) result after)
         office.old office.new }
     ensures route { IsBegunRoute (collected_bytes request.now) result }
     ensures recounted { IsRecounted tally.old tally.new }
@@ -216,8 +218,12 @@ fn begin_at<M: Machine>(
     requires { route ≡ route_at (path_of target.now) }
     ensures moves { LeadsIn M.Office.Office
         (λ signatory before after.
-        BeginsAt is_open M.Office.signs now signatory before method.now target.now body.now result after)
+        BeginsAt is_open M.Office.signs now admission.old signatory before method.now target.now body.now
+        result after)
         office.old office.new }
+    ensures counted { CountsRequest result
+        (admission_after is_open now (asked method.now target.now body.now) admission.old)
+        admission.old admission.new }
     ensures recounted { IsRecounted tally.old tally.new }
 {
     match dispatch_of(is_open, route) {

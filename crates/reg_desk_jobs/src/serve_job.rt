@@ -150,6 +150,7 @@ fn serve_desk<'a, 'w, M: Machine, W: Write>(
     let signing = signing_of(&CrlSigner::of(signer, responder));
     let tally = Cell::new(Tally::new(signing, responder_end(machine, responder)));
     let connection_totals = Cell::new(ConnectionTotals::nothing());
+    let admission = Admission::new();
     let mut desk: Desk<'_, '_, M> = Desk {
         office,
         alloc,
@@ -161,7 +162,7 @@ fn serve_desk<'a, 'w, M: Machine, W: Write>(
         backoff: Backoff::none(),
         tally: &tally,
         connection_totals: &connection_totals,
-        admission: Admission::new(),
+        admission,
     };
     let ending = run_event_loop(event_loop, &mut desk, endpoint.port, requests, writer);
     (desk.office, ending)

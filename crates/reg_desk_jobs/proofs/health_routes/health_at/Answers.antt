@@ -10,9 +10,9 @@ pub returns-clause-moves : goal.returns-clause-moves
 returns-clause-moves g c =
     looks_as g.M.Office.Office.is_clean g.M.Office.Office.stands
     (λ records. HasFound c.args.tally.now records c.args.now c.found_at-found.result)
-    (λ records. IfOk c.health_answer.result (λ answered. AnswersHealth c.args.now records (answer_effects answered)))
+    (λ records. IfOk c.health_answer.result (λ answered. AnswersHealth c.args.accepted c.args.now records (answer_effects answered)))
     (λ records found. IfOk-weaker c.health_answer.result _ _
-    (λ answered is. (c.args.tally.now, c.found_at-found.result, found, (c.found_at-found.new.tally, c.args.accepted, is ∙ ap (λ it. plain (health_response it)) c.of.ensures)))
+    (λ answered is. (c.args.tally.now, c.found_at-found.result, found, (c.found_at-found.new.tally, is ∙ ap (λ it. plain (health_response it)) c.of.ensures)))
     c.health_answer.ensures)
     _
     _

@@ -1,6 +1,8 @@
-use Rattle.std.proofs.Common.{[], inl, inr, refl}
+use Rattle.std.proofs.Common.{[], ap, inl, inr, refl}
 use Rattle.std.specs.Prelude.{is_some}
-use Rattle.reg_office_api.proofs.PublicLaws.{stays}
+use Rattle.reg_office_api.proofs.PublicLaws.{follows, stays}
+use Rattle.reg_core.specs.Records.{Records}
+use Rattle.reg_desk_jobs.specs.Admission.{first_admission}
 use Rattle.reg_desk_jobs.specs.Signers.{answer_socket}
 use Rattle.reg_desk_jobs.proofs.DeskRuns.{desk_moves}
 use Rattle.reg_desk_jobs.proofs.Fates.{unbound}
@@ -10,7 +12,9 @@ pub returns-in-Err : goal.returns-in-Err
 returns-in-Err g c = (
   [],
   [],
-  stays g.M.Office.Office.is_clean g.M.Office.Office.stands _ _ refl,
+  follows g.M.Office.Office.is_clean g.M.Office.Office.stands _ _
+      (λ signatory before after same. (first_admission, ap (λ (records : Records). (records, first_admission)) same)) _ _
+      (stays g.M.Office.Office.is_clean g.M.Office.Office.stands _ _ refl),
   inl (unbound c.in-Err.why c.in-Err.ensures.err, refl),
 )
 
@@ -23,6 +27,7 @@ returns g c =
           (λ desk. g.M.Office.Office.is_clean desk.office)
           (λ signatory desk records. g.M.Office.Office.stands signatory desk.office records)
           (λ desk. desk.is_open)
+          (λ desk. desk.admission)
           g.M.Office.Office.signs
           g.M.Machine.signer_answered
           (answer_socket c.args.signer.now c.args.responder.now)
@@ -33,6 +38,7 @@ returns g c =
           ran.0
           ran.1
           c.is_some.ensures
+          c.new-admission.ensures
           ran.2,
       inr (c.in-Ok.ensures.ok, ran.3),
     )

@@ -10,9 +10,9 @@ returns-clause-moves g c =
     let at : Signatory → Records → Records → Type 0 = λ identity before after.
     WordAt c.args.self.now.admission.accepted g.M.Office.Office.signs c.args.known.moment identity before c.args.line.now c.answer_counted-reply.result.items after in
     let step : Signatory → Records → Records → Type 0 = λ identity before after.
-    Word g.M.Office.Office.signs g.M.Machine.clock_reached identity before c.args.line.now c.answer_counted-reply.result.items after in
+    Word c.args.self.now.admission.accepted g.M.Office.Office.signs g.M.Machine.clock_reached identity before c.args.line.now c.answer_counted-reply.result.items after in
     then_still g.M.Office.Office.is_clean g.M.Office.Office.stands step _ _ _
     (still_then g.M.Office.Office.is_clean g.M.Office.Office.stands step _ _ _ c.set_preset.ensures
-    (follows g.M.Office.Office.is_clean g.M.Office.Office.stands at step (λ identity before after said. (c.args.self.now.admission.accepted, c.args.known.moment, c.requires.line_added, said))
+    (follows g.M.Office.Office.is_clean g.M.Office.Office.stands at step (λ identity before after said. (c.args.known.moment, c.requires.line_added, said))
     _ _ c.answer_counted-reply.ensures.moves))
     c.set_preset-2.ensures
