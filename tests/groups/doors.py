@@ -135,6 +135,21 @@ def the_lock_of_the_folder_of_a_control_socket(t):
     os.close(folder)
 
 
+# What ends `desk at`, and how many of its lines were run.
+CLOSED = {"<&-": (b"F4 read\n", 0), ">&-": (b"F5 write\n", 1), ">&- 2>&-": (b"", 1), "<&- >&- 2>&-": (b"", 0)}
+
+
+@each({closed: (closed, *ends) for closed, ends in CLOSED.items()})
+def no_connection_gets_the_number_of_a_closed_standard_stream(t, closed, told, lines):
+    """Else `desk at` would send the replies to the desk, or wait for a line from it."""
+    t.register()
+    t.open()
+    words = ["bash", "-c", f'exec "$@" {closed}', "-", program(), "at", "counter"]
+    ran = t.tried(*words, given="subscriber acme\nsubscriber beta\n", timeout=60, env=environment())
+    t.same((ran.returncode, ran.stderr), (1, told))
+    t.same(t.control().ask("subscriber last"), f"subscriber {lines + 1}", "a line behind it")
+
+
 @test
 def moments_are_those_of_the_machines_clock(t):
     t.register()

@@ -47,17 +47,17 @@ fn of_certificate(alloc: Global, line: &CertificateLine) -> Result<Vec<Field>, A
     Vec::from_slice(
         alloc,
         &[
-            field("serial", Cell::Serial(certificate.serial)),
-            field("subscriber", Cell::Number(line.subscriber.id)),
-            field("name", Cell::Text(line.subscriber.name)),
-            field("order", Cell::Number(certificate.order)),
-            field("notBefore", Cell::At(certificate.not_before)),
-            field("notAfter", Cell::At(certificate.not_after)),
-            field("status", status_cell(line.status)),
-            field("revokedAt", revoked_at_cell_of(line.status)),
-            field("reason", reason_cell_of(line.status)),
-            field("firstCrl", first_crl_cell(line.listing)),
-            field("lastCrl", last_crl_cell(line.listing)),
+            field_with("serial", Cell::Serial(certificate.serial)),
+            field_with("subscriber", Cell::Number(line.subscriber.id)),
+            field_with("name", Cell::Text(line.subscriber.name)),
+            field_with("order", Cell::Number(certificate.order)),
+            field_with("notBefore", Cell::At(certificate.not_before)),
+            field_with("notAfter", Cell::At(certificate.not_after)),
+            field_with("status", status_cell(line.status)),
+            field_with("revokedAt", revoked_at_cell_of(line.status)),
+            field_with("reason", reason_cell_of(line.status)),
+            field_with("firstCrl", first_crl_cell(line.listing)),
+            field_with("lastCrl", last_crl_cell(line.listing)),
         ],
     )
 }
@@ -67,11 +67,11 @@ fn of_revocation(alloc: Global, line: &RevokedLine) -> Result<Vec<Field>, AllocE
 {
     let mut fields = of_certificate(alloc, &line.certificate)?;
     fields.extend_from_slice(&[
-        field("request", Cell::Number(line.request.id)),
-        field("ground", ground_cell(line.request.ground)),
-        field("received", Cell::At(line.request.received)),
-        field("due", Cell::At(line.due)),
-        field(
+        field_with("request", Cell::Number(line.request.id)),
+        field_with("ground", ground_cell(line.request.ground)),
+        field_with("received", Cell::At(line.request.received)),
+        field_with("due", Cell::At(line.due)),
+        field_with(
             "lateness",
             Cell::Number(seconds_past(line.due, line.revocation.at)),
         ),
@@ -86,16 +86,16 @@ fn of_request(alloc: Global, line: &RequestLine) -> Result<Vec<Field>, AllocErro
     Vec::from_slice(
         alloc,
         &[
-            field("request", Cell::Number(request.id)),
-            field("serial", Cell::Serial(request.serial)),
-            field("ground", ground_cell(request.ground)),
-            field("received", Cell::At(request.received)),
-            field("due", Cell::At(line.due)),
-            field("subscriber", Cell::Number(line.subscriber.id)),
-            field("name", Cell::Text(line.subscriber.name)),
-            field("order", Cell::Number(line.certificate.order)),
-            field("notBefore", Cell::At(line.certificate.not_before)),
-            field("notAfter", Cell::At(line.certificate.not_after)),
+            field_with("request", Cell::Number(request.id)),
+            field_with("serial", Cell::Serial(request.serial)),
+            field_with("ground", ground_cell(request.ground)),
+            field_with("received", Cell::At(request.received)),
+            field_with("due", Cell::At(line.due)),
+            field_with("subscriber", Cell::Number(line.subscriber.id)),
+            field_with("name", Cell::Text(line.subscriber.name)),
+            field_with("order", Cell::Number(line.certificate.order)),
+            field_with("notBefore", Cell::At(line.certificate.not_before)),
+            field_with("notAfter", Cell::At(line.certificate.not_after)),
         ],
     )
 }
@@ -106,9 +106,9 @@ fn of_history(alloc: Global, history: &RequestHistory) -> Result<Vec<Field>, All
     let declined = history.request.request.declined;
     let mut fields = of_request(alloc, &history.request)?;
     fields.extend_from_slice(&[
-        field("state", state_cell(declined, history.status)),
-        field("decided", decided_cell_of(declined, history.status)),
-        field("lateness", number_cell(history.lateness)),
+        field_with("state", state_cell(declined, history.status)),
+        field_with("decided", decided_cell_of(declined, history.status)),
+        field_with("lateness", number_cell(history.lateness)),
     ])?;
     Ok(fields)
 }
@@ -119,8 +119,8 @@ fn of_subscriber(alloc: Global, subscriber: &SubscriberRow) -> Result<Vec<Field>
     Vec::from_slice(
         alloc,
         &[
-            field("subscriber", Cell::Number(subscriber.id)),
-            field("name", Cell::Text(subscriber.name)),
+            field_with("subscriber", Cell::Number(subscriber.id)),
+            field_with("name", Cell::Text(subscriber.name)),
         ],
     )
 }
@@ -131,11 +131,11 @@ fn of_order(alloc: Global, line: &OrderLine) -> Result<Vec<Field>, AllocError>
     Vec::from_slice(
         alloc,
         &[
-            field("order", Cell::Number(line.order.id)),
-            field("subscriber", Cell::Number(line.subscriber.id)),
-            field("name", Cell::Text(line.subscriber.name)),
-            field("days", Cell::Number(line.order.days)),
-            field("serial", serial_cell(line.serial)),
+            field_with("order", Cell::Number(line.order.id)),
+            field_with("subscriber", Cell::Number(line.subscriber.id)),
+            field_with("name", Cell::Text(line.subscriber.name)),
+            field_with("days", Cell::Number(line.order.days)),
+            field_with("serial", serial_cell(line.serial)),
         ],
     )
 }
@@ -146,14 +146,14 @@ fn of_crl(alloc: Global, crl: &CrlRow) -> Result<Vec<Field>, AllocError>
     Vec::from_slice(
         alloc,
         &[
-            field("crl", Cell::Number(crl.number)),
-            field("thisUpdate", Cell::At(crl.this_update)),
+            field_with("crl", Cell::Number(crl.number)),
+            field_with("thisUpdate", Cell::At(crl.this_update)),
         ],
     )
 }
 
 /// The field with this name and value.
-fn field(name: &'static str, cell: Cell) -> Field
+fn field_with(name: &'static str, cell: Cell) -> Field
     ensures { field_of_text result ≡ (name.now, cell) }
 {
     Field { name, cell }

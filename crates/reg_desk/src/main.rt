@@ -3,12 +3,15 @@
 
 use reg_desk_cli::{Usage, no_text, read_words};
 use reg_desk_program::run_desk;
-use std::env;
+use std::fs::{File, OpenOptions};
 use std::io::ErrorKind;
+use std::os::fd::AsRawFd;
 use std::process::ExitCode;
+use std::{env, io};
 
 /// Does the job of the command line. Returns the exit status of [`run_desk`]; 0 for help or the version, 2 for a wrong command line, 1 without memory.
 fn main(rt: HostRuntime) -> ExitCode {
+    let _streams = fill_closed_streams(&rt);
     let status = match words_of(&rt) {
         Ok(words) => match read_words(rt.alloc(), words.as_slice()) {
             Ok(invocation) => run_desk(&rt, &invocation),
@@ -17,6 +20,21 @@ fn main(rt: HostRuntime) -> ExitCode {
         Err(usage) => print_usage(&rt, &usage),
     };
     ExitCode::from(status)
+}
+
+/// Opens `/dev/null` with the number of each standard stream that is closed. Else a socket could get that number, and its peer what is printed. A
+/// read of such a standard input still fails, and so does a write to the others.
+fn fill_closed_streams(rt: &HostRuntime) -> io::Result<Vec<File>> {
+    let mut filled = Vec::new(rt.alloc());
+    for stream in [0, 1, 2] {
+        let mut options = OpenOptions::new();
+        options.write(stream == 0).read(stream != 0);
+        let file = options.open(rt, "/dev/null")?;
+        if file.as_raw_fd() == stream {
+            filled.push(file)?;
+        }
+    }
+    Ok(filled)
 }
 
 fn words_of(rt: &HostRuntime) -> Result<Vec<String>, Usage> {
