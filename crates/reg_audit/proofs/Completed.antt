@@ -7,7 +7,7 @@ use Rattle.reg_core.specs.Records.{Records}
 use Rattle.reg_store_tables.specs.DerivedRows.{DerivedRows, office_days}
 use Rattle.reg_store_tables.specs.Shows.{AreRecordsAndDerived, Holds, ShowsBoth}
 use Rattle.reg_audit.specs.Complete.{AreTables, AreCounts, AreOffice, ShowSome, SubscribersAgree, OrdersAgree, CertificatesAgree, RequestsAgree, RevocationsAgree, CrlsAgree, LettersAgree, ListingsAgree}
-use Rattle.reg_audit.specs.Faults.{EndsAtBrokenRow, IsDenied}
+use Rattle.reg_audit.specs.Faults.{EndsAtBrokenRow, IsDisproved}
 use Rattle.reg_audit.specs.declared.fault.AuditFault.{AuditFault}
 use Rattle.reg_audit.specs.declared.fault.AuditFault.TheVariants.{Memory, Store, Broken}
 
@@ -65,7 +65,7 @@ pub holds_both : {S : Type 0} (g : Ghosts S) (h : Held S) (db : Database) (recor
 holds_both g h db records columns these both = record { saved = these.saved; tables = λ clean up. subst (λ now. AreRecordsAndDerived now records columns) (sym (these.tables clean up)) both }
 
 -- an audit that tells no row as broken denies nothing
-pub not_broken_denied : (records : Records) (columns : DerivedRows) (fault : AuditFault) → (EndsAtBrokenRow fault → ⊥) → IsDenied fault records columns
+pub not_broken_denied : (records : Records) (columns : DerivedRows) (fault : AuditFault) → (EndsAtBrokenRow fault → ⊥) → IsDisproved fault records columns
 not_broken_denied records columns Memory never = tt
 not_broken_denied records columns Store never = tt
 not_broken_denied records columns (Broken row) never = absurd (never tt)

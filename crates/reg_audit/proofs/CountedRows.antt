@@ -17,7 +17,7 @@ use Rattle.reg_store_tables.specs.Rows.{number, counted_rows, stored_certificate
 use Rattle.reg_store_tables.specs.Schema.{register_schema}
 use Rattle.reg_store_tables.proofs.PublicLaws.{selects, as_command, no_limit, with_rowids, behind, rowids_are, rowids_numbered}
 use Rattle.reg_audit.specs.Cells.{CountedFrom}
-use Rattle.reg_audit.specs.ReadTexts.{IsReadOf}
+use Rattle.reg_audit.specs.ReadQueries.{IsReadOf}
 use Rattle.reg_audit.specs.declared.sql.AuditQuery.TheVariants.{Subscribers, Orders, Requests, Crls, CertificateRowids, RevocationRowids, StandingRowids, ListingRowids}
 use Rattle.reg_audit.specs.declared.sql.TheConstants.{CERTIFICATE_ROWIDS, REVOCATION_ROWIDS, STANDING_ROWIDS, LISTING_ROWIDS}
 use Rattle.reg_audit.proofs.Showing.{keyed_are, subscribers_are, orders_are, requests_are, crls_are}

@@ -20,10 +20,10 @@ use Rattle.reg_store_tables.specs.DerivedRows.{DerivedRows}
 use Rattle.reg_store_tables.specs.Kept.{Kept, listed_of}
 use Rattle.reg_store_tables.proofs.PublicLaws.{mapped}
 use Rattle.reg_audit_rows.proofs.PublicLaws.{keys_made}
-use Rattle.reg_audit_rows.specs.KeptAsRead.{listed_in}
+use Rattle.reg_audit_rows.specs.DerivedAsRead.{listed_in}
 use Rattle.reg_audit_rows.specs.declared.derived_rows.Listed.{Listed}
 use Rattle.reg_audit.proofs.Signed.{numbers_differ}
-use Rattle.reg_audit.specs.Faults.{EndsAtBrokenRow, IsBrokenRow, IsDenied}
+use Rattle.reg_audit.specs.Faults.{EndsAtBrokenRow, BreaksRule, IsDisproved}
 use Rattle.reg_audit.specs.Stored.{CanList, IsSomeCrl, IsStored}
 use Rattle.reg_audit.specs.ReadableValues.{HasAllowedDays, HasValues}
 use Rattle.reg_audit.specs.declared.fault.AuditFault.{AuditFault}
@@ -124,7 +124,7 @@ updates_before records sound =
 
 module _ (records : Records) (columns : DerivedRows) where
   -- where the rows are no reached records
-  pub rows_denied : (fault : AuditFault) → (EndsAtBrokenRow fault → ¬ (HasValues records × ReachedRows records × Kept columns records)) → IsDenied fault records columns
+  pub rows_denied : (fault : AuditFault) → (EndsAtBrokenRow fault → ¬ (HasValues records × ReachedRows records × Kept columns records)) → IsDisproved fault records columns
   rows_denied Memory never = tt
   rows_denied Store never = tt
   rows_denied (Broken row) never = record {
@@ -133,8 +133,8 @@ module _ (records : Records) (columns : DerivedRows) where
   }
 
   -- where the bytes of a CRL are others
-  pub bytes_denied : (fault : AuditFault) → (HasValues records → SoundRows records → Kept columns records → ¬ IsBrokenRow fault) → (HasValues records → SoundRows records → Kept columns records → EndsAtBrokenRow fault → ¬ CrlsSigned IsSomeCrl records)
-      → IsDenied fault records columns
+  pub bytes_denied : (fault : AuditFault) → (HasValues records → SoundRows records → Kept columns records → ¬ BreaksRule fault) → (HasValues records → SoundRows records → Kept columns records → EndsAtBrokenRow fault → ¬ CrlsSigned IsSomeCrl records)
+      → IsDisproved fault records columns
   bytes_denied Memory never others = tt
   bytes_denied Store never others = tt
   bytes_denied (Broken row) never others = record {
@@ -143,7 +143,7 @@ module _ (records : Records) (columns : DerivedRows) where
   }
 
   -- where the office was made with other days
-  pub days_denied : (fault : AuditFault) → (EndsAtBrokenRow fault → ¬ HasAllowedDays columns) → IsDenied fault records columns
+  pub days_denied : (fault : AuditFault) → (EndsAtBrokenRow fault → ¬ HasAllowedDays columns) → IsDisproved fault records columns
   days_denied Memory never = tt
   days_denied Store never = tt
   days_denied (Broken row) never = record {

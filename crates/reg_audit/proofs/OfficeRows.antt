@@ -24,7 +24,7 @@ use Rattle.reg_store_tables.specs.Schema.{register_schema, key_column, required,
 use Rattle.reg_store_tables.proofs.PublicLaws.{selects, as_command, no_limit}
 use Rattle.reg_audit.specs.Cells.{HasCells, IsOfSomeRecord}
 use Rattle.reg_audit.specs.Complete.{AreTables, AreOffice, AreCounts, IsTermsOf}
-use Rattle.reg_audit.specs.ReadTexts.{IsReadFrom, IsReadOf}
+use Rattle.reg_audit.specs.ReadQueries.{IsReadFrom, IsReadOf}
 use Rattle.reg_store_tables.specs.ShownRows.{shown_counts}
 use Rattle.reg_audit.specs.ReadableValues.{HasAllowedDays}
 use Rattle.reg_audit.specs.declared.complete.Terms.{Terms as Found}

@@ -11,10 +11,10 @@ use Rattle.reg_core.specs.Sound.{NumberedFrom, KeysDiffer, CrlsSigned}
 use Rattle.reg_core_laws.proofs.PublicLaws.{all_push, all_weaker, numbered_above, each_found}
 use Rattle.reg_store_tables.specs.DerivedRows.{DerivedRows}
 use Rattle.reg_store_tables.specs.Kept.{Kept, listed_of}
-use Rattle.reg_audit_rows.specs.KeptAsRead.{listed_in}
-use Rattle.reg_audit_rows.specs.Crls.{Lists}
+use Rattle.reg_audit_rows.specs.DerivedAsRead.{listed_in}
+use Rattle.reg_audit_rows.specs.Crls.{MatchRecords}
 use Rattle.reg_audit_rows.specs.declared.derived_rows.Listed.{Listed}
-use Rattle.reg_audit.specs.Faults.{EndsAtBrokenRow, IsBrokenRow}
+use Rattle.reg_audit.specs.Faults.{EndsAtBrokenRow, BreaksRule}
 use Rattle.reg_audit.specs.declared.fault.AuditFault.{AuditFault}
 use Rattle.reg_audit.specs.declared.fault.AuditFault.TheVariants.{Memory, Store, Broken}
 use Rattle.reg_audit.specs.Stored.{IsSomeCrl, IsStored}
@@ -51,7 +51,7 @@ all_more P rows i row within is all one = subst (AllByRecursion P) (sym (take_mo
 
 -- what was read of the office and of the listings is that of the records
 pub lists_are : {issuer : Issuer} {crl_life : ℕ} {listed : List Listed} (records : Records) (columns : DerivedRows) → issuer ≡ records.issuer → crl_life ≡ records.policy.crl_life → NumberedFrom (λ crl. crl.number) 1 records.crls → map listed_in listed ≡ columns.listed
-    → Kept columns records → Lists issuer crl_life listed records
+    → Kept columns records → MatchRecords issuer crl_life listed records
 lists_are records columns by_issuer by_life numbered listed kept = record {
   by_issuer = by_issuer;
   by_life = by_life;
@@ -60,7 +60,7 @@ lists_are records columns by_issuer by_life numbered listed kept = record {
 }
 
 -- a row that breaks a rule is told
-pub row_is_broken : (reason : AuditFault) → IsBrokenRow reason → EndsAtBrokenRow reason
+pub row_is_broken : (reason : AuditFault) → BreaksRule reason → EndsAtBrokenRow reason
 row_is_broken Memory is = is
 row_is_broken Store is = is
 row_is_broken (Broken broken) is = tt

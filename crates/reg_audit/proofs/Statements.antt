@@ -6,7 +6,7 @@ use Rattle.sqlite_tied.specs.Compute.{everything}
 use Rattle.reg_store_tables.specs.Schema.{register_schema}
 use Rattle.reg_store_tables.specs.ReadStatements.{IsReading}
 use Rattle.reg_store_tables.proofs.PublicLaws.{select_never}
-use Rattle.reg_audit.specs.ReadTexts.{text_of}
+use Rattle.reg_audit.specs.ReadQueries.{sql_of}
 use Rattle.reg_audit.specs.declared.sql.AuditQuery.{AuditQuery}
 use Rattle.reg_audit.specs.declared.sql.AuditQuery.TheVariants.{Office, Subscribers, Orders, Certificates, Requests, Revocations, Crls, Standings, Counts, Listings, CertificateRowids, RevocationRowids, StandingRowids, CountsRowid, ListingRowids, Terms, Steps}
 use Rattle.reg_audit.specs.declared.sql.TheConstants.{OFFICE, SUBSCRIBERS, ORDERS, CERTIFICATES, REQUESTS, REVOCATIONS, CRLS, STANDINGS, COUNTS, LISTINGS, CERTIFICATE_ROWIDS, REVOCATION_ROWIDS, STANDING_ROWIDS, COUNTS_ROWID, LISTING_ROWIDS, TERMS, STEPS}
@@ -79,7 +79,7 @@ reading_steps : IsReading STEPS.now
 unfolding understood everything register_schema first
 reading_steps = record { plain = (refl, refl); unlisted = refl; never = select_never STEPS.now _ _ refl refl refl }
 
-pub reading : (what : AuditQuery) → IsReading (text_of what)
+pub reading : (what : AuditQuery) → IsReading (sql_of what)
 reading Office = reading_office
 reading Subscribers = reading_subscribers
 reading Orders = reading_orders

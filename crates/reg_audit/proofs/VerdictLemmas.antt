@@ -12,10 +12,10 @@ use Rattle.reg_audit_rows.specs.declared.audit_result.Audited.{Audited}
 use Rattle.reg_audit.specs.declared.fault.AuditFault.{AuditFault}
 use Rattle.reg_audit.specs.declared.fault.AuditFault.TheVariants as audit_fault
 use Rattle.reg_audit.specs.Numbers.{AreNumbersOf}
-use Rattle.reg_audit.specs.Faults.{IsDenied}
+use Rattle.reg_audit.specs.Faults.{IsDisproved}
 use Rattle.reg_store_opening.specs.Examined.{HasVersionAndOffice}
 use Rattle.reg_store_opening.specs.declared.version_check.OlderOffice.{OlderOffice}
-use Rattle.reg_audit.specs.AuditResults.{CountedBy, DeniedBy, IsSound, audit_result_of}
+use Rattle.reg_audit.specs.AuditResults.{CountedBy, DisprovedBy, IsSound, audit_result_of}
 use Rattle.reg_audit_rows.specs.declared.audit_result.AuditResult.{AuditResult}
 
 module _ (P : Type 0) where
@@ -36,13 +36,13 @@ module _ (P : Type 0) where
   always_said (Err fault) holds = tt
 
 module _ (records : Records) (columns : DerivedRows) where
-  well_denied : (audited : Result Audited AuditFault) → IfErr audited (λ reason. IsDenied reason records columns) → IfOk (audit_result_of audited) (λ audit_result. DeniedBy audit_result records columns)
+  well_denied : (audited : Result Audited AuditFault) → IfErr audited (λ reason. IsDisproved reason records columns) → IfOk (audit_result_of audited) (λ audit_result. DisprovedBy audit_result records columns)
   well_denied (Err (audit_fault.Broken broken)) denied = denied
   well_denied other denied = tt
 
   -- what a row that was found denies, it denies where it is told
-  pub denied_said : (audited : Result Audited AuditFault) (result : Result AuditResult StoreFault) → result ≡ audit_result_of audited → IfErr audited (λ reason. IsDenied reason records columns) → IfOk result (λ audit_result. DeniedBy audit_result records columns)
-  denied_said audited result is denied = subst (λ (r : Result AuditResult StoreFault). IfOk r (λ audit_result. DeniedBy audit_result records columns)) (sym is) (well_denied audited denied)
+  pub denied_said : (audited : Result Audited AuditFault) (result : Result AuditResult StoreFault) → result ≡ audit_result_of audited → IfErr audited (λ reason. IsDisproved reason records columns) → IfOk result (λ audit_result. DisprovedBy audit_result records columns)
+  denied_said audited result is denied = subst (λ (r : Result AuditResult StoreFault). IfOk r (λ audit_result. DisprovedBy audit_result records columns)) (sym is) (well_denied audited denied)
 
 well_counted : (records : Records) (audited : Result Audited AuditFault) → IfOk audited (AreNumbersOf records) → IfOk (audit_result_of audited) (λ audit_result. CountedBy audit_result records)
 well_counted records (Ok found) counted = counted

@@ -8,7 +8,7 @@ use Rattle.sqlite.specs.Held.{Held, state}
 use Rattle.reg_store_tables.specs.Schema.{register_schema}
 use Rattle.reg_store_tables.specs.Shows.{Holds}
 use Rattle.reg_store_tables.specs.Stays.{IsRegister}
-use Rattle.reg_audit.specs.ReadTexts.{AreEach}
+use Rattle.reg_audit.specs.ReadQueries.{AreEach}
 use Rattle.reg_audit.specs.declared.sql.AuditQuery.{AuditQuery}
 
 module _ {Rows : Type 0} (Is : AuditQuery → List Row → Type 0) (items : Rows → List Row) where

@@ -10,7 +10,7 @@ use Rattle.reg_store_opening.specs.Examined.{HasVersionAndOffice}
 use Rattle.reg_store_opening.specs.declared.version_check.OlderOffice.{OlderOffice}
 use Rattle.reg_audit_rows.specs.declared.audit_result.Audited.{Audited}
 use Rattle.reg_audit.specs.Numbers.{AreNumbersOf}
-use Rattle.reg_audit.specs.Faults.{Denies}
+use Rattle.reg_audit.specs.Faults.{Disproves}
 use Rattle.reg_audit.specs.declared.fault.AuditFault.{AuditFault}
 use Rattle.reg_audit.specs.declared.fault.AuditFault.TheVariants as audit_fault
 use Rattle.reg_audit_rows.specs.declared.audit_result.AuditResult.{AuditResult}
@@ -34,9 +34,9 @@ CountedBy (Sound found) records = AreNumbersOf records found
 CountedBy _ records = Unit {0}
 
 -- what a `Broken` result disproves of the records and derived rows that the tables show
-abbrev pub DeniedBy : AuditResult → Records → DerivedRows → Type 0
-DeniedBy (Broken row) records columns = Denies row records columns
-DeniedBy _ records columns = Unit {0}
+abbrev pub DisprovedBy : AuditResult → Records → DerivedRows → Type 0
+DisprovedBy (Broken row) records columns = Disproves row records columns
+DisprovedBy _ records columns = Unit {0}
 
 -- what a result says of the tables that were read: an older version, with its row of `office`; or the program's version, with its row
 -- of `office`, and another schema than a register's (`OtherSchema`) or a register's (`Sound` and `Broken`)

@@ -40,22 +40,22 @@ abbrev pub NoBrokenRowIf : {T : Type 0} → Type 0 → Result T AuditFault → T
 NoBrokenRowIf Holds result = IfErr result (λ fault. EndsAtBrokenRow fault → ¬ Holds)
 
 -- the fault is a row that breaks a rule of the records or of the derived tables, not a CRL with other bytes
-abbrev pub IsBrokenRow : AuditFault → Type 0
-IsBrokenRow Memory = ⊥
-IsBrokenRow Store = ⊥
-IsBrokenRow (Broken broken) = broken.why ≢ OtherBytes
+abbrev pub BreaksRule : AuditFault → Type 0
+BreaksRule Memory = ⊥
+BreaksRule Store = ⊥
+BreaksRule (Broken broken) = broken.why ≢ OtherBytes
 
 -- What a broken row disproves of the records and derived rows that tables show. `whole`: not all of this holds: the records have
 -- a register's values and are sound (`Reached`), each CRL has the bytes of its entries, the derived rows match, and the column
 -- `days` of `office` is a number that a schedule can have. `rows`: the same without the bytes of CRLs, unless these are the defect.
-pub record Denies (row : Row) (records : Records) (columns : DerivedRows) : Type 0 where
+pub record Disproves (row : Row) (records : Records) (columns : DerivedRows) : Type 0 where
   pub whole : HasValues records → Reached IsSomeCrl records → Kept columns records → HasAllowedDays columns
       → ⊥
   pub rows : row.why ≢ OtherBytes → HasValues records → ReachedRows records → Kept columns records
       → HasAllowedDays columns → ⊥
 
 -- an audit that ends with a broken row disproves this by that row
-abbrev pub IsDenied : AuditFault → Records → DerivedRows → Type 0
-IsDenied Memory records columns = Unit {0}
-IsDenied Store records columns = Unit {0}
-IsDenied (Broken row) records columns = Denies row records columns
+abbrev pub IsDisproved : AuditFault → Records → DerivedRows → Type 0
+IsDisproved Memory records columns = Unit {0}
+IsDisproved Store records columns = Unit {0}
+IsDisproved (Broken row) records columns = Disproves row records columns

@@ -14,7 +14,7 @@ use Rattle.reg_audit.specs.Complete.{ShowsSound}
 use Rattle.reg_audit_rows.specs.declared.audit_result.AuditResult.{AuditResult}
 use Rattle.reg_audit.specs.Presumed.{IsPresumed}
 use Rattle.reg_audit.specs.ReadableValues.{IsSoundRegister}
-use Rattle.reg_audit.specs.AuditResults.{CountedBy, DeniedBy, IsSound, ReportsTables}
+use Rattle.reg_audit.specs.AuditResults.{CountedBy, DisprovedBy, IsSound, ReportsTables}
 
 -- `Sound`: all records that the tables show are sound, and their numbers are reported; there are such records if the presumed facts hold.
 -- `Broken`: the tables show no sound records. Other results say which tables there are. No error is `NotEmpty`. No table changes.
@@ -29,7 +29,7 @@ pub record IsJudged {S : Type 0} (g : Ghosts S) (old new : Held S)
   pub counted : (records : Records) (columns : DerivedRows) → ShowsBoth g old records columns
       → HasCleanDisk (state g new) → IfOk result (λ audit_result. CountedBy audit_result records)
   pub broken : (records : Records) (columns : DerivedRows) → ShowsBoth g old records columns
-      → HasCleanDisk (state g new) → IfOk result (λ audit_result. DeniedBy audit_result records columns)
+      → HasCleanDisk (state g new) → IfOk result (λ audit_result. DisprovedBy audit_result records columns)
   pub tells : HasCleanDisk (state g new)
       → IfOk result (λ audit_result. ReportsTables audit_result (state g old).now)
   pub newer : HasCleanDisk (state g new) → result ≡ Err NewVersion

@@ -1,7 +1,7 @@
 pub mod ReadableValues
 pub mod Stored
 pub mod Faults
-pub mod ReadTexts
+pub mod ReadQueries
 pub mod ShownTables
 pub mod ShownRows
 pub mod Cells

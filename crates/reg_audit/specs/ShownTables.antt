@@ -8,7 +8,7 @@ use Rattle.reg_core.specs.Records.{Records}
 use Rattle.reg_store_tables.specs.DerivedRows.{DerivedRows}
 use Rattle.reg_store_tables.specs.Shows.{ShowsBoth}
 use Rattle.reg_audit.specs.Faults.{NoBrokenRow}
-use Rattle.reg_audit.specs.ReadTexts.{AreRead, IsReadOf, whole}
+use Rattle.reg_audit.specs.ReadQueries.{AreRead, IsReadOf, whole}
 use Rattle.reg_audit.specs.ReadableValues.{AreReadable}
 use Rattle.reg_audit.specs.declared.fault.AuditFault.{AuditFault}
 use Rattle.reg_audit.specs.declared.sql.AuditQuery.{AuditQuery}

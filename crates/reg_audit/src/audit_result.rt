@@ -49,7 +49,7 @@ fn is_over_register<S: Alter>(alloc: Global, conn: &Connection<S>) -> Result<boo
 ///
 /// `Sound`: there are sound records that the tables show, if the connection was open and the presumed facts hold
 /// (`IsPresumed`). `Broken`: there are none; if the defect is not the bytes of a CRL, there are none even if all CRLs had the
-/// right bytes (`Denies`). `Older` and `OtherSchema` say which tables there are (`ReportsTables`).
+/// right bytes (`Disproves`). `Older` and `OtherSchema` say which tables there are (`ReportsTables`).
 ///
 /// # Errors
 /// `NotARegister` and `NewVersion`, as from [`reg_store_opening::open`]; `Memory`; `Store` as from [`crate::audit`].

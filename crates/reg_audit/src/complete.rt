@@ -9,7 +9,7 @@ ghost use Rattle.reg_store_tables.specs.ReadStatements.{shown_step};
 ghost use Rattle.reg_store_tables.specs.Rows.{number};
 ghost use Rattle.reg_audit.specs.Cells.{CountedFrom, HasCells, IsOfSomeRecord};
 ghost use Rattle.reg_audit.specs.Complete.{AreTables, AreCounts, AreOffice, IsTermsOf, ShowSome};
-ghost use Rattle.reg_audit.specs.ReadTexts.{AreRead, AreReadFrom, IsReadFrom, read_besides, whole};
+ghost use Rattle.reg_audit.specs.ReadQueries.{AreRead, AreReadFrom, IsReadFrom, other_queries, whole};
 ghost use Rattle.reg_audit.specs.Faults.{NoBrokenRow};
 ghost use Rattle.reg_audit.specs.declared.sql.AuditQuery.TheVariants.{Counts as OfCounts, CountsRowid, Terms as OfTerms, Steps};
 ghost use Rattle.reg_audit.specs.ShownTables.{OnAllRead};
@@ -23,7 +23,7 @@ use reg_core::{
     CertRow, Counts, CrlRow, Moment, OrderRow, Policy, RequestRow, RevocationRow, Schedule,
     SubscriberRow,
 };
-use reg_store_tables::rows::{ShownRow, Step};
+use reg_store_tables::rows::{RowKind, Step};
 use reg_store_tables::sql_values::number_at;
 use sqlite::Row;
 use std::alloc::Global;
@@ -63,18 +63,18 @@ fn check_counted(table: RegisterTable, rows: &[Row]) -> Result<(), AuditFault>
     Ok(())
 }
 
-fn stands<T: ShownRow>(row: &Row) -> bool
-    ensures { IsTrue result → IsOfSomeRecord T.is_keyed T.shown row.now }
+fn stands<T: RowKind>(row: &Row) -> bool
+    ensures { IsTrue result → IsOfSomeRecord T.has_valid_serial T.shown row.now }
 {
-    match T::in_row(row) {
+    match T::read_row(row) {
         Some(_it) => true,
         None => false,
     }
 }
 
 /// Checks that each row is the row of some record.
-fn each_stands<T: ShownRow>(rows: &[Row]) -> Result<(), AuditFault>
-    ensures stand { OnOk result (AllByRecursion (IsOfSomeRecord T.is_keyed T.shown) rows.now) }
+fn each_stands<T: RowKind>(rows: &[Row]) -> Result<(), AuditFault>
+    ensures stand { OnOk result (AllByRecursion (IsOfSomeRecord T.has_valid_serial T.shown) rows.now) }
     ensures broken { NoBrokenRow result }
 {
     for row in rows {
@@ -86,9 +86,9 @@ fn each_stands<T: ShownRow>(rows: &[Row]) -> Result<(), AuditFault>
 }
 
 /// Checks that the rows of a table are those of some records, with the ids or CRL numbers 1, 2, 3 and so on.
-fn check_keyed<T: ShownRow>(table: RegisterTable, rows: &[Row]) -> Result<(), AuditFault>
+fn check_keyed<T: RowKind>(table: RegisterTable, rows: &[Row]) -> Result<(), AuditFault>
     ensures counted { OnOk result (CountedFrom 1 rows.now) }
-    ensures stand { OnOk result (AllByRecursion (IsOfSomeRecord T.is_keyed T.shown) rows.now) }
+    ensures stand { OnOk result (AllByRecursion (IsOfSomeRecord T.has_valid_serial T.shown) rows.now) }
     ensures broken { CountedFrom 1 rows.now → NoBrokenRow result }
 {
     check_counted(table, rows)?;
@@ -96,13 +96,13 @@ fn check_keyed<T: ShownRow>(table: RegisterTable, rows: &[Row]) -> Result<(), Au
 }
 
 /// Checks that the rows of a table are those of some records, with the rowids 1, 2, 3 and so on.
-fn check_table<T: ShownRow>(
+fn check_table<T: RowKind>(
     table: RegisterTable,
     rows: &[Row],
     rowids: &[Row],
 ) -> Result<(), AuditFault>
     ensures counted { OnOk result (CountedFrom 1 rowids.now) }
-    ensures stand { OnOk result (AllByRecursion (IsOfSomeRecord T.is_keyed T.shown) rows.now) }
+    ensures stand { OnOk result (AllByRecursion (IsOfSomeRecord T.has_valid_serial T.shown) rows.now) }
     ensures broken { CountedFrom 1 rowids.now → NoBrokenRow result }
 {
     check_counted(table, rowids)?;
@@ -158,7 +158,7 @@ fn steps_in(alloc: Global, rows: &[Row]) -> Result<Vec<(Moment, u64)>, AuditFaul
 {
     let mut steps = Vec::new(alloc);
     for row in rows {
-        match Step::in_row(row) {
+        match Step::read_row(row) {
             Some(step) => steps.push(step)?,
             None => return Err(AuditFault::Store),
         }
@@ -207,9 +207,9 @@ pub(crate) fn check_complete(
     more: &[Vec<Row>],
 ) -> Result<(), AuditFault>
     ensures shown { (db : Database) → AreTables db → AreReadFrom db whole all.now (λ rows. rows.items)
-        → AreReadFrom db read_besides more.now (λ rows. rows.items) → OnOk result (ShowSome db) }
+        → AreReadFrom db other_queries more.now (λ rows. rows.items) → OnOk result (ShowSome db) }
     ensures broken { OnAllRead all.now
-        (λ records columns. AreRead records columns read_besides more.now (λ rows. rows.items)
+        (λ records columns. AreRead records columns other_queries more.now (λ rows. rows.items)
         → NoBrokenRow result) }
 {
     check_office(alloc, rows_at(more, 5), rows_at(more, 6))?;

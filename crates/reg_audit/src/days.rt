@@ -2,7 +2,7 @@ ghost use Rattle.std.specs.Prelude.{◌≡◌, ℕ, IsTrue, OnOk};
 ghost use Rattle.sqlite_value.specs.Order.{column};
 ghost use Rattle.reg_core.specs.Schedule.{IsDays};
 ghost use Rattle.reg_store_tables.specs.Rows.{number};
-ghost use Rattle.reg_audit.specs.ReadTexts.{read_besides};
+ghost use Rattle.reg_audit.specs.ReadQueries.{other_queries};
 ghost use Rattle.reg_audit.specs.Faults.{NoBrokenRowIf};
 ghost use Rattle.reg_audit.specs.ReadableValues.{HasAllowedDays};
 ghost use Rattle.reg_audit.specs.ShownTables.{OnEachRead};
@@ -27,9 +27,9 @@ fn are_allowed(row: &Row) -> bool
 /// Checks that the column `days` of `office`, the longest validity at creation, is a number that a schedule can have. `more` has the
 /// rows that were read for each item of [`crate::complete::OTHER_QUERIES`].
 pub(crate) fn check_days(more: &[Vec<Row>]) -> Result<(), AuditFault>
-    ensures allowed { OnEachRead read_besides more.now (λ rows. rows.items)
+    ensures allowed { OnEachRead other_queries more.now (λ rows. rows.items)
         (λ records columns. OnOk result (HasAllowedDays columns)) }
-    ensures broken { OnEachRead read_besides more.now (λ rows. rows.items)
+    ensures broken { OnEachRead other_queries more.now (λ rows. rows.items)
         (λ records columns. NoBrokenRowIf (HasAllowedDays columns) result) }
 {
     let [office] = rows_at(more, 5) else {

@@ -7,7 +7,7 @@ ghost use Rattle.reg_core.specs.Reached.{ReachedRows};
 ghost use Rattle.reg_store_tables.specs.DerivedRows.{DerivedRows};
 ghost use Rattle.reg_store_tables.specs.Kept.{Kept};
 ghost use Rattle.reg_audit.specs.Numbers.{AreNumbersOf};
-ghost use Rattle.reg_audit.specs.ReadTexts.{IsReadOf, IsReadFrom, AreRead, AreReadFrom};
+ghost use Rattle.reg_audit.specs.ReadQueries.{IsReadOf, IsReadFrom, AreRead, AreReadFrom};
 ghost use Rattle.reg_audit.specs.Faults.{NoBrokenRowIf};
 ghost use Rattle.reg_audit.specs.ReadableValues.{HasValues};
 ghost use Rattle.reg_audit.specs.ShownTables.{OnAllRead};

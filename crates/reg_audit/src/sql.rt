@@ -1,7 +1,7 @@
 //! The SQL statements of an audit: some read the rows of each table in the order of its rowids, others only the rowids.
 
 ghost use Rattle.std.specs.Prelude.{◌≡◌};
-ghost use Rattle.reg_audit.specs.ReadTexts.{text_of};
+ghost use Rattle.reg_audit.specs.ReadQueries.{sql_of};
 
 pub(crate) const OFFICE: &str = "SELECT cap, last_at FROM office";
 
@@ -64,7 +64,7 @@ pub(crate) enum AuditQuery {
 }
 
 pub(crate) fn text(what: AuditQuery) -> &'static str
-    ensures { result.now ≡ text_of what }
+    ensures { result.now ≡ sql_of what }
 {
     match what {
         AuditQuery::Office => OFFICE,

@@ -10,14 +10,14 @@ ghost use Rattle.reg_core.specs.Records.{Records};
 ghost use Rattle.reg_core.specs.Sound.{CrlsSigned, SoundRows};
 ghost use Rattle.reg_crl.specs.Signing.{IsAlgorithm};
 ghost use Rattle.reg_der.specs.Der.{IsTlv};
-ghost use Rattle.reg_der.specs.ValueReading.{Gives};
+ghost use Rattle.reg_der.specs.ValueReading.{AgreesWith};
 ghost use Rattle.reg_store_tables.specs.DerivedRows.{DerivedRows};
 ghost use Rattle.reg_store_tables.specs.Kept.{Kept};
 ghost use Rattle.reg_store_tables.specs.Shows.{Shows, ShowsBoth};
 ghost use Rattle.reg_store_tables.specs.Stays.{Looked};
-ghost use Rattle.reg_audit_rows.specs.Crls.{Lists};
-ghost use Rattle.reg_audit.specs.ReadTexts.{AreRead, whole};
-ghost use Rattle.reg_audit.specs.Faults.{IsBrokenRow, NoBrokenRowIf};
+ghost use Rattle.reg_audit_rows.specs.Crls.{MatchRecords};
+ghost use Rattle.reg_audit.specs.ReadQueries.{AreRead, whole};
+ghost use Rattle.reg_audit.specs.Faults.{BreaksRule, NoBrokenRowIf};
 ghost use Rattle.reg_audit.specs.Stored.{CanList, IsSomeCrl, IsStored, behind_signed};
 ghost use Rattle.reg_audit.specs.ReadableValues.{HasValues};
 ghost use Rattle.reg_audit.specs.ShownTables.{OnAllRead};
@@ -41,7 +41,7 @@ const MOST_ALGORITHM: usize = 1_024;
 const MOST_CRL: usize = 268_435_456;
 
 fn other_bytes_fault(number: u64) -> AuditFault
-    ensures { ¬ IsBrokenRow result }
+    ensures { ¬ BreaksRule result }
 {
     AuditFault::Broken(BrokenRow {
         table: RegisterTable::Crl,
@@ -52,7 +52,7 @@ fn other_bytes_fault(number: u64) -> AuditFault
 
 /// The value that follows the tbsCertList of a CRL (RFC 5280 5.1.1).
 fn value_after_tbs(crl: &[u8]) -> Option<Tlv<'_>>
-    ensures exact { Gives (λ value. record { tag = value.tag; contents = value.contents.now }) result
+    ensures exact { AgreesWith (λ value. record { tag = value.tag; contents = value.contents.now }) result
         (behind_signed crl.now) }
     ensures value { IfSome result (λ value. IsTlv value.raw.now value.tag value.contents.now) }
 {
@@ -97,12 +97,13 @@ fn check_bytes(
     bytes: &[u8],
 ) -> Result<(), AuditFault>
     requires { crl_life ≤ 863999 }
-    ensures bytes { (records : Records) → Lists issuer.now crl_life listed.now records
+    ensures bytes { (records : Records) → MatchRecords issuer.now crl_life listed.now records
         → OnOk result (IsSomeCrl (cert_list records crl.now.number crl.now.this_update) bytes.now) }
-    ensures others { (records : Records) → Lists issuer.now crl_life listed.now records → CanList listed.now
+    ensures others { (records : Records) → MatchRecords issuer.now crl_life listed.now records
+        → CanList listed.now
         → crl.now.this_update < clock_end
         → NoBrokenRowIf (IsSomeCrl (cert_list records crl.now.number crl.now.this_update) bytes.now) result }
-    ensures rows { IfErr result (λ fault. ¬ IsBrokenRow fault) }
+    ensures rows { IfErr result (λ fault. ¬ BreaksRule fault) }
 {
     if bytes.len() > MOST_CRL {
         return Err(other_bytes_fault(crl.number));
@@ -134,13 +135,13 @@ fn check_stored<S: Alter>(
 ) -> Result<(), AuditFault>
     requires { crl_life ≤ 863999 }
     ensures bytes { (records : Records) → Shows S.Store conn.old records
-        → Lists issuer.now crl_life listed.now records → HasCleanDisk (state S.Store conn.new)
+        → MatchRecords issuer.now crl_life listed.now records → HasCleanDisk (state S.Store conn.new)
         → OnOk result (IsStored records crl.now) }
     ensures others { (records : Records) → Shows S.Store conn.old records
-        → Lists issuer.now crl_life listed.now records → CanList listed.now
+        → MatchRecords issuer.now crl_life listed.now records → CanList listed.now
         → crl.now.this_update < clock_end → HasCleanDisk (state S.Store conn.new)
         → NoBrokenRowIf (IsStored records crl.now) result }
-    ensures rows { IfErr result (λ fault. ¬ IsBrokenRow fault) }
+    ensures rows { IfErr result (λ fault. ¬ BreaksRule fault) }
     ensures looked { Looked S.Store conn.old conn.new }
 {
     match reg_store_tables::crl(conn, crl.number)? {
@@ -161,14 +162,14 @@ fn check_each<S: Alter, W: ProgressObserver>(
 ) -> Result<(), AuditFault>
     requires { crl_life ≤ 863999 }
     ensures bytes { (records : Records) → Shows S.Store conn.old records
-        → Lists issuer.now crl_life listed.now records → HasCleanDisk (state S.Store conn.new)
+        → MatchRecords issuer.now crl_life listed.now records → HasCleanDisk (state S.Store conn.new)
         → OnOk result (AllByRecursion (IsStored records) crls.now) }
     ensures others { (records : Records) → Shows S.Store conn.old records
-        → Lists issuer.now crl_life listed.now records → CanList listed.now
+        → MatchRecords issuer.now crl_life listed.now records → CanList listed.now
         → AllByRecursion (λ crl. crl.this_update < clock_end) crls.now
         → HasCleanDisk (state S.Store conn.new)
         → NoBrokenRowIf (AllByRecursion (IsStored records) crls.now) result }
-    ensures rows { IfErr result (λ fault. ¬ IsBrokenRow fault) }
+    ensures rows { IfErr result (λ fault. ¬ BreaksRule fault) }
     ensures looked { Looked S.Store conn.old conn.new }
 {
     for crl in crls {
@@ -209,7 +210,7 @@ pub(crate) fn check_crls<S: Alter, W: ProgressObserver>(
         → NoBrokenRowIf (CrlsSigned IsSomeCrl records) result }
     ensures rows { OnAllRead all.now
         (λ records columns. HasValues records → SoundRows records → Kept columns records
-        → IfErr result (λ fault. ¬ IsBrokenRow fault)) }
+        → IfErr result (λ fault. ¬ BreaksRule fault)) }
     ensures looked { Looked S.Store conn.old conn.new }
 {
     let crls = crls(alloc, rows_at(all, 6))?;

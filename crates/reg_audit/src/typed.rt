@@ -9,7 +9,7 @@ use crate::sql_values::letter_at;
 use reg_audit_rows::{Defect, Listed, RegisterTable, Standing};
 use reg_core::Moment;
 use reg_store_tables::RowFault;
-use reg_store_tables::rows::{ShownRow, rows_in};
+use reg_store_tables::rows::{RowKind, rows_in};
 use reg_store_tables::sql_values::{
     clock_moment_at, moment_at, number_at, number_or_null_at, reason_at, serial_at,
 };
@@ -22,7 +22,7 @@ pub(crate) struct OfficeRow {
     pub(crate) last: Moment,
 }
 
-impl ShownRow for OfficeRow {
+impl RowKind for OfficeRow {
     ghost use Rattle.reg_audit.specs.ShownRows.{shown_office};
     ghost use Rattle.std.specs.Prelude.{◌<◌};
     ghost use Rattle.reg_core.specs.Calendar.{clock_end};
@@ -31,11 +31,11 @@ impl ShownRow for OfficeRow {
 
     ghost shown = { shown_office };
 
-    ghost is_keyed = { λ _. Unit {0} };
+    ghost has_valid_serial = { λ _. Unit {0} };
 
     ghost has_values = { λ it. it.last < clock_end };
 
-    fn in_row(row: &Row) -> Option<OfficeRow> {
+    fn read_row(row: &Row) -> Option<OfficeRow> {
         Some(OfficeRow {
             cap: number_at(row, 0)?,
             last: clock_moment_at(row, 1)?,
@@ -45,7 +45,7 @@ impl ShownRow for OfficeRow {
 
 pub(crate) struct StandingRows;
 
-impl ShownRow for StandingRows {
+impl RowKind for StandingRows {
     ghost use Rattle.reg_audit.specs.ShownRows.{shown_standing};
     ghost use Rattle.reg_core.specs.Serial.{IsSerial};
     ghost use Rattle.reg_core.specs.Calendar.{IsMoment};
@@ -54,11 +54,11 @@ impl ShownRow for StandingRows {
 
     ghost shown = { shown_standing };
 
-    ghost is_keyed = { λ it. IsSerial it.serial };
+    ghost has_valid_serial = { λ it. IsSerial it.serial };
 
     ghost has_values = { λ it. IsMoment it.not_after };
 
-    fn in_row(row: &Row) -> Option<Standing> {
+    fn read_row(row: &Row) -> Option<Standing> {
         Some(Standing {
             serial: serial_at(row, 0)?,
             not_after: moment_at(row, 1)?,
@@ -69,7 +69,7 @@ impl ShownRow for StandingRows {
 
 pub(crate) struct ListedRows;
 
-impl ShownRow for ListedRows {
+impl RowKind for ListedRows {
     ghost use Rattle.reg_audit.specs.ShownRows.{shown_listed};
     ghost use Rattle.reg_core.specs.Serial.{IsSerial};
     ghost use Rattle.reg_core.specs.Calendar.{IsMoment};
@@ -79,11 +79,11 @@ impl ShownRow for ListedRows {
 
     ghost shown = { shown_listed };
 
-    ghost is_keyed = { λ it. IsSerial it.serial };
+    ghost has_valid_serial = { λ it. IsSerial it.serial };
 
     ghost has_values = { λ it. AreMomentAndReason it.at it.reason × IsMoment it.not_after };
 
-    fn in_row(row: &Row) -> Option<Listed> {
+    fn read_row(row: &Row) -> Option<Listed> {
         Some(Listed {
             serial: serial_at(row, 0)?,
             at: clock_moment_at(row, 1)?,
@@ -96,14 +96,15 @@ impl ShownRow for ListedRows {
 }
 
 /// The typed value of each row of a table.
-pub(crate) fn typed<T: ShownRow>(
+pub(crate) fn typed<T: RowKind>(
     alloc: Global,
     table: RegisterTable,
     rows: &[Row],
 ) -> Result<Vec<T::Record>, AuditFault>
-    ensures read { (shown : List T.Record) → AllByRecursion T.is_keyed shown → rows.now ≡ map T.shown shown
+    ensures read { (shown : List T.Record) → AllByRecursion T.has_valid_serial shown
+        → rows.now ≡ map T.shown shown
         → IfOk result (λ read. read.items ≡ shown) }
-    ensures has { (shown : List T.Record) → AllByRecursion T.is_keyed shown
+    ensures has { (shown : List T.Record) → AllByRecursion T.has_valid_serial shown
         → AllByRecursion T.has_values shown → rows.now ≡ map T.shown shown
         → NoBrokenRow result }
 {
@@ -115,14 +116,14 @@ pub(crate) fn typed<T: ShownRow>(
 }
 
 /// The typed value of the only row of a table.
-pub(crate) fn only<T: ShownRow>(table: RegisterTable, rows: &[Row]) -> Result<T::Record, AuditFault>
-    ensures read { (it : T.Record) → T.is_keyed it → rows.now ≡ T.shown it ∷ []
+pub(crate) fn only<T: RowKind>(table: RegisterTable, rows: &[Row]) -> Result<T::Record, AuditFault>
+    ensures read { (it : T.Record) → T.has_valid_serial it → rows.now ≡ T.shown it ∷ []
         → IfOk result (λ read. read ≡ it) }
-    ensures has { (it : T.Record) → T.is_keyed it → T.has_values it → rows.now ≡ T.shown it ∷ []
+    ensures has { (it : T.Record) → T.has_valid_serial it → T.has_values it → rows.now ≡ T.shown it ∷ []
         → NoBrokenRow result }
 {
     match rows {
-        [row] => T::in_row(row).ok_or(broken_at(table, 0, Defect::NoValue)),
+        [row] => T::read_row(row).ok_or(broken_at(table, 0, Defect::NoValue)),
         _ => Err(broken_at(table, rows.len(), Defect::NoValue)),
     }
 }

@@ -8,7 +8,7 @@ ghost use Rattle.reg_store_tables.specs.Shows.{Holds};
 ghost use Rattle.reg_store_tables.specs.Stays.{Looked};
 ghost use Rattle.reg_audit.specs.Complete.{AreTables, ShowsSound};
 ghost use Rattle.reg_audit.specs.Numbers.{AreNumbersOf};
-ghost use Rattle.reg_audit.specs.Faults.{IsDenied};
+ghost use Rattle.reg_audit.specs.Faults.{IsDisproved};
 ghost use Rattle.reg_audit.specs.ReadableValues.{IsSoundRegister};
 ghost use Rattle.reg_audit.specs.ShownTables.{OnShown};
 
@@ -44,7 +44,7 @@ const TABLE_QUERIES: [AuditQuery; 10] = [
 /// any signature ([`reg_audit_rows::check_crl`]). Last, it reads the rowids, `office` and the schedule. It verifies no
 /// signature, does not check the schema, changes nothing, and reports its progress to the observer.
 ///
-/// A row with a value that the register's types can't hold is reported as broken. `IsDenied` says what a broken row disproves.
+/// A row with a value that the register's types can't hold is reported as broken. `IsDisproved` says what a broken row disproves.
 /// If the tables have a register's schema (`AreTables`) and the audit succeeds, they show sound records (`ShowsSound`).
 ///
 /// # Errors
@@ -62,7 +62,7 @@ pub fn audit<S: Alter, W: ProgressObserver>(
     ensures counted { OnShown S.Store conn.old conn.new
         (λ records columns. IfOk result (AreNumbersOf records)) }
     ensures broken { OnShown S.Store conn.old conn.new
-        (λ records columns. IfErr result (λ fault. IsDenied fault records columns)) }
+        (λ records columns. IfErr result (λ fault. IsDisproved fault records columns)) }
     ensures looked { Looked S.Store conn.old conn.new }
 {
     let all = read_each(alloc, conn, &TABLE_QUERIES, observer)?;

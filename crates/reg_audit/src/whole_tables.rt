@@ -7,7 +7,7 @@ ghost use Rattle.reg_store_tables.specs.ReadStatements.{Answers, IsReading};
 ghost use Rattle.reg_store_tables.specs.Schema.{register_schema};
 ghost use Rattle.reg_store_tables.specs.Shows.{Holds};
 ghost use Rattle.reg_store_tables.specs.Stays.{IsRegister, Looked};
-ghost use Rattle.reg_audit.specs.ReadTexts.{IsReadOf, IsReadFrom, AreRead, AreReadFrom};
+ghost use Rattle.reg_audit.specs.ReadQueries.{IsReadOf, IsReadFrom, AreRead, AreReadFrom};
 ghost use Rattle.reg_audit.specs.ShownTables.{OnShown};
 
 use crate::observer::ProgressObserver;

@@ -14,7 +14,7 @@ use Rattle.reg_core.specs.declared.rows.RevocationRow.{RevocationRow}
 use Rattle.reg_store_tables.specs.DerivedRows as column
 use Rattle.reg_store_tables.specs.Kept.{listed_of}
 use Rattle.reg_store_tables.proofs.PublicLaws.{serial_of, ascending_same, ascending_sorted, Rises, sorted_same, and_true, and_false, not_le, is_le}
-use Rattle.reg_audit_rows.specs.KeptAsRead.{listed_in}
+use Rattle.reg_audit_rows.specs.DerivedAsRead.{listed_in}
 use Rattle.reg_audit_rows.specs.Crls.{still_on, lists_row, listed_entry, IsCrlOf, signature_at}
 use Rattle.reg_audit_rows.specs.declared.derived_rows.Listed.{Listed}
 use Rattle.std.proofs.lemmas.List.{length-map}

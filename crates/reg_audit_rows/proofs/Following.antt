@@ -20,7 +20,7 @@ use Rattle.reg_store_tables.specs.DerivedRows as column
 use Rattle.reg_store_tables.specs.Kept.{letter_of, standing_of, not_after_of, listed_of}
 use Rattle.reg_store_tables.proofs.PublicLaws.{mapped}
 use Rattle.reg_store_migration.specs.Refilled.{last_in}
-use Rattle.reg_audit_rows.specs.KeptAsRead.{letter_in, standing_in, listed_in, letter_by, standing_by, found_end, listed_with, same_letter, found_counts}
+use Rattle.reg_audit_rows.specs.DerivedAsRead.{letter_in, standing_in, listed_in, letter_by, standing_by, found_end, listed_with, same_letter, found_counts}
 use Rattle.reg_audit_rows.specs.Read.{AreOf}
 use Rattle.reg_audit_rows.specs.declared.derived_rows.Letter.{Letter}
 use Rattle.reg_audit_rows.specs.declared.derived_rows.Letter.TheVariants.{Good, Revoked, Expired}

@@ -11,7 +11,7 @@ use Rattle.reg_core.specs.declared.rows.Entry.{Entry}
 use Rattle.reg_crl.specs.Crl.{tbs_of, certificate_list}
 use Rattle.reg_der.specs.ValueReading.{value_at}
 use Rattle.reg_store_tables.specs.Kept.{listed_of}
-use Rattle.reg_audit_rows.specs.KeptAsRead.{listed_in}
+use Rattle.reg_audit_rows.specs.DerivedAsRead.{listed_in}
 use Rattle.reg_audit_rows.specs.declared.derived_rows.Listed.{Listed}
 
 -- the bytes are this CRL, with this algorithm, and any signature of at most 65,536 bytes
@@ -59,7 +59,8 @@ abbrev pub listed_entries : ℕ → List Listed → List Entry
 listed_entries n rows = map listed_entry (filter (lists_row n) rows)
 
 -- the issuer, the seconds from thisUpdate to nextUpdate, and the rows of `listed` are those of the records
-pub record Lists (issuer : Issuer) (crl_life : ℕ) (listed : List Listed) (records : Records) : Type 0 where
+pub record MatchRecords (issuer : Issuer) (crl_life : ℕ) (listed : List Listed)
+    (records : Records) : Type 0 where
   pub by_issuer : issuer ≡ records.issuer
   pub by_life : crl_life ≡ records.policy.crl_life
   pub numbered : NumberedFrom (λ crl. crl.number) 1 records.crls

@@ -1,5 +1,5 @@
 pub mod Faults
 pub mod Read
-pub mod KeptAsRead
+pub mod DerivedAsRead
 pub mod Crls
 pub mod AuditLines

@@ -5,8 +5,8 @@ ghost use Rattle.reg_core.specs.Crls.{EntriesAscend, cert_list};
 ghost use Rattle.reg_core.specs.Records.{Records};
 ghost use Rattle.reg_core.specs.Sound.{KeysDiffer};
 ghost use Rattle.reg_crl.specs.Signing.{IsAlgorithm};
-ghost use Rattle.reg_der.specs.ValueReading.{Gives};
-ghost use Rattle.reg_audit_rows.specs.Crls.{IsCrlOf, Lists, crl_with_entries, listed_entries, lists_row, signature_at};
+ghost use Rattle.reg_der.specs.ValueReading.{AgreesWith};
+ghost use Rattle.reg_audit_rows.specs.Crls.{IsCrlOf, MatchRecords, crl_with_entries, listed_entries, lists_row, signature_at};
 ghost use Rattle.reg_audit_rows.specs.Faults.{NotBrokenIf, NotBroken};
 
 use crate::derived_rows::Listed;
@@ -23,7 +23,7 @@ const MOST_ENTRIES: usize = 1_000_000;
 
 /// The octets of the signature in a CRL (RFC 5280 5.1.1.3).
 fn signature_in(crl: &[u8]) -> Option<&[u8]>
-    ensures { Gives (λ signature. signature.now) result (signature_at crl.now) }
+    ensures { AgreesWith (λ signature. signature.now) result (signature_at crl.now) }
 {
     let (list, _) = take(crl)?;
     let (_, after_tbs) = take(list.contents)?;
@@ -146,10 +146,10 @@ pub fn check_crl(
 ) -> Result<(), CheckFault>
     requires algorithm { length algorithm.now ≤ 1024 }
     requires next { IsMoment (crl.now.this_update + crl_life) }
-    ensures ok { (records : Records) → Lists issuer.now crl_life listed.now records
+    ensures ok { (records : Records) → MatchRecords issuer.now crl_life listed.now records
         → OnOk result (IsCrlOf algorithm.now
         (cert_list records crl.now.number crl.now.this_update) bytes.now) }
-    ensures broken { (records : Records) → Lists issuer.now crl_life listed.now records
+    ensures broken { (records : Records) → MatchRecords issuer.now crl_life listed.now records
         → IsAlgorithm algorithm.now → KeysDiffer (λ row. row.serial) listed.now → length listed.now ≤ 1000000
         → NotBrokenIf (IsCrlOf algorithm.now (cert_list records crl.now.number crl.now.this_update)
         bytes.now) result }

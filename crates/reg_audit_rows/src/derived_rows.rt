@@ -6,7 +6,7 @@ ghost use Rattle.std.specs.List.Sorted.{IsPermutation};
 ghost use Rattle.std.specs.Ordering.{nat_cmp};
 ghost use Rattle.reg_core.specs.Sound.{KeysDiffer, NumberedFrom, NeverDecreases};
 ghost use Rattle.reg_store_migration.specs.Refilled.{last_in};
-ghost use Rattle.reg_audit_rows.specs.KeptAsRead.{letter_by, standing_by, found_end, listed_with, found_counts, same_letter};
+ghost use Rattle.reg_audit_rows.specs.DerivedAsRead.{letter_by, standing_by, found_end, listed_with, found_counts, same_letter};
 ghost use Rattle.reg_audit_rows.specs.Faults.{NotBrokenIf, NotBroken};
 
 use crate::fault::{CheckFault, broken_at};

@@ -1,10 +1,9 @@
 //! Checks that rows are those of a register: sound records, and derived tables that match them.
 #![tactic(auto)]
 
-mod alone;
+mod ascending;
 mod audit_result;
 mod broken_row;
-mod chain;
 mod crls;
 mod derived_rows;
 mod fault;
@@ -12,6 +11,7 @@ mod index;
 mod lines;
 mod relations;
 mod rows;
+mod single_rows;
 mod whole_check;
 
 pub use audit_result::{AuditResult, Audited};

@@ -8,7 +8,7 @@ ghost use Rattle.reg_core.specs.Sound.{NumberedFrom};
 ghost use Rattle.reg_audit_rows.specs.Read.{AreAround, AreAsOrdered, AreBeforeRevocation, AreInTime, FitTogether, FitsIn, HaveSubscribers, IsAsOrdered, IsBefore, IsInTime};
 ghost use Rattle.reg_audit_rows.specs.Faults.{NotBrokenIf, NoDefectIff};
 
-use crate::chain::Numbered;
+use crate::ascending::Numbered;
 use crate::fault::{CheckFault, broken_at};
 use crate::{Defect, RegisterTable};
 use reg_core::{

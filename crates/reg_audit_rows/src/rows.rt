@@ -11,8 +11,7 @@ ghost use Rattle.reg_core.specs.Sound.{NumberedFrom};
 ghost use Rattle.reg_audit_rows.specs.Read.{AreCrls, AreOf, AreRevocations, Indexes, IsIndexOf, IsLastSet};
 ghost use Rattle.reg_audit_rows.specs.Faults.{NotBrokenIf};
 
-use crate::alone::{days_are_allowed, names_are_good, validities_are_forward};
-use crate::chain::{are_by_last, firsts_never_decrease, in_order, moments_never_decrease};
+use crate::ascending::{are_by_last, firsts_never_decrease, in_order, moments_never_decrease};
 use crate::fault::{CheckFault, broken_at, within_cap};
 use crate::index::{
     certificates_by_order, certificates_by_serial, names_differ, revocations_by_request,
@@ -21,6 +20,7 @@ use crate::index::{
 use crate::relations::{
     are_as_ordered, are_in_time, none_after, revocations_fit, subscribers_exist,
 };
+use crate::single_rows::{days_are_allowed, names_are_good, validities_are_forward};
 use crate::{Defect, RegisterTable};
 use reg_core::{
     CertRow, CrlRow, Moment, OrderRow, RequestRow, RevocationRow, Serial, SubscriberRow,

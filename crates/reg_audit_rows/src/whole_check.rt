@@ -6,7 +6,7 @@ ghost use Rattle.reg_core.specs.Reached.{ReachedRows};
 ghost use Rattle.reg_core.specs.Sound.{SoundRows};
 ghost use Rattle.reg_store_tables.specs.DerivedRows.{DerivedRows};
 ghost use Rattle.reg_store_tables.specs.Kept.{Kept};
-ghost use Rattle.reg_audit_rows.specs.KeptAsRead.{AreDerivedRowsOf};
+ghost use Rattle.reg_audit_rows.specs.DerivedAsRead.{AreDerivedRowsOf};
 ghost use Rattle.reg_audit_rows.specs.Read.{AreOf, IsIndexOf};
 ghost use Rattle.reg_audit_rows.specs.Faults.{NotBrokenIf};
 

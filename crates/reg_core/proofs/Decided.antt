@@ -1,7 +1,7 @@
 -- What follows from a request that can be settled.
 use Rattle.std.proofs.Common.{◌≡◌, true, List, [], ◌∷◌, ◌++◌, refl, ap, Option, Some, None, Result, Ok, IfSome}
 use Rattle.std.specs.Prelude.{⊤}
-use Rattle.reg_core.specs.Checks.{clock_checks, first_of_all, pending_request_checks}
+use Rattle.reg_core.specs.Checks.{clock_checks, first_refusal, pending_request_checks}
 use Rattle.reg_core.specs.Decisions.{IsDecided, IsDecidedBy, DecidesDecline, DecidesRegister, DecidesRevoke, is_same, revocation_by}
 use Rattle.reg_core.specs.declared.refusal.Refusal.{Refusal}
 use Rattle.reg_core.specs.declared.rows.Head.{Head}
@@ -19,9 +19,9 @@ decided_ok None P Q x y p f = f p
 -- an answer after checks that were passed
 passed
     : {A B : Type 0} (first second : List (Option Refusal)) (P : A → Type 0) (Q : B → Type 0) (x : A) (result : Result B Refusal)
-    → IsDecidedBy (first_of_all first) P (Ok x)
-    → IsDecidedBy (first_of_all second) Q result
-    → IsDecidedBy (first_of_all (first ++ second)) Q result
+    → IsDecidedBy (first_refusal first) P (Ok x)
+    → IsDecidedBy (first_refusal second) Q result
+    → IsDecidedBy (first_refusal (first ++ second)) Q result
 passed [] second P Q x result accepted next = next
 passed (None ∷ rest) second P Q x result accepted next = passed rest second P Q x result accepted next
 passed (Some refused ∷ rest) second P Q x result accepted next = absurd (let bad : ⊥ = cc in bad)
@@ -29,7 +29,7 @@ passed (Some refused ∷ rest) second P Q x result accepted next = absurd (let b
 -- a certificate that stands registered, equal in all parts, is answered by none
 pub stands
     : {A : Type 0} (head : Head) (wanted : CertRow) (order : Option OrderRow) (by_order by_serial : Option CertRow) (x : A)
-    → IsDecidedBy (first_of_all (clock_checks head.now head.last)) (λ (answer : A). ⊤) (Ok x)
+    → IsDecidedBy (first_refusal (clock_checks head.now head.last)) (λ (answer : A). ⊤) (Ok x)
     → is_same wanted by_serial ≡ true
     → DecidesRegister head wanted order by_order by_serial (Ok None)
 stands head wanted order by_order by_serial x clock same =

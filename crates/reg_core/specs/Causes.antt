@@ -7,11 +7,11 @@ use Rattle.reg_core.specs.declared.cause.Cause.TheVariants as cause
 -- the line of standard error for a cause, without its LF
 unfoldable pub cause_line : Cause → List ℕ
 cause_line cause.NoFile = codes "  no such file"
-cause_line cause.NoRight = codes "  permission denied, or the file system is read-only"
+cause_line cause.NoPermission = codes "  permission denied, or the file system is read-only"
 cause_line cause.InUse = codes "  in use by another program"
 cause_line cause.Damaged = codes "  damaged, or not a database: check the path and the disk"
 cause_line cause.DiskFull = codes "  disk full"
-cause_line cause.Taken = codes "  the path already exists: give another one"
+cause_line cause.PathExists = codes "  the path already exists: give another one"
 cause_line cause.PortInUse = codes "  port in use"
 cause_line cause.Clock = codes "  the machine's clock can't be read"
 cause_line cause.OtherAlgorithm = codes "  the latest CRL has another algorithm: give that --algorithm"

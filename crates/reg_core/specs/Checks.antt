@@ -16,43 +16,45 @@ use Rattle.reg_core.specs.declared.refusal.Refusal.{Refusal}
 use Rattle.reg_core.specs.declared.refusal.Refusal.TheVariants.{ClockBack, ClockEnd, Full, BadName, NameTaken, NoSubscriber, BadDays, NoOrder, OrderFilled, SerialTaken, BadValidity, TooLong, Ended, UnknownSerial, NoRequest, DeclinedBefore, RevokedBefore, Expired}
 
 -- the refusal, if the test holds
-abbrev pub when : Bool → Refusal → Option Refusal
-when test refusal = cond test (Some refusal) None
+abbrev pub refused_if : Bool → Refusal → Option Refusal
+refused_if test refusal = cond test (Some refusal) None
 
 -- the refusal, if the look-up found no row
-abbrev pub where_none : {Row : Type 0} → Option Row → Refusal → Option Refusal
-where_none None refusal = Some refusal
-where_none (Some row) refusal = None
+abbrev pub refused_if_none : {Row : Type 0} → Option Row → Refusal → Option Refusal
+refused_if_none None refusal = Some refusal
+refused_if_none (Some row) refusal = None
 
 -- the row's refusal, if the look-up found a row that passes the test
-abbrev pub where_some : {Row : Type 0} → Option Row → (Row → Bool) → (Row → Refusal) → Option Refusal
-where_some None test refusal = None
-where_some (Some row) test refusal = cond (test row) (Some (refusal row)) None
+abbrev pub refused_if_some : {Row : Type 0} → Option Row → (Row → Bool) → (Row → Refusal) → Option Refusal
+refused_if_some None test refusal = None
+refused_if_some (Some row) test refusal = cond (test row) (Some (refusal row)) None
 
 -- the first refusal that applies
-abbrev pub first_of_all : List (Option Refusal) → Option Refusal
-first_of_all [] = None
-first_of_all (None ∷ rest) = first_of_all rest
-first_of_all (Some refusal ∷ rest) = Some refusal
+abbrev pub first_refusal : List (Option Refusal) → Option Refusal
+first_refusal [] = None
+first_refusal (None ∷ rest) = first_refusal rest
+first_refusal (Some refusal ∷ rest) = Some refusal
 
 -- the moment is before the clock's end, and not before the last accepted one
 abbrev pub clock_checks : ℕ → ℕ → List (Option Refusal)
-clock_checks now last = when (nat_le clock_end now) ClockEnd ∷ when (nat_lt now last) (ClockBack last) ∷ []
+clock_checks now last =
+    refused_if (nat_le clock_end now) ClockEnd ∷ refused_if (nat_lt now last) (ClockBack last) ∷ []
 
 -- a name of allowed bytes, which no subscriber has
 abbrev pub subscriber_checks : List ℕ → Option SubscriberRow → Bool → List (Option Refusal)
 subscriber_checks name by_name full =
-    when (not (is_name name)) BadName
-    ∷ where_some by_name (λ row. true) (λ row. NameTaken row.id)
-    ∷ when full Full
+    refused_if (not (is_name name)) BadName
+    ∷ refused_if_some by_name (λ row. true) (λ row. NameTaken row.id)
+    ∷ refused_if full Full
     ∷ []
 
 -- an order of a registered subscriber, for 1 day up to the most days of any step of the schedule
 abbrev pub order_checks : Terms → Option SubscriberRow → ℕ → Bool → List (Option Refusal)
 order_checks policy subscriber days full =
-    where_none subscriber NoSubscriber
-    ∷ when ((days == 0) || nat_lt (greatest_of policy.schedule) days) (BadDays (greatest_of policy.schedule))
-    ∷ when full Full
+    refused_if_none subscriber NoSubscriber
+    ∷ refused_if ((days == 0) || nat_lt (greatest_of policy.schedule) days)
+    (BadDays (greatest_of policy.schedule))
+    ∷ refused_if full Full
     ∷ []
 
 -- the seconds of a validity, from notBefore to notAfter, both included (RFC 5280 4.1.2.5)
@@ -67,47 +69,47 @@ is_too_long policy wanted order =
 -- notAfter is not before notBefore, the validity is no longer than ordered and allowed, and the certificate is not expired
 abbrev pub validity_checks : Terms → ℕ → CertRow → Option OrderRow → List (Option Refusal)
 validity_checks policy now wanted order =
-    when (nat_lt wanted.not_after wanted.not_before) BadValidity
-    ∷ where_some order (is_too_long policy wanted) (λ row. TooLong)
-    ∷ when (nat_lt wanted.not_after now) Ended
+    refused_if (nat_lt wanted.not_after wanted.not_before) BadValidity
+    ∷ refused_if_some order (is_too_long policy wanted) (λ row. TooLong)
+    ∷ refused_if (nat_lt wanted.not_after now) Ended
     ∷ []
 
 -- a certificate for an order that has none yet, with a new serial number
 abbrev pub register_checks : Terms → ℕ → CertRow → Option OrderRow → Option CertRow → Option CertRow → Bool
     → List (Option Refusal)
 register_checks policy now wanted order by_order by_serial full =
-    where_none order NoOrder
-    ∷ where_some by_order (λ row. true) (λ row. OrderFilled)
-    ∷ where_some by_serial (λ row. true) (λ row. SerialTaken)
-    ∷ (validity_checks policy now wanted order ++ when full Full ∷ [])
+    refused_if_none order NoOrder
+    ∷ refused_if_some by_order (λ row. true) (λ row. OrderFilled)
+    ∷ refused_if_some by_serial (λ row. true) (λ row. SerialTaken)
+    ∷ (validity_checks policy now wanted order ++ refused_if full Full ∷ [])
 
 -- the refusal of a word that is not the name of a ground
-abbrev pub where_no_ground : Result Ground Refusal → Option Refusal
-where_no_ground (Ok named) = None
-where_no_ground (Err refusal) = Some refusal
+abbrev pub refused_if_no_ground : Result Ground Refusal → Option Refusal
+refused_if_no_ground (Ok named) = None
+refused_if_no_ground (Err refusal) = Some refusal
 
 -- the certificate is neither revoked nor past notAfter
 abbrev pub live_checks : ℕ → Option CertRow → Option RevocationRow → List (Option Refusal)
 live_checks now certificate revocation =
-    where_some revocation (λ row. true) (λ row. RevokedBefore row.at)
-    ∷ where_some certificate (λ row. nat_lt row.not_after now) (λ row. Expired)
+    refused_if_some revocation (λ row. true) (λ row. RevokedBefore row.at)
+    ∷ refused_if_some certificate (λ row. nat_lt row.not_after now) (λ row. Expired)
     ∷ []
 
 -- a request for a registered certificate, neither revoked nor expired, on a ground that exists
 abbrev pub request_checks : ℕ → Option CertRow → List ℕ → Option RevocationRow → Bool → List (Option Refusal)
 request_checks now certificate word revocation full =
-    where_none certificate UnknownSerial
-    ∷ where_no_ground (ground_or_refusal word)
-    ∷ (live_checks now certificate revocation ++ when full Full ∷ [])
+    refused_if_none certificate UnknownSerial
+    ∷ refused_if_no_ground (ground_or_refusal word)
+    ∷ (live_checks now certificate revocation ++ refused_if full Full ∷ [])
 
 -- a request that can be declined or lead to a revocation: it was not declined, and its certificate is neither revoked nor expired
 abbrev pub pending_request_checks : ℕ → Option RequestRow → Option CertRow → Option RevocationRow
     → List (Option Refusal)
 pending_request_checks now request certificate revocation =
-    where_none request NoRequest
-    ∷ where_some request (λ row. row.declined) (λ row. DeclinedBefore)
+    refused_if_none request NoRequest
+    ∷ refused_if_some request (λ row. row.declined) (λ row. DeclinedBefore)
     ∷ live_checks now certificate revocation
 
 -- the table of CRLs is not full
 abbrev pub crl_checks : Bool → List (Option Refusal)
-crl_checks full = when full Full ∷ []
+crl_checks full = refused_if full Full ∷ []

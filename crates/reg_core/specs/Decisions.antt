@@ -1,6 +1,6 @@
 -- The result of each decision over the rows that were looked up: a refusal, or the row to add or change.
 use Rattle.std.specs.Prelude.{◌≡◌, ℕ, Bool, true, false, cond, ◌+◌, nat_le, nat_lt, List, [], ◌++◌, Option, Some, None, Result, Ok, Err, IfSome, IsOkAnd}
-use Rattle.reg_core.specs.Checks.{first_of_all, clock_checks, subscriber_checks, order_checks, register_checks, request_checks, pending_request_checks, crl_checks}
+use Rattle.reg_core.specs.Checks.{first_refusal, clock_checks, subscriber_checks, order_checks, register_checks, request_checks, pending_request_checks, crl_checks}
 use Rattle.reg_core.specs.Crls.{number_after}
 use Rattle.reg_core.specs.Due.{deadline}
 use Rattle.reg_core.specs.Grounds.{ground_or_refusal, reason_of}
@@ -38,7 +38,7 @@ IsDecidedBy None IsAnswer result = IsOkAnd result IsAnswer
 abbrev pub IsDecided : {Answer : Type 0} → Head → List (Option Refusal) → (Answer → Type 0)
     → Result Answer Refusal → Type 0
 IsDecided head checks IsAnswer result =
-    IsDecidedBy (first_of_all (clock_checks head.now head.last ++ checks)) IsAnswer result
+    IsDecidedBy (first_refusal (clock_checks head.now head.last ++ checks)) IsAnswer result
 
 -- a subscriber is entered with the next id
 abbrev pub DecidesSubscriber : Head → List ℕ → Option SubscriberRow → Result SubscriberRow Refusal → Type 0

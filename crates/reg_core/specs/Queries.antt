@@ -1,7 +1,7 @@
 -- The replies to queries.
 use Rattle.std.specs.Prelude.{ℕ, List, [], ◌∷◌, ◌++◌, Option, option_map, Result}
 use Rattle.reg_core.specs.Records.{Records, certificate_in, revocation_in}
-use Rattle.reg_core.specs.Checks.{first_of_all, clock_checks, where_none}
+use Rattle.reg_core.specs.Checks.{first_refusal, clock_checks, refused_if_none}
 use Rattle.reg_core.specs.Crls.{last_listing}
 use Rattle.reg_core.specs.Decisions.{refused_or}
 use Rattle.reg_core.specs.Due.{overdue, overdue_report, due}
@@ -24,7 +24,7 @@ listing records serial =
 -- the checks of a query, besides those of the clock
 abbrev pub query_checks : Records → Query → List (Option Refusal)
 query_checks records (AskListing serial) =
-    where_none (certificate_in records.certificates serial) UnknownSerial ∷ []
+    refused_if_none (certificate_in records.certificates serial) UnknownSerial ∷ []
 query_checks records (AskStatus serial) = []
 query_checks records AskCounts = []
 query_checks records AskOverdue = []
@@ -41,5 +41,5 @@ query_reply records now AskNextCrl = NextCrlIs (due records)
 -- the answer to a query: the first refusal that applies, those of the clock before its own, or else the reply
 abbrev pub answer : Records → ℕ → Query → Result Reply Refusal
 answer records now query =
-    refused_or (first_of_all (clock_checks now records.last ++ query_checks records query))
+    refused_or (first_refusal (clock_checks now records.last ++ query_checks records query))
     (query_reply records now query)

@@ -2,7 +2,7 @@
 use Rattle.std.specs.Prelude.{◌≡◌, ℕ, Bool, false, cond, ◌==◌, ◌&&◌, ◌+◌, nat_le, nat_lt, List, [], ◌++◌, length, Option, Some, None, option_and_then, Result, Ok, Err}
 use Rattle.std.specs.List.{list_any}
 use Rattle.reg_core.specs.Records.{Records, subscriber_in, subscriber_named, order_in, certificate_in, certificate_of_order, request_in, revocation_in}
-use Rattle.reg_core.specs.Checks.{first_of_all, clock_checks, subscriber_checks, order_checks, register_checks, request_checks, pending_request_checks, crl_checks}
+use Rattle.reg_core.specs.Checks.{first_refusal, clock_checks, subscriber_checks, order_checks, register_checks, request_checks, pending_request_checks, crl_checks}
 use Rattle.reg_core.specs.Changes.{changed_by, with_crl, with_revocation}
 use Rattle.reg_core.specs.Crls.{CertList, cert_list, content, next_number}
 use Rattle.reg_core.specs.Due.{deadline}
@@ -91,7 +91,7 @@ checks records now IssueCrl = crl_checks (is_full records records.crls)
 -- the first refusal that applies, if any: those of the clock, and then, unless it is a repeated registration, those of the command
 abbrev pub refusal : Records → ℕ → Command → Option Refusal
 refusal records now command =
-    first_of_all
+    first_refusal
     (clock_checks now records.last ++ cond (is_repeat records command) [] (checks records now command))
 
 -- the row of a new request; by the checks `word` names a ground, so `Asked` never replaces another word

@@ -9,14 +9,14 @@ use std::io::ErrorKind;
 pub enum Cause {
     NoFile,
     /// Permission denied, or the file system is read-only.
-    NoRight,
+    NoPermission,
     /// Another program has the file open, or listens at the socket.
     InUse,
     /// The file is not what was written, or not a database.
     Damaged,
     DiskFull,
     /// Something exists at the path already.
-    Taken,
+    PathExists,
     PortInUse,
     /// The machine's clock can't be read.
     Clock,
@@ -43,11 +43,11 @@ impl Cause {
     {
         match *self {
             Cause::NoFile => line_of(b"  no such file"),
-            Cause::NoRight => line_of(b"  permission denied, or the file system is read-only"),
+            Cause::NoPermission => line_of(b"  permission denied, or the file system is read-only"),
             Cause::InUse => line_of(b"  in use by another program"),
             Cause::Damaged => line_of(b"  damaged, or not a database: check the path and the disk"),
             Cause::DiskFull => line_of(b"  disk full"),
-            Cause::Taken => line_of(b"  the path already exists: give another one"),
+            Cause::PathExists => line_of(b"  the path already exists: give another one"),
             Cause::PortInUse => line_of(b"  port in use"),
             Cause::Clock => line_of(b"  the machine's clock can't be read"),
             Cause::OtherAlgorithm => line_of(
@@ -79,14 +79,14 @@ fn line_of(text: &[u8]) -> Label
 /// The cause of a failed system call, by the kind of its error; `None` if the kind has no cause here.
 pub fn io_cause_of(kind: ErrorKind) -> Option<Cause>
     ensures no_file { kind ≡ ErrorKind.NotFound → result ≡ Some Cause.NoFile }
-    ensures no_right { kind ≡ ErrorKind.PermissionDenied → result ≡ Some Cause.NoRight }
+    ensures no_right { kind ≡ ErrorKind.PermissionDenied → result ≡ Some Cause.NoPermission }
     ensures in_use { kind ≡ ErrorKind.AddrInUse → result ≡ Some Cause.InUse }
     ensures disk_full { kind ≡ ErrorKind.StorageFull → result ≡ Some Cause.DiskFull }
     ensures no_quota { kind ≡ ErrorKind.QuotaExceeded → result ≡ Some Cause.DiskFull }
 {
     match kind {
         ErrorKind::NotFound => Some(Cause::NoFile),
-        ErrorKind::PermissionDenied | ErrorKind::ReadOnlyFilesystem => Some(Cause::NoRight),
+        ErrorKind::PermissionDenied | ErrorKind::ReadOnlyFilesystem => Some(Cause::NoPermission),
         ErrorKind::AddrInUse => Some(Cause::InUse),
         ErrorKind::StorageFull | ErrorKind::QuotaExceeded => Some(Cause::DiskFull),
         _ => None,
@@ -95,12 +95,12 @@ pub fn io_cause_of(kind: ErrorKind) -> Option<Cause>
 
 /// The cause if a new file could not be created, by the kind of the error; `None` if the kind has no cause here.
 pub fn create_cause_of(kind: ErrorKind) -> Option<Cause>
-    ensures taken { kind ≡ ErrorKind.AlreadyExists → result ≡ Some Cause.Taken }
-    ensures no_right { kind ≡ ErrorKind.PermissionDenied → result ≡ Some Cause.NoRight }
+    ensures taken { kind ≡ ErrorKind.AlreadyExists → result ≡ Some Cause.PathExists }
+    ensures no_right { kind ≡ ErrorKind.PermissionDenied → result ≡ Some Cause.NoPermission }
     ensures disk_full { kind ≡ ErrorKind.StorageFull → result ≡ Some Cause.DiskFull }
 {
     match kind {
-        ErrorKind::AlreadyExists => Some(Cause::Taken),
+        ErrorKind::AlreadyExists => Some(Cause::PathExists),
         other => io_cause_of(other),
     }
 }
@@ -108,7 +108,7 @@ pub fn create_cause_of(kind: ErrorKind) -> Option<Cause>
 /// The cause if a port could not be bound, by the kind of the error; `None` if the kind has no cause here.
 pub fn port_cause_of(kind: ErrorKind) -> Option<Cause>
     ensures in_use { kind ≡ ErrorKind.AddrInUse → result ≡ Some Cause.PortInUse }
-    ensures no_right { kind ≡ ErrorKind.PermissionDenied → result ≡ Some Cause.NoRight }
+    ensures no_right { kind ≡ ErrorKind.PermissionDenied → result ≡ Some Cause.NoPermission }
 {
     match kind {
         ErrorKind::AddrInUse => Some(Cause::PortInUse),

@@ -2,7 +2,7 @@
 //! that applies. No decision changes anything.
 
 ghost use Rattle.std.specs.Prelude.{◌≡◌, ℕ, ◌+◌, ◌<◌, ◌^◌, false, IfSome, ⊤};
-ghost use Rattle.reg_core.specs.Checks.{clock_checks, first_of_all, live_checks, pending_request_checks, validity_checks, when};
+ghost use Rattle.reg_core.specs.Checks.{clock_checks, first_refusal, live_checks, pending_request_checks, validity_checks, refused_if};
 ghost use Rattle.reg_core.specs.Crls.{number_after};
 ghost use Rattle.reg_core.specs.Decisions.{head_is_full, IsDecided, IsDecidedBy, DecidesSubscriber, DecidesOrder, DecidesRegister, DecidesRequest, DecidesDecline, DecidesRevoke, DecidesCrl};
 
@@ -17,7 +17,7 @@ const SECONDS_OF_DAY: u64 = 86_400;
 /// Checks that the moment is before the clock's end, and not before the last accepted moment.
 /// Refusals: `ClockEnd` from 9999-12-22T00:00:00Z on; else `ClockBack` before the last accepted moment.
 pub fn clock(now: Moment, last: Moment) -> Result<(), Refusal>
-    ensures { IsDecidedBy (first_of_all (clock_checks now last)) (λ _. ⊤) result }
+    ensures { IsDecidedBy (first_refusal (clock_checks now last)) (λ _. ⊤) result }
 {
     if now >= Moment::CLOCK_END {
         return Err(Refusal::ClockEnd);
@@ -196,7 +196,7 @@ pub fn decide_crl(head: &Head, latest: Option<CrlRow>) -> Result<CrlRow, Refusal
 
 /// The id of the new row; `Full` if the table is full.
 fn next_id(head: &Head) -> Result<u64, Refusal>
-    ensures { IsDecidedBy (when (head_is_full head.entry.now) Refusal.Full)
+    ensures { IsDecidedBy (refused_if (head_is_full head.entry.now) Refusal.Full)
         (λ id. id ≡ head.entry.now.held + 1) result }
 {
     if is_full(head) {
@@ -225,7 +225,7 @@ fn next_number(latest: Option<CrlRow>) -> u64
 
 fn check_validity(head: &Head, wanted: &CertRow, order: &OrderRow) -> Result<(), Refusal>
     ensures { IsDecidedBy
-        (first_of_all (validity_checks head.entry.now.policy head.entry.now.now wanted.now (Some order.now)))
+        (first_refusal (validity_checks head.entry.now.policy head.entry.now.now wanted.now (Some order.now)))
         (λ _. ⊤)
         result }
 {
@@ -249,7 +249,7 @@ fn check_live(
     certificate: Option<CertRow>,
     revocation: Option<RevocationRow>,
 ) -> Result<(), Refusal>
-    ensures { IsDecidedBy (first_of_all (live_checks now certificate revocation)) (λ _. ⊤) result }
+    ensures { IsDecidedBy (first_refusal (live_checks now certificate revocation)) (λ _. ⊤) result }
 {
     if let Some(revoked) = revocation {
         return Err(Refusal::RevokedBefore { at: revoked.at });

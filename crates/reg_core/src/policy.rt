@@ -125,7 +125,7 @@ impl Policy {
     }
 
     /// States that the values of a policy are in their ranges. It does nothing: only its contract matters.
-    pub fn values_are_in_range(self)
+    pub fn prove_ranges(self)
         ensures { IsPolicy self }
     {}
 

@@ -5,7 +5,7 @@ use Rattle.std.specs.Cmp.Lexicographic.{bytes_decides}
 use Rattle.std.proofs.lemmas.Bool.Decides.{nat_tests}
 use Rattle.std.proofs.lemmas.List.{length-map}
 use Rattle.reg_core.specs.Changes.{touched, with_certificate, with_declined, declined_if, with_revocation, with_schedule}
-use Rattle.reg_core.specs.Checks.{clock_end, validity_seconds, when, first_of_all, where_none, where_no_ground, live_checks}
+use Rattle.reg_core.specs.Checks.{clock_end, validity_seconds, refused_if, first_refusal, refused_if_none, refused_if_no_ground, live_checks}
 use Rattle.reg_core.specs.Crls.{next_number}
 use Rattle.reg_core.specs.Grounds.{ground_or_refusal}
 use Rattle.reg_core.specs.Issuer.{Issuer}
@@ -94,7 +94,7 @@ crl_passes : (records : Records) (now : ℕ) → refusal records now IssueCrl �
 crl_passes records now none = grind (arith, nat_tests)
 
 pub own_checks : (records : Records) (now serial : ℕ) (word : List ℕ) → refusal records now (Request serial word) ≡ None
-    → first_of_all (checks records now (Request serial word)) ≡ None
+    → first_refusal (checks records now (Request serial word)) ≡ None
 own_checks records now serial word none = grind (arith, nat_tests)
 
 room_of : (cap held : ℕ) → nat_le cap held ≡ false → held < cap
@@ -102,7 +102,7 @@ room_of cap held fails = grind (arith, nat_tests)
 
 -- a request that passes its checks: the certificate is there, not revoked and not ended, and there is room
 pub request_passes : (now : ℕ) (certificate : Option CertRow) (named : Result Ground Refusal) (revocation : Option RevocationRow) (full : Bool)
-    → first_of_all (where_none certificate UnknownSerial ∷ where_no_ground named ∷ (live_checks now certificate revocation ++ when full Full ∷ [])) ≡ None
+    → first_refusal (refused_if_none certificate UnknownSerial ∷ refused_if_no_ground named ∷ (live_checks now certificate revocation ++ refused_if full Full ∷ [])) ≡ None
     → (known : CertRow) × (certificate ≡ Some known) × (revocation ≡ None) × (now ≤ known.not_after) × (full ≡ false)
 request_passes now certificate named revocation full none = grind (arith, nat_tests)
 

@@ -12,11 +12,11 @@ use Rattle.reg_core.specs.declared.rows.SubscriberRow.{SubscriberRow}
 use Rattle.reg_core_lists.specs.declared.fields.Cell.{Cell}
 use Rattle.reg_core_lists.specs.declared.fields.Cell.TheVariants.{Empty, Number, Serial, At, Text}
 use Rattle.reg_core_lists.specs.declared.fields.Field.{Field}
-use Rattle.reg_core_lists.specs.declared.rows.CertificateLine.{CertificateLine}
-use Rattle.reg_core_lists.specs.declared.rows.OrderLine.{OrderLine}
+use Rattle.reg_core_lists.specs.declared.rows.ListedCertificate.{ListedCertificate}
+use Rattle.reg_core_lists.specs.declared.rows.ListedOrder.{ListedOrder}
 use Rattle.reg_core_lists.specs.declared.rows.RequestHistory.{RequestHistory}
-use Rattle.reg_core_lists.specs.declared.rows.RequestLine.{RequestLine}
-use Rattle.reg_core_lists.specs.declared.rows.RevokedLine.{RevokedLine}
+use Rattle.reg_core_lists.specs.declared.rows.ListedRequest.{ListedRequest}
+use Rattle.reg_core_lists.specs.declared.rows.ListedRevocation.{ListedRevocation}
 use Rattle.reg_core_lists.specs.declared.rows.Row.{Row}
 use Rattle.reg_core_lists.specs.declared.rows.Row.TheVariants as kind
 
@@ -89,7 +89,7 @@ ground_name Nonconforming = codes "nonconforming"
 ground_name Inaccurate = codes "inaccurate"
 
 -- the fields of each kind of row, in the order in which a header names them
-abbrev pub certificate_fields : CertificateLine → List (List ℕ × Cell)
+abbrev pub certificate_fields : ListedCertificate → List (List ℕ × Cell)
 certificate_fields line =
     (codes "serial", Serial line.certificate.serial)
     ∷ (codes "subscriber", Number line.subscriber.id)
@@ -105,7 +105,7 @@ certificate_fields line =
     ∷ []
 
 -- the fields of a revocation: those of its certificate, and then those of its request
-abbrev pub revoked_fields : RevokedLine → List (List ℕ × Cell)
+abbrev pub revoked_fields : ListedRevocation → List (List ℕ × Cell)
 revoked_fields line =
     certificate_fields line.certificate
     ++ ((codes "request", Number line.request.id)
@@ -115,7 +115,7 @@ revoked_fields line =
     ∷ (codes "lateness", Number (line.revocation.at - line.due))
     ∷ [])
 
-abbrev pub request_fields : RequestLine → List (List ℕ × Cell)
+abbrev pub request_fields : ListedRequest → List (List ℕ × Cell)
 request_fields line =
     (codes "request", Number line.request.id)
     ∷ (codes "serial", Serial line.request.serial)
@@ -143,7 +143,7 @@ subscriber_fields subscriber =
     ∷ (codes "name", Text subscriber.name)
     ∷ []
 
-abbrev pub order_fields : OrderLine → List (List ℕ × Cell)
+abbrev pub order_fields : ListedOrder → List (List ℕ × Cell)
 order_fields line =
     (codes "order", Number line.order.id)
     ∷ (codes "subscriber", Number line.subscriber.id)

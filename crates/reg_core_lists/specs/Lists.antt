@@ -14,11 +14,11 @@ use Rattle.reg_core.specs.declared.rows.RevocationRow.{RevocationRow}
 use Rattle.reg_core.specs.declared.rows.SubscriberRow.{SubscriberRow}
 use Rattle.reg_core_lists.specs.declared.cursor.Cursor.{Cursor}
 use Rattle.reg_core_lists.specs.declared.cursor.Cursor.TheVariants.{Revoked, Certificates, Ending, OpenRequests, Overdue, Requests, Subscribers, Orders, Crls}
-use Rattle.reg_core_lists.specs.declared.rows.CertificateLine.{CertificateLine}
-use Rattle.reg_core_lists.specs.declared.rows.OrderLine.{OrderLine}
+use Rattle.reg_core_lists.specs.declared.rows.ListedCertificate.{ListedCertificate}
+use Rattle.reg_core_lists.specs.declared.rows.ListedOrder.{ListedOrder}
 use Rattle.reg_core_lists.specs.declared.rows.RequestHistory.{RequestHistory}
-use Rattle.reg_core_lists.specs.declared.rows.RequestLine.{RequestLine}
-use Rattle.reg_core_lists.specs.declared.rows.RevokedLine.{RevokedLine}
+use Rattle.reg_core_lists.specs.declared.rows.ListedRequest.{ListedRequest}
+use Rattle.reg_core_lists.specs.declared.rows.ListedRevocation.{ListedRevocation}
 use Rattle.reg_core_lists.specs.declared.rows.Row.{Row}
 use Rattle.reg_core_lists.specs.declared.rows.Row.TheVariants as kind
 
@@ -36,8 +36,8 @@ status_at records now certificate =
     status_by now (Some certificate) (revocation_in records.revocations certificate.serial)
 
 -- the fields of a certificate at a moment
-abbrev pub certificate_line : Records → ℕ → CertRow → Option CertificateLine
-certificate_line records now certificate =
+abbrev pub listed_certificate : Records → ℕ → CertRow → Option ListedCertificate
+listed_certificate records now certificate =
     option_map
     (λ subscriber. record {
       certificate = certificate;
@@ -48,8 +48,8 @@ certificate_line records now certificate =
     (subscriber_of_order records certificate.order)
 
 -- the fields of a request
-abbrev pub request_line : Records → RequestRow → Option RequestLine
-request_line records request =
+abbrev pub listed_request : Records → RequestRow → Option ListedRequest
+listed_request records request =
     option_and_then
     (λ certificate. option_map
     (λ subscriber. record {
@@ -62,8 +62,8 @@ request_line records request =
     (certificate_in records.certificates request.serial)
 
 -- the fields of a revocation: its certificate at a moment, and the request that led to it
-abbrev pub revoked_line : Records → ℕ → RevocationRow → Option RevokedLine
-revoked_line records now revocation =
+abbrev pub listed_revocation : Records → ℕ → RevocationRow → Option ListedRevocation
+listed_revocation records now revocation =
     option_and_then
     (λ request. option_map
     (λ line. record {
@@ -72,7 +72,8 @@ revoked_line records now revocation =
       request = request;
       due = deadline request;
     })
-    (option_and_then (certificate_line records now) (certificate_in records.certificates revocation.serial)))
+    (option_and_then (listed_certificate records now)
+    (certificate_in records.certificates revocation.serial)))
     (request_in records.requests revocation.request)
 
 -- when a request that was not declined stopped being open: its certificate's revocation or notAfter; or now, if it is open
@@ -96,11 +97,11 @@ request_history records now request =
       status = status records request.serial now;
       lateness = lateness_of now request line.certificate (status records request.serial now);
     })
-    (request_line records request)
+    (listed_request records request)
 
 -- the fields of an order
-abbrev pub order_line : Records → OrderRow → Option OrderLine
-order_line records order =
+abbrev pub listed_order : Records → OrderRow → Option ListedOrder
+listed_order records order =
     option_map
     (λ subscriber. record {
       order = order;
@@ -115,11 +116,11 @@ order_line records order =
 -- the row for a certificate in the list of all certificates
 abbrev pub certificate_row : Records → ℕ → CertRow → Option Row
 certificate_row records now certificate =
-    option_map (λ line. kind.Certificate line) (certificate_line records now certificate)
+    option_map (λ line. kind.Certificate line) (listed_certificate records now certificate)
 
 abbrev pub revoked_row : Records → ℕ → RevocationRow → Option Row
 revoked_row records now revocation =
-    option_map (λ line. kind.Revoked line) (revoked_line records now revocation)
+    option_map (λ line. kind.Revoked line) (listed_revocation records now revocation)
 
 -- a certificate is good, and its notAfter is before a moment
 abbrev pub is_expiring : Records → ℕ → ℕ → CertRow → Bool
@@ -134,7 +135,7 @@ expiring_row records now before certificate =
 abbrev pub open_row : Records → ℕ → RequestRow → Option Row
 open_row records now request =
     cond (is_open records now request)
-    (option_map (λ line. kind.Request line) (request_line records request)) None
+    (option_map (λ line. kind.Request line) (listed_request records request)) None
 
 -- the row for a request, if it is open and its deadline is past
 abbrev pub overdue_row : Records → ℕ → RequestRow → Option Row
@@ -149,7 +150,7 @@ abbrev pub subscriber_row : SubscriberRow → Option Row
 subscriber_row subscriber = Some (kind.Subscriber subscriber)
 
 abbrev pub order_row : Records → OrderRow → Option Row
-order_row records order = option_map (λ line. kind.Order line) (order_line records order)
+order_row records order = option_map (λ line. kind.Order line) (listed_order records order)
 
 abbrev pub crl_row : Crl → Option Row
 crl_row crl = Some (kind.Crl (row_of crl))

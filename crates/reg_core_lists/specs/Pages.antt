@@ -1,6 +1,6 @@
 -- Pages of a list and whole lists, as an office returns them.
 use Rattle.std.specs.Prelude.{◌≡◌, ℕ, List, [], ◌∷◌, ◌++◌, Option, Some, None, Result, Ok, Err}
-use Rattle.reg_core.specs.Checks.{clock_checks, first_of_all}
+use Rattle.reg_core.specs.Checks.{clock_checks, first_refusal}
 use Rattle.reg_core.specs.Records.{Records}
 use Rattle.reg_core.specs.Sound.{SoundRows}
 use Rattle.reg_core.specs.declared.refusal.Fault.{Fault}
@@ -23,9 +23,9 @@ pub record IsPage (records : Records) (now most : ℕ) (from : Cursor) (given : 
 -- of the store
 abbrev pub IsPaged : Records → ℕ → ℕ → Cursor → Result Page Fault → Type 0
 IsPaged records now most from (Ok given) =
-    (first_of_all (clock_checks now records.last) ≡ None) × IsPage records now most from given
+    (first_refusal (clock_checks now records.last) ≡ None) × IsPage records now most from given
 IsPaged records now most from (Err (Refused refusal)) =
-    first_of_all (clock_checks now records.last) ≡ Some refusal
+    first_refusal (clock_checks now records.last) ≡ Some refusal
 IsPaged records now most from (Err Memory) = Unit {0}
 IsPaged records now most from (Err Store) = Unit {0}
 IsPaged records now most from (Err Signer) = ⊥
@@ -53,10 +53,10 @@ ArePages records now most (Some from) rows (first ∷ rest) =
 -- the result for a whole list as a text: all its rows from a cursor on that pass the filter, each once and in order
 abbrev pub IsWholeList : Records → ℕ → Format → Filter → Cursor → Result (List ℕ) Fault → Type 0
 IsWholeList records now form wanted from (Ok text) =
-    (first_of_all (clock_checks now records.last) ≡ None)
+    (first_refusal (clock_checks now records.last) ≡ None)
     × (text ≡ list_text form from (filtered_rows wanted (rows_from records now from)))
 IsWholeList records now form wanted from (Err (Refused refusal)) =
-    first_of_all (clock_checks now records.last) ≡ Some refusal
+    first_refusal (clock_checks now records.last) ≡ Some refusal
 IsWholeList records now form wanted from (Err Memory) = Unit {0}
 IsWholeList records now form wanted from (Err Store) = Unit {0}
 IsWholeList records now form wanted from (Err Signer) = ⊥

@@ -3,7 +3,9 @@
 ghost use Rattle.std.specs.Prelude.{◌≡◌, ◌≤◌, ◌-◌, IfOk, length, map};
 ghost use Rattle.reg_core_lists.specs.Fields.{certificate_fields, crl_fields, decided_cell, first_listing, ground_name, history_fields, last_listing_cell, number_or_empty, order_fields, reason_cell, request_fields, revoked_at_cell, revoked_fields, row_fields, serial_or_empty, state_name, status_name, subscriber_fields, field_of_text};
 
-use crate::rows::{CertificateLine, OrderLine, RequestHistory, RequestLine, RevokedLine, Row};
+use crate::rows::{
+    ListedCertificate, ListedOrder, ListedRequest, ListedRevocation, RequestHistory, Row,
+};
 use reg_core::{CrlRow, Ground, Label, Listing, Moment, Serial, Status, SubscriberRow};
 use std::alloc::{AllocError, Global};
 
@@ -40,7 +42,7 @@ pub(crate) fn fields_of(alloc: Global, row: &Row) -> Result<Vec<Field>, AllocErr
     }
 }
 
-fn of_certificate(alloc: Global, line: &CertificateLine) -> Result<Vec<Field>, AllocError>
+fn of_certificate(alloc: Global, line: &ListedCertificate) -> Result<Vec<Field>, AllocError>
     ensures { IfOk result (λ fields. map field_of_text fields.items ≡ certificate_fields line.now) }
 {
     let certificate = &line.certificate;
@@ -62,7 +64,7 @@ fn of_certificate(alloc: Global, line: &CertificateLine) -> Result<Vec<Field>, A
     )
 }
 
-fn of_revocation(alloc: Global, line: &RevokedLine) -> Result<Vec<Field>, AllocError>
+fn of_revocation(alloc: Global, line: &ListedRevocation) -> Result<Vec<Field>, AllocError>
     ensures { IfOk result (λ fields. map field_of_text fields.items ≡ revoked_fields line.now) }
 {
     let mut fields = of_certificate(alloc, &line.certificate)?;
@@ -79,7 +81,7 @@ fn of_revocation(alloc: Global, line: &RevokedLine) -> Result<Vec<Field>, AllocE
     Ok(fields)
 }
 
-fn of_request(alloc: Global, line: &RequestLine) -> Result<Vec<Field>, AllocError>
+fn of_request(alloc: Global, line: &ListedRequest) -> Result<Vec<Field>, AllocError>
     ensures { IfOk result (λ fields. map field_of_text fields.items ≡ request_fields line.now) }
 {
     let request = &line.request;
@@ -125,7 +127,7 @@ fn of_subscriber(alloc: Global, subscriber: &SubscriberRow) -> Result<Vec<Field>
     )
 }
 
-fn of_order(alloc: Global, line: &OrderLine) -> Result<Vec<Field>, AllocError>
+fn of_order(alloc: Global, line: &ListedOrder) -> Result<Vec<Field>, AllocError>
     ensures { IfOk result (λ fields. map field_of_text fields.items ≡ order_fields line.now) }
 {
     Vec::from_slice(

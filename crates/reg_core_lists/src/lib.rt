@@ -11,5 +11,7 @@ mod texts;
 pub use cursor::Cursor;
 pub use filter::Filter;
 pub use list_parameters::{PageQuery, read_page, read_prefix};
-pub use rows::{CertificateLine, OrderLine, Page, RequestHistory, RequestLine, RevokedLine, Row};
+pub use rows::{
+    ListedCertificate, ListedOrder, ListedRequest, ListedRevocation, Page, RequestHistory, Row,
+};
 pub use texts::{Format, header, page_text, put_rows};

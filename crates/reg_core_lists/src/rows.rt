@@ -8,7 +8,7 @@ use reg_core::{
 
 /// The fields of a certificate at a moment.
 #[derive(Clone, Copy)]
-pub struct CertificateLine {
+pub struct ListedCertificate {
     pub certificate: CertRow,
     /// The subscriber whose order it fills.
     pub subscriber: SubscriberRow,
@@ -19,8 +19,8 @@ pub struct CertificateLine {
 
 /// The fields of a revocation.
 #[derive(Clone, Copy)]
-pub struct RevokedLine {
-    pub certificate: CertificateLine,
+pub struct ListedRevocation {
+    pub certificate: ListedCertificate,
     pub revocation: RevocationRow,
     /// The request that led to it.
     pub request: RequestRow,
@@ -30,7 +30,7 @@ pub struct RevokedLine {
 
 /// The fields of a request for revocation.
 #[derive(Clone, Copy)]
-pub struct RequestLine {
+pub struct ListedRequest {
     pub request: RequestRow,
     /// The deadline of the request.
     pub due: Moment,
@@ -42,7 +42,7 @@ pub struct RequestLine {
 /// A request and its state at a moment.
 #[derive(Clone, Copy)]
 pub struct RequestHistory {
-    pub request: RequestLine,
+    pub request: ListedRequest,
     /// The status of its certificate.
     pub status: Status,
     /// For how many seconds it was open after its deadline, or has been until now. `None` if it was declined: no record has the moment of that.
@@ -51,7 +51,7 @@ pub struct RequestHistory {
 
 /// The fields of an order.
 #[derive(Clone, Copy)]
-pub struct OrderLine {
+pub struct ListedOrder {
     pub order: OrderRow,
     pub subscriber: SubscriberRow,
     /// The serial number of the certificate that fills it, if there is one.
@@ -62,14 +62,14 @@ pub struct OrderLine {
 #[derive(Clone, Copy)]
 pub enum Row {
     /// A row of `certificates` or `ending`.
-    Certificate(CertificateLine),
-    Revoked(RevokedLine),
+    Certificate(ListedCertificate),
+    Revoked(ListedRevocation),
     /// A row of `open-requests` or `overdue`.
-    Request(RequestLine),
+    Request(ListedRequest),
     /// A row of `requests`.
     History(RequestHistory),
     Subscriber(SubscriberRow),
-    Order(OrderLine),
+    Order(ListedOrder),
     Crl(CrlRow),
 }
 

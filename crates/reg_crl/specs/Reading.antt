@@ -99,8 +99,8 @@ AreEntries bytes (serial ∷ serials) rest =
     (after : List ℕ) × IsEntryAt bytes serial after × AreEntries after serials rest
 
 -- the bytes are a CRL with this number, whose entries have these serial numbers, in this order
-abbrev pub IsPublished : List ℕ → ℕ → List ℕ → Type 0
-IsPublished bytes number serials =
+abbrev pub IsCrlWith : List ℕ → ℕ → List ℕ → Type 0
+IsCrlWith bytes number serials =
     (revoked : List ℕ) × (certificate_list_at bytes ≡ Some (number, revoked)) × AreEntries revoked serials []
 
 -- ---- laws
@@ -112,14 +112,14 @@ CrlsAreRead =
     → crl.number < 2 ^ 63
     → AllByRecursion (λ entry. IsSerial entry.serial) crl.entries
     → length (certificate_list (tbs_of algorithm crl) algorithm signature) < 2 ^ 32
-    → IsPublished (certificate_list (tbs_of algorithm crl) algorithm signature) crl.number
+    → IsCrlWith (certificate_list (tbs_of algorithm crl) algorithm signature) crl.number
     (map (λ entry. entry.serial) crl.entries)
 
 -- a CRL has one number and one list of serial numbers
 abbrev pub CrlsHaveOneReading : Type 0
 CrlsHaveOneReading =
     (bytes : List ℕ) (number other_number : ℕ) (serials other_serials : List ℕ)
-    → IsPublished bytes number serials → IsPublished bytes other_number other_serials
+    → IsCrlWith bytes number serials → IsCrlWith bytes other_number other_serials
     → (number ≡ other_number) × (serials ≡ other_serials)
 
 -- no CRL is a proper prefix of another: a CRL that is cut short is refused, and so is one with bytes after it

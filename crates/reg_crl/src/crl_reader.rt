@@ -2,7 +2,7 @@
 
 ghost use Rattle.std.specs.Prelude.{◌≡◌, ◌<◌, ℕ, List, length, IfSome, MatchOption};
 ghost use Rattle.reg_crl.specs.Reading.{IsEntryAt, after_next_update, certificate_list_at, crl_extension_at, header_at, crl_number_at, number_among, crl_number_of, revoked_entry_at, tbs_cert_list_at, time_at};
-ghost use Rattle.reg_der.specs.ValueReading.{Gives};
+ghost use Rattle.reg_der.specs.ValueReading.{AgreesWith};
 
 use crate::crl::CRL_NUMBER;
 use reg_core::Serial;
@@ -26,7 +26,7 @@ pub struct ParsedCrl<'a> {
 /// or more.
 #[tactic(auto, unfolding(crate::specs::Reading::certificate_list_at))]
 pub fn read_crl(bytes: &[u8]) -> Option<ParsedCrl<'_>>
-    ensures { Gives (λ crl. (crl.number, crl.revoked.now)) result (certificate_list_at bytes.now) }
+    ensures { AgreesWith (λ crl. (crl.number, crl.revoked.now)) result (certificate_list_at bytes.now) }
 {
     let (tbs, rest) = expect(SEQUENCE, whole(SEQUENCE, bytes)?)?;
     let (_, rest) = expect(SEQUENCE, rest)?;
@@ -48,7 +48,7 @@ pub fn next_entry(entries: &[u8]) -> Option<(Serial, &[u8])>
 /// The contents octets of the first entry's serial number, and the entries after it.
 #[tactic(auto, unfolding(crate::specs::Reading::revoked_entry_at))]
 fn serial_octets(entries: &[u8]) -> Option<(&[u8], &[u8])>
-    ensures exact { Gives (λ x. (x.0.now, x.1.now)) result (revoked_entry_at entries.now) }
+    ensures exact { AgreesWith (λ x. (x.0.now, x.1.now)) result (revoked_entry_at entries.now) }
     ensures shorter { IfSome result (λ x. length x.1.now < length entries.now) }
 {
     let (entry, rest) = expect(SEQUENCE, entries)?;
@@ -59,7 +59,7 @@ fn serial_octets(entries: &[u8]) -> Option<(&[u8], &[u8])>
 /// The number and the entries, from the contents of a TBSCertList.
 #[tactic(auto, unfolding(crate::specs::Reading::tbs_cert_list_at))]
 fn parts(bytes: &[u8]) -> Option<ParsedCrl<'_>>
-    ensures { Gives (λ crl. (crl.number, crl.revoked.now)) result (tbs_cert_list_at bytes.now) }
+    ensures { AgreesWith (λ crl. (crl.number, crl.revoked.now)) result (tbs_cert_list_at bytes.now) }
 {
     let (revoked, rest) = optional(SEQUENCE, skip_header(bytes)?)?;
     let number = crl_number(rest)?;
@@ -72,7 +72,7 @@ fn parts(bytes: &[u8]) -> Option<ParsedCrl<'_>>
 /// The bytes after version, signature, issuer, thisUpdate and nextUpdate.
 #[tactic(auto, unfolding(crate::specs::Reading::header_at))]
 fn skip_header(bytes: &[u8]) -> Option<&[u8]>
-    ensures { Gives (λ x. x.now) result (header_at bytes.now) }
+    ensures { AgreesWith (λ x. x.now) result (header_at bytes.now) }
 {
     let (_, rest) = optional(INTEGER, bytes)?;
     let (_, rest) = expect(SEQUENCE, rest)?;
@@ -83,7 +83,7 @@ fn skip_header(bytes: &[u8]) -> Option<&[u8]>
 /// The bytes after a Time (RFC 5280 5.1.2.4).
 #[tactic(auto, unfolding(crate::specs::Reading::time_at))]
 fn skip_time(bytes: &[u8]) -> Option<&[u8]>
-    ensures { Gives (λ x. x.now) result (time_at bytes.now) }
+    ensures { AgreesWith (λ x. x.now) result (time_at bytes.now) }
 {
     let (time, rest) = take(bytes)?;
     if time.tag == UTC_TIME || time.tag == GENERALIZED_TIME {
@@ -96,7 +96,7 @@ fn skip_time(bytes: &[u8]) -> Option<&[u8]>
 /// The bytes after nextUpdate, which may be absent.
 #[tactic(auto, unfolding(crate::specs::Reading::after_next_update))]
 fn skip_next_update(bytes: &[u8]) -> Option<&[u8]>
-    ensures { Gives (λ x. x.now) result (after_next_update bytes.now) }
+    ensures { AgreesWith (λ x. x.now) result (after_next_update bytes.now) }
 {
     match bytes {
         [first, ..] if *first == UTC_TIME || *first == GENERALIZED_TIME => skip_time(bytes),
@@ -130,7 +130,7 @@ fn number_among(extensions: &[u8]) -> Option<u64>
 /// The extnID and the extnValue of the first extension, and the extensions after it.
 #[tactic(auto, unfolding(crate::specs::Reading::crl_extension_at))]
 fn next_extension(bytes: &[u8]) -> Option<(&[u8], &[u8], &[u8])>
-    ensures exact { Gives (λ x. ((x.0.now, x.1.now), x.2.now)) result (crl_extension_at bytes.now) }
+    ensures exact { AgreesWith (λ x. ((x.0.now, x.1.now), x.2.now)) result (crl_extension_at bytes.now) }
     ensures shorter { IfSome result (λ x. length x.2.now < length bytes.now) }
 {
     let (extension, rest) = expect(SEQUENCE, bytes)?;

@@ -1,11 +1,11 @@
 pub mod Algorithms
 pub mod SignatureRequest
 pub mod Backoff
-pub mod Both
+pub mod KeyOrDigestSignatures
 pub mod DeviceSigners
 pub mod Devices
 pub mod Exchange
 pub mod Forms
-pub mod KeysOrDigests
+pub mod RegisterSigners
 pub mod PresetSignature
 pub mod Signed

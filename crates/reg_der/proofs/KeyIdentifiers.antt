@@ -12,7 +12,7 @@ use Rattle.reg_core.specs.Sequence.{◌>>=◌}
 use Rattle.reg_core.proofs.PublicLaws.{octets_are_below, octets_are_lowest, is_bytes-take, is_bytes-append}
 use Rattle.reg_der.specs.Der.{tlv, IsTlv}
 use Rattle.reg_der.specs.ValueReading.{Parts, value_at}
-use Rattle.reg_der.specs.Authority.{IsIssuerName, IsKept, IsIssuer, name_in, after_name, name_of, key_identifiers, key_identifier_at, identifier_value, identifier_at, identifiers_by, identifiers_at, identifier_for, but_for, others_than, with_identifier, HasIdentifier, IdentifiersFollow, IsPlain, NamesArePlain}
+use Rattle.reg_der.specs.Authority.{IsIssuerName, IsStoredName, IsIssuer, name_in, after_name, name_of, key_identifiers, key_identifier_at, identifier_value, identifier_at, identifiers_by, identifiers_at, identifier_for, but_for, others_than, with_identifier, HasIdentifier, IdentifiersFollow, IsPlain, NamesArePlain}
 use Rattle.reg_der.specs.declared.identifiers.KeyIdentifier.{KeyIdentifier}
 use Rattle.reg_der.proofs.ValueLemmas.{bind_then, value_takes, value_again, value_reads, length-tlv_at_least, is_bytes-tlv}
 
@@ -215,7 +215,7 @@ behind_bytes kept each = by (value_at kept) refl
     by None is = λ i. omega arith
 
 -- a Name alone, as it was before there were key identifiers
-pub name_kept : (name : List ℕ) → IsIssuerName name → (IsKept name) × (name_in name ≡ name) × (after_name name ≡ [])
+pub name_kept : (name : List ℕ) → IsIssuerName name → (IsStoredName name) × (name_in name ≡ name) × (after_name name ≡ [])
 name_kept name is =
     let whole : name ++ [] ≡ name = append-nil name in
     let front : name_in name ≡ name = ap name_in (sym whole) ∙ name_in-is name [] is in

@@ -56,14 +56,14 @@ abbrev pub identifiers_at : List ℕ → Option (List KeyIdentifier)
 identifiers_at bytes = identifiers_by (length bytes) bytes
 
 -- a stored name: a Name, and after it key identifiers and nothing else
-pub record IsKept (kept : List ℕ) : Type 0 where
+pub record IsStoredName (kept : List ℕ) : Type 0 where
   pub each : IsBytes kept
   pub name : IsIssuerName (name_in kept)
   pub identifiers : IsSome (identifiers_at (after_name kept))
 
 -- the stored name and the key are valid
 pub record IsIssuer (issuer : core.Issuer) : Type 0 where
-  pub name : IsKept issuer.name
+  pub name : IsStoredName issuer.name
   pub key : IsKey issuer.key
 
 -- ---- the parts of an issuer
@@ -121,7 +121,7 @@ IdentifiersFollow =
 
 -- the stored name is only the Name, and no key identifier was set for any CRL
 pub record IsPlain (issuer : core.Issuer) : Type 0 where
-  pub within : IsKept issuer.name
+  pub within : IsStoredName issuer.name
   pub name : name_of issuer ≡ issuer.name
   pub none : (number : ℕ) → key_identifier_at issuer number ≡ None
 

@@ -5,9 +5,9 @@ use Rattle.reg_core.specs.Sequence.{◌>>=◌}
 use Rattle.reg_der.specs.Der.{tlv, IsTlv}
 
 -- the model (`view`) of what a function returned is what reading gives
-abbrev pub Gives : {X Y : Type 0} → (X → Y) → Option X → Option Y → Type 0
-Gives view (Some x) read = read ≡ Some (view x)
-Gives view None read = read ≡ None
+abbrev pub AgreesWith : {X Y : Type 0} → (X → Y) → Option X → Option Y → Type 0
+AgreesWith view (Some x) read = read ≡ Some (view x)
+AgreesWith view None read = read ≡ None
 
 -- the tag and the contents of a value
 pub record Parts : Type 0 where

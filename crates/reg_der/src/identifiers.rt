@@ -1,6 +1,6 @@
 ghost use Rattle.std.specs.Prelude.{◌≡◌, ◌<◌, length, IfSome, IsSome, IsTrue, ◌↔◌, unwrap_or, []};
 ghost use Rattle.reg_der.specs.Authority as authority;
-ghost use Rattle.reg_der.specs.ValueReading.{Gives};
+ghost use Rattle.reg_der.specs.ValueReading.{AgreesWith};
 
 use crate::tlv_reader::take;
 use crate::values::number;
@@ -25,7 +25,7 @@ pub struct KeyIdentifier {
 /// The key identifier at the front, and the bytes after it.
 #[tactic(auto, unfolding(crate::specs::Authority::identifier_at))]
 fn first_element(bytes: &[u8]) -> Option<(KeyIdentifier, &[u8])>
-    ensures exact { Gives (λ x. (x.0, x.1.now)) result (authority.identifier_at bytes.now) }
+    ensures exact { AgreesWith (λ x. (x.0, x.1.now)) result (authority.identifier_at bytes.now) }
     ensures shorter { IfSome result (λ x. length x.1.now < length bytes.now) }
 {
     let (value, rest) = take(bytes)?;

@@ -1,6 +1,6 @@
 ghost use Rattle.std.specs.Prelude.{◌≡◌, ◌≤◌, ◌↔◌, ◌++◌, length, IfOk, IfSome, OnOk, IsErrOf, IsTrue};
 ghost use Rattle.sha1.specs.Sha1.{sha1};
-ghost use Rattle.reg_der.specs.Authority.{IsIssuerName, IsKey, IsKept, IsIssuer, name_in, after_name, name_of, identifier_value, key_identifier_at, others_than, with_identifier, HasIdentifier};
+ghost use Rattle.reg_der.specs.Authority.{IsIssuerName, IsKey, IsStoredName, IsIssuer, name_in, after_name, name_of, identifier_value, key_identifier_at, others_than, with_identifier, HasIdentifier};
 ghost use Rattle.reg_der.specs.declared.issuer.IssuerFault.TheVariants.{Memory};
 ghost use Rattle.reg_core.specs.Buffers.{AppendsOnOk};
 
@@ -67,27 +67,28 @@ impl Issuer {
         ensures bad_key { IsErrOf result IssuerFault.BadKey ↔ (IsIssuerName name.now × ¬ (IsKey key.now)) }
     {
         if is_name(name) {
-            Issuer::of_kept(alloc, name, key)
+            Issuer::of_stored(alloc, name, key)
         } else {
             Err(IssuerFault::BadName)
         }
     }
 
-    /// The issuer with this key and what [`kept`](Issuer::kept) gave. `BadName` if `kept` isn't a Name as for
+    /// The issuer with this key and what [`stored_name`](Issuer::stored_name) gave. `BadName` if `stored_name` isn't a Name as for
     /// [`new`](Issuer::new), and then key identifiers and nothing else; `BadKey` and `Memory` as for `new`.
-    pub fn of_kept(alloc: Global, kept: &[u8], key: &[u8]) -> Result<Issuer, IssuerFault>
-        ensures ok { IfOk result (λ issuer. (issuer.name ≡ kept.now) × (issuer.key ≡ key.now)) }
-        ensures good { OnOk result (IsKept kept.now × IsKey key.now) }
-        ensures bad_name { IsErrOf result IssuerFault.BadName ↔ ¬ (IsKept kept.now) }
-        ensures bad_key { IsErrOf result IssuerFault.BadKey ↔ (IsKept kept.now × ¬ (IsKey key.now)) }
+    pub fn of_stored(alloc: Global, stored_name: &[u8], key: &[u8]) -> Result<Issuer, IssuerFault>
+        ensures ok { IfOk result (λ issuer. (issuer.name ≡ stored_name.now) × (issuer.key ≡ key.now)) }
+        ensures good { OnOk result (IsStoredName stored_name.now × IsKey key.now) }
+        ensures bad_name { IsErrOf result IssuerFault.BadName ↔ ¬ (IsStoredName stored_name.now) }
+        ensures bad_key { IsErrOf result IssuerFault.BadKey
+            ↔ (IsStoredName stored_name.now × ¬ (IsKey key.now)) }
     {
-        if !is_kept(kept) {
+        if !is_stored_name(stored_name) {
             return Err(IssuerFault::BadName);
         }
         if !is_key(key) {
             return Err(IssuerFault::BadKey);
         }
-        let name = Vec::from_slice(alloc, kept)?;
+        let name = Vec::from_slice(alloc, stored_name)?;
         let key = Vec::from_slice(alloc, key)?;
         Ok(Issuer { name, key })
     }
@@ -103,7 +104,7 @@ impl Issuer {
         ensures ok { IfOk result (λ issuer. issuer ≡ with_identifier self.now first octets) }
         ensures follows { HasIdentifier self.now first octets }
     {
-        let name = kept_with(alloc, &self.name, first, octets.as_bytes())?;
+        let name = stored_name_with(alloc, &self.name, first, octets.as_bytes())?;
         let key = copy_of(alloc, &self.key)?;
         Ok(Issuer { name, key })
     }
@@ -117,9 +118,9 @@ impl Issuer {
     }
 
     /// The bytes that the register stores as the issuer's name: the DER value of the Name, and after it the key identifiers that were set.
-    pub fn kept(&self) -> &[u8]
-        ensures kept { result.now ≡ self.now.name }
-        ensures within { IsKept result.now }
+    pub fn stored_name(&self) -> &[u8]
+        ensures stored_name { result.now ≡ self.now.name }
+        ensures within { IsStoredName result.now }
     {
         &self.name
     }
@@ -157,34 +158,39 @@ impl Issuer {
     }
 }
 
-/// The Name at the front of `kept`, and the bytes after it.
+/// The Name at the front of `stored_name`, and the bytes after it.
 #[tactic(auto, unfolding(crate::specs::Authority::name_in, crate::specs::Authority::after_name))]
-fn parts(kept: &[u8]) -> (&[u8], &[u8])
-    ensures name { result.0.now ≡ name_in kept.now }
-    ensures behind { result.1.now ≡ after_name kept.now }
+fn parts(stored_name: &[u8]) -> (&[u8], &[u8])
+    ensures name { result.0.now ≡ name_in stored_name.now }
+    ensures behind { result.1.now ≡ after_name stored_name.now }
 {
-    match take(kept) {
+    match take(stored_name) {
         Some((value, rest)) => (value.raw, rest),
         None => (&[], &[]),
     }
 }
 
 /// Whether the bytes are a stored name: a Name, and then key identifiers and nothing else.
-fn is_kept(kept: &[u8]) -> bool
-    ensures { IsTrue result ↔ IsKept kept.now }
+fn is_stored_name(stored_name: &[u8]) -> bool
+    ensures { IsTrue result ↔ IsStoredName stored_name.now }
 {
-    let (name, identifiers) = parts(kept);
+    let (name, identifiers) = parts(stored_name);
     is_name(name) && are_identifiers(identifiers)
 }
 
-/// The stored name `kept` with one more key identifier.
-fn kept_with(alloc: Global, kept: &[u8], first: u64, octets: &[u8]) -> Result<Vec<u8>, Memory>
+/// The stored name `stored_name` with one more key identifier.
+fn stored_name_with(
+    alloc: Global,
+    stored_name: &[u8],
+    first: u64,
+    octets: &[u8],
+) -> Result<Vec<u8>, Memory>
     requires { length octets.now ≤ 64 }
     ensures { IfOk result (λ made. made.items
-        ≡ (name_in kept.now ++ identifier_value first octets.now)
-        ++ others_than first (after_name kept.now)) }
+        ≡ (name_in stored_name.now ++ identifier_value first octets.now)
+        ++ others_than first (after_name stored_name.now)) }
 {
-    let (name, identifiers) = parts(kept);
+    let (name, identifiers) = parts(stored_name);
     let mut stored = copy_of(alloc, name)?;
     put_identifier(alloc, &mut stored, first, octets)?;
     put_raw(&mut stored, others_than(identifiers, first))?;

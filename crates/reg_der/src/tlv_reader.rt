@@ -3,7 +3,7 @@
 ghost use Rattle.std.specs.Prelude.{◌≡◌, ℕ, List, ◌+◌, ◌++◌, ◌≤◌, length, IfSome, IfNone};
 ghost use Rattle.reg_core.specs.Integer.{value};
 ghost use Rattle.reg_der.specs.Der.{IsTlv};
-ghost use Rattle.reg_der.specs.ValueReading.{Gives, Parts, long_at, length_at, counted_at, value_at};
+ghost use Rattle.reg_der.specs.ValueReading.{AgreesWith, Parts, long_at, length_at, counted_at, value_at};
 
 /// A DER value, as slices of the bytes that it was read from.
 #[derive(Clone, Copy)]
@@ -34,7 +34,7 @@ fn number(digits: &[u8]) -> usize
 /// The length in the first `count` octets, and the bytes after them. The octet before them gave `count`.
 #[tactic(auto, unfolding(crate::specs::ValueReading::long_at))]
 fn long_length(count: usize, bytes: &[u8]) -> Option<(usize, &[u8])>
-    ensures exact { Gives (λ x. (x.0, x.1.now)) result (long_at count bytes.now) }
+    ensures exact { AgreesWith (λ x. (x.0, x.1.now)) result (long_at count bytes.now) }
     ensures shorter { IfSome result (λ x. length x.1.now ≤ length bytes.now) }
 {
     if count == 0 || count > 4 || bytes.len() < count {
@@ -52,7 +52,7 @@ fn long_length(count: usize, bytes: &[u8]) -> Option<(usize, &[u8])>
 /// The length at the front, and the bytes after it.
 #[tactic(auto, unfolding(crate::specs::ValueReading::length_at))]
 fn length(bytes: &[u8]) -> Option<(usize, &[u8])>
-    ensures exact { Gives (λ x. (x.0, x.1.now)) result (length_at bytes.now) }
+    ensures exact { AgreesWith (λ x. (x.0, x.1.now)) result (length_at bytes.now) }
     ensures shorter { IfSome result (λ x. length x.1.now ≤ length bytes.now) }
 {
     match bytes {
@@ -70,7 +70,7 @@ fn length(bytes: &[u8]) -> Option<(usize, &[u8])>
 /// The contents, whose length octets are at the front, and the bytes after them.
 #[tactic(auto, unfolding(crate::specs::ValueReading::counted_at))]
 fn counted(bytes: &[u8]) -> Option<(&[u8], &[u8])>
-    ensures exact { Gives (λ x. (x.0.now, x.1.now)) result (counted_at bytes.now) }
+    ensures exact { AgreesWith (λ x. (x.0.now, x.1.now)) result (counted_at bytes.now) }
     ensures shorter { IfSome result (λ x. length x.1.now ≤ length bytes.now) }
 {
     let (length, rest) = length(bytes)?;
@@ -83,7 +83,7 @@ fn counted(bytes: &[u8]) -> Option<(&[u8], &[u8])>
 /// The tag and the contents of the value at the front, and the bytes after it.
 #[tactic(auto, unfolding(crate::specs::ValueReading::value_at))]
 fn first_element(bytes: &[u8]) -> Option<(u8, &[u8], &[u8])>
-    ensures exact { Gives (λ x. (record { tag = x.0; contents = x.1.now }, x.2.now)) result
+    ensures exact { AgreesWith (λ x. (record { tag = x.0; contents = x.1.now }, x.2.now)) result
         (value_at bytes.now) }
     ensures shorter { IfSome result (λ x. length x.2.now ≤ length bytes.now) }
 {
@@ -107,7 +107,7 @@ pub fn take(bytes: &[u8]) -> Option<(Tlv<'_>, &[u8])>
         ((raw rest contents : List ℕ) (tag : ℕ) → IsTlv raw tag contents → bytes.now ≡ raw ++ rest → ⊥) }
 
     // The result by the function `value_at`, for readers in other crates.
-    ensures exact { Gives (λ x. (record { tag = x.0.tag; contents = x.0.contents.now }, x.1.now)) result
+    ensures exact { AgreesWith (λ x. (record { tag = x.0.tag; contents = x.0.contents.now }, x.1.now)) result
         (value_at bytes.now) }
     ensures shorter { IfSome result (λ x. length x.0.raw.now + length x.1.now ≡ length bytes.now) }
 {

@@ -3,7 +3,7 @@
 ghost use Rattle.std.specs.Prelude.{◌≡◌, ◌<◌, ◌≤◌, length, IfSome, option_copied};
 ghost use Rattle.reg_core.specs.Integer.{value as number_written};
 ghost use Rattle.reg_der.specs.Der.{tlv};
-ghost use Rattle.reg_der.specs.ValueReading.{Gives};
+ghost use Rattle.reg_der.specs.ValueReading.{AgreesWith};
 ghost use Rattle.reg_der.specs.TaggedValues.{expect_at, last_at, optional_at, whole_at};
 
 use crate::tlv_reader::{Tlv, take};
@@ -11,7 +11,7 @@ use crate::tlv_reader::{Tlv, take};
 /// The value at the front, and the bytes after it. `None` if no value is there, or it has another tag.
 #[tactic(auto, using(crate::proofs::ValueLemmas::tlv_some), unfolding(crate::specs::TaggedValues::expect_at))]
 pub fn expect(tag: u8, bytes: &[u8]) -> Option<(Tlv<'_>, &[u8])>
-    ensures exact { Gives (λ x. (x.0.contents.now, x.1.now)) result (expect_at tag bytes.now) }
+    ensures exact { AgreesWith (λ x. (x.0.contents.now, x.1.now)) result (expect_at tag bytes.now) }
     ensures raw { IfSome result (λ x. x.0.raw.now ≡ tlv tag x.0.contents.now) }
     ensures shorter { IfSome result (λ x. length x.1.now < length bytes.now) }
 {
@@ -26,7 +26,7 @@ pub fn expect(tag: u8, bytes: &[u8]) -> Option<(Tlv<'_>, &[u8])>
 /// The contents of the value with this tag, which is all of the bytes; else `None`.
 #[tactic(auto, unfolding(crate::specs::TaggedValues::whole_at))]
 pub fn whole(tag: u8, bytes: &[u8]) -> Option<&[u8]>
-    ensures exact { Gives (λ x. x.now) result (whole_at tag bytes.now) }
+    ensures exact { AgreesWith (λ x. x.now) result (whole_at tag bytes.now) }
 {
     let (value, rest) = expect(tag, bytes)?;
     if rest.is_empty() {
@@ -39,7 +39,7 @@ pub fn whole(tag: u8, bytes: &[u8]) -> Option<&[u8]>
 /// The contents of the value at the front, and the bytes after it; `(None, bytes)` if the first byte is not this tag. `None` if it is, but no value is there.
 #[tactic(auto, unfolding(crate::specs::TaggedValues::optional_at))]
 pub fn optional(tag: u8, bytes: &[u8]) -> Option<(Option<&[u8]>, &[u8])>
-    ensures exact { Gives (λ x. (option_copied x.0, x.1.now)) result (optional_at tag bytes.now) }
+    ensures exact { AgreesWith (λ x. (option_copied x.0, x.1.now)) result (optional_at tag bytes.now) }
 {
     match bytes {
         [first, ..] if *first == tag => {
@@ -53,7 +53,7 @@ pub fn optional(tag: u8, bytes: &[u8]) -> Option<(Option<&[u8]>, &[u8])>
 /// The contents of the value with this tag, which is all of the bytes; `Some(None)` if there are no bytes; else `None`.
 #[tactic(auto, unfolding(crate::specs::TaggedValues::last_at))]
 pub fn last(tag: u8, bytes: &[u8]) -> Option<Option<&[u8]>>
-    ensures exact { Gives (λ x. option_copied x) result (last_at tag bytes.now) }
+    ensures exact { AgreesWith (λ x. option_copied x) result (last_at tag bytes.now) }
 {
     if bytes.is_empty() {
         return Some(None);

@@ -85,7 +85,7 @@ serve_app = with_rules (new_app (codes "serve"))
 
 -- `open FILE --port N [--listen ADDRESS] --control SOCKET [--signer SOCKET --algorithm NAME] [--unsigned]
 -- [--responder CERT --responder-signer SOCKET --responder-algorithm NAME | --embed CERT] [--published CRL] [--log] [--log-file PATH] [--why]`;
--- `--counter` is an older name of `--control`; `Jobs.signer_chosen` states whether `--signer` or `--unsigned` must be given
+-- `--counter` is an older name of `--control`; `Jobs.signer_or_unsigned` states whether `--signer` or `--unsigned` must be given
 abbrev pub open_app : App
 open_app = with_rules (new_app (codes "open"))
     (must (codes "file") ∷ needs (codes "port") ∷ takes_value (codes "listen")

@@ -66,17 +66,17 @@ signer_in rows = signer_by_options (codes "signer") (codes "algorithm") rows
 -- the responder to OCSP requests, from the path of a responder's certificate, its signer, and the path of a certificate to embed in responses
 -- of the issuer: both of the first two are given and not the third, or neither, and then the third may be given
 abbrev pub responder_by : Option Text → Option SignerAddress → Option Text → Option ResponderChoice
-responder_by (Some certificate) (Some holder) None = Some (Delegate certificate holder)
-responder_by (Some certificate) (Some holder) (Some embedded) = None
+responder_by (Some certificate) (Some address) None = Some (Delegate certificate address)
+responder_by (Some certificate) (Some address) (Some embedded) = None
 responder_by (Some certificate) None embedded = None
-responder_by None (Some holder) embedded = None
+responder_by None (Some address) embedded = None
 responder_by None None embedded = Some (Issuer embedded)
 
 -- the responder to OCSP requests, from the words of these options
 unfoldable pub responder_in : List Row → Option ResponderChoice
 responder_in rows = do
-  holder ← signer_by_options (codes "responder-signer") (codes "responder-algorithm") rows
-  responder_by (first_of (codes "responder") rows) holder (first_of (codes "embed") rows)
+  address ← signer_by_options (codes "responder-signer") (codes "responder-algorithm") rows
+  responder_by (first_of (codes "responder") rows) address (first_of (codes "embed") rows)
 
 -- whether an option without a value is given
 abbrev pub has_flag : Text → List Row → Bool
@@ -85,21 +85,21 @@ has_flag id rows = option_map_or (λ text. bytes_eq text (codes "true")) (first_
 -- whether the responder has a key of its own
 abbrev pub has_own_key : ResponderChoice → Bool
 has_own_key (Issuer certificate) = false
-has_own_key (Delegate certificate holder) = true
+has_own_key (Delegate certificate address) = true
 
 -- the signer of CRLs for a job that must choose one: a signer, or `--unsigned`; neither and both are errors. With a responder that has a key of
 -- its own, it is a signer, or neither
 abbrev pub chosen : Option SignerAddress → Bool → Bool → Option (Option SignerAddress)
-chosen (Some holder) false own = Some (Some holder)
-chosen (Some holder) true own = None
+chosen (Some address) false own = Some (Some address)
+chosen (Some address) true own = None
 chosen None false false = None
 chosen None true false = Some None
 chosen None false true = Some None
 chosen None true true = None
 
 -- the signer of CRLs, from `--signer` with `--algorithm`; none with `--unsigned`, or with neither and a responder
-abbrev pub signer_chosen : ResponderChoice → List Row → Option (Option SignerAddress)
-signer_chosen responder rows =
+abbrev pub signer_or_unsigned : ResponderChoice → List Row → Option (Option SignerAddress)
+signer_or_unsigned responder rows =
     option_and_then (λ signer. chosen signer (has_flag (codes "unsigned") rows) (has_own_key responder))
     (signer_in rows)
 
@@ -220,7 +220,7 @@ open_of rows = do
   endpoint ← endpoint_in rows
   control ← first_of (codes "control") rows
   responder ← responder_in rows
-  signer ← signer_chosen responder rows
+  signer ← signer_or_unsigned responder rows
   Some (Open (record {
     file = file;
     endpoint = endpoint;

@@ -6,16 +6,16 @@ use Rattle.clap.specs.declared.builder.command.Command.TheViews.{out-Command as 
 use Rattle.reg_desk_cli.specs.Desk.{must, may, needs, renamed, takes_several, takes_value, flag, some, with_rules}
 use Rattle.reg_desk_cli.specs.declared.table.CommandEntry.{CommandEntry}
 use Rattle.reg_desk_cli.specs.declared.table.Part.{Part}
-use Rattle.reg_desk_cli.specs.declared.table.Part.TheVariants.{Must, May, Rest, Needs, Renamed, Takes, Several, Flag}
+use Rattle.reg_desk_cli.specs.declared.table.Part.TheVariants.{RequiredArgument, OptionalArgument, Rest, RequiredOption, Renamed, OptionalOption, Several, Flag}
 
 -- an argument or an option
 abbrev pub rule_of_part : Part → Rule
-rule_of_part (Must id name help) = must id.now
-rule_of_part (May id name help) = may id.now
+rule_of_part (RequiredArgument id name help) = must id.now
+rule_of_part (OptionalArgument id name help) = may id.now
 rule_of_part (Rest id name help) = some id.now
-rule_of_part (Needs id name help) = needs id.now
+rule_of_part (RequiredOption id name help) = needs id.now
 rule_of_part (Renamed id older name help) = renamed id.now older.now
-rule_of_part (Takes id name help) = takes_value id.now
+rule_of_part (OptionalOption id name help) = takes_value id.now
 rule_of_part (Several id names help) = takes_several id.now (length names.now)
 rule_of_part (Flag id help) = flag id.now
 

@@ -7,7 +7,7 @@ ghost use Rattle.reg_core.specs.Policy.{IsPolicy};
 ghost use Rattle.hex.specs.Hex.{decode_of};
 
 use crate::failure::Failure;
-use crate::{Steps, Word};
+use crate::{Argument, Steps};
 use hex::FromHexError;
 use reg_core::{Fault, Label, Memory, Policy, Schedule};
 use reg_der::{Issuer, IssuerFault};
@@ -17,7 +17,7 @@ const FIRST_CRL: u64 = 1;
 
 /// The issuer whose Name and key the two words have in hexadecimal. `BadIssuer` if a word is not hexadecimal, or if the
 /// Name or the key is invalid (RFC 5280 4.1.2.4, 4.1.2.7); otherwise the only failure is out of memory.
-pub fn issuer_of(alloc: Global, name: &Word<'_>, key: &Word<'_>) -> Result<Issuer, Failure>
+pub fn issuer_of(alloc: Global, name: &Argument<'_>, key: &Argument<'_>) -> Result<Issuer, Failure>
     ensures ok { IfOk result (WritesIssuer name.now key.now) }
     ensures err { IfErr result (IsNoIssuer name.now key.now) }
 {
@@ -33,7 +33,7 @@ pub fn issuer_of(alloc: Global, name: &Word<'_>, key: &Word<'_>) -> Result<Issue
 
 /// The key identifier that the word has in hexadecimal. `BadIssuer` if that is not 1 to 64 bytes in hexadecimal; otherwise the only
 /// failure is out of memory.
-pub fn key_identifier_of(alloc: Global, key_id: &Word<'_>) -> Result<Label, Failure>
+pub fn key_identifier_of(alloc: Global, key_id: &Argument<'_>) -> Result<Label, Failure>
     ensures ok { IfOk result (WritesIdentifier key_id.now) }
     ensures err { IfErr result (IsNoIdentifier key_id.now) }
 {
@@ -48,9 +48,9 @@ pub fn key_identifier_of(alloc: Global, key_id: &Word<'_>) -> Result<Label, Fail
 /// the Name and the key, and then as for the key identifier.
 pub fn identified_issuer_of(
     alloc: Global,
-    name: &Word<'_>,
-    key: &Word<'_>,
-    key_id: &Option<Word<'_>>,
+    name: &Argument<'_>,
+    key: &Argument<'_>,
+    key_id: &Option<Argument<'_>>,
 ) -> Result<Issuer, Failure>
     ensures ok { IfOk result (WritesIdentified name.now key.now key_id.now) }
     ensures err { IfErr result (IsNotIdentified name.now key.now key_id.now) }
@@ -68,7 +68,7 @@ pub fn identified_issuer_of(
     }
 }
 
-fn bytes_of(alloc: Global, word: &Word<'_>) -> Result<Vec<u8>, Failure>
+fn bytes_of(alloc: Global, word: &Argument<'_>) -> Result<Vec<u8>, Failure>
     ensures ok { IfOk result (λ bytes. decode_of word.now ≡ Ok bytes.items) }
     ensures err { IfErr result (λ failure. (failure ≡ Failure.Fault Fault.Memory)
         ⊎ ((failure ≡ Failure.BadIssuer) × IsErr (decode_of word.now))) }
@@ -97,9 +97,9 @@ pub fn policy_of(days: u64, crl_life: u64, ocsp_life: u64, cap: u64) -> Result<P
 /// issuer.
 pub fn office_of(
     alloc: Global,
-    name: &Word<'_>,
-    key: &Word<'_>,
-    key_id: &Option<Word<'_>>,
+    name: &Argument<'_>,
+    key: &Argument<'_>,
+    key_id: &Option<Argument<'_>>,
     days: u64,
     crl_life: u64,
     ocsp_life: u64,

@@ -5,16 +5,16 @@ ghost use Rattle.reg_desk_cli.specs.Jobs.{endpoint_in, import_moment, one_moment
 ghost use Rattle.clap.specs.Words.{found_of, rows_of};
 ghost use Rattle.reg_desk_cli.specs.Jobs.{job_in, serving_job_in, other_job_in, init_of, script_by, script_of, import_of, crl_job, number_in, serve_of, open_of, at_by, at_of, replay_of, schedule_of, key_id_of, filter_for, form_in, list_of, copy_of, audit_of};
 
+use crate::argument::Argument;
 use crate::job::{
-    Endpoint, ImportJob, Job, LinedScript, ListJob, NewRegister, OpenJob, OrderTerms, RowTask,
+    Endpoint, ImportJob, Job, LineScript, ListJob, NewRegister, OpenJob, OrderTerms, RowTask,
     ScriptOptions, ServeJob, SignerAddress,
 };
 use crate::option_values::{
-    chosen_signer, filter_option, is_set, loopback, moment_option, number_option, number_or,
-    number_within, order_terms_option, responder, script_options_of, signer_option, steps, text_of,
-    word_of,
+    filter_option, is_set, loopback, moment_option, number_option, number_or, number_within,
+    order_terms_option, responder, script_options_of, signer_option, signer_or_unsigned, steps,
+    text_of, word_of,
 };
-use crate::word::Word;
 use crate::wrong::{LAST_PORT, MOST_REQUESTS};
 use clap::ArgMatches;
 use reg_core::Moment;
@@ -127,7 +127,7 @@ fn read_script<'a>(given: &ArgMatches<'a>) -> Option<Job<'a>>
 
 /// The job of `script`; only a script over FILE can run line by line.
 fn script_job<'a>(
-    file: Option<Word<'a>>,
+    file: Option<Argument<'a>>,
     signer: Option<SignerAddress<'a>>,
     options: ScriptOptions,
 ) -> Option<Job<'a>>
@@ -135,7 +135,7 @@ fn script_job<'a>(
 {
     let by_lines = options.is_clocked || options.is_strict;
     match file {
-        Some(file) if by_lines => Some(Job::Lines(LinedScript {
+        Some(file) if by_lines => Some(Job::Lines(LineScript {
             file,
             signer,
             options,
@@ -223,7 +223,7 @@ fn read_open<'a>(given: &ArgMatches<'a>) -> Option<Job<'a>>
     let endpoint = endpoint_of(given)?;
     let control = word_of(given, "control")?;
     let ocsp_responder = responder(given)?;
-    let signer = chosen_signer(given, &ocsp_responder)?;
+    let signer = signer_or_unsigned(given, &ocsp_responder)?;
     Some(Job::Open(OpenJob {
         file,
         endpoint,
@@ -249,9 +249,9 @@ fn read_at<'a>(given: &ArgMatches<'a>) -> Option<Job<'a>>
 }
 
 fn at_job<'a>(
-    control_path: Word<'a>,
-    imported: Option<Word<'a>>,
-    revoked: Option<Word<'a>>,
+    control_path: Argument<'a>,
+    imported: Option<Argument<'a>>,
+    revoked: Option<Argument<'a>>,
     orders: Option<OrderTerms>,
 ) -> Option<Job<'a>>
     ensures { result ≡ at_by control_path.entry imported.entry revoked.entry orders }

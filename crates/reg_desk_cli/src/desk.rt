@@ -118,14 +118,14 @@ fn arg<'a>(alloc: Global, part: &Part) -> Result<Arg<'a>, AllocError>
     ensures local { IfOk result (λ arg. arg.global ≡ false) }
 {
     match *part {
-        Part::Must(id, name, help) => Ok(word(alloc, id, name, help).required(true)),
-        Part::May(id, name, help) => Ok(word(alloc, id, name, help)),
+        Part::RequiredArgument(id, name, help) => Ok(word(alloc, id, name, help).required(true)),
+        Part::OptionalArgument(id, name, help) => Ok(word(alloc, id, name, help)),
         Part::Rest(id, name, help) => {
             Ok(word(alloc, id, name, help).required(true).num_args(1..))
         }
-        Part::Needs(id, name, help) => Ok(needed(alloc, id, name, help)),
+        Part::RequiredOption(id, name, help) => Ok(needed(alloc, id, name, help)),
         Part::Renamed(id, older, name, help) => needed(alloc, id, name, help).alias(older),
-        Part::Takes(id, name, help) => Ok(word(alloc, id, name, help).long(id)),
+        Part::OptionalOption(id, name, help) => Ok(word(alloc, id, name, help).long(id)),
         Part::Several(id, names, help) => Ok(
             Arg::new(alloc, id).long(id).value_names(names).help(help),
         ),

@@ -3,7 +3,7 @@
 ghost use Rattle.std.specs.Prelude.{◌≡◌};
 ghost use Rattle.reg_desk_cli.specs.Statuses.{usage_status};
 
-use crate::word::{Steps, Word};
+use crate::argument::{Argument, Steps};
 use reg_core::Moment;
 use reg_core_lists::{Cursor, Filter, Format};
 use reg_crl_signer::Algorithm;
@@ -11,7 +11,7 @@ use reg_crl_signer::Algorithm;
 /// A signer: the Unix socket at which it listens, and the algorithm of its signatures.
 #[derive(Drop)]
 pub struct SignerAddress<'a> {
-    pub socket: Word<'a>,
+    pub socket: Argument<'a>,
     pub algorithm: Algorithm,
 }
 
@@ -20,12 +20,12 @@ pub struct SignerAddress<'a> {
 pub enum ResponderChoice<'a> {
     /// The signer of its CRLs. Each response embeds the certificate, if its path is given.
     Issuer {
-        certificate: Option<Word<'a>>,
+        certificate: Option<Argument<'a>>,
     },
     /// A responder with its own key and signer, and the path of its certificate, which is embedded in each response (RFC 6960 4.2.2.2).
     Delegate {
-        certificate: Word<'a>,
-        holder: SignerAddress<'a>,
+        certificate: Argument<'a>,
+        address: SignerAddress<'a>,
     },
 }
 
@@ -43,13 +43,13 @@ pub struct ScriptOptions {
 /// A register to be created.
 #[derive(Drop)]
 pub struct NewRegister<'a> {
-    pub file: Word<'a>,
+    pub file: Argument<'a>,
     /// The DER of the issuer's Name, in hexadecimal.
-    pub name: Word<'a>,
+    pub name: Argument<'a>,
     /// The bits of the issuer's subjectPublicKey, in hexadecimal.
-    pub key: Word<'a>,
+    pub key: Argument<'a>,
     /// The key identifier of the issuer's certificate, in hexadecimal, if it is given.
-    pub key_id: Option<Word<'a>>,
+    pub key_id: Option<Argument<'a>>,
     /// The longest validity of a certificate, in days.
     pub days: u64,
     /// The seconds from thisUpdate to nextUpdate of a CRL.
@@ -62,8 +62,8 @@ pub struct NewRegister<'a> {
 
 /// A script that runs line by line over a register.
 #[derive(Drop)]
-pub struct LinedScript<'a> {
-    pub file: Word<'a>,
+pub struct LineScript<'a> {
+    pub file: Argument<'a>,
     /// The signer, if there is one.
     pub signer: Option<SignerAddress<'a>>,
     pub options: ScriptOptions,
@@ -72,7 +72,7 @@ pub struct LinedScript<'a> {
 /// Rows to be registered.
 #[derive(Drop)]
 pub struct ImportJob<'a> {
-    pub file: Word<'a>,
+    pub file: Argument<'a>,
     /// The moment of the import; `None` for that of the machine's clock when the import begins.
     pub moment: Option<Moment>,
     /// As in [`ScriptOptions`].
@@ -101,33 +101,33 @@ pub struct Endpoint {
 /// A register that is served for a number of HTTP connections.
 #[derive(Drop)]
 pub struct ServeJob<'a> {
-    pub file: Word<'a>,
+    pub file: Argument<'a>,
     pub endpoint: Endpoint,
     /// How many HTTP connections are answered, 1 to 1,000,000.
     pub requests: u32,
     pub signer: Option<SignerAddress<'a>>,
     pub responder: ResponderChoice<'a>,
     /// The path of a published CRL: the register must have its number and all its entries.
-    pub published: Option<Word<'a>>,
+    pub published: Option<Argument<'a>>,
 }
 
 /// A register that is kept open, with a control socket.
 #[derive(Drop)]
 pub struct OpenJob<'a> {
-    pub file: Word<'a>,
+    pub file: Argument<'a>,
     pub endpoint: Endpoint,
     /// The path of the control socket.
-    pub control: Word<'a>,
+    pub control: Argument<'a>,
     pub signer: Option<SignerAddress<'a>>,
     pub responder: ResponderChoice<'a>,
     /// As in [`ServeJob`].
-    pub published: Option<Word<'a>>,
+    pub published: Option<Argument<'a>>,
 }
 
 /// A list to write, from a register.
 #[derive(Drop)]
 pub struct ListJob<'a> {
-    pub file: Word<'a>,
+    pub file: Argument<'a>,
     /// The list, as the cursor before its first row.
     pub from: Cursor,
     /// The moment for which the list is written; `None` for that of the machine's clock.
@@ -158,16 +158,16 @@ pub enum Job<'a> {
     Init(NewRegister<'a>),
     /// Runs the script of standard input, over FILE or over a register in memory. Without a signer, a placeholder digest replaces each signature.
     Script {
-        file: Option<Word<'a>>,
+        file: Option<Argument<'a>>,
         signer: Option<SignerAddress<'a>>,
     },
     /// Runs the script of standard input over FILE line by line, as `--clock` and `--strict` need.
-    Lines(LinedScript<'a>),
+    Lines(LineScript<'a>),
     /// Registers the rows of standard input, all at one moment.
     Import(ImportJob<'a>),
     /// Writes a CRL; the latest one if no number is given.
     Crl {
-        file: Word<'a>,
+        file: Argument<'a>,
         number: Option<u64>,
     },
     /// Answers a number of HTTP connections at a port. Without a signer and a responder, a placeholder digest replaces each signature.
@@ -177,39 +177,39 @@ pub enum Job<'a> {
     Open(OpenJob<'a>),
     /// Sends the lines of standard input to the control socket at a path; or the rows of a CSV file, as `register` lines.
     At {
-        control_path: Word<'a>,
-        rows: Option<Word<'a>>,
+        control_path: Argument<'a>,
+        rows: Option<Argument<'a>>,
     },
     /// Does a task with the certificate of each row of a file, at the control socket at a path.
     EachRow {
-        control_path: Word<'a>,
-        rows: Word<'a>,
+        control_path: Argument<'a>,
+        rows: Argument<'a>,
         task: RowTask,
     },
     /// Sends the accepted commands of the log at a path to the control socket at a path again.
     Replay {
-        control_path: Word<'a>,
-        log: Word<'a>,
+        control_path: Argument<'a>,
+        log: Argument<'a>,
     },
     /// Sets how many days a certificate may be valid, by its notBefore.
     Schedule {
-        file: Word<'a>,
+        file: Argument<'a>,
         steps: Steps,
     },
     /// Sets the issuer's key identifier, in hexadecimal, for CRLs from the next one on (RFC 5280 5.2.1).
     KeyId {
-        file: Word<'a>,
-        key_id: Word<'a>,
+        file: Argument<'a>,
+        key_id: Argument<'a>,
     },
     /// Writes a list of the register, as CSV with a header or as one JSON object for each line, at a moment or at the machine's clock.
     Listing(ListJob<'a>),
     /// Copies the register, which no program has open, to a path that has no file.
     Copy {
-        file: Word<'a>,
-        path: Word<'a>,
+        file: Argument<'a>,
+        path: Argument<'a>,
     },
     Audit {
-        file: Word<'a>,
+        file: Argument<'a>,
     },
 }
 
@@ -222,7 +222,7 @@ pub struct Invocation<'a> {
     /// Whether `serve` or `open` logs each exchange on standard error.
     pub has_log: bool,
     /// The path of the file in which `serve` or `open` logs each exchange.
-    pub log_file: Option<Word<'a>>,
+    pub log_file: Option<Argument<'a>>,
 }
 
 /// Why there is no invocation.

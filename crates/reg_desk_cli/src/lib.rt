@@ -1,6 +1,7 @@
 //! Parses the command line of the program `desk`.
 #![tactic(auto)]
 
+mod argument;
 mod checks;
 mod commands;
 mod desk;
@@ -9,18 +10,17 @@ mod job;
 mod option_values;
 mod reading_words;
 mod table;
-mod word;
 mod wrong;
 
+pub use argument::{Argument, Steps};
 pub use checks::{
     identified_issuer_of, issuer_of, key_identifier_of, office_of, policy_of, schedule_of,
 };
 pub use desk::VERSION;
 pub use failure::{Failure, status_of};
 pub use job::{
-    Endpoint, ImportJob, Invocation, Job, LinedScript, ListJob, Loopback, NewRegister, OpenJob,
+    Endpoint, ImportJob, Invocation, Job, LineScript, ListJob, Loopback, NewRegister, OpenJob,
     OrderTerms, ResponderChoice, RowTask, ScriptOptions, ServeJob, SignerAddress, Usage,
 };
 pub use option_values::read_step;
 pub use reading_words::{no_text, read_words};
-pub use word::{Steps, Word};

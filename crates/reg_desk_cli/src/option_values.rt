@@ -3,21 +3,21 @@
 ghost use Rattle.std.specs.Prelude.{◌≡◌, ◌≤◌, ◌==◌, IfOk, IfSome, List, ℕ, map, option_and_then, option_map, position};
 ghost use Rattle.reg_core.specs.Calendar.{moment_of};
 ghost use Rattle.clap.specs.Words.{all_of, first_of, found_of, rows_of};
-ghost use Rattle.reg_desk_cli.specs.Jobs.{responder_in, responder_by, given, value_or_default, chosen, filter_in, has_own_key, signer_by_options, signer_chosen, signer_in, has_flag, label_given, loopback_in, loopback_named, moment_given, number_in, order_terms_given, prefix_given, script_options_in};
+ghost use Rattle.reg_desk_cli.specs.Jobs.{responder_in, responder_by, given, value_or_default, chosen, filter_in, has_own_key, signer_by_options, signer_or_unsigned, signer_in, has_flag, label_given, loopback_in, loopback_named, moment_given, number_in, order_terms_given, prefix_given, script_options_in};
 ghost use Rattle.reg_desk_cli.specs.WordValues.{order_terms_of, step_of, step_from, steps_of, within};
 
+use crate::argument::{Argument, Steps};
 use crate::job::{Loopback, OrderTerms, ResponderChoice, ScriptOptions, SignerAddress};
-use crate::word::{Steps, Word};
 use clap::ArgMatches;
 use reg_core::{Label, Moment, read_number};
 use reg_core_lists::{Filter, read_prefix};
 use reg_crl_signer::Algorithm;
 use std::alloc::{AllocError, Global};
 
-pub(crate) fn word_of<'a>(matches: &ArgMatches<'a>, id: &str) -> Option<Word<'a>>
+pub(crate) fn word_of<'a>(matches: &ArgMatches<'a>, id: &str) -> Option<Argument<'a>>
     ensures { result ≡ first_of id.now (rows_of (found_of matches.now)) }
 {
-    Some(Word::of(text_of(matches, id)?))
+    Some(Argument::of(text_of(matches, id)?))
 }
 
 pub(crate) fn text_of<'a>(matches: &ArgMatches<'a>, id: &str) -> Option<&'a str>
@@ -167,9 +167,9 @@ pub(crate) fn responder<'a>(matches: &ArgMatches<'a>) -> Option<ResponderChoice<
 }
 
 fn responder_of<'a>(
-    responder: Option<Word<'a>>,
+    responder: Option<Argument<'a>>,
     signer: Option<SignerAddress<'a>>,
-    embedded: Option<Word<'a>>,
+    embedded: Option<Argument<'a>>,
 ) -> Option<ResponderChoice<'a>>
     ensures { result ≡ responder_by responder.entry signer.entry embedded.entry }
 {
@@ -180,7 +180,7 @@ fn responder_of<'a>(
             }
             Some(ResponderChoice::Delegate {
                 certificate,
-                holder: signer,
+                address: signer,
             })
         }
         (None, None) => Some(ResponderChoice::Issuer {
@@ -209,11 +209,11 @@ fn signer_by<'a>(
 }
 
 /// The signer of CRLs for a job that must choose one: a signer, or `--unsigned`, or neither with a responder; `None` for any other choice.
-pub(crate) fn chosen_signer<'a>(
+pub(crate) fn signer_or_unsigned<'a>(
     matches: &ArgMatches<'a>,
     responder: &ResponderChoice<'_>,
 ) -> Option<Option<SignerAddress<'a>>>
-    ensures { result ≡ signer_chosen responder.now (rows_of (found_of matches.now)) }
+    ensures { result ≡ signer_or_unsigned responder.now (rows_of (found_of matches.now)) }
 {
     let is_unsigned = is_set(matches, "unsigned");
     choose(signer_option(matches)?, is_unsigned, is_delegate(responder))

@@ -5,11 +5,11 @@ ghost use Rattle.clap.specs.Words.{app_of, found_of, rows_of, subcommand_rows_of
 ghost use Rattle.reg_desk_cli.specs.Desk.{desk_app};
 ghost use Rattle.reg_desk_cli.specs.Jobs.{IsNoInvocation, IsInvocationIn, IsInvocationOf, IsUsageOf, PrintsUsage, has_flag_after, job_found, value_after};
 
+use crate::argument::Argument;
 use crate::commands::read_command;
 use crate::desk::desk;
 use crate::job::{Invocation, Job, Usage};
 use crate::option_values::{is_set, word_of};
-use crate::word::Word;
 use crate::wrong::wrong_text;
 use clap::error::ErrorKind;
 use clap::{ArgMatches, Command, Error};
@@ -77,7 +77,7 @@ fn is_set_after_command(matches: &ArgMatches<'_>, id: &str) -> bool
     }
 }
 
-fn word_after_command<'a>(matches: &ArgMatches<'a>, id: &str) -> Option<Word<'a>>
+fn word_after_command<'a>(matches: &ArgMatches<'a>, id: &str) -> Option<Argument<'a>>
     ensures { result ≡ value_after id.now (subcommand_rows_of matches.now) }
 {
     match matches.subcommand() {

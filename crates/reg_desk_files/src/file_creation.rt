@@ -57,7 +57,7 @@ fn check_free(rt: &HostRuntime, to: &str, suffix: &str) -> Result<(), FileFault>
 {
     let path = with_suffix(rt, to, suffix)?;
     match fs::symlink_metadata(rt, path.as_str()) {
-        Ok(_) => Err(fault_with_cause(Fault::Store, Some(Cause::Taken))),
+        Ok(_) => Err(fault_with_cause(Fault::Store, Some(Cause::PathExists))),
         Err(error) if error.kind() == ErrorKind::NotFound => Ok(()),
         Err(error) => Err(create_fault_of(error.kind())),
     }

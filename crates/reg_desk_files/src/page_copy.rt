@@ -13,7 +13,7 @@ use crate::file_creation::write_copy;
 use crate::file_fault::{FileFault, create_fault_of, damaged_fault, fault_with_cause};
 use crate::overlay::overlaid;
 use crate::read_file::OpenedBy;
-use crate::read_only::{Sources, UnreadFile, is_begun, sources_at};
+use crate::read_only::{Sources, UnreadFile, check_begun, sources_at};
 use crate::source::Source;
 use reg_core::Fault;
 use sqlite::Options;
@@ -29,14 +29,14 @@ use std::io::Write;
 pub fn copy_closed(rt: &HostRuntime, path: &str, to: &str) -> Result<u64, UnreadFile>
     ensures { IfErr result IsUnread }
 {
-    copy_locked(rt, path, OpenedBy::Nobody, to)
+    copy_locked(rt, path, OpenedBy::NoWriter, to)
 }
 
 /// As [`copy_closed`], for a database that this program has open, between two transactions; `Store` if it does not have it open.
 pub fn copy_open(rt: &HostRuntime, path: &str, to: &str) -> Result<u64, UnreadFile>
     ensures { IfErr result IsUnread }
 {
-    copy_locked(rt, path, OpenedBy::Us, to)
+    copy_locked(rt, path, OpenedBy::ThisProgram, to)
 }
 
 fn copy_locked(
@@ -90,7 +90,7 @@ pub fn recovered<D: Disk + Drop>(
         → Recovers (state pager).page_size (image_of D.Disk files) (visible pager)) }
     ensures faults { IfErr result IsUnread }
 {
-    is_begun(alloc, &mut files)?;
+    check_begun(alloc, &mut files)?;
     let size = size_in(&mut files)?;
     recovered_by(alloc, files, size, options)
 }

@@ -38,9 +38,9 @@ impl Source for ReadFile {
 #[derive(Clone, Copy)]
 pub(crate) enum OpenedBy {
     /// No program that writes: a shared lock keeps writers out until the files are closed.
-    Nobody,
+    NoWriter,
     /// This program, which does not write meanwhile.
-    Us,
+    ThisProgram,
 }
 
 #[derive(Drop)]
@@ -49,8 +49,8 @@ pub(crate) struct LockedFiles {
     pub(crate) db: ReadFile,
 }
 
-/// Opens the files of a database read-only, also through a symbolic link. With `Nobody`, the database's file is locked until it is dropped. Errors:
-/// `Memory`; `Store`, also if a program has the file open for writing and `opened_by` is `Nobody`, if none has and `opened_by` is `Us`, or if SQLite left
+/// Opens the files of a database read-only, also through a symbolic link. With `NoWriter`, the database's file is locked until it is dropped. Errors:
+/// `Memory`; `Store`, also if a program has the file open for writing and `opened_by` is `NoWriter`, if none has and `opened_by` is `ThisProgram`, or if SQLite left
 /// a rollback journal beside it, which only SQLite can play back.
 pub(crate) fn lock_files(
     rt: &HostRuntime,
@@ -66,8 +66,8 @@ pub(crate) fn lock_files(
     let real_path = fs::canonicalize(rt, path)?;
     let db = open_regular(rt, real_path.as_str())?;
     match opened_by {
-        OpenedBy::Nobody => lock(&db.file, RangeLock::Shared)?,
-        OpenedBy::Us => check_locked(&db.file)?,
+        OpenedBy::NoWriter => lock(&db.file, RangeLock::Shared)?,
+        OpenedBy::ThisProgram => check_locked(&db.file)?,
     }
     let log = open_log(rt, real_path.as_str())?;
     Ok(LockedFiles { log, db })

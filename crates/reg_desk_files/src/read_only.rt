@@ -60,7 +60,7 @@ pub struct Sources<F: Source> {
 pub fn read_at(rt: &HostRuntime, path: &str) -> Result<Sources<ReadFile>, FileFault>
     ensures { IfErr result IsFileFault }
 {
-    sources_at(rt, path, OpenedBy::Nobody)
+    sources_at(rt, path, OpenedBy::NoWriter)
 }
 
 /// As [`read_at`], for files that `opened_by` has open for writing.
@@ -98,7 +98,7 @@ fn check_sources<F: Source + Drop>(alloc: Global, sources: Sources<F>) -> Result
     ensures { IfErr result IsUnread }
 {
     let mut files = overlaid(alloc, sources.log, sources.db, sources.key);
-    is_begun(alloc, &mut files)
+    check_begun(alloc, &mut files)
 }
 
 /// Opens a database over files that have no call that writes, so no use of the connection changes them: opening writes into the copy of the
@@ -139,14 +139,14 @@ pub fn open_begun<D: Disk + Drop>(
     ensures idle { IfOk result (λ connection. connection.in_transaction ≡ false) }
     ensures faults { IfErr result IsUnread }
 {
-    is_begun(alloc, &mut files)?;
+    check_begun(alloc, &mut files)?;
     match Connection::open_files_with(alloc, files, options, false) {
         Ok(connection) => Ok(connection),
         Err((error, _)) => Err(UnreadFile::Fault(FileFault::from(error))),
     }
 }
 
-pub(crate) fn is_begun<D: Disk>(alloc: Global, files: &mut Files<D>) -> Result<(), UnreadFile>
+pub(crate) fn check_begun<D: Disk>(alloc: Global, files: &mut Files<D>) -> Result<(), UnreadFile>
     requires log { IsTrue (D.Disk.is_usable files.old.log) }
     requires db { IsTrue (D.Disk.is_usable files.old.db) }
     ensures begun { OnOk result

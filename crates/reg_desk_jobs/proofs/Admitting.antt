@@ -3,7 +3,7 @@ use Rattle.std.proofs.Common.{◌≡◌, ℕ, Some, None, Ok, Err, inl, inr, ref
 use Rattle.std.specs.Prelude.{Option, Result, IfOk, OnErr}
 use Rattle.reg_core.specs.Records.{Records}
 use Rattle.reg_core.specs.declared.memory.Memory.{Memory}
-use Rattle.reg_office_api.specs.CallSteps.{Signs, Runs, Asks, Crls}
+use Rattle.reg_office_api.specs.CallSteps.{Signs, Runs, Asks, GivesCrl}
 use Rattle.reg_office_api.specs.Drafts.{Drafts}
 use Rattle.reg_office_api.specs.Leads.{Leads, Looks}
 use Rattle.reg_office_api.specs.Responses.{Replies}
@@ -31,7 +31,7 @@ module _ {S : Type 0} (is_clean : S → Type 0) (stands : Signatory → S → Re
   -- what the register begins, and what it adds
   abbrev pub Begins : ReadyOrUnsigned Answered Drafted → Signatory → Records → Records → Type 0
   Begins begun signatory before after =
-      BeginsTo (Runs signs signatory) Asks (Replies signs signatory) Crls (Drafts signatory) now before what begun after × AddsARequestAtMost now before after
+      BeginsTo (Runs signs signatory) Asks (Replies signs signatory) GivesCrl (Drafts signatory) now before what begun after × AddsARequestAtMost now before after
 
   abbrev pub Admits : Result (ReadyOrUnsigned Answered Drafted) Memory → Signatory → Records → Records → Type 0
   Admits result signatory before after = BeginsAdmitted admission signs now signatory before what result after

@@ -27,7 +27,7 @@ use Rattle.reg_crl_signer.specs.Forms.{HasForm}
 use Rattle.reg_desk_metrics.specs.declared.tally.Tally.{Tally}
 use Rattle.reg_io.specs.declared.begun.ReadyOrUnsigned.{ReadyOrUnsigned}
 use Rattle.reg_io.specs.declared.begun.ReadyOrUnsigned.TheVariants.{Ready, Unsigned}
-use Rattle.reg_desk_jobs.specs.Beginning.{AnswersBegun, BeginsAt, MayLeave, ready_of}
+use Rattle.reg_desk_jobs.specs.RequestOutcomes.{AnswersBegun, BeginsAt, MayNeedSignature, ready_of}
 use Rattle.reg_desk_jobs.specs.Counted.{CountsBegun}
 use Rattle.reg_desk_jobs.specs.Admission.{BeginsAdmitted, CountsRequest}
 use Rattle.reg_desk_jobs.specs.Exchanges.{AnswersBy, AnswersAtRoute, MayCount, admission_after, admission_by, dispatch}
@@ -46,7 +46,7 @@ pub limited_begins : (admission : Admission) (is_open : Bool) (signs : Signs) (n
 limited_begins admission is_open signs now signatory before method target body (Ok (Ready answered)) after to (says, adds) =
     let P : Dispatch → Type 0 = λ by. AnswersAtRoute signs now admission signatory before (answer_effects answered) after by method target body in
     (subst P (sym to) says, adds)
-limited_begins admission is_open signs now signatory before method target body (Ok (Unsigned draft)) after to left = (subst MayLeave (sym to) tt, left)
+limited_begins admission is_open signs now signatory before method target body (Ok (Unsigned draft)) after to left = (subst MayNeedSignature (sym to) tt, left)
 limited_begins admission is_open signs now signatory before method target body (Err memory) after to same = same
 
 -- the limits after a request at its route

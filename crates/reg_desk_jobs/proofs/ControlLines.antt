@@ -14,7 +14,7 @@ use Rattle.reg_office_api.proofs.PublicLaws.{follows, stays}
 use Rattle.reg_lines.specs.Script.{IsShortCommand, line_of}
 use Rattle.reg_desk_cli.specs.ExitStatus.{failure_line}
 use Rattle.reg_desk_cli.specs.declared.failure.Failure.TheVariants as failure
-use Rattle.reg_desk_jobs.specs.ControlReplies.{IsOf, IsReplyText, ReportsLineOutcome}
+use Rattle.reg_desk_jobs.specs.ControlReplies.{IsReplyWith, IsReplyText, ReportsLineOutcome}
 use Rattle.reg_desk_jobs.specs.Copies.{AnswersCopy, copied_text}
 use Rattle.reg_desk_jobs.specs.Reasons.{kept_reason_text}
 use Rattle.reg_desk_jobs.specs.ControlWords.{LineAt, WordMeaning, AnswersWord, WordAt, commands, copies, helps, meaning_in}
@@ -25,16 +25,16 @@ use Rattle.reg_desk_jobs.specs.declared.control_reply.LineOutcome.TheVariants.{D
 -- ---- replies
 
 -- what is told of a word that came to this
-pub came_told : (bytes : List ℕ) (line_outcome : LineOutcome) (text : List ℕ) (told : LineOutcome) → IsOf bytes line_outcome text told → ReportsLineOutcome line_outcome bytes → ReportsLineOutcome told text
+pub came_told : (bytes : List ℕ) (line_outcome : LineOutcome) (text : List ℕ) (told : LineOutcome) → IsReplyWith bytes line_outcome text told → ReportsLineOutcome line_outcome bytes → ReportsLineOutcome told text
 came_told bytes line_outcome text told (inl (is, same)) shown = subst (λ c. ReportsLineOutcome c text) (sym same) (subst (ReportsLineOutcome line_outcome) (sym is) shown)
 came_told bytes line_outcome text told (inr (none, silent)) shown = subst (λ c. ReportsLineOutcome c text) (sym silent) none
 
-pub fault_came : (why : Fault) (text : List ℕ) (told : LineOutcome) → IsOf (fault_line why ++ 10 ∷ []) (Failed (failure.Fault why)) text told → ReportsLineOutcome told text
+pub fault_came : (why : Fault) (text : List ℕ) (told : LineOutcome) → IsReplyWith (fault_line why ++ 10 ∷ []) (Failed (failure.Fault why)) text told → ReportsLineOutcome told text
 unfolding failure_line
 fault_came why text told is = came_told (fault_line why ++ 10 ∷ []) (Failed (failure.Fault why)) text told is refl
 
 -- the bytes are told, or nothing
-pub meaning_in_fields : (bytes : List ℕ) (line_outcome : LineOutcome) (text : List ℕ) (told : LineOutcome) → IsOf bytes line_outcome text told → IsReplyText bytes text
+pub meaning_in_fields : (bytes : List ℕ) (line_outcome : LineOutcome) (text : List ℕ) (told : LineOutcome) → IsReplyWith bytes line_outcome text told → IsReplyText bytes text
 meaning_in_fields bytes line_outcome text told (inl (is, same)) = inl is
 meaning_in_fields bytes line_outcome text told (inr (none, silent)) = inr none
 

@@ -8,7 +8,7 @@ use Rattle.reg_office_api.specs.Items.{items_of}
 use Rattle.reg_office_api.specs.Leads.{Leads}
 use Rattle.reg_office_api.specs.Responses.{IsOcspResponse, Replies}
 use Rattle.reg_office_api.specs.Signatories.{Responder, Signatory}
-use Rattle.reg_office_api.specs.CallSteps.{Signs, Runs, Asks, Crls}
+use Rattle.reg_office_api.specs.CallSteps.{Signs, Runs, Asks, GivesCrl}
 use Rattle.reg_office_api.specs.declared.response.ResponseKind.{ResponseKind}
 use Rattle.reg_office_api.specs.declared.response.ResponseKind.TheVariants.{Signed, SignerFailure}
 use Rattle.reg_office_api.proofs.PublicLaws.{follows, signed_response, unsigned_response}
@@ -27,7 +27,7 @@ use Rattle.reg_ocsp.specs.Drafts.{Drafted, drafted_response}
 use Rattle.reg_crl_signer.specs.Forms.{HasForm}
 use Rattle.reg_desk_server.specs.Exchange.{Outcome, said, pending, later}
 use Rattle.reg_desk_jobs.specs.Admission.{IsWithin}
-use Rattle.reg_desk_jobs.specs.Beginning.{MayLeave}
+use Rattle.reg_desk_jobs.specs.RequestOutcomes.{MayNeedSignature}
 use Rattle.reg_desk_jobs.specs.Exchanges.{AnswersAt, AnswersAtRoute, admission_after, dispatch}
 use Rattle.reg_desk_jobs.specs.SignerAnswers.{AtGivenPath, AnsweredAtPath, AnsweredAtSomePath}
 use Rattle.reg_desk_jobs.specs.FinishedResponses.{FinishesUnsigned, FinishesAt, IsSignatureOf, Meets}
@@ -83,8 +83,8 @@ module _ (signs : Signs) (signer_answered : List ℕ → List ℕ → Type 0)
     told_of signature (Err memory) exchange tells = tells
 
     -- what the register says to an OCSP request is said at a desk, also behind its limits
-    says_left : (admission : Admission) (by : Dispatch) (method target body request : List ℕ) (it : AnswerEffects) → MayLeave by → asks_for method target body ≡ ocsp_of request
-        → Answers (Runs signs signatory) Asks (Replies signs signatory) Crls now before (asks_for method target body) it after
+    says_left : (admission : Admission) (by : Dispatch) (method target body request : List ℕ) (it : AnswerEffects) → MayNeedSignature by → asks_for method target body ≡ ocsp_of request
+        → Answers (Runs signs signatory) Asks (Replies signs signatory) GivesCrl now before (asks_for method target body) it after
         → AnswersAtRoute signs now admission signatory before it after by method target body
     says_left admission ToRegister method target body request it to asks_it answers = answers
     says_left admission ToLimits method target body request it to asks_it answers =
@@ -96,14 +96,14 @@ module _ (signs : Signs) (signer_answered : List ℕ → List ℕ → Type 0)
 
     -- the exchange of the register
     pub left_exchange : (admission admission' : Admission) (is_open : Bool) (line_outcome method target body request text : List ℕ) (draft : Drafted)
-        → ∥ HoldsRequest line_outcome (asked method target body) ∥₁ → MayLeave (dispatch is_open (route_at (path_of target)))
+        → ∥ HoldsRequest line_outcome (asked method target body) ∥₁ → MayNeedSignature (dispatch is_open (route_at (path_of target)))
         → asks_for method target body ≡ ocsp_of request → Drafts signatory before now request draft after
         → FinishesAt signer_answered draft now text → admission' ≡ admission_after is_open now (asked method target body) admission
         → AnswersAt is_open signs now admission admission' signatory before line_outcome text after
     left_exchange admission admission' is_open line_outcome method target body request text draft holds to asks_it drafted it counted =
         let given = kinded it.signature it.finished.given in
         let replies = replies_of request draft it.signature it.finished.given drafted it.signed it.finished.made in
-        let P : RoutedRequest → Type 0 = λ what. Answers (Runs signs signatory) Asks (Replies signs signatory) Crls now before what (ocsp_effects given) after in
+        let P : RoutedRequest → Type 0 = λ what. Answers (Runs signs signatory) Asks (Replies signs signatory) GivesCrl now before what (ocsp_effects given) after in
         record {
           exchange = record {
             route = it.exchange.route;

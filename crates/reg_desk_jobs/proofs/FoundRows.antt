@@ -11,17 +11,17 @@ use Rattle.reg_core.specs.declared.rows.CertRow.{CertRow}
 use Rattle.reg_core.specs.declared.rows.OrderRow.{OrderRow}
 use Rattle.reg_core.specs.declared.rows.RequestRow.{RequestRow}
 use Rattle.reg_core.specs.declared.rows.SubscriberRow.{SubscriberRow}
-use Rattle.reg_core_lists.specs.Lists.{certificate_line, certificate_row, history_row, in_order, key_of, page, past, insert_by_key, request_line, rows_from, subscriber_of_order, subscriber_row}
+use Rattle.reg_core_lists.specs.Lists.{listed_certificate, certificate_row, history_row, in_order, key_of, page, past, insert_by_key, listed_request, rows_from, subscriber_of_order, subscriber_row}
 use Rattle.reg_core_lists.specs.declared.cursor.Cursor.TheVariants as cursor
-use Rattle.reg_core_lists.specs.declared.rows.CertificateLine.{CertificateLine}
+use Rattle.reg_core_lists.specs.declared.rows.ListedCertificate.{ListedCertificate}
 use Rattle.reg_core_lists.specs.declared.rows.RequestHistory.{RequestHistory}
-use Rattle.reg_core_lists.specs.declared.rows.RequestLine.{RequestLine}
+use Rattle.reg_core_lists.specs.declared.rows.ListedRequest.{ListedRequest}
 use Rattle.reg_core_lists.specs.declared.rows.Row.{Row}
 use Rattle.reg_core_lists.specs.declared.rows.Row.TheVariants as kind
 use Rattle.reg_core_lists.proofs.PublicLaws.{Rises, all_ordered, numbers_differ, order_filter, order_rises, past_drop}
 use Rattle.reg_desk_jobs.specs.SerialDecisions.{request_of_row}
-use Rattle.reg_desk_jobs.specs.RowLookUps.{is_shown, row_shown}
-use Rattle.reg_desk_jobs.specs.declared.words.Shown.TheVariants.{Request, Certificate, Subscriber}
+use Rattle.reg_desk_jobs.specs.RowLookUps.{has_key, row_with_key}
+use Rattle.reg_desk_jobs.specs.declared.words.RowKey.TheVariants.{Request, Certificate, Subscriber}
 
 -- ---- the first row behind the key before one
 
@@ -102,62 +102,62 @@ module _ {A : Type 0} (key : A → ℕ) (k : ℕ) (row_for : A → Option Row) (
 
 -- ---- requests and certificates
 
-abbrev line_with : RequestRow → CertRow → SubscriberRow → RequestLine
+abbrev line_with : RequestRow → CertRow → SubscriberRow → ListedRequest
 line_with r c s = record { request = r; due = deadline r; certificate = c; subscriber = s }
 
-line_owned : (r : RequestRow) (c : CertRow) (owner : Option SubscriberRow) (line : RequestLine) → option_map (line_with r c) owner ≡ Some line → line.request ≡ r
+line_owned : (r : RequestRow) (c : CertRow) (owner : Option SubscriberRow) (line : ListedRequest) → option_map (line_with r c) owner ≡ Some line → line.request ≡ r
 line_owned r c None line is = absurd (cc)
 line_owned r c (Some s) line is =
     let same : line_with r c s ≡ line = cc in
-    sym (ap (λ (it : RequestLine). it.request) same)
+    sym (ap (λ (it : ListedRequest). it.request) same)
 
-line_found : (r : RequestRow) (found : Option CertRow) (owner : CertRow → Option SubscriberRow) (line : RequestLine)
+line_found : (r : RequestRow) (found : Option CertRow) (owner : CertRow → Option SubscriberRow) (line : ListedRequest)
     → option_and_then (λ c. option_map (line_with r c) (owner c)) found ≡ Some line → line.request ≡ r
 line_found r None owner line is = absurd (cc)
 line_found r (Some c) owner line is = line_owned r c (owner c) line is
 
-owned_line : (c : CertRow) (owner : Option SubscriberRow) (make : SubscriberRow → CertificateLine) → ((s : SubscriberRow) → (make s).certificate ≡ c)
-    → (line : CertificateLine) → option_map make owner ≡ Some line → line.certificate ≡ c
+owned_line : (c : CertRow) (owner : Option SubscriberRow) (make : SubscriberRow → ListedCertificate) → ((s : SubscriberRow) → (make s).certificate ≡ c)
+    → (line : ListedCertificate) → option_map make owner ≡ Some line → line.certificate ≡ c
 owned_line c None make has_it line is = absurd (cc)
 owned_line c (Some s) make has_it line is =
     let same : make s ≡ line = cc in
-    sym (ap (λ (it : CertificateLine). it.certificate) same) ∙ has_it s
+    sym (ap (λ (it : ListedCertificate). it.certificate) same) ∙ has_it s
 
 module _ (records : Records) (now : ℕ) where
-  history_fits : (id : ℕ) (r : RequestRow) (line : Option RequestLine) (make : RequestLine → RequestHistory) → ((it : RequestLine) → (make it).request ≡ it)
-      → ((it : RequestLine) → line ≡ Some it → it.request ≡ r) → (row : Row)
-      → option_map (λ h. kind.History h) (option_map make line) ≡ Some row → is_shown (Request id) row ≡ (r.id == id)
+  history_fits : (id : ℕ) (r : RequestRow) (line : Option ListedRequest) (make : ListedRequest → RequestHistory) → ((it : ListedRequest) → (make it).request ≡ it)
+      → ((it : ListedRequest) → line ≡ Some it → it.request ≡ r) → (row : Row)
+      → option_map (λ h. kind.History h) (option_map make line) ≡ Some row → has_key (Request id) row ≡ (r.id == id)
   history_fits id r None make has_it is row made = absurd (cc)
   history_fits id r (Some line) make has_it is row made =
       let same : kind.History (make line) ≡ row = cc in
-      sym (ap (is_shown (Request id)) same) ∙ ap (λ (it : RequestLine). it.request.id == id) (has_it line) ∙ ap (λ (it : RequestRow). it.id == id) (is line refl)
+      sym (ap (has_key (Request id)) same) ∙ ap (λ (it : ListedRequest). it.request.id == id) (has_it line) ∙ ap (λ (it : RequestRow). it.id == id) (is line refl)
 
-  certificate_fits : (serial : ℕ) (c : CertRow) (line : Option CertificateLine) → ((it : CertificateLine) → line ≡ Some it → it.certificate ≡ c)
-      → (row : Row) → option_map (λ it. kind.Certificate it) line ≡ Some row → is_shown (Certificate serial) row ≡ (c.serial == serial)
+  certificate_fits : (serial : ℕ) (c : CertRow) (line : Option ListedCertificate) → ((it : ListedCertificate) → line ≡ Some it → it.certificate ≡ c)
+      → (row : Row) → option_map (λ it. kind.Certificate it) line ≡ Some row → has_key (Certificate serial) row ≡ (c.serial == serial)
   certificate_fits serial c None is row made = absurd (cc)
   certificate_fits serial c (Some line) is row made =
       let same : kind.Certificate line ≡ row = cc in
-      sym (ap (is_shown (Certificate serial)) same) ∙ ap (λ (it : CertRow). it.serial == serial) (is line refl)
+      sym (ap (has_key (Certificate serial)) same) ∙ ap (λ (it : CertRow). it.serial == serial) (is line refl)
 
-  request_line_is : (r : RequestRow) (line : RequestLine) → request_line records r ≡ Some line → line.request ≡ r
+  request_line_is : (r : RequestRow) (line : ListedRequest) → listed_request records r ≡ Some line → line.request ≡ r
   request_line_is r line is =
       line_found r (certificate_in records.certificates r.serial) (λ c. subscriber_of_order records c.order) line is
 
   -- a request is the first row behind the number before its own
   pub request_seen : SoundRows records → (id : ℕ)
-      → find (is_shown (Request id)) (page records now 1 (cursor.Requests (id - 1))).rows ≡ row_shown records now (Request id)
+      → find (has_key (Request id)) (page records now 1 (cursor.Requests (id - 1))).rows ≡ row_with_key records now (Request id)
   request_seen sound id =
-      one_seen (λ (r : RequestRow). r.id) id (history_row records now) (is_shown (Request id))
-      (λ r row is. history_fits id r (request_line records r) _ (λ it. refl) (request_line_is r) row is)
+      one_seen (λ (r : RequestRow). r.id) id (history_row records now) (has_key (Request id))
+      (λ r row is. history_fits id r (listed_request records r) _ (λ it. refl) (request_line_is r) row is)
       (past (λ (r : RequestRow). r.id) (id - 1) records.requests)
       ∙ ap (option_and_then (history_row records now)) (numbered_first (λ (r : RequestRow). r.id) id records.requests sound.requests.numbered)
 
   -- and a certificate behind the serial number before its own
   pub certificate_seen : SoundRows records → (serial : ℕ) (after : Option ℕ) → 1 ≤ serial → key_of after ≡ serial - 1
-      → find (is_shown (Certificate serial)) (page records now 1 (cursor.Certificates after)).rows ≡ row_shown records now (Certificate serial)
+      → find (has_key (Certificate serial)) (page records now 1 (cursor.Certificates after)).rows ≡ row_with_key records now (Certificate serial)
   certificate_seen sound serial after more is =
-      one_seen (λ (c : CertRow). c.serial) serial (certificate_row records now) (is_shown (Certificate serial))
-      (λ c row made. certificate_fits serial c (certificate_line records now c)
+      one_seen (λ (c : CertRow). c.serial) serial (certificate_row records now) (has_key (Certificate serial))
+      (λ c row made. certificate_fits serial c (listed_certificate records now c)
       (λ line told. owned_line c (subscriber_of_order records c.order) _ (λ s. refl) line told) row made)
       (past (λ (c : CertRow). c.serial) (key_of after) records.certificates)
       ∙ ap (option_and_then (certificate_row records now))
@@ -183,7 +183,7 @@ some_is (Some a) is = (a, refl)
 
 module _ (records : Records) (now : ℕ) (sound : SoundRows records) where
   -- a request has its certificate, and that its subscriber
-  line_there : (r : RequestRow) (id : ℕ) → request_in records.requests id ≡ Some r → (line : RequestLine) × (request_line records r ≡ Some line)
+  line_there : (r : RequestRow) (id : ℕ) → request_in records.requests id ≡ Some r → (line : ListedRequest) × (listed_request records r ≡ Some line)
   line_there r id is =
       let c = some_is (certificate_in records.certificates r.serial)
       (found_passes _ (λ (it : RequestRow). it.id == id) records.requests r sound.requests.certificates_exist is) in
@@ -192,32 +192,32 @@ module _ (records : Records) (now : ℕ) (sound : SoundRows records) where
       let s = some_is (subscriber_in records.subscribers o.0.subscriber)
       (found_passes _ (λ (it : OrderRow). it.id == c.0.order) records.orders o.0 sound.orders.subscribers_exist o.1) in
       let owner : subscriber_of_order records c.0.order ≡ Some s.0 = ap (option_and_then (λ (it : OrderRow). subscriber_in records.subscribers it.subscriber)) o.1 ∙ s.1 in
-      let held : request_line records r ≡ option_map (line_with r c.0) (subscriber_of_order records c.0.order) =
+      let held : listed_request records r ≡ option_map (line_with r c.0) (subscriber_of_order records c.0.order) =
       ap (option_and_then (λ (it : CertRow). option_map (line_with r it) (subscriber_of_order records it.order))) c.1 in
       let owned : option_map (line_with r c.0) (subscriber_of_order records c.0.order) ≡ Some (line_with r c.0 s.0) = ap (option_map (line_with r c.0)) owner in
       (line_with r c.0 s.0, held ∙ owned)
 
-  of_line : (r : RequestRow) (line : Option RequestLine) (make : RequestLine → RequestHistory) → ((it : RequestLine) → (make it).request ≡ it)
-      → (it : RequestLine) → line ≡ Some it → it.request ≡ r → request_of_row (option_map (λ h. kind.History h) (option_map make line)) ≡ Some r
+  of_line : (r : RequestRow) (line : Option ListedRequest) (make : ListedRequest → RequestHistory) → ((it : ListedRequest) → (make it).request ≡ it)
+      → (it : ListedRequest) → line ≡ Some it → it.request ≡ r → request_of_row (option_map (λ h. kind.History h) (option_map make line)) ≡ Some r
   of_line r None make has_it it is same = absurd (cc)
   of_line r (Some line) make has_it it is same =
       let one : line ≡ it = cc in
-      ap (λ (x : RequestLine). Some x.request) (has_it line ∙ one) ∙ ap (λ (x : RequestRow). Some x) same
+      ap (λ (x : ListedRequest). Some x.request) (has_it line ∙ one) ∙ ap (λ (x : RequestRow). Some x) same
 
   back : (id : ℕ) (found : Option RequestRow) → request_in records.requests id ≡ found → request_of_row (option_and_then (history_row records now) found) ≡ found
   back id None is = refl
   back id (Some r) is =
       let line = line_there r id is in
-      of_line r (request_line records r) _ (λ it. refl) line.0 line.1 (request_line_is records now r line.0 line.1)
+      of_line r (listed_request records r) _ (λ it. refl) line.0 line.1 (request_line_is records now r line.0 line.1)
 
   -- the request of a row that was looked up by its number
-  pub request_back : (id : ℕ) → request_of_row (row_shown records now (Request id)) ≡ request_in records.requests id
+  pub request_back : (id : ℕ) → request_of_row (row_with_key records now (Request id)) ≡ request_in records.requests id
   request_back id = back id (request_in records.requests id) refl
 
 -- ---- subscribers
 
 named_rows : (name : List ℕ) (xs : List SubscriberRow)
-    → find (is_shown (Subscriber name)) (filter_map subscriber_row xs) ≡ option_map (λ row. kind.Subscriber row) (subscriber_named xs name)
+    → find (has_key (Subscriber name)) (filter_map subscriber_row xs) ≡ option_map (λ row. kind.Subscriber row) (subscriber_named xs name)
 named_rows name [] = refl
 named_rows name (x ∷ xs) = named_case (bytes_eq x.name name) x _ _ (named_rows name xs)
   where
@@ -247,23 +247,23 @@ find_before q (y ∷ xs) ys x is = elim (cases_Bool (q y)) [
 ]
 
 module _ (records : Records) (now : ℕ) (sound : SoundRows records) (name : List ℕ) where
-  list_named : find (is_shown (Subscriber name)) (rows_from records now (cursor.Subscribers 0)) ≡ row_shown records now (Subscriber name)
+  list_named : find (has_key (Subscriber name)) (rows_from records now (cursor.Subscribers 0)) ≡ row_with_key records now (Subscriber name)
   list_named =
-      ap (λ xs. find (is_shown (Subscriber name)) (filter_map subscriber_row xs)) (past_drop (λ (row : SubscriberRow). row.id) 0 records.subscribers sound.subscribers.numbered)
+      ap (λ xs. find (has_key (Subscriber name)) (filter_map subscriber_row xs)) (past_drop (λ (row : SubscriberRow). row.id) 0 records.subscribers sound.subscribers.numbered)
       ∙ named_rows name records.subscribers
 
   -- behind rows of other names
   pub named_here : (passed rows rest : List Row) (row : Row) → rows_from records now (cursor.Subscribers 0) ≡ passed ++ rows ++ rest
-      → find (is_shown (Subscriber name)) passed ≡ None → find (is_shown (Subscriber name)) rows ≡ Some row → Some row ≡ row_shown records now (Subscriber name)
+      → find (has_key (Subscriber name)) passed ≡ None → find (has_key (Subscriber name)) rows ≡ Some row → Some row ≡ row_with_key records now (Subscriber name)
   named_here passed rows rest row are none is =
-      let p = is_shown (Subscriber name) in
+      let p = has_key (Subscriber name) in
       let found : find p (passed ++ rows ++ rest) ≡ Some row = find_before p (passed ++ rows) rest row (find_behind p passed rows none ∙ is) in
       sym found ∙ sym (ap (find p) are) ∙ list_named
 
   -- or nowhere
-  pub named_nowhere : (passed : List Row) → rows_from records now (cursor.Subscribers 0) ≡ passed → find (is_shown (Subscriber name)) passed ≡ None
-      → None ≡ row_shown records now (Subscriber name)
-  named_nowhere passed are none = sym none ∙ sym (ap (find (is_shown (Subscriber name))) are) ∙ list_named
+  pub named_nowhere : (passed : List Row) → rows_from records now (cursor.Subscribers 0) ≡ passed → find (has_key (Subscriber name)) passed ≡ None
+      → None ≡ row_with_key records now (Subscriber name)
+  named_nowhere passed are none = sym none ∙ sym (ap (find (has_key (Subscriber name))) are) ∙ list_named
 
 -- rows of other names, and more of them
 pub none_more : (q : Row → Bool) (passed rows : List Row) → find q passed ≡ None → find q rows ≡ None → find q (passed ++ rows) ≡ None

@@ -14,7 +14,7 @@ use Rattle.reg_office_api.proofs.PublicLaws.{chains, follows, stays}
 use Rattle.reg_office_api.specs.Answered.{IsGiven}
 use Rattle.reg_office_api.specs.Leads.{Looks}
 use Rattle.reg_office_api.specs.LookUps.{IsOfStore}
-use Rattle.reg_desk_jobs.specs.Watched.{Has, HasDue, HasFound, IsReadAt, IsUnsigned}
+use Rattle.reg_desk_jobs.specs.HealthRoutes.{Has, HasDue, HasFound, IsReadAt, IsUnsigned}
 
 module _ {S I R : Type 0} (is_clean : S → Type 0) (stands : I → S → R → Type 0) where
   -- what is seen says something else

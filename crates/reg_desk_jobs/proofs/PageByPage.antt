@@ -2,7 +2,7 @@
 use Rattle.std.proofs.Common.{◌≡◌, ℕ, suc, List, [], ◌∷◌, ◌++◌, append_assoc, append-nil, Option, None, Some, Ok, refl, sym, ap, subst, ◌∙◌}
 use Rattle.std.specs.List.{filter, flat_map}
 use Rattle.std.proofs.lemmas.List.Elements.{filter-append}
-use Rattle.reg_core.specs.Checks.{clock_checks, first_of_all}
+use Rattle.reg_core.specs.Checks.{clock_checks, first_refusal}
 use Rattle.reg_core.specs.Records.{Records}
 use Rattle.reg_office_api.specs.Leads.{Leads}
 use Rattle.reg_office_api.specs.Signatories.{Signatory}
@@ -21,7 +21,7 @@ use Rattle.reg_core_lists.proofs.PublicLaws.{page_step, rest_of}
 -- so much of a list was given: the rows of its pages so far, and where the next one goes on
 abbrev pub IsGoing : ℕ → Cursor → List Row → Option Cursor → Signatory → Records → Records → Type 0
 IsGoing now from done next identity before after =
-    (after ≡ before) × (rows_from before now from ≡ done ++ rest_of before now next) × (next ≡ None → first_of_all (clock_checks now before.last) ≡ None)
+    (after ≡ before) × (rows_from before now from ≡ done ++ rest_of before now next) × (next ≡ None → first_refusal (clock_checks now before.last) ≡ None)
 
 -- those of them that are wanted, as a text
 abbrev pub IsText : Format → Filter → Cursor → List Row → List ℕ → Type 0

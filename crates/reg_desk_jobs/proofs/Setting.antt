@@ -10,7 +10,7 @@ use Rattle.reg_office_api.proofs.PublicLaws.{follows, stays}
 use Rattle.reg_core.specs.declared.refusal.Fault.{Fault}
 use Rattle.reg_desk_jobs.specs.Schedules.{SetsSteps}
 use Rattle.reg_desk_jobs.specs.RegisterUses.{exit_of}
-use Rattle.reg_office_api.specs.Settings.{Reschedules}
+use Rattle.reg_office_api.specs.Settings.{ReplacesSchedule}
 
 module _ {S : Type 0} (is_clean : S → Type 0) (stands : Signatory → S → Records → Type 0) (s t : S) (steps : List (ℕ × ℕ)) where
   -- the steps are no schedule
@@ -27,14 +27,14 @@ module _ {S : Type 0} (is_clean : S → Type 0) (stands : Signatory → S → Re
 
   -- they are, and were set, or a fault came
   pub one_set : (set : Result (Unit {0}) Fault) (schedule : List (ℕ × ℕ)) (result : Result (Unit {0}) Failure) → schedule ≡ steps → IsSchedule schedule
-      → result ≡ exit_of set → Leads is_clean stands (λ identity. Reschedules schedule set) s t
+      → result ≡ exit_of set → Leads is_clean stands (λ identity. ReplacesSchedule schedule set) s t
       → Leads is_clean stands (λ identity before after. SetsSteps steps result before after) s t
   one_set set schedule result is sound ending moved =
       follows is_clean stands
-      (λ identity. Reschedules schedule set)
+      (λ identity. ReplacesSchedule schedule set)
       (λ identity before after. SetsSteps steps result before after)
       (λ identity before after made.
-      inr (subst IsSchedule is sound, set, ending, subst (λ steps. Reschedules steps set before after) is made))
+      inr (subst IsSchedule is sound, set, ending, subst (λ steps. ReplacesSchedule steps set before after) is made))
       s
       t
       moved

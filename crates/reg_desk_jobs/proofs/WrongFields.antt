@@ -4,11 +4,11 @@ use Rattle.std.specs.Prelude.{if◌then◌else◌}
 use Rattle.reg_desk_jobs.specs.Syntax.{first_wrong, is_written}
 use Rattle.reg_desk_jobs.specs.declared.syntax.Field.{Field}
 use Rattle.reg_desk_jobs.specs.declared.syntax.WrongField.{WrongField}
-use Rattle.reg_desk_jobs.specs.declared.syntax.WrongField.TheVariants.{Form}
+use Rattle.reg_desk_jobs.specs.declared.syntax.WrongField.TheVariants.{Malformed}
 
 -- what is wrong from a field on, where there is one more that is wanted
 from_here : (wanted : List Field) (fields next : List (List ℕ)) (at : ℕ) (d : Field) (text : List ℕ) → at < length wanted → fields ≡ text ∷ next
-    → first_wrong (drop at wanted) fields ≡ (if is_written (get_or wanted at d) text then first_wrong (drop (suc at) wanted) next else Some (Form (get_or wanted at d)))
+    → first_wrong (drop at wanted) fields ≡ (if is_written (get_or wanted at d) text then first_wrong (drop (suc at) wanted) next else Some (Malformed (get_or wanted at d)))
 from_here wanted fields next at d text within are =
     ap (λ l. first_wrong l fields) (drop-cons wanted at d within) ∙ ap (first_wrong (get_or wanted at d ∷ drop (suc at) wanted)) are
 
@@ -19,4 +19,4 @@ pub goes_on : (wanted : List Field) (fields next : List (List ℕ)) (at : ℕ) (
 goes_on wanted fields next at d text whole within are written so =
     ap (λ k. first_wrong (drop k wanted) next) (add-one at)
     ∙ sym (from_here wanted fields next at d text within are
-    ∙ ap (λ b. if b then first_wrong (drop (suc at) wanted) next else Some (Form (get_or wanted at d))) written) ∙ so
+    ∙ ap (λ b. if b then first_wrong (drop (suc at) wanted) next else Some (Malformed (get_or wanted at d))) written) ∙ so

@@ -4,7 +4,7 @@ use Rattle.std.specs.declared.option.Option.{Option}
 use Rattle.reg_core.specs.Records.{Records}
 use Rattle.reg_core.specs.declared.memory.Memory.{Memory}
 use Rattle.reg_core.specs.declared.refusal.Fault.{Fault}
-use Rattle.reg_office_api.specs.CallSteps.{Signs, Runs, Asks, Crls}
+use Rattle.reg_office_api.specs.CallSteps.{Signs, Runs, Asks, GivesCrl}
 use Rattle.reg_office_api.specs.Drafts.{Drafts}
 use Rattle.reg_office_api.specs.LookUps.{IsOfStore, request_load_in}
 use Rattle.reg_office_api.specs.Responses.{Replies}
@@ -102,7 +102,7 @@ abbrev pub AnswersAdmitted
     : Admission → Signs → ℕ → Signatory → Records → RoutedRequest → AnswerEffects → Records → Type 0
 AnswersAdmitted admission signs now signatory before what it after =
     (IsWithin admission before now (requested_serial what)
-    × Answers (Runs signs signatory) Asks (Replies signs signatory) Crls now before what it after)
+    × Answers (Runs signs signatory) Asks (Replies signs signatory) GivesCrl now before what it after)
     ⊎ (RefusesAtLimit admission before now (requested_serial what) it × (after ≡ before))
 
 -- the same when the answer is begun, and may be left to be signed
@@ -114,7 +114,7 @@ BeginsAdmitted admission signs now signatory before what (Ok (Ready answered)) a
     AnswersAdmitted admission signs now signatory before what (answer_effects answered) after
     × AddsARequestAtMost now before after
 BeginsAdmitted admission signs now signatory before what (Ok (Unsigned draft)) after =
-    BeginsTo (Runs signs signatory) Asks (Replies signs signatory) Crls (Drafts signatory) now before what
+    BeginsTo (Runs signs signatory) Asks (Replies signs signatory) GivesCrl (Drafts signatory) now before what
     (Unsigned draft) after
 BeginsAdmitted admission signs now signatory before what (Err memory) after = after ≡ before
 

@@ -48,12 +48,14 @@ ReportsLineOutcome (CopyFault why) text = text ≡ fault_line why ++ 10 ∷ []
 ReportsLineOutcome Silent text = text ≡ []
 
 -- the reply is these bytes, with the result `line_outcome`; or there was no memory for it
-abbrev pub IsOf : List ℕ → LineOutcome → List ℕ → LineOutcome → Type 0
-IsOf bytes line_outcome text told = ((text ≡ bytes) × (told ≡ line_outcome)) ⊎ ((text ≡ []) × (told ≡ Silent))
+abbrev pub IsReplyWith : List ℕ → LineOutcome → List ℕ → LineOutcome → Type 0
+IsReplyWith bytes line_outcome text told =
+    ((text ≡ bytes) × (told ≡ line_outcome)) ⊎ ((text ≡ []) × (told ≡ Silent))
 
 -- the same of a reply with this line
 abbrev pub IsLineReply : List ℕ → LineOutcome → ControlReply → Type 0
-IsLineReply line line_outcome reply = IsOf (line ++ 10 ∷ []) line_outcome reply.text.items reply.line_outcome
+IsLineReply line line_outcome reply =
+    IsReplyWith (line ++ 10 ∷ []) line_outcome reply.text.items reply.line_outcome
 
 -- ---- what is counted
 

@@ -25,14 +25,14 @@ use Rattle.reg_desk_jobs.specs.ControlReplies.{IsReplyText, ReportsFault}
 use Rattle.reg_desk_jobs.specs.Copies.{AnswersCopy, is_copy_line}
 use Rattle.reg_desk_jobs.specs.Schedules.{SetAt}
 use Rattle.reg_desk_jobs.specs.SerialDecisions.{DecidesAt}
-use Rattle.reg_desk_jobs.specs.RowLookUps.{AnswersShown, help_text}
+use Rattle.reg_desk_jobs.specs.RowLookUps.{AnswersShow, help_text}
 use Rattle.reg_desk_jobs.specs.declared.admission.Admission.{Admission}
 use Rattle.reg_desk_jobs.specs.declared.control_reply.ControlReply.{ControlReply}
 use Rattle.reg_desk_jobs.specs.declared.words.ControlWord.{ControlWord}
 use Rattle.reg_desk_jobs.specs.declared.words.ControlWord.TheVariants.{Help, Why, Copy, Show, Decide, AcceptClock, Schedule, Line}
 use Rattle.reg_desk_jobs.specs.declared.words.SerialDecision.{SerialDecision}
-use Rattle.reg_desk_jobs.specs.declared.words.Shown.{Shown}
-use Rattle.reg_desk_jobs.specs.declared.words.Shown.TheVariants.{Request, Certificate, Subscriber}
+use Rattle.reg_desk_jobs.specs.declared.words.RowKey.{RowKey}
+use Rattle.reg_desk_jobs.specs.declared.words.RowKey.TheVariants.{Request, Certificate, Subscriber}
 
 -- the meanings of a line: list the words; why the last refused line was refused; copy the register; show a row; decide a request given by number
 -- and serial number; accept the clock; set a schedule with steps; else it is a command line
@@ -40,26 +40,26 @@ pub data WordMeaning : Type 0 where
   helps : WordMeaning
   why : WordMeaning
   copies : WordMeaning
-  shows : Shown → WordMeaning
+  shows : RowKey → WordMeaning
   decides : SerialDecision → WordMeaning
   accepts : ℕ → WordMeaning
   schedules : List (ℕ × ℕ) → WordMeaning
   commands : WordMeaning
 
 -- the row that fields ask for: `SERIAL`, `request N` or `subscriber NAME`
-abbrev pub shown_by : List (List ℕ) → Option Shown
-shown_by [] = None
-shown_by (serial ∷ []) = option_map Certificate (serial_of serial)
-shown_by (kind ∷ named ∷ []) =
+abbrev pub row_key_by : List (List ℕ) → Option RowKey
+row_key_by [] = None
+row_key_by (serial ∷ []) = option_map Certificate (serial_of serial)
+row_key_by (kind ∷ named ∷ []) =
     if bytes_eq kind (codes "request") then option_map Request (number_of named)
     else if bytes_eq kind (codes "subscriber") then option_map Subscriber (label_of named)
     else None
-shown_by (kind ∷ named ∷ more ∷ rest) = None
+row_key_by (kind ∷ named ∷ more ∷ rest) = None
 
 -- the same after the word `show`
-abbrev pub shown_in : List (List ℕ) → Option Shown
-shown_in [] = None
-shown_in (word ∷ rest) = if bytes_eq word (codes "show") then shown_by rest else None
+abbrev pub row_key_in : List (List ℕ) → Option RowKey
+row_key_in [] = None
+row_key_in (word ∷ rest) = if bytes_eq word (codes "show") then row_key_by rest else None
 
 -- the decision of a request, by its word
 abbrev pub serial_decision_by : List ℕ → ℕ → ℕ → Option SerialDecision
@@ -96,7 +96,7 @@ steps_set (word ∷ step ∷ rest) = if bytes_eq word (codes "schedule") then st
 -- the meaning of the fields of a line
 abbrev pub meaning_by_fields : List (List ℕ) → WordMeaning
 meaning_by_fields fields =
-    option_map_or shows (shown_in fields) (option_map_or decides (serial_decision_in fields)
+    option_map_or shows (row_key_in fields) (option_map_or decides (serial_decision_in fields)
     (option_map_or accepts (accepted_in fields) (option_map_or schedules (steps_set fields) commands)))
 
 -- the meaning of a line
@@ -174,7 +174,7 @@ AnswersWord accepted signs now identity before line why text after = after ≡ b
 AnswersWord accepted signs now identity before line copies text after =
     AnswersCopy (λ bytes. Unit {0}) text × (after ≡ before)
 AnswersWord accepted signs now identity before line (shows shown) text after =
-    AnswersShown before now shown text × (after ≡ before)
+    AnswersShow before now shown text × (after ≡ before)
 AnswersWord accepted signs now identity before line (decides serial_decision) text after =
     AtClock accepted now before (DecidesAt signs now identity before serial_decision text after) text after
 AnswersWord accepted signs now identity before line (accepts moment) text after =

@@ -3,7 +3,7 @@ use Rattle.std.specs.Prelude.{◌≡◌, ℕ, List}
 use Rattle.sha1.specs.Sha1.{sha1}
 use Rattle.reg_crl.specs.Signing.{Identity}
 use Rattle.reg_office_api.specs.Signatories.{Signatory, signs_both}
-use Rattle.reg_crl_signer.specs.Both.{digest}
+use Rattle.reg_crl_signer.specs.KeyOrDigestSignatures.{digest}
 
 -- the digest is used for both signatures: of CRLs and of OCSP responses
 abbrev pub digest_alone : Signatory

@@ -10,7 +10,7 @@ use Rattle.reg_core.specs.declared.refusal.Fault.{Fault}
 use Rattle.reg_core.specs.declared.refusal.Fault.TheVariants as fault
 use Rattle.reg_office_api.specs.Signatories.{Signatory}
 use Rattle.reg_lines.specs.ByCalls.{Lines}
-use Rattle.reg_office_api.specs.CallSteps.{Crls}
+use Rattle.reg_office_api.specs.CallSteps.{GivesCrl}
 use Rattle.reg_office_api.specs.declared.office.Office.{Ghosts as Office}
 use Rattle.reg_desk_server.specs.Exchange.{Input, Outcome}
 use Rattle.reg_desk_server.specs.Failures.{EndsEarly}
@@ -33,7 +33,7 @@ use Rattle.reg_desk_cli.specs.declared.job.ResponderChoice.{ResponderChoice}
 use Rattle.reg_desk_cli.specs.declared.job.Endpoint.{Endpoint}
 use Rattle.reg_desk_cli.specs.declared.job.OpenJob.{OpenJob}
 use Rattle.reg_desk_cli.specs.declared.job.SignerAddress.{SignerAddress}
-use Rattle.reg_desk_cli.specs.declared.job.LinedScript.{LinedScript}
+use Rattle.reg_desk_cli.specs.declared.job.LineScript.{LineScript}
 use Rattle.reg_desk_cli.specs.declared.job.ListJob.{ListJob}
 use Rattle.reg_desk_cli.specs.declared.job.NewRegister.{NewRegister}
 use Rattle.reg_desk_cli.specs.declared.job.ImportJob.{ImportJob}
@@ -44,9 +44,9 @@ use Rattle.reg_desk_metrics.specs.Ahead.{is_ahead}
 use Rattle.reg_desk_jobs.specs.Conversations.{AtControlSocket, RowsAtControlSocket}
 use Rattle.reg_desk_jobs.specs.Copies.{copied_text}
 use Rattle.reg_desk_jobs.specs.Digest.{digest_alone, digests}
-use Rattle.reg_desk_jobs.specs.RegisterFailures.{IsMaking, IsOpening, IsFileFailure}
+use Rattle.reg_desk_jobs.specs.RegisterFailures.{IsCreateFailure, IsOpenFailure, IsReadFailure}
 use Rattle.reg_office_api.specs.LookUps.{IsOfStore}
-use Rattle.reg_office_api.specs.Settings.{Identifies, Reschedules}
+use Rattle.reg_office_api.specs.Settings.{SetsKeyIdentifier, ReplacesSchedule}
 use Rattle.reg_desk_jobs.specs.Published.{Compares, HasAll}
 use Rattle.reg_desk_jobs.specs.Sample.{sample_records}
 use Rattle.reg_desk_jobs.specs.Replays.{ReplaysAt}
@@ -54,8 +54,8 @@ use Rattle.reg_desk_jobs.specs.RowTasks.{SendsRowsAt}
 use Rattle.reg_desk_jobs.specs.Registers.{Audits, Unaudited}
 use Rattle.reg_desk_jobs.specs.Serving.{IsBoundOn, ServesOn, ServedAt}
 use Rattle.reg_desk_jobs.specs.FailureReports.{Explains}
-use Rattle.reg_desk_jobs.specs.Signers.{Signing, by_itself, signing_with, unsigned}
-use Rattle.reg_desk_jobs.specs.RegisterUses.{UsesRegister, NotMade, NotOpened, Makes, exit_of, exit_of_run}
+use Rattle.reg_desk_jobs.specs.Signers.{Signing, issuer_responds, signing_with, unsigned}
+use Rattle.reg_desk_jobs.specs.RegisterUses.{UsesRegister, NotCreatedAt, NotOpened, Creates, exit_of, exit_of_run}
 use Rattle.reg_desk_jobs.specs.declared.unsigned_responses.Unsigned.{Unsigned}
 use Rattle.reg_desk_jobs.specs.declared.machine.Machine.{Ghosts as Machine}
 
@@ -124,10 +124,10 @@ module _ {M O D S R W : Type 0} (machines : Machine M O D S R) (offices : Office
     (contents : W → Option (List ℕ))
     (machine machine' : M) (writer writer' : W) where
   -- a new register at a path, which has no records
-  abbrev pub MakesAt : List ℕ → Issuer → Terms → Result (Unit {0}) Failure → Type 0
-  MakesAt path issuer terms result =
-      (NotMade machines machine machine' path result × (writer' ≡ writer))
-      ⊎ (Makes machines offices machine machine' path (no_records issuer terms)
+  abbrev pub CreatesAt : List ℕ → Issuer → Terms → Result (Unit {0}) Failure → Type 0
+  CreatesAt path issuer terms result =
+      (NotCreatedAt machines machine machine' path result × (writer' ≡ writer))
+      ⊎ (Creates machines offices machine machine' path (no_records issuer terms)
       × PrintsText (codes "created\n") (contents writer) (contents writer') result)
 
   -- over the register at a path: it could not be opened, and nothing was written; or `Done`
@@ -139,7 +139,7 @@ module _ {M O D S R W : Type 0} (machines : Machine M O D S R) (offices : Office
   abbrev pub CrlAt : List ℕ → Option ℕ → Result (Unit {0}) Failure → Type 0
   CrlAt path number result = Over path unsigned result ((given : Result (List ℕ) Fault)
       × UsesRegister machines offices machine machine' path unsigned (λ identity before after.
-      Crls before number given after)
+      GivesCrl before number given after)
       × PrintsResult contents writer writer' given result)
 
   -- a list of the register at a path, at a moment: all rows that are wanted are written, each once and in order, or none; no record changes. If the
@@ -157,7 +157,7 @@ module _ {M O D S R W : Type 0} (machines : Machine M O D S R) (offices : Office
   abbrev pub AuditAt : List ℕ → Result (Unit {0}) Failure → Type 0
   AuditAt path result =
       (machine' ≡ machine)
-      × (((why : Failure) × (result ≡ Err why) × Unaudited machines machine path why × IsOpening why
+      × (((why : Failure) × (result ≡ Err why) × Unaudited machines machine path why × IsOpenFailure why
       × (writer' ≡ writer))
       ⊎ ((found : AuditResult) × Audits machines machine path found
       × ReportsAuditResult contents writer writer' found result))
@@ -167,7 +167,7 @@ module _ {M O D S R W : Type 0} (machines : Machine M O D S R) (offices : Office
   abbrev pub CopyAt : List ℕ → List ℕ → Result (Unit {0}) Failure → Type 0
   CopyAt path to result =
       ((why : Failure) × (result ≡ Err why) × machines.copy_failed machine path to why machine'
-      × IsFileFailure why × (writer' ≡ writer))
+      × IsReadFailure why × (writer' ≡ writer))
       ⊎ ((bytes millis : ℕ) × machines.copied machine path to bytes machine'
       × PrintsLine (copied_text bytes millis) contents writer writer' result)
 
@@ -177,7 +177,7 @@ module _ {M O D S R W : Type 0} (machines : Machine M O D S R) (offices : Office
       ((why : Failure) × (result ≡ Err why) × IsNoSchedule steps why × (writer' ≡ writer)
       × (machine' ≡ machine))
       ⊎ (IsSchedule steps × Over path unsigned result ((set : Result (Unit {0}) Fault)
-      × UsesRegister machines offices machine machine' path unsigned (λ identity. Reschedules steps set)
+      × UsesRegister machines offices machine machine' path unsigned (λ identity. ReplacesSchedule steps set)
       × PrintsSetResult (codes "schedule set\n") contents writer writer' set result))
 
   -- a key identifier for the issuer of the register at a path (RFC 5280 5.2.1): its hexadecimal is checked before the path is opened
@@ -187,7 +187,8 @@ module _ {M O D S R W : Type 0} (machines : Machine M O D S R) (offices : Office
       × (machine' ≡ machine))
       ⊎ ((octets : List ℕ) × WritesIdentifier key_id octets
       × Over path unsigned result ((set : Result (Unit {0}) Fault)
-      × UsesRegister machines offices machine machine' path unsigned (λ identity. Identifies octets set)
+      × UsesRegister machines offices machine machine' path unsigned (λ identity.
+      SetsKeyIdentifier octets set)
       × PrintsSetResult (codes "key-id set\n") contents writer writer' set result))
 
 -- A new register at a path.
@@ -196,14 +197,14 @@ module _ {M O D S R W : Type 0} (machines : Machine M O D S R) (offices : Office
     (machine machine' : M) (writer writer' : W) where
   -- a path with no file was claimed, with the machine after that; or there was a file, and the machine did not change
   abbrev pub Claims : List ℕ → M → Type 0
-  Claims path start = machines.claimed machine path start ⊎ (machines.lies machine path × (start ≡ machine))
+  Claims path start = machines.claimed machine path start ⊎ (machines.taken machine path × (start ≡ machine))
 
   -- what is left at the path of a new register: all stays if the job is done, if another program created a register there meanwhile, and if there
   -- was a file before; else what was created there is removed
   abbrev pub Leaves : List ℕ → M → M → Result (Unit {0}) Failure → Type 0
   Leaves path start between (Ok done) = machine' ≡ between
   Leaves path start between (Err why) =
-      (((why ≡ failure.NotEmpty) ⊎ (machines.lies machine path × (start ≡ machine))) × (machine' ≡ between))
+      (((why ≡ failure.NotEmpty) ⊎ (machines.taken machine path × (start ≡ machine))) × (machine' ≡ between))
       ⊎ (machines.claimed machine path start × (why ≢ failure.NotEmpty)
       × machines.removed between path machine')
 
@@ -214,7 +215,7 @@ module _ {M O D S R W : Type 0} (machines : Machine M O D S R) (offices : Office
       × (writer' ≡ writer) × (machine' ≡ machine))
       ⊎ ((issuer : Issuer) × WritesIdentified new.name new.key new.key_id issuer × IsPolicy (terms_of_new new)
       × ((start between : M) × Claims new.file start
-      × MakesAt machines offices contents start between writer writer'
+      × CreatesAt machines offices contents start between writer writer'
       new.file issuer (terms_of_new new) result
       × Leaves new.file start between result))
 
@@ -223,7 +224,7 @@ abbrev pub ScriptInMemory
     : {E W : Type 0} → (E → Option (List ℕ)) → (W → Option (List ℕ)) → E → E → W → W
     → Result (Unit {0}) Failure → Type 0
 ScriptInMemory remaining contents reader reader' writer writer' result =
-    ((why : Failure) × (result ≡ Err why) × IsMaking why × (reader' ≡ reader) × (writer' ≡ writer))
+    ((why : Failure) × (result ≡ Err why) × IsCreateFailure why × (reader' ≡ reader) × (writer' ≡ writer))
     ⊎ ((ran : Result (Unit {0}) Fault) × (result ≡ exit_of ran) × ((after : Records)
     × ScriptEnds (Lines digests digest_alone) remaining contents sample_records after
     reader reader' writer writer' ran))
@@ -250,26 +251,28 @@ module _ {M O D S R E W : Type 0} (machines : Machine M O D S R) (offices : Offi
 
   -- a script over the register at a path
   abbrev pub ScriptAt : List ℕ → Option SignerAddress → Result (Unit {0}) Failure → Type 0
-  ScriptAt path signer = RunsAt exit_of path (signing_with signer by_itself) (λ ran identity before after.
+  ScriptAt path signer =
+      RunsAt exit_of path (signing_with signer issuer_responds) (λ ran identity before after.
       ScriptEnds (Lines offices.signs identity) remaining contents before after
       reader reader' writer writer' ran)
 
   -- no line of a script runs, because the clock is too far ahead
-  abbrev pub ClockRefusedAt : LinedScript → Result (Unit {0}) Failure → Type 0
+  abbrev pub ClockRefusedAt : LineScript → Result (Unit {0}) Failure → Type 0
   ClockRefusedAt it result =
       (result ≡ Err failure.BadClock) × (reader' ≡ reader) × (writer' ≡ writer)
-      × UsesRegister machines offices machine machine' it.file (signing_with it.signer by_itself)
+      × UsesRegister machines offices machine machine' it.file (signing_with it.signer issuer_responds)
       (λ identity before after.
       IsClockRefused it.options machines.clock_reached before × (after ≡ before))
 
   -- the lines of a script run over the register at a path
-  abbrev pub LinesRunAt : LinedScript → Result (Unit {0}) Failure → Type 0
-  LinesRunAt it = RunsAt exit_of_run it.file (signing_with it.signer by_itself) (λ ran identity before after.
+  abbrev pub LinesRunAt : LineScript → Result (Unit {0}) Failure → Type 0
+  LinesRunAt it =
+      RunsAt exit_of_run it.file (signing_with it.signer issuer_responds) (λ ran identity before after.
       LinesEnd (Lines offices.signs identity) remaining contents before after
       reader reader' writer writer' machines.clock_reached it.options.is_clocked it.options.is_strict ran)
 
   -- a script over the register at a path, run line by line
-  abbrev pub LinesAt : LinedScript → Result (Unit {0}) Failure → Type 0
+  abbrev pub LinesAt : LineScript → Result (Unit {0}) Failure → Type 0
   LinesAt it result = ClockRefusedAt it result ⊎ LinesRunAt it result
 
   -- the rows of an import ran at a moment; the import is strict or not
@@ -353,7 +356,7 @@ module _ {M O D S R E W : Type 0} (machines : Machine M O D S R) (offices : Offi
   Ends (job.Script (Some file) signer) = ScriptAt file signer
   Ends (job.Script None None) =
       λ result. (machine' ≡ machine) × ScriptInMemory remaining contents reader reader' writer writer' result
-  Ends (job.Script None (Some holder)) = λ result.
+  Ends (job.Script None (Some address)) = λ result.
       (machine' ≡ machine) × (reader' ≡ reader) × (writer' ≡ writer) × (result ≡ Err failure.BadSigner)
   Ends (job.Lines it) = LinesAt it
   Ends (job.Import it) = ImportByClock it

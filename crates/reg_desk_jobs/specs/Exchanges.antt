@@ -2,7 +2,7 @@
 use Rattle.std.specs.Prelude.{◌≡◌, ◌⊎◌, ℕ, Bool, true, false, List}
 use Rattle.reg_core.specs.Records.{Records}
 use Rattle.reg_office_api.specs.Signatories.{Signatory}
-use Rattle.reg_office_api.specs.CallSteps.{Signs, Runs, Asks, Crls}
+use Rattle.reg_office_api.specs.CallSteps.{Signs, Runs, Asks, GivesCrl}
 use Rattle.reg_office_api.specs.Responses.{Replies}
 use Rattle.reg_http_head.specs.Collected.{HoldsRequest}
 use Rattle.reg_http_head.specs.Frame.{IsUnfinished, Part, asked, refused}
@@ -18,7 +18,7 @@ use Rattle.reg_http.specs.declared.exchange.Exchange.{Exchange as HttpExchange}
 use Rattle.reg_http.specs.declared.route.Route.{Route}
 use Rattle.reg_http.specs.declared.route.Route.TheVariants.{Requests, List as ListOf, Health, Metrics}
 use Rattle.reg_desk_jobs.specs.Admission.{AnswersAdmitted, after_request_if}
-use Rattle.reg_desk_jobs.specs.Watched.{ByGet, AnswersHealth, AnswersMetrics}
+use Rattle.reg_desk_jobs.specs.HealthRoutes.{ByGet, AnswersHealth, AnswersMetrics}
 use Rattle.reg_desk_jobs.specs.declared.admission.Admission.{Admission}
 use Rattle.reg_desk_jobs.specs.declared.http_exchanges.Dispatch.{Dispatch}
 use Rattle.reg_desk_jobs.specs.declared.http_exchanges.Dispatch.TheVariants.{ToRegister, ToLimits, ToList, ToHealth, ToMetrics}
@@ -52,7 +52,7 @@ module _ (signs : Signs) (now : ℕ) (admission : Admission) (signatory : Signat
   -- by the part that answers
   abbrev pub AnswersAtRoute : Dispatch → List ℕ → List ℕ → List ℕ → Type 0
   AnswersAtRoute ToRegister method target body =
-      Answers (Runs signs signatory) Asks (Replies signs signatory) Crls now before
+      Answers (Runs signs signatory) Asks (Replies signs signatory) GivesCrl now before
       (asks_for method target body) it after
   AnswersAtRoute ToLimits method target body =
       AnswersAdmitted admission signs now signatory before (asks_for method target body) it after

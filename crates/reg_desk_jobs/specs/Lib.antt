@@ -1,12 +1,12 @@
 pub mod Admission
 pub mod Conversations
-pub mod Beginning
+pub mod RequestOutcomes
 pub mod Clocks
 pub mod ControlReplies
 pub mod Copies
 pub mod Counted
 pub mod ControlWords
-pub mod Deferring
+pub mod LineSignatures
 pub mod Digest
 pub mod Ends
 pub mod Exchanges
@@ -30,6 +30,6 @@ pub mod RowLookUps
 pub mod FailureReports
 pub mod Validities
 pub mod RegisterUses
-pub mod Watched
+pub mod HealthRoutes
 pub mod Signers
 pub mod Syntax

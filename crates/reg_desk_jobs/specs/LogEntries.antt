@@ -10,8 +10,8 @@ use Rattle.reg_lines.specs.Fields.{fields_of}
 use Rattle.reg_lines.specs.Script.{line_of}
 use Rattle.reg_desk_jobs.specs.declared.log_entries.Entry.{Entry}
 use Rattle.reg_desk_jobs.specs.declared.log_entries.Entry.TheVariants.{Line, Request, Decision}
-use Rattle.reg_desk_jobs.specs.declared.log_entries.Logged.{Logged}
-use Rattle.reg_desk_jobs.specs.declared.log_entries.Logged.TheVariants.{Nothing, Unknown, Command}
+use Rattle.reg_desk_jobs.specs.declared.log_entries.LogMeaning.{LogMeaning}
+use Rattle.reg_desk_jobs.specs.declared.log_entries.LogMeaning.TheVariants.{Nothing, Unknown, Command}
 use Rattle.reg_desk_jobs.specs.declared.log_entries.ExchangeText.{ExchangeText}
 
 -- a quotation mark; the log escapes those in a text
@@ -80,7 +80,7 @@ request_named (number ∷ digits ∷ word ∷ []) = request_by number digits wor
 request_named (number ∷ digits ∷ word ∷ more ∷ rest) = None
 
 -- the entry for the fields after the answer, of which a space makes the first one empty: bytes, microseconds, and a request; `None` if they name none
-unfoldable pub named_in : List (List ℕ) → Option Logged
+unfoldable pub named_in : List (List ℕ) → Option LogMeaning
 named_in [] = None
 named_in (empty ∷ []) = None
 named_in (empty ∷ bytes ∷ []) = None
@@ -119,7 +119,7 @@ was_accepted logged_exchange =
     is_control (second_word logged_exchange.client) && accepted logged_exchange.answered
 
 -- the entry for an exchange that names no request: it has a command only if it was at the control socket
-unfoldable pub unnamed : LoggedExchange → Logged
+unfoldable pub unnamed : LoggedExchange → LogMeaning
 unnamed logged_exchange =
     if not (was_accepted logged_exchange) then Nothing
     else if is_of_request (first_word logged_exchange.asked) then Unknown
@@ -128,7 +128,7 @@ unnamed logged_exchange =
     else Unknown
 
 -- the meaning of a logged exchange; one with another quotation mark is made of two lines, of which the first was not written whole
-unfoldable pub logged_of : LoggedExchange → Logged
+unfoldable pub logged_of : LoggedExchange → LogMeaning
 logged_of logged_exchange =
     if has_quote logged_exchange.behind then Unknown
     else unwrap_or (named_in (fields_of logged_exchange.behind)) (unnamed logged_exchange)

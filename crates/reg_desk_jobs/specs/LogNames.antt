@@ -5,7 +5,7 @@ use Rattle.reg_core.specs.declared.command.Command.{Command}
 use Rattle.reg_core.specs.declared.command.Command.TheVariants.{Decline, Request, Revoke}
 use Rattle.reg_core.specs.declared.command.Reply.{Reply}
 use Rattle.reg_core.specs.declared.command.Reply.TheVariants as replied
-use Rattle.reg_http.specs.declared.answered.NamedRequest.{NamedRequest}
+use Rattle.reg_http.specs.declared.answered.LoggedRequest.{LoggedRequest}
 use Rattle.reg_lines.specs.Fields.{fields_of}
 use Rattle.reg_lines.specs.Meaning.{LineMeans, means_command}
 use Rattle.reg_lines.specs.Script.{line_of}
@@ -23,7 +23,7 @@ Decides line id =
     ⊎ LineMeans (line_of line) (means_command (Decline id)))
 
 -- a request that a line decides is named by its number, and by its serial number in the records
-abbrev pub NamesDecided : Records → List ℕ → NamedRequest → Type 0
+abbrev pub NamesDecided : Records → List ℕ → LoggedRequest → Type 0
 NamesDecided records line named =
     Decides line named.id
     × IsSomeAnd (request_in records.requests named.id) (λ request. request.serial ≡ named.serial)
@@ -31,7 +31,7 @@ NamesDecided records line named =
 
 -- the request of an accepted command is named: one that was entered by its number, serial number and ground; one that was decided as it was
 -- looked up before; other commands have none
-abbrev pub NamesAccepted : Command → Reply → Option NamedRequest → Option NamedRequest → Type 0
+abbrev pub NamesAccepted : Command → Reply → Option LoggedRequest → Option LoggedRequest → Type 0
 NamesAccepted (Request serial word) (replied.Request id due) before named =
     IsSomeAnd named (λ it. (it.id ≡ id) × (it.serial ≡ serial) × (it.ground ≡ Some word))
 NamesAccepted (Revoke request) reply before named = named ≡ before
@@ -39,7 +39,7 @@ NamesAccepted (Decline request) reply before named = named ≡ before
 NamesAccepted other reply before named = named ≡ None
 
 -- the request that is named for the result of a line
-abbrev pub NamesRequest : LineOutcome → Option NamedRequest → Option NamedRequest → Type 0
+abbrev pub NamesRequest : LineOutcome → Option LoggedRequest → Option LoggedRequest → Type 0
 NamesRequest (Completed (asked.Command command) (Ok reply)) before named =
     NamesAccepted command reply before named
 NamesRequest other before named = named ≡ None

@@ -8,7 +8,7 @@ use Rattle.reg_core.specs.Serial.{serial_text}
 use Rattle.reg_core.specs.Status.{is_revoked, status}
 use Rattle.reg_core.specs.declared.refusal.Fault.TheVariants as fault
 use Rattle.reg_core.specs.declared.rows.CrlRow.{CrlRow}
-use Rattle.reg_crl.specs.Reading.{AreEntries, IsPublished}
+use Rattle.reg_crl.specs.Reading.{AreEntries, IsCrlWith}
 use Rattle.reg_desk_cli.specs.declared.failure.Failure.{Failure}
 use Rattle.reg_desk_cli.specs.declared.failure.Failure.TheVariants as failure
 use Rattle.reg_desk_jobs.specs.Conversations.{IsInput}
@@ -56,10 +56,10 @@ AppendsMissing records moment entries old new (Err why) =
 -- the lines for the items of the CRL in these bytes that the records lack
 abbrev pub FindsMissing : Records → List ℕ → Result (List ℕ) Failure → Type 0
 FindsMissing records bytes (Ok lines) =
-    (number : ℕ) × (serials : List ℕ) × IsPublished bytes number serials
+    (number : ℕ) × (serials : List ℕ) × IsCrlWith bytes number serials
     × (lines ≡ missing_text records number serials)
 FindsMissing records bytes (Err why) =
-    FindsNothing ((number : ℕ) → (serials : List ℕ) → ¬ IsPublished bytes number serials) why
+    FindsNothing ((number : ℕ) → (serials : List ℕ) → ¬ IsCrlWith bytes number serials) why
 
 -- the same for the bytes of an input
 abbrev pub FindsIn : Records → Option (List ℕ) → Result (List ℕ) Failure → Type 0
@@ -69,7 +69,7 @@ FindsIn records input found = (bytes : List ℕ) × IsInput input bytes × Finds
 abbrev pub HasAll : Records → Option (List ℕ) → Type 0
 HasAll records input =
     (bytes : List ℕ) × (number : ℕ) × (serials : List ℕ) × IsInput input bytes
-    × IsPublished bytes number serials
+    × IsCrlWith bytes number serials
     × (number ≤ latest_number (option_map row_of (latest records.crls)))
     × AllByRecursion (λ serial. IsTrue (is_revoked (status records serial records.last))) serials
 

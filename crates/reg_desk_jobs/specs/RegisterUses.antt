@@ -9,8 +9,8 @@ use Rattle.reg_desk_cli.specs.declared.failure.Failure.{Failure}
 use Rattle.reg_desk_cli.specs.declared.failure.Failure.TheVariants as failure
 use Rattle.reg_lines.specs.declared.answered.Ended.{Ended}
 use Rattle.reg_lines.specs.declared.answered.Ended.TheVariants as ended
-use Rattle.reg_desk_jobs.specs.RegisterFailures.{IsMaking, IsOpening}
-use Rattle.reg_desk_jobs.specs.Registers.{Made, Opened, NotCreated, Unopened}
+use Rattle.reg_desk_jobs.specs.RegisterFailures.{IsCreateFailure, IsOpenFailure}
+use Rattle.reg_desk_jobs.specs.Registers.{Created, Opened, NotCreated, Unopened}
 use Rattle.reg_desk_jobs.specs.Signers.{Signing}
 use Rattle.reg_desk_jobs.specs.declared.machine.Machine.{Ghosts as Machine}
 
@@ -40,11 +40,11 @@ module _ {M O D S R : Type 0} (machines : Machine M O D S R) (offices : Office O
     pub closed : machines.closed between path last machine'
 
   -- a register was created at a path with these records, and then closed
-  pub record Makes (path : List ℕ) (records : Records) : Type 0 where
+  pub record Creates (path : List ℕ) (records : Records) : Type 0 where
     pub register : O
     pub identity : Signatory
     pub between : M
-    pub made : Made machines machine path register between
+    pub made : Created machines machine path register between
     pub stands : offices.stands identity register records
     pub closed : machines.closed between path register machine'
 
@@ -53,9 +53,10 @@ module _ {M O D S R : Type 0} (machines : Machine M O D S R) (machine machine' :
   abbrev pub NotOpened : List ℕ → Signing → Result (Unit {0}) Failure → Type 0
   NotOpened path signing result =
       (why : Failure) × (result ≡ Err why) × Unopened machines machine path signing why machine'
-      × IsOpening why
+      × IsOpenFailure why
 
   -- no register could be created at a path, and that is how the job ends
-  abbrev pub NotMade : List ℕ → Result (Unit {0}) Failure → Type 0
-  NotMade path result =
-      (why : Failure) × (result ≡ Err why) × NotCreated machines machine path why machine' × IsMaking why
+  abbrev pub NotCreatedAt : List ℕ → Result (Unit {0}) Failure → Type 0
+  NotCreatedAt path result =
+      (why : Failure) × (result ≡ Err why) × NotCreated machines machine path why machine'
+      × IsCreateFailure why

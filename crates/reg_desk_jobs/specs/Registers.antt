@@ -23,13 +23,13 @@ module _ {M O D S R : Type 0} (machines : Machine M O D S R) (machine : M) (path
   -- be opened as a database; or the database has no register for which these signers may sign.
   abbrev pub Unopened : Signing → Failure → M → Type 0
   Unopened signing why machine' =
-      ((HasCertificate signing.1 ⊎ machines.unread machine path why) × (machine' ≡ machine))
-      ⊎ (machines.unconnected machine path why machine' ⊎ ((database : D) × Connects database machine'))
+      ((HasCertificate signing.1 ⊎ machines.read_failed machine path why) × (machine' ≡ machine))
+      ⊎ (machines.connect_failed machine path why machine' ⊎ ((database : D) × Connects database machine'))
 
   -- A register was created in a file at a path: it is this office.
-  pub record Made (office : O) (machine' : M) : Type 0 where
+  pub record Created (office : O) (machine' : M) : Type 0 where
     pub database : D
-    pub lies : machines.lies machine path
+    pub taken : machines.taken machine path
     pub connects : Connects database machine'
     pub made : machines.made database office
 
@@ -38,7 +38,7 @@ module _ {M O D S R : Type 0} (machines : Machine M O D S R) (machine : M) (path
   abbrev pub NotCreated : Failure → M → Type 0
   NotCreated why machine' =
       (machines.absent machine path × (machine' ≡ machine))
-      ⊎ (machines.unconnected machine path why machine' ⊎ ((database : D) × Connects database machine'))
+      ⊎ (machines.connect_failed machine path why machine' ⊎ ((database : D) × Connects database machine'))
 
   -- An audit of the register at a path had this result. The files were opened read-only.
   pub record Audits (audit_result : AuditResult) : Type 0 where
@@ -48,4 +48,4 @@ module _ {M O D S R : Type 0} (machines : Machine M O D S R) (machine : M) (path
 
   -- It was not audited, for this reason: the files at the path, or the database in them, could not be read.
   abbrev pub Unaudited : Failure → Type 0
-  Unaudited why = machines.unread machine path why ⊎ ((sources : S) × machines.read machine path sources)
+  Unaudited why = machines.read_failed machine path why ⊎ ((sources : S) × machines.read machine path sources)

@@ -1,6 +1,6 @@
 -- What the control socket shows: rows of the register, and its words.
 use Rattle.std.specs.Prelude.{◌≡◌, ℕ, Bool, false, ◌==◌, List, [], ◌∷◌, ◌++◌, bytes_eq, codes, option_and_then, option_map, Option, Some, None, Result, Ok, Err, IfOk}
-use Rattle.reg_core.specs.Checks.{clock_checks, first_of_all}
+use Rattle.reg_core.specs.Checks.{clock_checks, first_refusal}
 use Rattle.reg_core.specs.Lines.{fault_line}
 use Rattle.reg_core.specs.Records.{Records, certificate_in, request_in, subscriber_named}
 use Rattle.reg_core.specs.Sound.{SoundRows}
@@ -14,34 +14,34 @@ use Rattle.reg_core_lists.specs.declared.rows.Row.{Row}
 use Rattle.reg_core_lists.specs.declared.rows.Row.TheVariants as kind
 use Rattle.reg_core_lists.specs.declared.texts.Format.TheVariants.{Json}
 use Rattle.reg_desk_jobs.specs.ControlReplies.{IsReplyText}
-use Rattle.reg_desk_jobs.specs.declared.words.Shown.{Shown}
-use Rattle.reg_desk_jobs.specs.declared.words.Shown.TheVariants.{Request, Certificate, Subscriber}
+use Rattle.reg_desk_jobs.specs.declared.words.RowKey.{RowKey}
+use Rattle.reg_desk_jobs.specs.declared.words.RowKey.TheVariants.{Request, Certificate, Subscriber}
 
 -- whether a row is the one to be shown
-abbrev pub is_shown : Shown → Row → Bool
-is_shown (Request id) (kind.History history) = history.request.request.id == id
-is_shown (Certificate serial) (kind.Certificate line) = line.certificate.serial == serial
-is_shown (Subscriber name) (kind.Subscriber row) = bytes_eq row.name name
-is_shown shown other = false
+abbrev pub has_key : RowKey → Row → Bool
+has_key (Request id) (kind.History history) = history.request.request.id == id
+has_key (Certificate serial) (kind.Certificate line) = line.certificate.serial == serial
+has_key (Subscriber name) (kind.Subscriber row) = bytes_eq row.name name
+has_key shown other = false
 
 -- the row to be shown, as its list has it at a moment
-abbrev pub row_shown : Records → ℕ → Shown → Option Row
-row_shown records now (Request id) =
+abbrev pub row_with_key : Records → ℕ → RowKey → Option Row
+row_with_key records now (Request id) =
     option_and_then (history_row records now) (request_in records.requests id)
-row_shown records now (Certificate serial) =
+row_with_key records now (Certificate serial) =
     option_and_then (certificate_row records now) (certificate_in records.certificates serial)
-row_shown records now (Subscriber name) =
+row_with_key records now (Subscriber name) =
     option_map (λ row. kind.Subscriber row) (subscriber_named records.subscribers name)
 
 -- the refusal if there is none
-abbrev pub refusal_of : Shown → Refusal
+abbrev pub refusal_of : RowKey → Refusal
 refusal_of (Request id) = NoRequest
 refusal_of (Certificate serial) = UnknownSerial
 refusal_of (Subscriber name) = NoSubscriber
 
 -- why a look-up fails: the moment is before the last accepted one, or at or past `clock_end`; or out of memory, or a failure of the store
 abbrev pub FailsAt : Records → ℕ → Fault → Type 0
-FailsAt records now (Refused refusal) = first_of_all (clock_checks now records.last) ≡ Some refusal
+FailsAt records now (Refused refusal) = first_refusal (clock_checks now records.last) ≡ Some refusal
 FailsAt records now Memory = Unit {0}
 FailsAt records now Store = Unit {0}
 FailsAt records now Signer = ⊥
@@ -51,24 +51,24 @@ FailsAt records now Write = ⊥
 -- a look-up gives what the records have, if its moment is allowed; or it fails
 abbrev pub IsLookedUp : {A : Type 0} → Records → ℕ → A → Result A Fault → Type 0
 IsLookedUp records now known (Ok found) =
-    (first_of_all (clock_checks now records.last) ≡ None) × (found ≡ known)
+    (first_refusal (clock_checks now records.last) ≡ None) × (found ≡ known)
 IsLookedUp records now known (Err why) = FailsAt records now why
 
 -- the same over sound records
-abbrev pub IsSeen : {A : Type 0} → Records → ℕ → A → Result A Fault → Type 0
-IsSeen records now known result =
+abbrev pub IsSoundLookUp : {A : Type 0} → Records → ℕ → A → Result A Fault → Type 0
+IsSoundLookUp records now known result =
     IfOk result (λ found. SoundRows records) × IsLookedUp records now known result
 
 -- the reply to a look-up: the row in the form of `list --json`, that there is none, or why it failed
-abbrev pub found_text : Shown → Result (Option Row) Fault → List ℕ
+abbrev pub found_text : RowKey → Result (Option Row) Fault → List ℕ
 found_text shown (Ok (Some row)) = row_text Json row
 found_text shown (Ok None) = fault_line (Refused (refusal_of shown)) ++ 10 ∷ []
 found_text shown (Err why) = fault_line why ++ 10 ∷ []
 
 -- the reply to `show`
-abbrev pub AnswersShown : Records → ℕ → Shown → List ℕ → Type 0
-AnswersShown records now shown text =
-    (found : Result (Option Row) Fault) × IsLookedUp records now (row_shown records now shown) found
+abbrev pub AnswersShow : Records → ℕ → RowKey → List ℕ → Type 0
+AnswersShow records now shown text =
+    (found : Result (Option Row) Fault) × IsLookedUp records now (row_with_key records now shown) found
     × IsReplyText (found_text shown found) text
 
 -- the words of the control socket, in one line

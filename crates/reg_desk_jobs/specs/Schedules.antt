@@ -6,7 +6,7 @@ use Rattle.reg_desk_cli.specs.Checks.{IsNoSchedule}
 use Rattle.reg_desk_cli.specs.ExitStatus.{failure_line}
 use Rattle.reg_desk_cli.specs.declared.failure.Failure.{Failure}
 use Rattle.reg_core.specs.declared.refusal.Fault.{Fault}
-use Rattle.reg_office_api.specs.Settings.{Reschedules}
+use Rattle.reg_office_api.specs.Settings.{ReplacesSchedule}
 use Rattle.reg_desk_jobs.specs.RegisterUses.{exit_of}
 
 -- steps are set as the schedule; if they are no schedule, they are refused, and no record changes
@@ -14,7 +14,7 @@ abbrev pub SetsSteps : List (ℕ × ℕ) → Result (Unit {0}) Failure → Recor
 SetsSteps steps result before after =
     ((why : Failure) × (result ≡ Err why) × IsNoSchedule steps why × (after ≡ before))
     ⊎ (IsSchedule steps × (set : Result (Unit {0}) Fault) × (result ≡ exit_of set)
-    × Reschedules steps set before after)
+    × ReplacesSchedule steps set before after)
 
 -- its reply, without its LF
 abbrev pub set_line : Result (Unit {0}) Failure → List ℕ

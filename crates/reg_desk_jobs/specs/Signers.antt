@@ -6,7 +6,7 @@ use Rattle.reg_core.specs.Records.{Crl, Records}
 use Rattle.reg_crl.specs.Signing.{Identity}
 use Rattle.reg_ocsp.specs.Certificate.{IsCertificateOf}
 use Rattle.reg_crl_signer.specs.Algorithms.{key_identifier_of}
-use Rattle.reg_crl_signer.specs.Both.{digest}
+use Rattle.reg_crl_signer.specs.KeyOrDigestSignatures.{digest}
 use Rattle.reg_crl_signer.specs.Forms.{identity_of}
 use Rattle.reg_crl_signer.specs.Signed.{IsCrlUnder}
 use Rattle.reg_desk_jobs.specs.SignerAnswers.{AnsweredAtPath}
@@ -17,10 +17,10 @@ use Rattle.reg_desk_cli.specs.declared.job.ResponderChoice.TheVariants.{Issuer, 
 use Rattle.reg_desk_cli.specs.declared.job.SignerAddress.{SignerAddress}
 
 -- the signer of CRLs that the options name. Without one, a placeholder digest; but no signer if the OCSP responder has a key of its own
-abbrev pub signs_crls : Option SignerAddress → ResponderChoice → CrlSigner
-signs_crls (Some holder) responder = KeyAt holder
-signs_crls None (Issuer certificate) = Digest
-signs_crls None (Delegate certificate holder) = NoSigner
+abbrev pub crl_signer_of : Option SignerAddress → ResponderChoice → CrlSigner
+crl_signer_of (Some address) responder = KeyAt address
+crl_signer_of None (Issuer certificate) = Digest
+crl_signer_of None (Delegate certificate address) = NoSigner
 
 -- the signers with which a register is opened: that of its CRLs, and that of OCSP responses
 abbrev pub Signing : Type 0
@@ -28,30 +28,30 @@ Signing = CrlSigner × ResponderChoice
 
 -- the same, from the options
 abbrev pub signing_with : Option SignerAddress → ResponderChoice → Signing
-signing_with signer responder = (signs_crls signer responder, responder)
+signing_with signer responder = (crl_signer_of signer responder, responder)
 
 -- the signer of CRLs signs OCSP responses too, without a certificate in them
-abbrev pub by_itself : ResponderChoice
-by_itself = Issuer None
+abbrev pub issuer_responds : ResponderChoice
+issuer_responds = Issuer None
 
 -- the signers for a job that signs nothing
 abbrev pub unsigned : Signing
-unsigned = (NoSigner, by_itself)
+unsigned = (NoSigner, issuer_responds)
 
 -- a certificate for OCSP responses is given
 abbrev pub HasCertificate : ResponderChoice → Type 0
 HasCertificate (Issuer None) = ⊥
 HasCertificate (Issuer (Some path)) = Unit {0}
-HasCertificate (Delegate path holder) = Unit {0}
+HasCertificate (Delegate path address) = Unit {0}
 
 -- the path of the signer of CRLs, if there is one
 abbrev pub crl_socket : Option SignerAddress → Option (List ℕ)
-crl_socket signer = option_map (λ holder. holder.socket) signer
+crl_socket signer = option_map (λ address. address.socket) signer
 
 -- the path of the signer of OCSP responses, if there is one: the responder's, or that of the signer of CRLs
 abbrev pub answer_socket : Option SignerAddress → ResponderChoice → Option (List ℕ)
 answer_socket signer (Issuer certificate) = crl_socket signer
-answer_socket signer (Delegate certificate holder) = Some holder.socket
+answer_socket signer (Delegate certificate address) = Some address.socket
 
 -- the signer of OCSP responses gave this answer for this message
 abbrev pub AnsweredByOcspSigner
@@ -60,24 +60,24 @@ AnsweredByOcspSigner signer_answered signer responder =
     AnsweredAtPath signer_answered (answer_socket signer responder)
 
 -- the signer of an issuer's key (RFC 5280 4.1.2.7): with its algorithm, or the placeholder digest
-abbrev pub identity_of_holder : Option SignerAddress → List ℕ → Identity
-identity_of_holder None key = digest
-identity_of_holder (Some holder) key = identity_of holder.algorithm key
+abbrev pub identity_of_signer : Option SignerAddress → List ℕ → Identity
+identity_of_signer None key = digest
+identity_of_signer (Some address) key = identity_of address.algorithm key
 
 -- the signer of CRLs of an open register: the given one; if nothing is to be signed, any that could be given
 abbrev pub IsSigning : CrlSigner → List ℕ → Identity → Type 0
-IsSigning NoSigner key identity = (signer : Option SignerAddress) × (identity ≡ identity_of_holder signer key)
-IsSigning Digest key identity = identity ≡ identity_of_holder None key
-IsSigning (KeyAt holder) key identity = identity ≡ identity_of_holder (Some holder) key
+IsSigning NoSigner key identity = (signer : Option SignerAddress) × (identity ≡ identity_of_signer signer key)
+IsSigning Digest key identity = identity ≡ identity_of_signer None key
+IsSigning (KeyAt address) key identity = identity ≡ identity_of_signer (Some address) key
 
 -- a responder with a certificate of its own (RFC 6960 4.2.2.2): it signs with the key of that certificate, which fits the algorithm, and is
 -- identified by that key; the certificate is in each response
-pub record IsDelegate (holder : SignerAddress) (responder : Responder) : Type 0 where
+pub record IsDelegate (address : SignerAddress) (responder : Responder) : Type 0 where
   pub certificate : List ℕ
   pub key : List ℕ
-  pub certified : IsCertificateOf certificate (key_identifier_of holder.algorithm) key
+  pub certified : IsCertificateOf certificate (key_identifier_of address.algorithm) key
   pub is : responder ≡ record {
-    identity = identity_of holder.algorithm key;
+    identity = identity_of address.algorithm key;
     own_key = Some key;
     certificate = Some certificate;
   }
@@ -92,7 +92,7 @@ IsAnswering (Issuer (Some path)) signatory =
       own_key = None;
       certificate = Some certificate;
     })
-IsAnswering (Delegate path holder) signatory = IsDelegate holder signatory.answers
+IsAnswering (Delegate path address) signatory = IsDelegate address signatory.answers
 
 -- a certificate in OCSP responses that the issuer's key signs has that key
 abbrev pub EmbeddedKeyFits : List ℕ → Responder → Type 0

@@ -7,7 +7,7 @@ use Rattle.reg_core.specs.Label.{label_of}
 use Rattle.reg_desk_jobs.specs.declared.syntax.Field.{Field}
 use Rattle.reg_desk_jobs.specs.declared.syntax.Field.TheVariants.{Name, Subscriber, Days, Order, Serial, NotBefore, NotAfter, Ground, Request}
 use Rattle.reg_desk_jobs.specs.declared.syntax.WrongField.{WrongField}
-use Rattle.reg_desk_jobs.specs.declared.syntax.WrongField.TheVariants.{Form, Missing, TooMany}
+use Rattle.reg_desk_jobs.specs.declared.syntax.WrongField.TheVariants.{Malformed, Missing, TooMany}
 
 -- the fields of a command, by its word; in `revoke` and `decline` the serial number is optional
 abbrev pub fields_wanted : List ℕ → Option (List Field)
@@ -39,7 +39,7 @@ first_wrong [] [] = None
 first_wrong [] (text ∷ rest) = Some TooMany
 first_wrong (field ∷ wanted) [] = Some (Missing field)
 first_wrong (field ∷ wanted) (text ∷ rest) =
-    if is_written field text then first_wrong wanted rest else Some (Form field)
+    if is_written field text then first_wrong wanted rest else Some (Malformed field)
 
 abbrev pub wrong_in : List (List ℕ) → Option WrongField
 wrong_in [] = None
@@ -69,6 +69,6 @@ form_text NotBefore = codes " is not a moment as 2026-01-01T00:00:00Z"
 form_text NotAfter = codes " is not a moment as 2026-01-01T00:00:00Z"
 
 abbrev pub wrong_text : WrongField → List ℕ
-wrong_text (Form field) = name_text field ++ form_text field
+wrong_text (Malformed field) = name_text field ++ form_text field
 wrong_text (Missing field) = name_text field ++ codes " is missing"
 wrong_text TooMany = codes "more fields than the command takes"

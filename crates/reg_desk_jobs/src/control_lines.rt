@@ -11,7 +11,7 @@ ghost use Rattle.reg_desk_jobs.specs.SerialDecisions.{DecidesAt};
 
 use crate::control_reply::{ControlReply, LineOutcome};
 use crate::copy_job::answer_copy;
-use crate::decisions_by_serial::{answer_serial_decision, named_before, named_by};
+use crate::decisions_by_serial::{answer_serial_decision, decided_request, logged_request};
 use crate::exchange_log::log_line;
 use crate::health_routes::keep_due_reason;
 use crate::jobs::ended;
@@ -25,7 +25,7 @@ use crate::words::{AcceptedClock, ControlWord, SerialDecision, read_word};
 use reg_core::{Fault, Moment};
 use reg_desk_cli::{Failure, Steps, schedule_of};
 use reg_desk_metrics::{Tally, is_ahead};
-use reg_lines::{Answered, CommandLine, LONGEST_REPLY, read_line, run_line};
+use reg_lines::{Answered, LONGEST_REPLY, ParsedLine, read_line, run_line};
 use reg_office_api::{LineReply, Office};
 use std::alloc::Global;
 
@@ -53,7 +53,7 @@ pub(crate) fn answer_counted<M: Machine>(
         now result.items tally.old tally.new }
 {
     let failures = office.failure_counts();
-    let named = named_before::<M>(alloc, office, machine, now, line);
+    let named = decided_request::<M>(alloc, office, machine, now, line);
     let reply = answer_word::<M>(
         alloc,
         office,
@@ -68,7 +68,7 @@ pub(crate) fn answer_counted<M: Machine>(
     let signature_failed = has_failed::<M>(office, failures);
     let micros = machine.micros().saturating_sub(began);
     tally.count_line(now, reply.line_outcome.effects(signature_failed), micros);
-    let named = named_by(&reply.line_outcome, named);
+    let named = logged_request(&reply.line_outcome, named);
     log_line(
         alloc,
         machine,
@@ -209,9 +209,9 @@ fn has_command(line: &[u8]) -> bool
     ensures { IsTrue result ↔ HasCommand line.now }
 {
     match read_line(line) {
-        Some(CommandLine::Command(_)) => true,
-        Some(CommandLine::Query(_)) => false,
-        Some(CommandLine::Ocsp(_)) => false,
+        Some(ParsedLine::Command(_)) => true,
+        Some(ParsedLine::Query(_)) => false,
+        Some(ParsedLine::Ocsp(_)) => false,
         None => false,
     }
 }

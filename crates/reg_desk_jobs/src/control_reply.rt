@@ -3,7 +3,7 @@
 ghost use Rattle.std.specs.Prelude.{◌≡◌, ◌≤◌, ◌++◌, ◌∷◌, [], ℕ, List, IfOk, vec_capacity};
 ghost use Rattle.reg_core.specs.Lines.{fault_line};
 ghost use Rattle.reg_lines.specs.Answer.{reply_of};
-ghost use Rattle.reg_desk_jobs.specs.ControlReplies.{IsLineReply, IsOf, line_outcome_of, crl_outcome, effects_of, failed_if as failed_where, kind_of, kind_of_fault as kind_by_fault, ocsp_outcome, store_effect};
+ghost use Rattle.reg_desk_jobs.specs.ControlReplies.{IsLineReply, IsReplyWith, line_outcome_of, crl_outcome, effects_of, failed_if as failed_where, kind_of, kind_of_fault as kind_by_fault, ocsp_outcome, store_effect};
 
 use reg_core::{Command, Fault, Outcome};
 use reg_desk_cli::Failure;
@@ -179,7 +179,7 @@ impl ControlReply {
         line_outcome: LineOutcome,
     ) -> ControlReply
         ensures { (bytes : List ℕ) → IfOk text (λ made. made.items ≡ bytes)
-            → IsOf bytes line_outcome result.text.items result.line_outcome }
+            → IsReplyWith bytes line_outcome result.text.items result.line_outcome }
     {
         match text {
             Ok(text) => ControlReply { text, line_outcome },

@@ -2,7 +2,7 @@
 
 ghost use Rattle.std.specs.Prelude.{◌≡◌, ◌++◌, ◌∷◌, [], IfErr, IfOk};
 ghost use Rattle.reg_core.specs.Lines.{fault_line};
-ghost use Rattle.reg_desk_jobs.specs.ControlReplies.{IsLineReply, IsOf, ReportsLineOutcome};
+ghost use Rattle.reg_desk_jobs.specs.ControlReplies.{IsLineReply, IsReplyWith, ReportsLineOutcome};
 ghost use Rattle.reg_desk_jobs.specs.Copies.{AnswersCopy, is_copy_line as asks, copied_text};
 ghost use Rattle.reg_desk_jobs.specs.Ends.{CopyAt};
 ghost use Rattle.reg_office_api.specs.LookUps.{IsOfStore};
@@ -76,7 +76,7 @@ fn millis_since<M: Machine>(machine: &M, since: u64) -> u64 {
 }
 
 fn copied_reply(alloc: Global, bytes: u64, millis: u64) -> ControlReply
-    ensures { IsOf (copied_text bytes millis) LineOutcome.Done result.text.items result.line_outcome }
+    ensures { IsReplyWith (copied_text bytes millis) LineOutcome.Done result.text.items result.line_outcome }
 {
     ControlReply::made(alloc, copied_line(alloc, bytes, millis), LineOutcome::Done)
 }

@@ -1,9 +1,9 @@
 //! The signer of CRLs with which a register is opened.
 
 ghost use Rattle.std.specs.Prelude.{◌≡◌};
-ghost use Rattle.reg_desk_jobs.specs.Signers.{signs_crls};
+ghost use Rattle.reg_desk_jobs.specs.Signers.{crl_signer_of};
 
-use reg_desk_cli::{ResponderChoice, SignerAddress, Word};
+use reg_desk_cli::{Argument, ResponderChoice, SignerAddress};
 
 /// The signer of CRLs with which a register is opened.
 #[derive(Drop)]
@@ -22,11 +22,11 @@ impl<'a> CrlSigner<'a> {
         signer: &Option<SignerAddress<'a>>,
         responder: &ResponderChoice<'_>,
     ) -> CrlSigner<'a>
-        ensures { result ≡ signs_crls signer.now responder.now }
+        ensures { result ≡ crl_signer_of signer.now responder.now }
     {
         match (signer, responder) {
             (Some(signer_address), _) => CrlSigner::KeyAt(SignerAddress {
-                socket: Word::of(signer_address.socket.as_str()),
+                socket: Argument::of(signer_address.socket.as_str()),
                 algorithm: signer_address.algorithm,
             }),
             (None, ResponderChoice::Issuer { .. }) => CrlSigner::Digest,

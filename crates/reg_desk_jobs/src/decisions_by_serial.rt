@@ -13,12 +13,12 @@ use crate::control_reply::{ControlReply, LineOutcome};
 use crate::machine::Machine;
 use crate::reasons::{Reason, keep_reason_text, reason_line};
 use crate::show::{find, report_fault};
-use crate::words::{SerialDecision, Shown, serial_decision_in};
+use crate::words::{RowKey, SerialDecision, serial_decision_in};
 use reg_core::{Command, Fault, Moment, Refusal, Reply, RequestRow};
 use reg_core_lists::Row;
-use reg_http::NamedRequest;
+use reg_http::LoggedRequest;
 use reg_lines::{
-    Answered, CommandLine, LONGEST_REPLY, LineKind, command_in, read_line, without_end,
+    Answered, LONGEST_REPLY, LineKind, ParsedLine, command_in, read_line, without_end,
 };
 use reg_office_api::Office;
 use std::alloc::Global;
@@ -94,7 +94,7 @@ fn find_request<O: Office>(
         (λ records. IsLookedUp records now (request_in records.requests id) result)
         office.old office.new }
 {
-    let found = find(alloc, office, now, &Shown::Request(id))?;
+    let found = find(alloc, office, now, &RowKey::Request(id))?;
     Ok(request_of_row(found))
 }
 
@@ -109,13 +109,13 @@ fn request_of_row(found: Option<Row>) -> Option<RequestRow>
 
 /// The number and the serial number, for the log, of the request that a line is to decide; `None` without a log,
 /// or if there is no such request.
-pub(crate) fn named_before<M: Machine>(
+pub(crate) fn decided_request<M: Machine>(
     alloc: Global,
     office: &mut M::Office,
     machine: &M,
     now: Moment,
     line: &[u8],
-) -> Option<NamedRequest>
+) -> Option<LoggedRequest>
     ensures { LooksIn M.Office.Office
         (λ records. IfSome result (NamesDecided records line.now))
         office.old office.new }
@@ -125,7 +125,7 @@ pub(crate) fn named_before<M: Machine>(
     }
     let id = decided_by(line)?;
     match find_request(alloc, office, now, id) {
-        Ok(Some(request)) => Some(NamedRequest {
+        Ok(Some(request)) => Some(LoggedRequest {
             id,
             serial: request.serial,
             ground: None,
@@ -142,17 +142,17 @@ fn decided_by(line: &[u8]) -> Option<u64>
         return Some(serial_decision.request);
     }
     match read_line(command_in(line)?) {
-        Some(CommandLine::Command(Command::Revoke { request })) => Some(request),
-        Some(CommandLine::Command(Command::Decline { request })) => Some(request),
+        Some(ParsedLine::Command(Command::Revoke { request })) => Some(request),
+        Some(ParsedLine::Command(Command::Decline { request })) => Some(request),
         _ => None,
     }
 }
 
 /// The request that a line entered or decided, as the log names it. `looked_up` is from before a decision.
-pub(crate) fn named_by(
+pub(crate) fn logged_request(
     line_outcome: &LineOutcome,
-    looked_up: Option<NamedRequest>,
-) -> Option<NamedRequest>
+    looked_up: Option<LoggedRequest>,
+) -> Option<LoggedRequest>
     ensures { NamesRequest line_outcome.now looked_up result }
 {
     match line_outcome {
@@ -166,12 +166,12 @@ pub(crate) fn named_by(
 fn named_of(
     command: &Command,
     reply: &Reply,
-    looked_up: Option<NamedRequest>,
-) -> Option<NamedRequest>
+    looked_up: Option<LoggedRequest>,
+) -> Option<LoggedRequest>
     ensures { NamesAccepted command.now reply.now looked_up result }
 {
     match (command, reply) {
-        (Command::Request { serial, ground }, Reply::Request { id, .. }) => Some(NamedRequest {
+        (Command::Request { serial, ground }, Reply::Request { id, .. }) => Some(LoggedRequest {
             id: *id,
             serial: *serial,
             ground: Some(*ground),

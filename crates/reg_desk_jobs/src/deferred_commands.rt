@@ -2,7 +2,7 @@
 
 ghost use Rattle.std.specs.Prelude.{◌≡◌, IfOk, IfSome, OnErr, option_copied};
 ghost use Rattle.reg_office_api.specs.Calls.{KeepsIn, LeadsIn};
-ghost use Rattle.reg_desk_jobs.specs.Deferring.{AnsweredBySigner, IsLineSignature, socket_for};
+ghost use Rattle.reg_desk_jobs.specs.LineSignatures.{AnsweredBySigner, IsLineSignature, socket_for};
 ghost use Rattle.reg_desk_jobs.specs.Signers.{crl_socket};
 ghost use Rattle.reg_desk_jobs.specs.ControlWords.{IsAdmissionAfter, Word};
 
@@ -16,7 +16,7 @@ use reg_desk_cli::{ResponderChoice, SignerAddress};
 use reg_desk_metrics::is_ahead;
 use reg_desk_server::{Deferred, EventLoopFault};
 use reg_io::ReadyOrUnsigned;
-use reg_lines::CommandLine;
+use reg_lines::ParsedLine;
 use reg_ocsp::Draft;
 use reg_office_api::{OcspResponse, Office};
 use std::alloc::Global;
@@ -52,10 +52,10 @@ pub(crate) struct LineSignature {
 /// How many milliseconds after the desk began a line its signer counts as timed out: under ten seconds, because these begin a little earlier.
 const TIMEOUT: u64 = 9_500;
 
-fn signature_kind_by(command_line: &CommandLine<'_>) -> Option<SignatureKind> {
+fn signature_kind_by(command_line: &ParsedLine<'_>) -> Option<SignatureKind> {
     match *command_line {
-        CommandLine::Command(Command::Crl) => Some(SignatureKind::Crl),
-        CommandLine::Ocsp(_) => Some(SignatureKind::Answer),
+        ParsedLine::Command(Command::Crl) => Some(SignatureKind::Crl),
+        ParsedLine::Ocsp(_) => Some(SignatureKind::Answer),
         _ => None,
     }
 }
@@ -64,12 +64,12 @@ fn deferred_of<M: Machine>(
     alloc: Global,
     office: &mut M::Office,
     ticket: LineTicket,
-    command_line: &CommandLine<'_>,
+    command_line: &ParsedLine<'_>,
 ) -> Option<Deferred<LineTicket>>
     ensures { KeepsIn M.Office.Office office.old office.new }
 {
     match *command_line {
-        CommandLine::Ocsp(digits) => look_at_request(alloc, office, ticket, digits),
+        ParsedLine::Ocsp(digits) => look_at_request(alloc, office, ticket, digits),
         _ => Some(Deferred {
             message: office.crl_message(alloc, ticket.moment)?,
             ticket,
@@ -116,7 +116,7 @@ pub(crate) fn socket_of<'w>(
     match wanted {
         SignatureKind::Crl => crl_signer_socket(signer),
         SignatureKind::Answer => match responder {
-            ResponderChoice::Delegate { holder, .. } => Some(holder.socket.as_str()),
+            ResponderChoice::Delegate { address, .. } => Some(address.socket.as_str()),
             ResponderChoice::Issuer { .. } => crl_signer_socket(signer),
         },
     }
@@ -216,7 +216,7 @@ impl<'a, 'w, M: Machine> Desk<'a, 'w, M> {
     /// The message to sign before a line can be answered, empty in a back-off; `None` if there is none, or no signer for it.
     pub(crate) fn deferred_line(
         &mut self,
-        command_line: &CommandLine<'_>,
+        command_line: &ParsedLine<'_>,
     ) -> Option<Deferred<LineTicket>>
         ensures open { self.new.is_open ≡ self.old.is_open }
         ensures admission { self.new.admission ≡ self.old.admission }

@@ -52,7 +52,7 @@ impl<'a, 'w, M: Machine> Handler for Desk<'a, 'w, M> {
     ghost use Rattle.std.specs.Prelude.{[], IsTrue};
     ghost use Rattle.reg_office_api.specs.Calls.{KeepsIn, LeadsIn};
     ghost use Rattle.reg_desk_jobs.specs.ControlWords.{IsAdmissionAfter, Word};
-    ghost use Rattle.reg_desk_jobs.specs.Deferring.{socket_for};
+    ghost use Rattle.reg_desk_jobs.specs.LineSignatures.{socket_for};
     ghost use Rattle.reg_desk_jobs.specs.Exchanges.{AnswersBy};
     ghost use Rattle.reg_desk_jobs.specs.SignerAnswers.{AtGivenPath, AnsweredAtSomePath};
     ghost use Rattle.reg_desk_jobs.specs.FinishedResponses.{FinishesUnsigned, Meets};
@@ -61,7 +61,7 @@ impl<'a, 'w, M: Machine> Handler for Desk<'a, 'w, M> {
 
     type Ticket = Unsigned;
 
-    type Line = LineTicket;
+    type ControlTicket = LineTicket;
 
     ghost answers = { λ s request outcome t. (t.is_open ≡ s.is_open) × LeadsIn M.Office.Office
         (λ identity before after. Meets (FinishesUnsigned (AnsweredAtSomePath M.signer_answered))
@@ -280,7 +280,9 @@ fn with_loss(connection_totals: ConnectionTotals, why: ConnectionFault) -> Conne
         ConnectionFault::Broken => connection_totals.broken = connection_totals
             .broken
             .saturating_add(1),
-        ConnectionFault::Late => connection_totals.late = connection_totals.late.saturating_add(1),
+        ConnectionFault::TimedOut => connection_totals.late = connection_totals
+            .late
+            .saturating_add(1),
         ConnectionFault::Evicted => connection_totals.evicted = connection_totals
             .evicted
             .saturating_add(1),

@@ -4,7 +4,7 @@ use crate::log_lines::{exchange_line, lost_line};
 use crate::machine::Machine;
 use reg_core::Moment;
 use reg_desk_server::ConnectionFault;
-use reg_http::{Exchange, NamedRequest};
+use reg_http::{Exchange, LoggedRequest};
 use reg_office_api::SignatureOutcome;
 use std::alloc::{AllocError, Global};
 use std::net::SocketAddr;
@@ -54,7 +54,7 @@ pub(crate) fn log_line<M: Machine>(
     now: Moment,
     line: &[u8],
     reply: &[u8],
-    named: Option<NamedRequest>,
+    named: Option<LoggedRequest>,
     signature_failed: bool,
 ) {
     if !machine.has_log() {
@@ -109,7 +109,7 @@ fn put<M: Machine>(machine: &M, line: Result<Vec<u8>, AllocError>) {
 fn word_of(why: ConnectionFault) -> &'static [u8] {
     match why {
         ConnectionFault::Broken => b"broken",
-        ConnectionFault::Late => b"late",
+        ConnectionFault::TimedOut => b"late",
         ConnectionFault::Evicted => b"crowded",
         ConnectionFault::Memory => b"memory",
     }

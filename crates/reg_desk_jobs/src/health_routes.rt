@@ -11,8 +11,8 @@ ghost use Rattle.reg_office_api.specs.LookUps.{IsOfStore};
 ghost use Rattle.reg_http.specs.AnswerEffects.{plain, answer_effects};
 ghost use Rattle.reg_crl.specs.Signing.{sha1_algorithm};
 ghost use Rattle.reg_crl_signer.specs.Signed.{IsCrlUnder};
-ghost use Rattle.reg_desk_jobs.specs.Watched.{ByGet, Has, HasDue, HasFound, HasOverdue, HasRequests, IsCounted, IsLatestRead, IsCrlRead, IsReadAt, IsRecounted, IsUnsigned, KeepsRead, Recounts, AnswersHealth, AnswersMetrics, IsDueUnsigned};
-ghost use Rattle.reg_desk_jobs.specs.Watched.{due_after, health_response, health_status as status_spec, overdue_count, metrics_response, signing_by};
+ghost use Rattle.reg_desk_jobs.specs.HealthRoutes.{ByGet, Has, HasDue, HasFound, HasOverdue, HasRequests, IsCounted, IsLatestRead, IsCrlRead, IsReadAt, IsRecounted, IsUnsigned, KeepsRead, Recounts, AnswersHealth, AnswersMetrics, IsDueUnsigned};
+ghost use Rattle.reg_desk_jobs.specs.HealthRoutes.{due_after, health_response, health_status as status_spec, overdue_count, metrics_response, signing_by};
 ghost use Rattle.reg_desk_cli.specs.declared.desk.TheConstants.{VERSION};
 ghost use Rattle.reg_desk_metrics.specs.Metrics.{metrics_text};
 
@@ -27,7 +27,7 @@ use reg_crl::{DigestSeal, Signer};
 use reg_crl_signer::crl_algorithm;
 use reg_desk_cli::{ResponderChoice, VERSION};
 use reg_desk_metrics::{
-    ConnectionTotals, CrlSigning, Found, Health, Numbers, ReadCrl, Requests, Tally, metrics,
+    ConnectionTotals, CrlSigning, Health, Numbers, NumbersResult, ReadCrl, Requests, Tally, metrics,
 };
 use reg_http::{Answered, json, only_get};
 use reg_http_head::{Answer, status};
@@ -118,7 +118,7 @@ fn found_at<M: Machine>(
     office: &mut M::Office,
     now: Moment,
     tally: &mut Tally,
-) -> Found
+) -> NumbersResult
     ensures moves { LooksIn M.Office.Office (λ records. HasFound tally.old records now result)
         office.old office.new }
     ensures read { IsCrlRead tally.old tally.new }
@@ -382,7 +382,7 @@ fn status_of(is_well: bool) -> u16
 fn metrics_answer(
     alloc: Global,
     now: Moment,
-    found: &Found,
+    found: &NumbersResult,
     tally: &Tally,
     connection_totals: ConnectionTotals,
 ) -> Result<Answered, Memory>

@@ -10,12 +10,12 @@ ghost use Rattle.reg_http.specs.RouteNames.{named_route, route_at};
 ghost use Rattle.reg_http.specs.declared.exchange.Exchange.{Exchange as HttpExchange};
 ghost use Rattle.reg_http.specs.declared.exchange.UnsignedResponse.{UnsignedResponse as UnsignedResponses};
 ghost use Rattle.reg_desk_server.specs.Outcomes.{outcome_of};
-ghost use Rattle.reg_desk_jobs.specs.Beginning.{AnswersBegun, BeginsAt, IsBegunRoute, ready_of};
+ghost use Rattle.reg_desk_jobs.specs.RequestOutcomes.{AnswersBegun, BeginsAt, IsBegunRoute, ready_of};
 ghost use Rattle.reg_desk_jobs.specs.Counted.{CountsBegun};
 ghost use Rattle.reg_desk_jobs.specs.Admission.{CountsRequest};
 ghost use Rattle.reg_desk_jobs.specs.Exchanges.{admission_after, dispatch};
 ghost use Rattle.reg_desk_jobs.specs.SignerAnswers.{AnsweredAtSomePath};
-ghost use Rattle.reg_desk_jobs.specs.Watched.{IsRecounted};
+ghost use Rattle.reg_desk_jobs.specs.HealthRoutes.{IsRecounted};
 ghost use Rattle.reg_desk_metrics.specs.declared.tally.Tally.{Tally as Tallies};
 ghost use Rattle.reg_io.specs.declared.begun.ReadyOrUnsigned.{ReadyOrUnsigned as BegunOf};
 
@@ -149,7 +149,7 @@ fn exchange_at<M: Machine>(
     };
     match request.request(alloc) {
         Ok(
-            RequestRef::Asked {
+            RequestRef::Valid {
                 method,
                 target,
                 body,

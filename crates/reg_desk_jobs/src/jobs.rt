@@ -6,7 +6,7 @@ ghost use Rattle.reg_office_api.specs.Calls.{LeadsIn, LooksIn};
 ghost use Rattle.reg_desk_metrics.specs.Ahead.{is_ahead};
 ghost use Rattle.reg_lines.specs.ByCalls.{Lines};
 ghost use Rattle.reg_lines.specs.Strict.{StrictEnds};
-ghost use Rattle.reg_desk_jobs.specs.Ends.{AuditAt, CrlAt, ImportByClock, ImportChecked, InitAt, KeyIdAt, MakesAt, ScheduleAt, ScriptAt};
+ghost use Rattle.reg_desk_jobs.specs.Ends.{AuditAt, CrlAt, ImportByClock, ImportChecked, InitAt, KeyIdAt, CreatesAt, ScheduleAt, ScriptAt};
 ghost use Rattle.reg_desk_jobs.specs.Ends.{PrintsResult, PrintsBroken, PrintsLine, PrintsSetResult, ReportsAuditResult};
 ghost use Rattle.reg_desk_jobs.specs.RegisterUses.{exit_of, exit_of_run};
 ghost use Rattle.reg_office_api.specs.LookUps.{IsOfStore};
@@ -21,7 +21,7 @@ use reg_audit_rows::{AuditResult, Audited, BrokenRow, OTHER_SCHEMA, broken_line,
 use reg_core::{Fault, Moment, Policy};
 use reg_der::Issuer;
 use reg_desk_cli::{
-    Failure, ImportJob, NewRegister, ResponderChoice, SignerAddress, Steps, Word,
+    Argument, Failure, ImportJob, NewRegister, ResponderChoice, SignerAddress, Steps,
     key_identifier_of, office_of, schedule_of,
 };
 use reg_lines::{Ended, import, import_strictly};
@@ -86,7 +86,7 @@ fn make_at<M: Machine, W: Write>(
     policy: Policy,
     writer: &mut W,
 ) -> Result<(), Failure>
-    ensures { MakesAt M.Machine M.Office.Office W.contents machine.old machine.new writer.old writer.new
+    ensures { CreatesAt M.Machine M.Office.Office W.contents machine.old machine.new writer.old writer.new
         path.now issuer policy
         result }
 {
@@ -277,7 +277,7 @@ pub fn key_identifier<M: Machine, W: Write>(
     alloc: Global,
     machine: &mut M,
     path: &str,
-    key_id: &Word<'_>,
+    key_id: &Argument<'_>,
     writer: &mut W,
 ) -> Result<(), Failure>
     ensures { KeyIdAt M.Machine M.Office.Office W.contents machine.old machine.new writer.old writer.new

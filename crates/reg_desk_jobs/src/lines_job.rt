@@ -13,7 +13,7 @@ use crate::machine::Machine;
 use crate::reasons::{Reason, keep_reason};
 use crate::registers::open_signed;
 use reg_core::{Fault, Moment, Reply};
-use reg_desk_cli::{Failure, LinedScript, ResponderChoice, ScriptOptions};
+use reg_desk_cli::{Failure, LineScript, ResponderChoice, ScriptOptions};
 use reg_desk_metrics::is_ahead;
 use reg_lines::{Answered, Ended, Host, run_lines, run_script_for};
 use reg_office_api::Office;
@@ -58,7 +58,7 @@ impl<'a, M: Machine> Host for ScriptHost<'a, M> {
 pub fn script_by_lines<M: Machine, R: Read, W: Write>(
     alloc: Global,
     machine: &mut M,
-    script: &LinedScript<'_>,
+    script: &LineScript<'_>,
     reason: &Cell<Option<Reason>>,
     reader: &mut R,
     writer: &mut W,

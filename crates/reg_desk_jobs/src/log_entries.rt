@@ -41,7 +41,7 @@ pub(crate) enum Entry {
 
 /// The meaning of a line of the log for `replay`.
 #[derive(Clone, Copy)]
-pub(crate) enum Logged {
+pub(crate) enum LogMeaning {
     /// No accepted command.
     Nothing,
     /// A command of which the log has only a part, or whose request it does not name.
@@ -90,11 +90,11 @@ pub(crate) fn has_quote(text: &[u8]) -> bool
 
 /// The meaning of an exchange; `Unknown` if another quotation mark follows, because a line before it was not written whole.
 #[tactic(auto, unfolding(crate::specs::LogEntries::logged_of))]
-pub(crate) fn logged_of(logged_exchange: &ExchangeText<'_>) -> Logged
+pub(crate) fn logged_of(logged_exchange: &ExchangeText<'_>) -> LogMeaning
     ensures { result ≡ logged_of (exchange_of logged_exchange.now) }
 {
     if has_quote(logged_exchange.behind) {
-        return Logged::Unknown;
+        return LogMeaning::Unknown;
     }
     match named_in(logged_exchange.behind) {
         Some(logged) => logged,
@@ -104,7 +104,7 @@ pub(crate) fn logged_of(logged_exchange: &ExchangeText<'_>) -> Logged
 
 /// The entry for `replay` of a log line that names a request, after the size and the time of the answer; `None` if it names none.
 #[tactic(auto, unfolding(crate::specs::LogEntries::named_in))]
-fn named_in(behind: &[u8]) -> Option<Logged>
+fn named_in(behind: &[u8]) -> Option<LogMeaning>
     ensures { result ≡ named_in (fields_of behind.now) }
 {
     let mut fields = Fields::of(behind);
@@ -115,8 +115,8 @@ fn named_in(behind: &[u8]) -> Option<Logged>
         return None;
     }
     match request_named(fields) {
-        Some(entry) => Some(Logged::Command(entry)),
-        None => Some(Logged::Unknown),
+        Some(entry) => Some(LogMeaning::Command(entry)),
+        None => Some(LogMeaning::Unknown),
     }
 }
 
@@ -154,21 +154,21 @@ fn request_by(id: &[u8], serial: &[u8], word: &[u8]) -> Option<Entry>
 
 /// The entry for `replay` of a log line that names no request: a command only if it was accepted at the control socket and changes the register.
 #[tactic(auto, unfolding(crate::specs::LogEntries::unnamed))]
-fn unnamed(logged_exchange: &ExchangeText<'_>) -> Logged
+fn unnamed(logged_exchange: &ExchangeText<'_>) -> LogMeaning
     ensures { result ≡ unnamed (exchange_of logged_exchange.now) }
 {
     if !was_accepted(logged_exchange) {
-        return Logged::Nothing;
+        return LogMeaning::Nothing;
     }
     let word = first_word(logged_exchange.asked);
     if is_of_request(word) {
-        Logged::Unknown
+        LogMeaning::Unknown
     } else if !enters(word) {
-        Logged::Nothing
+        LogMeaning::Nothing
     } else if is_whole(logged_exchange.asked) {
-        Logged::Command(Entry::Line)
+        LogMeaning::Command(Entry::Line)
     } else {
-        Logged::Unknown
+        LogMeaning::Unknown
     }
 }
 

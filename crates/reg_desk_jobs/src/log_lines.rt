@@ -5,7 +5,7 @@ ghost use Rattle.std.specs.List.{flat_map, position};
 ghost use Rattle.reg_desk_jobs.specs.Log.{digit as hexadecimal, is_plain as plain, ends_line, first_line as first_line_of, quoted_text, quoted_byte, exchange_line as exchanged, lost_line as lost, named_end, unsigned_end};
 
 use reg_core::{Decimal, Moment};
-use reg_http::NamedRequest;
+use reg_http::LoggedRequest;
 use std::alloc::{AllocError, Global};
 
 /// The most bytes of the first line of a request or an answer that the log keeps.
@@ -21,7 +21,7 @@ pub(crate) fn exchange_line(
     asked: &[u8],
     answered: &[u8],
     micros: u64,
-    named: Option<NamedRequest>,
+    named: Option<LoggedRequest>,
     signature_failed: bool,
 ) -> Result<Vec<u8>, AllocError>
     ensures { IfOk result (λ line.
@@ -69,7 +69,7 @@ pub(crate) fn put_number(line: &mut Vec<u8>, number: u64) -> Result<(), AllocErr
     put_word(line, digits.as_bytes())
 }
 
-fn put_named(line: &mut Vec<u8>, named: Option<NamedRequest>) -> Result<(), AllocError>
+fn put_named(line: &mut Vec<u8>, named: Option<LoggedRequest>) -> Result<(), AllocError>
     ensures { OnOk result (line.new.items ≡ line.old.items ++ named_end named) }
 {
     let Some(named) = named else {
@@ -97,7 +97,7 @@ fn put_quoted(line: &mut Vec<u8>, text: &[u8]) -> Result<(), AllocError>
     ensures { OnOk result (line.new.items ≡ line.old.items ++ (32 ∷ quoted_text text.now)) }
 {
     line.extend_from_slice(b" \"")?;
-    put_plainly(line, first_bytes(first_line(text)))?;
+    put_escaped(line, first_bytes(first_line(text)))?;
     line.push(b'"')?;
     Ok(())
 }
@@ -129,7 +129,7 @@ fn first_bytes(text: &[u8]) -> &[u8]
     }
 }
 
-fn put_plainly(line: &mut Vec<u8>, text: &[u8]) -> Result<(), AllocError>
+fn put_escaped(line: &mut Vec<u8>, text: &[u8]) -> Result<(), AllocError>
     ensures { OnOk result (line.new.items ≡ line.old.items ++ flat_map quoted_byte text.now) }
 {
     for byte in text {

@@ -35,7 +35,7 @@ pub trait Machine {
     ghost use Rattle.reg_audit_rows.specs.declared.audit_result.AuditResult.{AuditResult as AuditResults};
     ghost use Rattle.reg_desk_jobs.specs.Clocks.{IsClockMoment};
     ghost use Rattle.reg_desk_jobs.specs.SignerAnswers.{AnsweredAtSomePath};
-    ghost use Rattle.reg_desk_jobs.specs.RegisterFailures.{IsMaking, IsOpening, IsFileFailure};
+    ghost use Rattle.reg_desk_jobs.specs.RegisterFailures.{IsCreateFailure, IsOpenFailure, IsReadFailure};
     ghost use Rattle.reg_desk_jobs.specs.Signers.{HasCertificate};
     ghost use Rattle.reg_desk_jobs.specs.declared.crl_signer.CrlSigner.{CrlSigner as SignsCrls};
     ghost use Rattle.reg_crl_signer.specs.SignatureRequest.{IsSignatureRequest};
@@ -59,7 +59,7 @@ pub trait Machine {
     // ---- files; a relation over two machines relates the one before the action to the one after it
 
     /// Something lies at the path, or no file can be created there.
-    ghost lies: { Self → List ℕ → Type 0 };
+    ghost taken: { Self → List ℕ → Type 0 };
     /// Nothing is found at the path.
     ghost absent: { Self → List ℕ → Type 0 };
     /// Nothing lay at the path, and an empty file was created there.
@@ -69,11 +69,11 @@ pub trait Machine {
     /// The files at the path have the beginning of a database.
     ghost begun: { Self → List ℕ → Type 0 };
     /// For this reason the files at the path could not be read.
-    ghost unread: { Self → List ℕ → Failing → Type 0 };
+    ghost read_failed: { Self → List ℕ → Failing → Type 0 };
     /// The file at the path was opened as this database.
     ghost connected: { Self → List ℕ → Self.Database → Self → Type 0 };
     /// For this reason the file at the path could not be opened as a database.
-    ghost unconnected: { Self → List ℕ → Failing → Self → Type 0 };
+    ghost connect_failed: { Self → List ℕ → Failing → Self → Type 0 };
     /// No statement ran over the database yet.
     ghost fresh: { Self.Database → Type 0 };
     /// This is the responder that the options choose, with the certificate that they name, if any.
@@ -132,13 +132,13 @@ pub trait Machine {
     /// one succeeds. `false` if something is there, even a dangling link, or if no file can be created there.
     fn claim(&mut self, path: &str) -> Result<bool, Memory>
         ensures ours { IfOk result (λ is_ours. IsTrue is_ours → claimed self.old path.now self.new) }
-        ensures lies { IfOk result (λ is_ours. IsFalse is_ours → lies self.old path.now) }
+        ensures taken { IfOk result (λ is_ours. IsFalse is_ours → taken self.old path.now) }
         ensures same { IfOk result (λ is_ours. IsFalse is_ours → self.new ≡ self.old) }
         ensures memory { OnErr result (self.new ≡ self.old) };
 
     /// Whether something is found at a path. Links are followed.
     fn is_there(&self, path: &str) -> bool
-        ensures { MatchBool result (lies self.now path.now) (absent self.now path.now) };
+        ensures { MatchBool result (taken self.now path.now) (absent self.now path.now) };
 
     /// Removes the file at a path, and its WAL. A file that can't be removed, or is in use, stays.
     fn remove(&mut self, path: &str)
@@ -148,14 +148,14 @@ pub trait Machine {
     /// is no file or something else in it.
     fn check_database(&self, path: &str) -> Result<(), Failure>
         ensures begun { OnOk result (begun self.now path.now) }
-        ensures unread { IfErr result (unread self.now path.now) }
-        ensures faults { IfErr result IsFileFailure };
+        ensures read_failed { IfErr result (read_failed self.now path.now) }
+        ensures faults { IfErr result IsReadFailure };
 
     /// Opens the file at a path as a database, and creates one if there is none; `Store` if that can't be done.
     fn connect(&mut self, path: &str) -> Result<Self::Database, Failure>
         ensures connected { IfOk result (λ database. connected self.old path.now database self.new) }
         ensures fresh { IfOk result fresh }
-        ensures unconnected { IfErr result (λ why. unconnected self.old path.now why self.new) }
+        ensures connect_failed { IfErr result (λ why. connect_failed self.old path.now why self.new) }
         ensures faults { IfErr result (λ why.
             (why ≡ Failure.Fault Fault.Memory) ⊎ (why ≡ Failure.Fault Fault.Store)) };
 
@@ -167,7 +167,7 @@ pub trait Machine {
     fn read_responder(&self, responder: &ResponderChoice<'_>) -> Result<Self::Responder, Failure>
         ensures certified { IfOk result (certified responder.now) }
         ensures told { OnErr result (HasCertificate responder.now) }
-        ensures faults { IfErr result IsOpening };
+        ensures faults { IfErr result IsOpenFailure };
 
     /// Opens the register of a database, which is closed if that fails: `NotARegister` and `NewVersion` for other tables; `BadSigner` if the
     /// latest CRL's algorithm can't be followed by this signer's, or the issuer's key isn't of the signer's algorithm; `BadResponder` if the
@@ -180,7 +180,7 @@ pub trait Machine {
     ) -> Result<Self::Office, Failure>
         requires { fresh database }
         ensures opened { IfOk result (opened database crls.now responder) }
-        ensures faults { IfErr result IsOpening };
+        ensures faults { IfErr result IsOpenFailure };
 
     /// Makes a register with no records in a database, which is closed if that fails: `NotEmpty` if there are tables already.
     fn create_in(
@@ -193,7 +193,7 @@ pub trait Machine {
         ensures made { IfOk result (made database) }
         ensures stands { IfOk result (λ office.
             (signatory : Signatory) × Self.Office.stands signatory office (no_records issuer policy)) }
-        ensures faults { IfErr result IsMaking };
+        ensures faults { IfErr result IsCreateFailure };
 
     /// Closes the office whose file lies at a path.
     fn close(&mut self, path: &str, office: Self::Office)
@@ -202,14 +202,14 @@ pub trait Machine {
     /// Opens the files at a path for reading alone: each byte of them stays, and nothing is created beside them.
     fn read(&self, path: &str) -> Result<Self::Sources, Failure>
         ensures read { IfOk result (read self.now path.now) }
-        ensures unread { IfErr result (unread self.now path.now) }
+        ensures read_failed { IfErr result (read_failed self.now path.now) }
         ensures faults { IfErr result (λ why.
             (why ≡ Failure.Fault Fault.Memory) ⊎ (why ≡ Failure.Fault Fault.Store)) };
 
     /// Audits the register in files, without migrating an older version; `NotARegister` and `NewVersion` for other tables.
     fn audit_in(&self, sources: Self::Sources) -> Result<AuditResult, Failure>
         ensures audited { IfOk result (audited sources) }
-        ensures faults { IfErr result IsOpening };
+        ensures faults { IfErr result IsOpenFailure };
 
     /// Copies the register at a path, which no program has open and which is only read, to a path at which nothing lies, and returns how many bytes
     /// the copy has. The copy is for its owner alone, and is synced with its folder. It gets its name once it is whole. `Store` also if there is
@@ -217,7 +217,7 @@ pub trait Machine {
     fn copy(&mut self, path: &str, to: &str) -> Result<u64, Failure>
         ensures ok { IfOk result (λ bytes. copied self.old path.now to.now bytes self.new) }
         ensures err { IfErr result (λ why. copy_failed self.old path.now to.now why self.new) }
-        ensures faults { IfErr result IsFileFailure };
+        ensures faults { IfErr result IsReadFailure };
 
     /// In the same way, copies the register that this program has open, between two transactions. A fault of the store also if the file at the path
     /// is not the open one.

@@ -3,8 +3,8 @@
 ghost use Rattle.std.specs.Prelude.{IfErr, IfOk};
 ghost use Rattle.reg_office_api.specs.Signatories.{Signatory};
 ghost use Rattle.reg_core.specs.Records.{no_records};
-ghost use Rattle.reg_desk_jobs.specs.RegisterFailures.{IsMaking, IsOpening};
-ghost use Rattle.reg_desk_jobs.specs.Registers.{Audits, Made, Opened, Unaudited, NotCreated, Unopened};
+ghost use Rattle.reg_desk_jobs.specs.RegisterFailures.{IsCreateFailure, IsOpenFailure};
+ghost use Rattle.reg_desk_jobs.specs.Registers.{Audits, Created, Opened, Unaudited, NotCreated, Unopened};
 ghost use Rattle.reg_desk_jobs.specs.Signers.{signing_with, unsigned};
 
 use crate::crl_signer::CrlSigner;
@@ -18,7 +18,7 @@ use reg_desk_cli::{Failure, ResponderChoice, SignerAddress};
 pub(crate) fn open_unsigned<M: Machine>(machine: &mut M, path: &str) -> Result<M::Office, Failure>
     ensures ok { IfOk result (λ office. Opened M.Machine machine.old path.now unsigned office machine.new) }
     ensures err { IfErr result (λ why. Unopened M.Machine machine.old path.now unsigned why machine.new) }
-    ensures faults { IfErr result IsOpening }
+    ensures faults { IfErr result IsOpenFailure }
 {
     let issuer_signs = ResponderChoice::Issuer { certificate: None };
     open_by(machine, path, &CrlSigner::NoSigner, &issuer_signs)
@@ -36,7 +36,7 @@ pub(crate) fn open_signed<M: Machine>(
         Opened M.Machine machine.old path.now (signing_with signer.now responder.now) office machine.new) }
     ensures err { IfErr result (λ why.
         Unopened M.Machine machine.old path.now (signing_with signer.now responder.now) why machine.new) }
-    ensures faults { IfErr result IsOpening }
+    ensures faults { IfErr result IsOpenFailure }
 {
     open_by(machine, path, &CrlSigner::of(signer, responder), responder)
 }
@@ -52,7 +52,7 @@ fn open_by<M: Machine>(
         Opened M.Machine machine.old path.now (crl_signer.now, responder.now) office machine.new) }
     ensures err { IfErr result (λ why.
         Unopened M.Machine machine.old path.now (crl_signer.now, responder.now) why machine.new) }
-    ensures faults { IfErr result IsOpening }
+    ensures faults { IfErr result IsOpenFailure }
 {
     let loaded_responder = machine.read_responder(responder)?;
     machine.check_database(path)?;
@@ -67,11 +67,11 @@ pub(crate) fn create_register<M: Machine>(
     issuer: Issuer,
     policy: Policy,
 ) -> Result<M::Office, Failure>
-    ensures ok { IfOk result (λ office. Made M.Machine machine.old path.now office machine.new) }
+    ensures ok { IfOk result (λ office. Created M.Machine machine.old path.now office machine.new) }
     ensures stands { IfOk result (λ office.
         (signatory : Signatory) × M.Office.stands signatory office (no_records issuer policy)) }
     ensures err { IfErr result (λ why. NotCreated M.Machine machine.old path.now why machine.new) }
-    ensures faults { IfErr result IsMaking }
+    ensures faults { IfErr result IsCreateFailure }
 {
     // A path that was not claimed and has no file can't become a register: a dangling symbolic link, or a log without its register. `claim` kept
     // the cause.
@@ -87,7 +87,7 @@ pub(crate) fn create_register<M: Machine>(
 pub(crate) fn audit_at<M: Machine>(machine: &M, path: &str) -> Result<AuditResult, Failure>
     ensures ok { IfOk result (Audits M.Machine machine.now path.now) }
     ensures err { IfErr result (Unaudited M.Machine machine.now path.now) }
-    ensures faults { IfErr result IsOpening }
+    ensures faults { IfErr result IsOpenFailure }
 {
     let sources = machine.read(path)?;
     machine.audit_in(sources)

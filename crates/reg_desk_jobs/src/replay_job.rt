@@ -6,7 +6,7 @@ ghost use Rattle.reg_desk_jobs.specs.Replays.{EntryEnds, LineEnds, ReplaysAt, Re
 
 use crate::at_job::{Next, exchange, next_line};
 use crate::log_entries::{
-    Entry, ExchangeText, Logged, exchange_in, first_word, has_quote, logged_of, second_word,
+    Entry, ExchangeText, LogMeaning, exchange_in, first_word, has_quote, logged_of, second_word,
 };
 use crate::log_lines::{put_number, put_word};
 use crate::machine::Machine;
@@ -115,9 +115,9 @@ fn replay_line<W: Write, C: BufRead, S: Write>(
     let text = without_end(line);
     match exchange_in(text) {
         Some(logged_exchange) => match logged_of(&logged_exchange) {
-            Logged::Nothing => Ok(()),
-            Logged::Unknown => stop(writer, line),
-            Logged::Command(entry) => {
+            LogMeaning::Nothing => Ok(()),
+            LogMeaning::Unknown => stop(writer, line),
+            LogMeaning::Command(entry) => {
                 replay_entry(
                     alloc,
                     line,

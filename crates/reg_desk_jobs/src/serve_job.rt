@@ -78,17 +78,17 @@ pub(crate) fn serve_checked<'a, 'w, M: Machine, R: Read, W: Write>(
     endpoint: Endpoint,
     control_path: Option<&str>,
     requests: u64,
-    is_published: bool,
+    has_crl: bool,
     reader: &mut R,
     writer: &mut W,
 ) -> (M::Office, Result<(), Failure>)
-    ensures unread { IsFalse is_published → reader.new ≡ reader.old }
-    ensures ends { ((why : Failing) × (result.1 ≡ Err why) × IsTrue is_published × LooksIn M.Office.Office
+    ensures unread { IsFalse has_crl → reader.new ≡ reader.old }
+    ensures ends { ((why : Failing) × (result.1 ≡ Err why) × IsTrue has_crl × LooksIn M.Office.Office
         (λ records.
         Compares records (R.remaining reader.old) (W.contents writer.old) (W.contents writer.new) (Err why))
         office result.0)
         ⊎ ((inputs : List Input) × (outcomes : List (Outcome Unsigned)) × LeadsIn M.Office.Office
-        (λ identity before after. (IsTrue is_published → HasAll before (R.remaining reader.old))
+        (λ identity before after. (IsTrue has_crl → HasAll before (R.remaining reader.old))
         × ServesOn M.Machine M.Office.Office signer.now responder.now (is_some control_path.entry)
         inputs outcomes identity before after)
         office result.0
@@ -96,7 +96,7 @@ pub(crate) fn serve_checked<'a, 'w, M: Machine, R: Read, W: Write>(
         (IsBoundOn M.Machine endpoint (option_copied control_path.entry))
         (EndsEarly M.failed M.waited) endpoint.port requests inputs result.1) }
 {
-    if is_published {
+    if has_crl {
         match check_published(rt.alloc(), &mut office, reader, writer) {
             Ok(()) => {}
             Err(why) => return (office, Err(why)),

@@ -6,12 +6,12 @@ ghost use Rattle.reg_core_lists.specs.Texts.{row_text};
 ghost use Rattle.reg_core_lists.specs.declared.texts.Format.TheVariants.{Json};
 ghost use Rattle.reg_office_api.specs.Calls.{LooksIn};
 ghost use Rattle.reg_desk_jobs.specs.ControlReplies.{IsReplyText, ReportsLineOutcome, ReportsFault};
-ghost use Rattle.reg_desk_jobs.specs.RowLookUps.{IsSeen, AnswersShown, found_text, help_text, is_shown, refusal_of, row_shown};
+ghost use Rattle.reg_desk_jobs.specs.RowLookUps.{IsSoundLookUp, AnswersShow, found_text, help_text, has_key, refusal_of, row_with_key};
 
 use crate::control_reply::{ControlReply, LineOutcome};
 use crate::machine::Machine;
 use crate::reasons::keep_reply_reason;
-use crate::words::Shown;
+use crate::words::RowKey;
 use reg_core::{Fault, Label, Moment, Refusal, Serial};
 use reg_core_lists::{Cursor, Format, Row, put_rows};
 use reg_office_api::Office;
@@ -37,11 +37,11 @@ pub(crate) fn answer_show<M: Machine>(
     alloc: Global,
     office: &mut M::Office,
     now: Moment,
-    shown: Shown,
+    shown: RowKey,
     last_reason: &mut Vec<u8>,
 ) -> ControlReply
     ensures moves { LooksIn M.Office.Office
-        (λ records. AnswersShown records now shown result.text.items)
+        (λ records. AnswersShow records now shown result.text.items)
         office.old office.new }
     ensures line_outcome { ReportsLineOutcome result.line_outcome result.text.items }
 {
@@ -51,7 +51,7 @@ pub(crate) fn answer_show<M: Machine>(
 
 fn answer_found(
     alloc: Global,
-    shown: &Shown,
+    shown: &RowKey,
     found: Result<Option<Row>, Fault>,
     last_reason: &mut Vec<u8>,
 ) -> ControlReply
@@ -75,13 +75,13 @@ pub(crate) fn report_fault(alloc: Global, fault: Fault, last_reason: &mut Vec<u8
     reply
 }
 
-fn refusal_of(shown: &Shown) -> Refusal
+fn refusal_of(shown: &RowKey) -> Refusal
     ensures { result ≡ refusal_of shown.now }
 {
     match shown {
-        Shown::Request(_) => Refusal::NoRequest,
-        Shown::Certificate(_) => Refusal::UnknownSerial,
-        Shown::Subscriber(_) => Refusal::NoSubscriber,
+        RowKey::Request(_) => Refusal::NoRequest,
+        RowKey::Certificate(_) => Refusal::UnknownSerial,
+        RowKey::Subscriber(_) => Refusal::NoSubscriber,
     }
 }
 
@@ -98,22 +98,22 @@ pub(crate) fn find<O: Office>(
     alloc: Global,
     office: &mut O,
     now: Moment,
-    shown: &Shown,
+    shown: &RowKey,
 ) -> Result<Option<Row>, Fault>
     ensures { LooksIn O.Office
-        (λ records. IsSeen records now (row_shown records now shown.now) result)
+        (λ records. IsSoundLookUp records now (row_with_key records now shown.now) result)
         office.old office.new }
 {
     match shown {
-        Shown::Request(id) => {
+        RowKey::Request(id) => {
             let from = Cursor::Requests(id.saturating_sub(1));
             find_at(alloc, office, now, from, shown)
         }
-        Shown::Certificate(serial) => {
+        RowKey::Certificate(serial) => {
             let from = Cursor::Certificates(serial_before(*serial));
             find_at(alloc, office, now, from, shown)
         }
-        Shown::Subscriber(name) => find_subscriber(alloc, office, now, *name),
+        RowKey::Subscriber(name) => find_subscriber(alloc, office, now, *name),
     }
 }
 
@@ -123,15 +123,15 @@ fn find_at<O: Office>(
     office: &mut O,
     now: Moment,
     from: Cursor,
-    shown: &Shown,
+    shown: &RowKey,
 ) -> Result<Option<Row>, Fault>
     ensures { LooksIn O.Office
         (λ records.
-        IsSeen records now (first_passing (is_shown shown.now) (page records now 1 from).rows) result)
+        IsSoundLookUp records now (first_passing (has_key shown.now) (page records now 1 from).rows) result)
         office.old office.new }
 {
     let page = office.page(alloc, now, from, 1)?;
-    Ok(shown_among(&page.rows, shown))
+    Ok(row_among(&page.rows, shown))
 }
 
 /// Reads the subscribers in order until it finds the one with this name.
@@ -142,14 +142,14 @@ fn find_subscriber<O: Office>(
     name: Label,
 ) -> Result<Option<Row>, Fault>
     ensures { LooksIn O.Office
-        (λ records. IsSeen records now (row_shown records now (Shown.Subscriber name)) result)
+        (λ records. IsSoundLookUp records now (row_with_key records now (RowKey.Subscriber name)) result)
         office.old office.new }
 {
-    let shown = Shown::Subscriber(name);
+    let shown = RowKey::Subscriber(name);
     let mut from = Cursor::Subscribers(0);
     for _ in 0..u64::MAX {
         let page = office.page(alloc, now, from, SUBSCRIBERS_READ)?;
-        match shown_among(&page.rows, &shown) {
+        match row_among(&page.rows, &shown) {
             Some(row) => return Ok(Some(row)),
             None => {}
         }
@@ -163,24 +163,24 @@ fn find_subscriber<O: Office>(
     Err(Fault::Store)
 }
 
-fn shown_among(rows: &[Row], shown: &Shown) -> Option<Row>
-    ensures { result ≡ first_passing (is_shown shown.now) rows.now }
+fn row_among(rows: &[Row], shown: &RowKey) -> Option<Row>
+    ensures { result ≡ first_passing (has_key shown.now) rows.now }
 {
     for row in rows {
-        if is_shown(row, shown) {
+        if has_key(row, shown) {
             return Some(*row);
         }
     }
     None
 }
 
-fn is_shown(row: &Row, shown: &Shown) -> bool
-    ensures { result ≡ is_shown shown.now row.now }
+fn has_key(row: &Row, shown: &RowKey) -> bool
+    ensures { result ≡ has_key shown.now row.now }
 {
     match (shown, row) {
-        (Shown::Request(id), Row::History(history)) => history.request.request.id == *id,
-        (Shown::Certificate(serial), Row::Certificate(line)) => line.certificate.serial == *serial,
-        (Shown::Subscriber(name), Row::Subscriber(subscriber)) => subscriber.name == *name,
+        (RowKey::Request(id), Row::History(history)) => history.request.request.id == *id,
+        (RowKey::Certificate(serial), Row::Certificate(line)) => line.certificate.serial == *serial,
+        (RowKey::Subscriber(name), Row::Subscriber(subscriber)) => subscriber.name == *name,
         _ => false,
     }
 }

@@ -28,7 +28,7 @@ pub enum Field {
 #[derive(Clone, Copy, PartialEq, Eq)]
 pub enum WrongField {
     /// This field is malformed.
-    Form(Field),
+    Malformed(Field),
     Missing(Field),
     /// There is a field after the last one.
     TooMany,
@@ -89,7 +89,7 @@ fn first_wrong(wanted: &[Field], mut fields: Fields<'_>) -> Option<WrongField>
         match fields.next() {
             Some(text) => {
                 if !is_written(*field, text) {
-                    return Some(WrongField::Form(*field));
+                    return Some(WrongField::Malformed(*field));
                 }
             }
             None => return Some(WrongField::Missing(*field)),
@@ -132,7 +132,7 @@ pub(crate) fn wrong_field_text(alloc: Global, wrong: WrongField) -> Result<Vec<u
     ensures { IfOk result (λ text. text.items ≡ wrong_text wrong) }
 {
     match wrong {
-        WrongField::Form(field) => field_words(alloc, field, form_of(field)),
+        WrongField::Malformed(field) => field_words(alloc, field, form_of(field)),
         WrongField::Missing(field) => field_words(alloc, field, b" is missing"),
         WrongField::TooMany => Vec::from_slice(alloc, b"more fields than the command takes"),
     }

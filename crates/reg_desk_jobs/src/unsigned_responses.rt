@@ -2,7 +2,7 @@
 
 ghost use Rattle.std.specs.Prelude.{◌≡◌, ◌≤◌, IfSome, length, option_map};
 ghost use Rattle.reg_desk_jobs.specs.Counted.{CountsFinished};
-ghost use Rattle.reg_desk_jobs.specs.Deferring.{AnsweredBySigner};
+ghost use Rattle.reg_desk_jobs.specs.LineSignatures.{AnsweredBySigner};
 ghost use Rattle.reg_desk_jobs.specs.FinishedResponses.{IsFinished, IsSignatureOf, outcome_of_signature};
 ghost use Rattle.reg_desk_jobs.specs.Signers.{AnsweredByOcspSigner};
 

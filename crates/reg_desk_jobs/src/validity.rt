@@ -2,7 +2,7 @@
 
 ghost use Rattle.std.specs.Prelude.{◌≡◌, ◌≢◌, ℕ, Some, IfNone, IfSome, length};
 ghost use Rattle.reg_core.specs.Calendar.{IsMoment, moment_text};
-ghost use Rattle.reg_der.specs.ValueReading.{Gives};
+ghost use Rattle.reg_der.specs.ValueReading.{AgreesWith};
 ghost use Rattle.reg_desk_jobs.specs.Validities.{century as century_spec, dated as dated_spec, generalized_text as generalized_spec, not_after_at, validity_time_at, utc_time_text as utc_spec, validity_at};
 
 use reg_core::Moment;
@@ -37,7 +37,7 @@ fn not_after_text(certificate: &[u8]) -> Option<[u8; 20]>
 /// The contents of the field validity in those of a TBSCertificate (RFC 5280 4.1).
 #[tactic(auto, unfolding(crate::specs::Validities::validity_at))]
 fn validity_in(bytes: &[u8]) -> Option<&[u8]>
-    ensures { Gives (λ x. x.now) result (validity_at bytes.now) }
+    ensures { AgreesWith (λ x. x.now) result (validity_at bytes.now) }
 {
     let (_, rest) = optional(TAGGED_0, bytes)?;
     let (_, rest) = expect(INTEGER, rest)?;

@@ -2,7 +2,7 @@
 
 ghost use Rattle.std.specs.Prelude.{◌≡◌, IfOk};
 ghost use Rattle.reg_desk_cli.specs.WordValues.{steps_of};
-ghost use Rattle.reg_desk_jobs.specs.ControlWords.{IsWord, accepted_by_word, accepted_in, serial_decision_by, serial_decision_in, shown_by, shown_in, steps_set};
+ghost use Rattle.reg_desk_jobs.specs.ControlWords.{IsWord, accepted_by_word, accepted_in, serial_decision_by, serial_decision_in, row_key_by, row_key_in, steps_set};
 ghost use Rattle.reg_lines.specs.Fields.{fields_of};
 
 use crate::copy_job::{is_copy_line, path_in};
@@ -21,7 +21,7 @@ pub(crate) enum ControlWord<'a> {
     /// `copy`: it copies the register to this path; `None` if that is not UTF-8.
     Copy(Option<&'a str>),
     /// `show`: it shows a row.
-    Show(Shown),
+    Show(RowKey),
     /// It revokes or declines a request, given by number and serial number.
     Decide(SerialDecision),
     /// `accept-clock`: the operator accepts the clock.
@@ -34,7 +34,7 @@ pub(crate) enum ControlWord<'a> {
 
 /// The row that `show` is to show.
 #[derive(Clone, Copy)]
-pub(crate) enum Shown {
+pub(crate) enum RowKey {
     /// The request with a number.
     Request(u64),
     /// The certificate with a serial number.
@@ -71,7 +71,7 @@ pub(crate) fn read_word(alloc: Global, line: &[u8]) -> Result<ControlWord<'_>, A
     if is_copy_line(line) {
         return Ok(ControlWord::Copy(path_in(line)));
     }
-    if let Some(shown) = shown_in(text) {
+    if let Some(shown) = row_key_in(text) {
         return Ok(ControlWord::Show(shown));
     }
     if let Some(serial_decision) = serial_decision_in(text) {
@@ -87,32 +87,32 @@ pub(crate) fn read_word(alloc: Global, line: &[u8]) -> Result<ControlWord<'_>, A
     }
 }
 
-fn shown_in(text: &[u8]) -> Option<Shown>
-    ensures { result ≡ shown_in (fields_of text.now) }
+fn row_key_in(text: &[u8]) -> Option<RowKey>
+    ensures { result ≡ row_key_in (fields_of text.now) }
 {
     let mut fields = Fields::of(text);
     if fields.next()? == b"show".as_slice() {
-        read_shown(fields)
+        read_row_key(fields)
     } else {
         None
     }
 }
 
 /// The row to show: `SERIAL`, `request N` or `subscriber NAME`.
-fn read_shown(mut fields: Fields<'_>) -> Option<Shown>
-    ensures { result ≡ shown_by fields.entry }
+fn read_row_key(mut fields: Fields<'_>) -> Option<RowKey>
+    ensures { result ≡ row_key_by fields.entry }
 {
     let first = fields.next()?;
     let Some(second) = fields.next() else {
-        return Some(Shown::Certificate(Serial::read(first)?));
+        return Some(RowKey::Certificate(Serial::read(first)?));
     };
     if !fields.is_empty() {
         return None;
     }
     if first == b"request".as_slice() {
-        Some(Shown::Request(read_number(second)?))
+        Some(RowKey::Request(read_number(second)?))
     } else if first == b"subscriber".as_slice() {
-        Some(Shown::Subscriber(Label::of(second)?))
+        Some(RowKey::Subscriber(Label::of(second)?))
     } else {
         None
     }

@@ -4,7 +4,7 @@ use Rattle.std.specs.Prelude.{slice_index_or}
 use Rattle.reg_core.specs.declared.rows.CrlRow.{CrlRow}
 use Rattle.reg_desk_metrics.specs.Metrics.{answer_text, answers_prefix, bucket_name, bucket_text, buckets_text, issued_text, route_name, route_text, routes_front, sum_of}
 use Rattle.reg_desk_metrics.specs.Samples.{sample}
-use Rattle.reg_desk_metrics.specs.declared.names.TheConstants.{CRL_AGE, CRL_NUMBER, NEXT_UPDATE, THIS_UPDATE}
+use Rattle.reg_desk_metrics.specs.declared.series_names.TheConstants.{CRL_AGE, CRL_NUMBER, NEXT_UPDATE, THIS_UPDATE}
 use Rattle.reg_desk_metrics.specs.Tallies.{greatest}
 use Rattle.reg_desk_metrics.specs.declared.tally.Tally.{Tally}
 

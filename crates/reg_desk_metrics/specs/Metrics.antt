@@ -10,7 +10,7 @@ use Rattle.reg_core.specs.declared.rows.CrlRow.{CrlRow}
 use Rattle.reg_office_api.specs.declared.register_summary.Rows.{Rows}
 use Rattle.reg_desk_metrics.specs.Samples.{moment_or_none, sample, sample_of_seconds}
 use Rattle.reg_desk_metrics.specs.Tallies.{greatest}
-use Rattle.reg_desk_metrics.specs.declared.names.TheConstants.{ACCEPTED, ACCEPTED_LINES, ANSWER, ANSWER_CODE, ANSWERED, BEHIND, BROKEN, BUILD, CAP, CERTIFICATE_ROWS, CLOCK, COUNTED, OPEN_CONTROL, CRL_AGE, CRL_DUE, CRL_FAILING, CRL_LAST, CRL_LAST_FAILED, CRL_NUMBER, CRL_ROWS, CRL_SIGNED, CRL_UNSIGNED, EVICTED, EXPIRED, FAULTS, GOOD, LABEL_END, LAST_COMMAND, LATE, NEXT_UPDATE, NO_MEMORY, OCSP_BY_SIGNER, OCSP_BY_STORE, OCSP_FAILING, OCSP_LAST, OCSP_LAST_FAILED, OCSP_SIGNED, OCSP_UNSIGNED, OPEN, ORDER_ROWS, OVERDUE, OPEN_HTTP, READABLE, REFUSED_LINES, REQUEST_ROWS, RESPONDER_ENDS, REVOKED, ROUTE_COUNT, ROUTE_SECONDS, ROUTE_SUM, SECONDS, SECONDS_COUNT, SECONDS_SUM, SECONDS_TO, STORE_FAILING, SUBSCRIBER_ROWS, THIS_UPDATE}
+use Rattle.reg_desk_metrics.specs.declared.series_names.TheConstants.{ACCEPTED, ACCEPTED_LINES, ANSWER, ANSWER_CODE, ANSWERED, BEHIND, BROKEN, BUILD, CAP, CERTIFICATE_ROWS, CLOCK, COUNTED, OPEN_CONTROL, CRL_AGE, CRL_DUE, CRL_FAILING, CRL_LAST, CRL_LAST_FAILED, CRL_NUMBER, CRL_ROWS, CRL_SIGNED, CRL_FAILED, EVICTED, EXPIRED, FAULTS, GOOD, LABEL_END, LAST_COMMAND, LATE, NEXT_UPDATE, NO_MEMORY, OCSP_BY_SIGNER, OCSP_BY_STORE, OCSP_FAILING, OCSP_LAST, OCSP_LAST_FAILED, OCSP_SIGNED, OCSP_FAILED, OPEN, ORDER_ROWS, OVERDUE, OPEN_HTTP, READABLE, REFUSED_LINES, REQUEST_ROWS, RESPONDER_ENDS, REVOKED, ROUTE_COUNT, ROUTE_SECONDS, ROUTE_SUM, SECONDS, SECONDS_COUNT, SECONDS_SUM, SECONDS_TO, STORE_FAILING, SUBSCRIBER_ROWS, THIS_UPDATE}
 use Rattle.reg_desk_metrics.specs.declared.numbers.ConnectionTotals.{ConnectionTotals}
 use Rattle.reg_desk_metrics.specs.declared.numbers.Numbers.{Numbers}
 use Rattle.reg_desk_metrics.specs.declared.numbers.Requests.{Requests}
@@ -131,7 +131,7 @@ lines_text tally =
 unfoldable pub signed_text : Signing → Signing → List ℕ
 signed_text crls ocsp =
     sample CRL_SIGNED.now crls.received ++ sample OCSP_SIGNED.now ocsp.received
-    ++ sample CRL_UNSIGNED.now crls.failed ++ sample OCSP_UNSIGNED.now ocsp.failed
+    ++ sample CRL_FAILED.now crls.failed ++ sample OCSP_FAILED.now ocsp.failed
 
 -- when a signature was last received, and when one last failed
 unfoldable pub last_text : Signing → Signing → List ℕ
@@ -215,7 +215,7 @@ routes_text tally = ROUTE_SECONDS.now ++ routes_front tally 11
 -- the OCSP responses that were internalError
 unfoldable pub failures_text : Tally → List ℕ
 failures_text tally =
-    sample OCSP_BY_SIGNER.now tally.ocsp_unsigned ++ sample OCSP_BY_STORE.now tally.ocsp_unread
+    sample OCSP_BY_SIGNER.now tally.ocsp_signer_failures ++ sample OCSP_BY_STORE.now tally.ocsp_store_failures
 
 -- notAfter of the responder's certificate, if it is known
 abbrev pub responder_text : Option ℕ → List ℕ

@@ -110,7 +110,7 @@ is_new signing ends tally =
     (tally.answers ≡ replicate 132 0) × (tally.accepted ≡ 0) × (tally.refused ≡ 0) × (tally.faults ≡ 0)
     × (tally.buckets ≡ replicate 12 0)
     × (tally.micros ≡ 0) × (tally.route_counts ≡ replicate 11 0) × (tally.route_micros ≡ replicate 11 0)
-    × (tally.ocsp_unsigned ≡ 0) × (tally.ocsp_unread ≡ 0)
+    × (tally.ocsp_signer_failures ≡ 0) × (tally.ocsp_store_failures ≡ 0)
     × (tally.crls ≡ nothing_signed) × (tally.ocsp ≡ nothing_signed) × (tally.store_since ≡ None)
     × (tally.requests ≡ None)
     × (tally.crl_signing ≡ signing) × (tally.responder_ends ≡ ends) × (tally.read ≡ None)
@@ -151,8 +151,10 @@ has_response exchange = response_by exchange.route exchange.status
 
 -- an OCSP response that was internalError (RFC 6960 2.3), because the signer failed, or because the store failed
 abbrev pub with_cause : SignatureOutcome → StoreEffect → Tally → Tally
-with_cause signature.Failed effect tally = record tally { ocsp_unsigned = one_more tally.ocsp_unsigned }
-with_cause other store.Failed tally = record tally { ocsp_unread = one_more tally.ocsp_unread }
+with_cause signature.Failed effect tally =
+    record tally { ocsp_signer_failures = one_more tally.ocsp_signer_failures }
+with_cause other store.Failed tally =
+    record tally { ocsp_store_failures = one_more tally.ocsp_store_failures }
 with_cause other effect tally = tally
 
 abbrev pub with_failure : Exchange → Tally → Tally

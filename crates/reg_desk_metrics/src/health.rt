@@ -4,7 +4,7 @@ ghost use Rattle.std.specs.Prelude.{◌≡◌, ◌++◌, IfOk, OnOk};
 ghost use Rattle.reg_desk_metrics.specs.Healths.{clock_of as clock_spec, crl_since as crl_since_spec, crl_text as crl_spec, is_crl_due_at_once as due_at_once, health_of, health_text, is_none as is_without, is_filling as fills, is_well as all_well, if_past as past_spec, member, rows_since as rows_spec, signers_text, since_text, health_member, store_since_at as store_spec};
 
 use crate::ahead::is_ahead;
-use crate::numbers::Found;
+use crate::numbers::NumbersResult;
 use crate::tally::Tally;
 use reg_core::{Fault, Moment, Refusal};
 use reg_office_api::{RegisterSummary, Rows};
@@ -31,7 +31,7 @@ pub struct Health {
 
 impl Health {
     /// The health of a register at a moment, by its numbers, the desk's tally, and the moment that the last `accept-clock` gave.
-    pub fn of(now: Moment, found: &Found, tally: &Tally, accepted: Option<Moment>) -> Health
+    pub fn of(now: Moment, found: &NumbersResult, tally: &Tally, accepted: Option<Moment>) -> Health
         ensures { result ≡ health_of now found.now tally.now accepted }
     {
         Health {
@@ -88,7 +88,7 @@ fn is_none(moment: Option<Moment>) -> bool
     }
 }
 
-fn clock_of(now: Moment, found: &Found, accepted: Option<Moment>) -> Option<Moment>
+fn clock_of(now: Moment, found: &NumbersResult, accepted: Option<Moment>) -> Option<Moment>
     ensures { result ≡ clock_spec now found.now accepted }
 {
     match *found {
@@ -99,7 +99,7 @@ fn clock_of(now: Moment, found: &Found, accepted: Option<Moment>) -> Option<Mome
     }
 }
 
-fn is_crl_due_at_once(found: &Found) -> bool
+fn is_crl_due_at_once(found: &NumbersResult) -> bool
     ensures { result ≡ due_at_once found.now }
 {
     match found {
@@ -109,7 +109,7 @@ fn is_crl_due_at_once(found: &Found) -> bool
 }
 
 /// Since when the next CRL is due, if that moment is past.
-fn crl_since(now: Moment, found: &Found) -> Option<Moment>
+fn crl_since(now: Moment, found: &NumbersResult) -> Option<Moment>
     ensures { result ≡ crl_since_spec now found.now }
 {
     match found {
@@ -127,7 +127,7 @@ fn past(now: Moment, due: Option<Moment>) -> Option<Moment>
     }
 }
 
-fn rows_failing_since(now: Moment, found: &Found) -> Option<Moment>
+fn rows_failing_since(now: Moment, found: &NumbersResult) -> Option<Moment>
     ensures { result ≡ rows_spec now found.now }
 {
     match found {
@@ -155,7 +155,7 @@ fn is_filling(summary: &RegisterSummary) -> bool
 }
 
 /// Since when the store fails: by the tally, or else now if the register can't be read.
-fn store_failing_since(now: Moment, found: &Found, since: Option<Moment>) -> Option<Moment>
+fn store_failing_since(now: Moment, found: &NumbersResult, since: Option<Moment>) -> Option<Moment>
     ensures { result ≡ store_spec now found.now since }
 {
     match *found {

@@ -2,16 +2,16 @@
 #![tactic(auto)]
 
 mod ahead;
-mod families;
 mod health;
-mod names;
+mod metrics_text;
 mod numbers;
 mod samples;
+mod series_names;
 mod signature_outcomes;
 mod tally;
 
 pub use ahead::is_ahead;
-pub use families::metrics;
 pub use health::Health;
-pub use numbers::{ConnectionTotals, CrlSigning, Found, Numbers, ReadCrl, Requests};
+pub use metrics_text::metrics;
+pub use numbers::{ConnectionTotals, CrlSigning, Numbers, NumbersResult, ReadCrl, Requests};
 pub use tally::Tally;

@@ -13,7 +13,7 @@ pub struct Numbers {
 }
 
 /// The register's numbers, or why they can't be read.
-pub type Found = Result<Numbers, Fault>;
+pub type NumbersResult = Result<Numbers, Fault>;
 
 /// The register's requests for revocation at a moment. Counting walks all of them, so it is done at most once a minute.
 #[derive(Clone, Copy, PartialEq, Eq)]

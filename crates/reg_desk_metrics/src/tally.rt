@@ -35,8 +35,8 @@ pub struct Tally {
     pub(crate) route_counts: [u64; ROUTES],
     pub(crate) route_micros: [u64; ROUTES],
     /// OCSP responses that were internalError because the signer failed, and because the store failed.
-    pub(crate) ocsp_unsigned: u64,
-    pub(crate) ocsp_unread: u64,
+    pub(crate) ocsp_signer_failures: u64,
+    pub(crate) ocsp_store_failures: u64,
     pub(crate) crls: Signing,
     pub(crate) ocsp: Signing,
     pub(crate) store_since: Option<Moment>,
@@ -172,8 +172,8 @@ impl Tally {
             micros: 0,
             route_counts: [0; ROUTES],
             route_micros: [0; ROUTES],
-            ocsp_unsigned: 0,
-            ocsp_unread: 0,
+            ocsp_signer_failures: 0,
+            ocsp_store_failures: 0,
             crls: Signing::nothing(),
             ocsp: Signing::nothing(),
             store_since: None,
@@ -291,9 +291,11 @@ impl Tally {
         }
         match (exchange.signature, exchange.store) {
             (SignatureOutcome::Failed, _) => {
-                self.ocsp_unsigned = self.ocsp_unsigned.saturating_add(1);
+                self.ocsp_signer_failures = self.ocsp_signer_failures.saturating_add(1);
             }
-            (_, StoreEffect::Failed) => self.ocsp_unread = self.ocsp_unread.saturating_add(1),
+            (_, StoreEffect::Failed) => self.ocsp_store_failures = self
+                .ocsp_store_failures
+                .saturating_add(1),
             _ => {}
         }
     }

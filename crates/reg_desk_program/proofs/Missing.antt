@@ -5,7 +5,7 @@ use Rattle.reg_core.specs.declared.refusal.Fault.TheVariants.{Memory, Store}
 use Rattle.reg_office_api.specs.LookUps.{IsOfStore}
 use Rattle.reg_desk_cli.specs.declared.failure.Failure.{Failure}
 use Rattle.reg_desk_cli.specs.declared.failure.Failure.TheVariants as failure
-use Rattle.reg_desk_jobs.specs.RegisterFailures.{IsOpening}
+use Rattle.reg_desk_jobs.specs.RegisterFailures.{IsOpenFailure}
 use Rattle.reg_office.proofs.PublicLaws.{of_failure}
 use Rattle.reg_store_tables.specs.Faults.{fault_of}
 use Rattle.reg_store_tables.specs.declared.fault.DatabaseFault.{DatabaseFault}
@@ -20,5 +20,5 @@ of_store fault other is which =
     ]
 
 -- a failure of the database ends an opening
-pub opens_faulty : (fault : DatabaseFault) (why : Failure) → why ≡ failure.Fault (fault_of fault) → IsOpening why
-opens_faulty fault why is = subst IsOpening (sym is) (of_failure IsOfStore tt tt fault)
+pub opens_faulty : (fault : DatabaseFault) (why : Failure) → why ≡ failure.Fault (fault_of fault) → IsOpenFailure why
+opens_faulty fault why is = subst IsOpenFailure (sym is) (of_failure IsOfStore tt tt fault)

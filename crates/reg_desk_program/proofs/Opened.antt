@@ -8,7 +8,7 @@ use Rattle.reg_desk_jobs.specs.Signers.{EmbeddedKeyFits}
 use Rattle.reg_desk_jobs.specs.declared.crl_signer.CrlSigner.{CrlSigner}
 use Rattle.reg_office.specs.Answering.{answers_by}
 use Rattle.reg_office.specs.declared.responder.Responder.{Responder as Held_by}
-use Rattle.reg_desk_program.specs.StoreSigners.{SignsFor}
+use Rattle.reg_desk_program.specs.StoreSigners.{FitsRegister}
 use Rattle.reg_store_tables.specs.Stays.{Looked}
 
 -- a certificate that stands with answers is of the issuer's key, whoever signs CRLs
@@ -24,5 +24,5 @@ module _ {C : Type 0} {g : Ghosts C} {store tables new : Held C} (same : tables 
   lent_looked looked = subst (λ those. Looked g those new) same looked
 
   pub lent_signs : {answers : Identity → Responder} {identity : Identity} {crls : CrlSigner}
-      → SignsFor g tables new answers identity crls → SignsFor g store new answers identity crls
-  lent_signs {answers} {identity} {crls} signs = subst (λ those. SignsFor g those new answers identity crls) same signs
+      → FitsRegister g tables new answers identity crls → FitsRegister g store new answers identity crls
+  lent_signs {answers} {identity} {crls} signs = subst (λ those. FitsRegister g those new answers identity crls) same signs

@@ -5,23 +5,23 @@ use Rattle.reg_desk_cli.specs.declared.failure.Failure.{Failure}
 use Rattle.reg_store_tables.specs.Stays.{IsDatabaseFault}
 use Rattle.reg_store_tables.specs.declared.fault.StoreFault.{StoreFault}
 use Rattle.reg_store_tables.specs.declared.fault.StoreFault.TheVariants as stored
-use Rattle.reg_desk_jobs.specs.RegisterFailures.{IsMaking, IsOpening}
+use Rattle.reg_desk_jobs.specs.RegisterFailures.{IsCreateFailure, IsOpenFailure}
 
 -- a register that can't be opened
-pub opened : (fault : StoreFault) (why : Failure) → why ≡ store_failure fault → fault ≢ stored.NotEmpty → IsOpening why
+pub opened : (fault : StoreFault) (why : Failure) → why ≡ store_failure fault → fault ≢ stored.NotEmpty → IsOpenFailure why
 opened fault why is other =
-    let P : Failure → Type 0 = λ w. IsOpening w in
+    let P : Failure → Type 0 = λ w. IsOpenFailure w in
     subst P (sym is) (go fault other)
   where
-    go : (f : StoreFault) → f ≢ stored.NotEmpty → IsOpening (store_failure f)
+    go : (f : StoreFault) → f ≢ stored.NotEmpty → IsOpenFailure (store_failure f)
     go stored.NotEmpty not = absurd (not refl)
     go other not = tt
 
 -- a register that can't be made
-pub unmade : (fault : StoreFault) (why : Failure) → why ≡ store_failure fault → (fault ≡ stored.NotEmpty) ⊎ IsDatabaseFault fault → IsMaking why
+pub unmade : (fault : StoreFault) (why : Failure) → why ≡ store_failure fault → (fault ≡ stored.NotEmpty) ⊎ IsDatabaseFault fault → IsCreateFailure why
 unmade fault why is which =
-    let P : Failure → Type 0 = λ w. IsMaking w in
-    let Q : StoreFault → Type 0 = λ f. IsMaking (store_failure f) in
+    let P : Failure → Type 0 = λ w. IsCreateFailure w in
+    let Q : StoreFault → Type 0 = λ f. IsCreateFailure (store_failure f) in
     subst P (sym is) (elim which [
       | inl taken ↦ subst Q (sym taken) tt
       | inr (inl memory) ↦ subst Q (sym memory) tt

@@ -10,9 +10,9 @@ use Rattle.reg_core.specs.Records.{Crl, Records}
 use Rattle.reg_core.specs.Sound.{SoundRows}
 use Rattle.reg_crl.specs.Signing.{Identity, sha1_algorithm}
 use Rattle.reg_der.specs.Der.{tlv, length_octets}
-use Rattle.reg_desk_jobs.specs.Signers.{IsSigning, identity_of_holder}
+use Rattle.reg_desk_jobs.specs.Signers.{IsSigning, identity_of_signer}
 use Rattle.reg_desk_jobs.specs.declared.crl_signer.CrlSigner.{CrlSigner}
-use Rattle.reg_desk_program.specs.StoreSigners.{SignsAfter, SignsFor}
+use Rattle.reg_desk_program.specs.StoreSigners.{FitsLatest, FitsRegister}
 use Rattle.reg_crl_signer.specs.Algorithms.{identifier_of}
 use Rattle.reg_crl_signer.specs.declared.algorithm.Algorithm.{Algorithm}
 use Rattle.reg_crl_signer.specs.declared.algorithm.Algorithm.TheVariants.{EcdsaSha256, EcdsaSha384, RsaSha256, Ed25519}
@@ -25,11 +25,11 @@ use Rattle.reg_desk_cli.specs.declared.job.SignerAddress.{SignerAddress}
 module _ {C : Type 0} (g : Ghosts C) (old between new : Held C) (answers : Identity → Responder) (identity : Identity) where
   -- who signs behind that CRL signs for what the register is opened for
   pub signs_for : (crls : CrlSigner) (told : Option SignerAddress) (last : Option (List ℕ))
-      → ((key : List ℕ) (signatory : Identity) → signatory ≡ identity_of_holder told key → IsSigning crls key signatory)
+      → ((key : List ℕ) (signatory : Identity) → signatory ≡ identity_of_signer told key → IsSigning crls key signatory)
       → Looked g old between → Looked g between new
       → ((records : Records) → Shows g old records → SoundRows records → HasCleanDisk (state g between)
       → last ≡ option_map (λ crl. crl.bytes) (latest records.crls))
-      → SignsAfter g between new answers identity told last → SignsFor g old new answers identity crls
+      → FitsLatest g between new answers identity told last → FitsRegister g old new answers identity crls
   signs_for crls told last as_told first second found it = record {
     told = λ records shown clean. as_told records.issuer.key identity (it.told records (looked_shows first records shown) clean);
     follows = λ records shown sound clean crl is other under.

@@ -23,7 +23,7 @@ use Rattle.reg_audit.specs.Complete.{ShowsSound}
 use Rattle.reg_audit.specs.Stored.{IsSomeCrl}
 use Rattle.reg_audit.specs.ReadableValues.{HasAllowedDays}
 use Rattle.reg_audit.specs.Presumed.{IsPresumed}
-use Rattle.reg_audit.specs.AuditResults.{CountedBy, DeniedBy, IsSound, ReportsTables}
+use Rattle.reg_audit.specs.AuditResults.{CountedBy, DisprovedBy, IsSound, ReportsTables}
 use Rattle.reg_audit_rows.specs.declared.audit_result.AuditResult.{AuditResult}
 use Rattle.reg_office_api.specs.CallSteps.{Signs}
 use Rattle.reg_office_api.specs.Signatories.{Signatory}
@@ -123,7 +123,7 @@ pub record Says {D : Type 0} {g : disk.Ghosts D} (connection after : Held (FileS
       → CountedBy audit_result records
   pub broken : (records : Records) (columns : DerivedRows) → ShowsBoth over_files connection records columns
       → HasCleanDisk (file_state after)
-      → DeniedBy audit_result records columns
+      → DisprovedBy audit_result records columns
   pub tells : HasCleanDisk (file_state after) → ReportsTables audit_result (file_state connection).now
   pub register : IsSound audit_result → IsRegister (file_state after)
   pub stays : Stays (file_state connection) (file_state after)

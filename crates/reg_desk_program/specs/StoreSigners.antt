@@ -7,7 +7,7 @@ use Rattle.reg_office_api.specs.Signatories.{Responder}
 use Rattle.reg_core.specs.Records.{Records}
 use Rattle.reg_core.specs.Sound.{SoundRows}
 use Rattle.reg_crl.specs.Signing.{Identity}
-use Rattle.reg_desk_jobs.specs.Signers.{EmbeddedKeyFits, Follows, IsSigning, MayFollow, identity_of_holder}
+use Rattle.reg_desk_jobs.specs.Signers.{EmbeddedKeyFits, Follows, IsSigning, MayFollow, identity_of_signer}
 use Rattle.reg_desk_jobs.specs.declared.crl_signer.CrlSigner.{CrlSigner}
 use Rattle.reg_desk_jobs.specs.declared.crl_signer.CrlSigner.TheVariants.{NoSigner, Digest, KeyAt}
 use Rattle.reg_crl_signer.specs.Signed.{IsCrlUnder}
@@ -18,23 +18,23 @@ use Rattle.reg_desk_cli.specs.declared.job.SignerAddress.{SignerAddress}
 abbrev pub SignerAtPath : CrlSigner → Option (List ℕ) → Type 0
 SignerAtPath NoSigner path = Unit {0}
 SignerAtPath Digest path = path ≡ None
-SignerAtPath (KeyAt holder) path = path ≡ Some holder.socket
+SignerAtPath (KeyAt address) path = path ≡ Some address.socket
 
 -- A store before and after the records were read; and the responder to OCSP requests, which may be the signer of CRLs.
 module _ {C : Type 0} (g : Ghosts C) (old new : Held C) (answers : Identity → Responder)
     (identity : Identity) where
   -- The signer is the one at this address, with the issuer's key, or the digest; a CRL with its algorithm may follow the latest CRL; and the responder's
   -- certificate, if the issuer's key signs its responses, has that key.
-  pub record SignsAfter (holder : Option SignerAddress) (latest : Option (List ℕ)) : Type 0 where
+  pub record FitsLatest (address : Option SignerAddress) (latest : Option (List ℕ)) : Type 0 where
     pub told : (records : Records) → Shows g old records → HasCleanDisk (state g new)
-        → identity ≡ identity_of_holder holder records.issuer.key
+        → identity ≡ identity_of_signer address records.issuer.key
     pub follows : (crl : List ℕ) → latest ≡ Some crl → (other : List ℕ) → IsCrlUnder crl other
         → MayFollow identity.algorithm other
     pub embeds : (records : Records) → Shows g old records → HasCleanDisk (state g new)
         → (crls : Identity) → EmbeddedKeyFits records.issuer.key (answers crls)
 
   -- the same for the signer with which the register is opened, and the latest CRL of the records
-  pub record SignsFor (crls : CrlSigner) : Type 0 where
+  pub record FitsRegister (crls : CrlSigner) : Type 0 where
     pub told : (records : Records) → Shows g old records → HasCleanDisk (state g new)
         → IsSigning crls records.issuer.key identity
     pub follows : (records : Records) → Shows g old records → SoundRows records → HasCleanDisk (state g new)

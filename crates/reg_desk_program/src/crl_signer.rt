@@ -6,14 +6,14 @@ ghost use Rattle.sqlite.specs.State.{HasCleanDisk};
 ghost use Rattle.reg_core.specs.Crls.{latest};
 ghost use Rattle.reg_core.specs.Records.{Records};
 ghost use Rattle.reg_core.specs.Sound.{SoundRows};
-ghost use Rattle.reg_desk_jobs.specs.RegisterFailures.{IsOpening};
-ghost use Rattle.reg_desk_jobs.specs.Signers.{MayFollow, identity_of_holder};
+ghost use Rattle.reg_desk_jobs.specs.RegisterFailures.{IsOpenFailure};
+ghost use Rattle.reg_desk_jobs.specs.Signers.{MayFollow, identity_of_signer};
 ghost use Rattle.reg_office.specs.Answering.{answers_by};
 ghost use Rattle.reg_crl_signer.specs.Forms.{identity_of};
-ghost use Rattle.reg_crl_signer.specs.KeysOrDigests.{either_path};
+ghost use Rattle.reg_crl_signer.specs.RegisterSigners.{register_signer_path};
 ghost use Rattle.reg_crl_signer.specs.Signed.{IsCrlUnder};
 ghost use Rattle.reg_desk_program.specs.Mismatches.{Differs, IsKnownAlgorithm, IsMismatch, IsMismatchAfter};
-ghost use Rattle.reg_desk_program.specs.StoreSigners.{SignerAtPath, SignsAfter, SignsFor};
+ghost use Rattle.reg_desk_program.specs.StoreSigners.{SignerAtPath, FitsLatest, FitsRegister};
 ghost use Rattle.reg_store_tables.specs.Shows.{Shows};
 ghost use Rattle.reg_desk_cli.specs.declared.job.SignerAddress.{SignerAddress};
 ghost use Rattle.reg_store_tables.specs.Stays.{Looked};
@@ -24,10 +24,10 @@ use crate::ocsp_responder::embedded_key_fits;
 use reg_core::{Cause, Fault};
 use reg_crl::{DigestSeal, Signer};
 use reg_crl_signer::{
-    Algorithm, BackoffDevice, Device, DeviceSigner, KeyFault, KeyOrDigest, SocketDevice,
+    Algorithm, BackoffDevice, Device, DeviceSigner, KeyFault, RegisterSigner, SocketDevice,
     crl_algorithm,
 };
-use reg_desk_cli::{Failure, SignerAddress, Word};
+use reg_desk_cli::{Argument, Failure, SignerAddress};
 use reg_desk_jobs::{CrlSigner, Machine};
 use reg_office::Responder;
 use reg_store::{DatabaseFault, Tables};
@@ -47,13 +47,13 @@ pub(crate) fn signer_for<C: Alter>(
     crls: &CrlSigner<'_>,
     responder: &Responder<FileSigner>,
 ) -> Result<FileSigner, Failure>
-    ensures signs { IfOk result (λ signer. SignsFor C.Store tables.old tables.new
+    ensures signs { IfOk result (λ signer. FitsRegister C.Store tables.old tables.new
         (λ signatory. answers_by ⟦<FileSigner as Signer>⟧.identity signatory responder.now)
         (⟦<FileSigner as Signer>⟧.identity signer) crls.now) }
     ensures asks { IfOk result (λ signer.
-        SignerAtPath crls.now (either_path ⟦<FileDevice as Device>⟧ signer)) }
+        SignerAtPath crls.now (register_signer_path ⟦<FileDevice as Device>⟧ signer)) }
     ensures looked { Looked C.Store tables.old tables.new }
-    ensures faults { IfErr result IsOpening }
+    ensures faults { IfErr result IsOpenFailure }
 {
     let latest = latest_crl(tables)?;
     match crls {
@@ -71,12 +71,12 @@ fn signer_without_process<C: Alter>(
     responder: &Responder<FileSigner>,
 ) -> Result<FileSigner, Failure>
     ensures signs { IfOk result (λ signer.
-        (address : Option SignerAddress) × SignsAfter C.Store tables.old tables.new
+        (address : Option SignerAddress) × FitsLatest C.Store tables.old tables.new
         (λ signatory. answers_by ⟦<FileSigner as Signer>⟧.identity signatory responder.now)
         (⟦<FileSigner as Signer>⟧.identity signer)
         address (option_map (λ bytes. bytes.items) latest.now)) }
     ensures looked { Looked C.Store tables.old tables.new }
-    ensures faults { IfErr result IsOpening }
+    ensures faults { IfErr result IsOpenFailure }
 {
     let address = unreachable_address(latest);
     match signer_after(host, tables, latest, address.as_ref(), responder) {
@@ -91,7 +91,7 @@ fn unreachable_address(latest: &Option<Vec<u8>>) -> Option<SignerAddress<'static
     let identifier = crl_algorithm(latest.as_ref()?)?;
     let algorithm = Algorithm::from_identifier(identifier)?;
     Some(SignerAddress {
-        socket: Word::of(""),
+        socket: Argument::of(""),
         algorithm,
     })
 }
@@ -105,15 +105,15 @@ fn signer_after<C: Alter>(
     address: Option<&SignerAddress<'_>>,
     responder: &Responder<FileSigner>,
 ) -> Result<FileSigner, Failure>
-    ensures signs { IfOk result (λ signer. SignsAfter C.Store tables.old tables.new
+    ensures signs { IfOk result (λ signer. FitsLatest C.Store tables.old tables.new
         (λ signatory. answers_by ⟦<FileSigner as Signer>⟧.identity signatory responder.now)
         (⟦<FileSigner as Signer>⟧.identity signer)
         (option_copied address.entry) (option_map (λ bytes. bytes.items) latest.now)) }
     ensures asks { IfOk result (λ signer.
-        either_path ⟦<FileDevice as Device>⟧ signer
-        ≡ option_map (λ holder. holder.socket) (option_copied address.entry)) }
+        register_signer_path ⟦<FileDevice as Device>⟧ signer
+        ≡ option_map (λ it. it.socket) (option_copied address.entry)) }
     ensures looked { Looked C.Store tables.old tables.new }
-    ensures faults { IfErr result IsOpening }
+    ensures faults { IfErr result IsOpenFailure }
 {
     let issuer = tables.issuer()?;
     if !embedded_key_fits(responder, issuer.key()) {
@@ -136,14 +136,14 @@ fn open_signer(
     key: &[u8],
 ) -> Result<FileSigner, Failure>
     ensures ok { IfOk result (λ signer.
-        ⟦<FileSigner as Signer>⟧.identity signer ≡ identity_of_holder (option_copied address.entry) key.now) }
+        ⟦<FileSigner as Signer>⟧.identity signer ≡ identity_of_signer (option_copied address.entry) key.now) }
     ensures asks { IfOk result (λ signer.
-        either_path ⟦<FileDevice as Device>⟧ signer
-        ≡ option_map (λ holder. holder.socket) (option_copied address.entry)) }
-    ensures faults { IfErr result IsOpening }
+        register_signer_path ⟦<FileDevice as Device>⟧ signer
+        ≡ option_map (λ it. it.socket) (option_copied address.entry)) }
+    ensures faults { IfErr result IsOpenFailure }
 {
     let Some(signer_address) = address else {
-        return Ok(KeyOrDigest::Digest(DigestSeal));
+        return Ok(RegisterSigner::Digest(DigestSeal));
     };
     match key_signer(
         &host.rt,
@@ -169,7 +169,8 @@ pub(crate) fn key_signer(
 ) -> Result<FileSigner, Failure>
     ensures ok { IfOk result (λ signer.
         ⟦<FileSigner as Signer>⟧.identity signer ≡ identity_of algorithm key.now) }
-    ensures asks { IfOk result (λ signer. either_path ⟦<FileDevice as Device>⟧ signer ≡ Some socket.now) }
+    ensures asks { IfOk result (λ signer.
+        register_signer_path ⟦<FileDevice as Device>⟧ signer ≡ Some socket.now) }
     ensures faults { IfErr result (λ why. (why ≡ Failure.Fault Fault.Memory) ⊎ (why ≡ Failure.BadSigner)) }
 {
     let (Ok(path), Ok(key)) = (
@@ -180,7 +181,7 @@ pub(crate) fn key_signer(
     };
     let device = BackoffDevice::new(SocketDevice::new(*rt, path, key), *rt);
     match DeviceSigner::new(device, algorithm) {
-        Ok(signer) => Ok(KeyOrDigest::Key(signer)),
+        Ok(signer) => Ok(RegisterSigner::Key(signer)),
         Err(KeyFault) => Err(Failure::BadSigner),
     }
 }

@@ -1,7 +1,7 @@
 //! Audits a register in a file.
 
 ghost use Rattle.std.specs.Prelude.{◌≡◌, false, IfErr, IfOk};
-ghost use Rattle.reg_desk_jobs.specs.RegisterFailures.{IsOpening};
+ghost use Rattle.reg_desk_jobs.specs.RegisterFailures.{IsOpenFailure};
 ghost use Rattle.reg_desk_program.specs.Files.{IsAudited, IsConnection};
 
 use crate::audit_progress::AuditProgress;
@@ -21,7 +21,7 @@ pub(crate) fn audit_over<D: Disk + Drop>(
     requires connects { IsConnection connection }
     ensures ok { IfOk result (λ audit_result.
         (audited : IsAudited D.Disk audit_result) × (audited.connection ≡ connection)) }
-    ensures err { IfErr result IsOpening }
+    ensures err { IfErr result IsOpenFailure }
 {
     let mut connection = connection;
     let mut progress = AuditProgress::of(host);

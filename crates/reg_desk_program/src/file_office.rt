@@ -2,7 +2,7 @@
 
 use reg_core::{Command, Fault, Label, Memory, Moment, Outcome, Query, Schedule, Serial};
 use reg_core_lists::{Cursor, Page};
-use reg_crl_signer::{BackoffDevice, KeyOrDigest, SocketDevice, UnixConnection};
+use reg_crl_signer::{BackoffDevice, RegisterSigner, SocketDevice, UnixConnection};
 use reg_io::ReadyOrUnsigned;
 use reg_ocsp::Draft;
 use reg_office::Office;
@@ -15,7 +15,7 @@ use std::alloc::Global;
 pub type FileDevice = BackoffDevice<SocketDevice<UnixConnection>, HostRuntime>;
 
 /// The signer of a register in a file: a process behind a socket, or the placeholder digest.
-pub type FileSigner = KeyOrDigest<FileDevice>;
+pub type FileSigner = RegisterSigner<FileDevice>;
 
 /// An office over a database file, which is checked for damage.
 pub(crate) type OfficeInFile = Office<FileStore<FileFrom<Unknown>>, FileSigner>;

@@ -5,7 +5,7 @@ ghost use Rattle.std.specs.Duration.{as_nanos};
 ghost use Rattle.reg_office_api.specs.LookUps.{IsOfStore};
 ghost use Rattle.reg_office_api.specs.Calls.{KeepsIn};
 ghost use Rattle.reg_desk_files.specs.Reading.{IsUnread};
-ghost use Rattle.reg_desk_jobs.specs.RegisterFailures.{IsOpening, IsFileFailure};
+ghost use Rattle.reg_desk_jobs.specs.RegisterFailures.{IsOpenFailure, IsReadFailure};
 ghost use Rattle.reg_desk_program.specs.Calls.{Unspecified, is_claimed};
 ghost use Rattle.reg_desk_program.specs.Files.{failure_of};
 ghost use Rattle.reg_crl_signer.specs.SignatureRequest.{IsSignatureRequest};
@@ -13,16 +13,14 @@ ghost use Rattle.reg_crl_signer.specs.SignatureRequest.{IsSignatureRequest};
 use crate::file_audit::audit_over;
 use crate::file_office::{FileOffice, FileSigner};
 use crate::ocsp_responder::{delegate_responder, issuer_responder};
-use crate::offices::{
-    FileConnection, close, connection_of, create_over, office_over, preset_wanted,
-};
+use crate::offices::{FileConnection, close, connection_of, create_over, open_over, preset_next};
 use mio::net::{TcpListener, TcpStream, UnixListener, UnixStream as UnwaitingStream};
 use mio::{Events, Poll};
 use reg_audit_rows::AuditResult;
 use reg_core::{Cause, Fault, Memory, Policy, io_cause_of, port_cause_of};
 use reg_crl::{DigestSeal, Signer};
 use reg_crl_signer::{
-    DeviceConnection, KeyOrDigest, PresetSignature, SignatureRequest, read_answer,
+    DeviceConnection, PresetSignature, RegisterSigner, SignatureRequest, read_answer,
 };
 use reg_der::Issuer;
 use reg_desk_cli::{Failure, ResponderChoice};
@@ -73,11 +71,11 @@ pub struct Host<'a> {
 
 impl<'a> Host<'a> {
     /// The failure for files that could not be read. Keeps its cause, if it has one.
-    pub(crate) fn unread(&self, why: UnreadFile) -> Failure
+    pub(crate) fn failure_of(&self, why: UnreadFile) -> Failure
         requires { IsUnread why }
         ensures told { result ≡ failure_of why }
-        ensures opening { IsOpening result }
-        ensures reading { IsFileFailure result }
+        ensures opening { IsOpenFailure result }
+        ensures reading { IsReadFailure result }
     {
         match why {
             UnreadFile::Nothing => Failure::NotARegister,
@@ -136,7 +134,7 @@ impl<'a> Machine for Host<'a> {
 
     type Responder = Responder<FileSigner>;
 
-    ghost lies = { λ host path. Unspecified path };
+    ghost taken = { λ host path. Unspecified path };
 
     ghost absent = { λ host path. Unspecified path };
 
@@ -146,11 +144,11 @@ impl<'a> Machine for Host<'a> {
 
     ghost begun = { λ host path. Unspecified path };
 
-    ghost unread = { λ host path why. Unspecified path };
+    ghost read_failed = { λ host path why. Unspecified path };
 
     ghost connected = { λ host path database after. Unspecified path };
 
-    ghost unconnected = { λ host path why after. Unspecified path };
+    ghost connect_failed = { λ host path why after. Unspecified path };
 
     ghost fresh = { λ database. (database.in_transaction ≡ false) × IsConnection database };
 
@@ -219,7 +217,7 @@ impl<'a> Machine for Host<'a> {
     fn check_database(&self, path: &str) -> Result<(), Failure> {
         match check_database(&self.rt, path) {
             Ok(()) => Ok(()),
-            Err(why) => Err(self.unread(why)),
+            Err(why) => Err(self.failure_of(why)),
         }
     }
 
@@ -242,8 +240,8 @@ impl<'a> Machine for Host<'a> {
             ResponderChoice::Issuer { certificate } => issuer_responder(self, certificate),
             ResponderChoice::Delegate {
                 certificate,
-                holder,
-            } => delegate_responder(self, certificate, holder),
+                address,
+            } => delegate_responder(self, certificate, address),
         }
     }
 
@@ -253,7 +251,7 @@ impl<'a> Machine for Host<'a> {
         crls: &CrlSigner<'_>,
         responder: Responder<FileSigner>,
     ) -> Result<FileOffice, Failure> {
-        match office_over(self, database, crls, responder) {
+        match open_over(self, database, crls, responder) {
             Ok(office) => Ok(FileOffice { office }),
             Err((why, connection)) => {
                 close(connection);
@@ -268,7 +266,7 @@ impl<'a> Machine for Host<'a> {
         issuer: Issuer,
         policy: Policy,
     ) -> Result<FileOffice, Failure> {
-        let signer: FileSigner = KeyOrDigest::Digest(DigestSeal);
+        let signer: FileSigner = RegisterSigner::Digest(DigestSeal);
         match create_over(database, issuer, policy, signer) {
             Ok(office) => Ok(FileOffice { office }),
             Err((why, connection)) => {
@@ -292,14 +290,14 @@ impl<'a> Machine for Host<'a> {
     fn audit_in(&self, sources: Sources<ReadFile>) -> Result<AuditResult, Failure> {
         match open_sources(self.rt.alloc(), sources) {
             Ok(connection) => audit_over(self, connection),
-            Err(why) => Err(self.unread(why)),
+            Err(why) => Err(self.failure_of(why)),
         }
     }
 
     fn copy(&mut self, path: &str, to: &str) -> Result<u64, Failure> {
         match copy_closed(&self.rt, path, to) {
             Ok(bytes) => Ok(bytes),
-            Err(why) => Err(self.unread(why)),
+            Err(why) => Err(self.failure_of(why)),
         }
     }
 
@@ -411,7 +409,7 @@ impl<'a> Machine for Host<'a> {
     )
         ensures { KeepsIn ⟦<FileOffice as reg_office_api::Office>⟧ office.old office.new }
     {
-        preset_wanted(
+        preset_next(
             &mut office.office.signer,
             &mut office.office.responder,
             wanted,

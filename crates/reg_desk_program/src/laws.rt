@@ -3,7 +3,7 @@
 ghost use Rattle.reg_office.specs.Following.{IsDigestSigner};
 ghost use Rattle.reg_desk_program.specs.Audited.{FoundSound, StandsOnceAudited};
 ghost use Rattle.reg_desk_program.specs.Stops.{LeavesWhatWasReported};
-ghost use Rattle.reg_crl_signer.specs.Both.{SignsBoth, digest};
+ghost use Rattle.reg_crl_signer.specs.KeyOrDigestSignatures.{SignsByKeyOrDigest, digest};
 
 use reg_crl::Signer;
 use reg_crl_signer::Device;
@@ -23,7 +23,7 @@ pub fn a_register_that_was_found_sound_stands<A: Disk, D: Disk, S: Signer>()
 /// The signer of a register in a file that is opened without a key makes the placeholder digest, and nothing else. So the register may switch from
 /// it to a key, by [`reg_office::laws::a_key_follows_the_digest`].
 pub fn without_a_key_only_digests_are_made<D: Device>()
-    ensures { IsDigestSigner (SignsBoth D.answers) digest }
+    ensures { IsDigestSigner (SignsByKeyOrDigest D.answers) digest }
 {}
 
 /// A stop at any moment of a job leaves the records that its replies reported, or these after one more change.

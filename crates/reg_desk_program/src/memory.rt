@@ -7,9 +7,9 @@ ghost use Rattle.reg_office.specs.AfterStoppedCommand.{LeavesReported};
 ghost use Rattle.reg_office.specs.Stands.{Stands};
 ghost use Rattle.reg_office.specs.declared.responder.Responder.TheVariants.{Issuer as ByIssuer};
 ghost use Rattle.reg_desk_jobs.specs.Digest.{digests};
-ghost use Rattle.reg_desk_jobs.specs.RegisterFailures.{IsMaking};
+ghost use Rattle.reg_desk_jobs.specs.RegisterFailures.{IsCreateFailure};
 ghost use Rattle.reg_desk_jobs.specs.Sample.{sample_records};
-ghost use Rattle.reg_crl_signer.specs.Both.{digest};
+ghost use Rattle.reg_crl_signer.specs.KeyOrDigestSignatures.{digest};
 
 use crate::offices::create_over;
 use reg_core::{Fault, Policy};
@@ -48,7 +48,7 @@ fn office_in_memory(alloc: Global) -> Result<MemoryOffice, Failure>
     ensures leaves { IfOk result (λ office.
         LeavesReported over_memory digests office.store digest sample_records) }
     ensures alone { IfOk result (λ office. office.responder ≡ ByIssuer None) }
-    ensures err { IfErr result IsMaking }
+    ensures err { IfErr result IsCreateFailure }
 {
     let Ok(issuer) = Issuer::new(alloc, &NAME, &KEY) else {
         return Err(Failure::Fault(Fault::Memory));

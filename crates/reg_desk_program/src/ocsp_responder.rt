@@ -2,7 +2,7 @@
 
 ghost use Rattle.std.specs.Prelude.{◌≡◌, ◌⊎◌, IsTrue, IfOk, IfErr, OnErr};
 ghost use Rattle.reg_crl.specs.Signing.{Identity};
-ghost use Rattle.reg_desk_jobs.specs.RegisterFailures.{IsOpening};
+ghost use Rattle.reg_desk_jobs.specs.RegisterFailures.{IsOpenFailure};
 ghost use Rattle.reg_desk_jobs.specs.Signers.{EmbeddedKeyFits, HasCertificate, IsAnswering, IsDelegate};
 ghost use Rattle.reg_office.specs.Answering.{answers_by, signatory_of};
 ghost use Rattle.reg_desk_cli.specs.declared.job.ResponderChoice.TheVariants.{Issuer};
@@ -13,7 +13,7 @@ use crate::host::Host;
 use reg_core::{Fault, io_cause_of};
 use reg_crl::Signer;
 use reg_crl_signer::is_key_identifier;
-use reg_desk_cli::{Failure, SignerAddress, Word};
+use reg_desk_cli::{Argument, Failure, SignerAddress};
 use reg_desk_jobs::Machine;
 use reg_ocsp::{Certificate, CertificateFault};
 use reg_office::Responder;
@@ -23,13 +23,13 @@ use std::io::ErrorKind;
 /// A responder that signs with the signer of CRLs, and embeds the certificate in the file at a path, if one is given.
 pub(crate) fn issuer_responder(
     host: &Host<'_>,
-    path: &Option<Word<'_>>,
+    path: &Option<Argument<'_>>,
 ) -> Result<Responder<FileSigner>, Failure>
     ensures ok { IfOk result (λ responder.
         (crls : Identity) → IsAnswering (Issuer path.now)
         (signatory_of ⟦<FileSigner as Signer>⟧.identity crls responder)) }
     ensures certified { OnErr result (HasCertificate (Issuer path.now)) }
-    ensures faults { IfErr result IsOpening }
+    ensures faults { IfErr result IsOpenFailure }
 {
     match path {
         None => Ok(Responder::Issuer(None)),
@@ -43,13 +43,13 @@ pub(crate) fn issuer_responder(
 /// A responder with a key and a signer of its own, and the certificate in the file at a path.
 pub(crate) fn delegate_responder(
     host: &Host<'_>,
-    path: &Word<'_>,
+    path: &Argument<'_>,
     address: &SignerAddress<'_>,
 ) -> Result<Responder<FileSigner>, Failure>
     ensures ok { IfOk result (λ responder.
         (crls : Identity) → IsDelegate address.now
         (answers_by ⟦<FileSigner as Signer>⟧.identity crls responder)) }
-    ensures faults { IfErr result IsOpening }
+    ensures faults { IfErr result IsOpenFailure }
 {
     let certificate = certificate_at(host, path.as_str())?;
     if !is_key_identifier(address.algorithm, certificate.algorithm()) {

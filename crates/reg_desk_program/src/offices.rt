@@ -2,7 +2,7 @@
 
 ghost use Rattle.std.specs.Prelude.{◌≡◌, None, false, IfOk, IfErr};
 ghost use Rattle.reg_core.specs.Records.{no_records};
-ghost use Rattle.reg_desk_jobs.specs.RegisterFailures.{IsMaking, IsOpening};
+ghost use Rattle.reg_desk_jobs.specs.RegisterFailures.{IsCreateFailure, IsOpenFailure};
 ghost use Rattle.reg_office.specs.Answering.{signatory_of};
 ghost use Rattle.reg_office.specs.Calls.{seen};
 ghost use Rattle.reg_office.specs.declared.responder.Responder.TheVariants.{Issuer as ByIssuer};
@@ -37,9 +37,9 @@ pub(crate) fn create_over<C: Alter, S: Signer + Drop>(
         MakesOver C.Store connection S.signs office.store (S.identity office.signer)
         (no_records issuer policy)) }
     ensures alone { IfOk result (λ office. office.responder ≡ ByIssuer None) }
-    ensures err { IfErr result (λ left. IsMaking left.0) }
+    ensures err { IfErr result (λ left. IsCreateFailure left.0) }
 {
-    policy.values_are_in_range();
+    policy.prove_ranges();
     match Store::create(connection, issuer, policy) {
         Ok(store) => Ok(Office::new(store, signer)),
         Err(unopened) => Err((Failure::from(unopened.fault), unopened.connection)),
@@ -48,7 +48,7 @@ pub(crate) fn create_over<C: Alter, S: Signer + Drop>(
 
 /// Opens the register of a database with this signer of CRLs and this responder, and returns its office, or the failure and the
 /// connection. The host keeps the cause of `BadSigner`.
-pub(crate) fn office_over<C: Alter>(
+pub(crate) fn open_over<C: Alter>(
     host: &Host<'_>,
     connection: Connection<C>,
     crl_signer: &CrlSigner<'_>,
@@ -58,7 +58,7 @@ pub(crate) fn office_over<C: Alter>(
     ensures opened { IfOk result (λ office.
         OpensOver C.Store connection crl_signer.now office.store (seen ⟦<FileSigner as Signer>⟧ office).1) }
     ensures responder { IfOk result (λ office. office.responder ≡ responder) }
-    ensures err { IfErr result (λ left. IsOpening left.0) }
+    ensures err { IfErr result (λ left. IsOpenFailure left.0) }
 {
     match Store::open(host.rt.alloc(), connection) {
         Ok(store) => {
@@ -84,7 +84,7 @@ pub(crate) fn close<D: Disk + Drop>(connection: Connection<FileStore<D>>) {
 
 /// Presets the next signature of the signer of CRLs, or of the responder. This contract does not limit what is preset.
 #[tactic(auto, using(crate::proofs::Priming::given_anyhow))]
-pub(crate) fn preset_wanted(
+pub(crate) fn preset_next(
     signer: &mut FileSigner,
     responder: &mut Responder<FileSigner>,
     kind: SignatureKind,

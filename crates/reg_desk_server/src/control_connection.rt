@@ -165,7 +165,7 @@ impl<S: Link> ControlConnection<S> {
 
     /// Gives what must be signed before the first line is answered, once the previous reply is sent. `None` if no line is whole, if the handler
     /// signs nothing for it, and after `MOST_DEFERRALS` calls.
-    pub fn defer<H: Handler>(&mut self, handler: &mut H) -> Option<Deferred<H::Line>>
+    pub fn defer<H: Handler>(&mut self, handler: &mut H) -> Option<Deferred<H::ControlTicket>>
         ensures looked { DefersFirstLine H.defers handler.old handler.new self.old }
         ensures arrived { self.new.arrived ≡ self.old.arrived }
         ensures unsent { self.new.unsent ≡ self.old.unsent }
@@ -188,7 +188,7 @@ impl<S: Link> ControlConnection<S> {
     pub fn answer_deferred<H: Handler>(
         &mut self,
         handler: &mut H,
-        deferred: Deferred<H::Line>,
+        deferred: Deferred<H::ControlTicket>,
         link: Option<SignatureRequest>,
     ) -> Result<(), EventLoopFault>
         requires { H.has_control handler.old }

@@ -14,7 +14,7 @@ use crate::poller::{
     LINE_SIGNER_ENDED, MOST_SIGNATURES,
 };
 use crate::shared::{LostConnection, Shared};
-use crate::signature_requests::{Pending, Requester, SignatureRequests, TIMEOUT_MILLIS};
+use crate::signature_requests::{Requester, SignatureRequests, TIMEOUT_MILLIS, WantedSignature};
 use mio::net::{TcpListener, TcpStream, UnixListener};
 use std::alloc::AllocGlobal;
 use std::io;
@@ -293,7 +293,7 @@ impl<H: Handler> EventLoop<H> {
     }
 
     /// Requests a queued signature at a free index, unless its client disconnected while it was queued.
-    fn request(&mut self, pending: Pending, index: usize, handler: &H, now: u64) {
+    fn request(&mut self, pending: WantedSignature, index: usize, handler: &H, now: u64) {
         let requester = pending.requester;
         let has_waited = pending.deadline < now.saturating_add(TIMEOUT_MILLIS);
         if has_waited && self.http.close_if_ended(requester, &mut self.shared, now) {
@@ -333,7 +333,7 @@ impl<H: Handler> EventLoop<H> {
         let Some(requested) = self.signatures.at(index) else {
             return;
         };
-        let Pending {
+        let WantedSignature {
             requester,
             deadline,
         } = requested.pending;

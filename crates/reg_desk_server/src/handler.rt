@@ -19,7 +19,7 @@ pub enum ConnectionFault {
     /// The client broke the connection off, or it can't be polled.
     Broken,
     /// Its time was up: its request was incomplete, or the client had not received its whole answer.
-    Late,
+    TimedOut,
     /// It was evicted for another one: its request was incomplete, or the client had not received its whole answer.
     Evicted,
     /// There was no memory for the bytes that came on it.
@@ -54,7 +54,7 @@ pub trait Handler {
     type Ticket: Drop;
 
     /// What is kept of a line until its message is signed.
-    type Line: Drop;
+    type ControlTicket: Drop;
 
     // The outcome of this request, with the handler before and after it.
     ghost answers: { Self → List ℕ → Outcome Self.Ticket → Self → Type 0 };
@@ -134,11 +134,11 @@ pub trait Handler {
         ensures fails { OnErr result failed };
 
     /// Makes the message that is to be signed before a line is answered. `None` if there is none, or no signer to wait for.
-    fn defer(&mut self, line: &[u8]) -> Option<Deferred<Self::Line>>
+    fn defer(&mut self, line: &[u8]) -> Option<Deferred<Self::ControlTicket>>
         ensures { defers self.old line.now self.new };
 
     /// Connects to the signer for a line, without blocking. The error is `WouldBlock` as for [`Handler::request_signature`].
-    fn connect_to_signer(&self, ticket: &Self::Line) -> io::Result<SignatureRequest>;
+    fn connect_to_signer(&self, ticket: &Self::ControlTicket) -> io::Result<SignatureRequest>;
 
     /// Answers a line whose message was made. `link` is the connection on which the message was sent, once it is at its end; `None` if there is no
     /// signature. Returns `None` if another message is to be signed by now: then `defer` is to be called again.
@@ -146,7 +146,7 @@ pub trait Handler {
         &mut self,
         line: &[u8],
         last_reason: &mut Vec<u8>,
-        deferred: Deferred<Self::Line>,
+        deferred: Deferred<Self::ControlTicket>,
         link: Option<SignatureRequest>,
     ) -> Result<Option<Vec<u8>>, EventLoopFault>
         requires { has_control self.old }

@@ -138,7 +138,7 @@ impl<S: Link, H: Handler> HttpConnection<S, H> {
             return None;
         }
         if self.fault.is_none() && self.is_expired(now) {
-            self.fault = Some(ConnectionFault::Late);
+            self.fault = Some(ConnectionFault::TimedOut);
         }
         self.fault
     }

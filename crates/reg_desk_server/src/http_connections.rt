@@ -184,7 +184,7 @@ impl<H: Handler> HttpConnections<H> {
         for slot in 0..self.slots.entries.len() {
             match self.slots.take(slot) {
                 Some(connection) if connection.is_expired(now) => {
-                    self.expire(slot, connection, shared, ConnectionFault::Late);
+                    self.expire(slot, connection, shared, ConnectionFault::TimedOut);
                 }
                 Some(connection) => self.slots.put(slot, connection),
                 None => {}
@@ -242,7 +242,7 @@ impl<H: Handler> HttpConnections<H> {
     fn close_unanswered(&mut self, slot: usize, shared: &mut Shared) {
         if let Some(connection) = self.slots.take(slot) {
             if connection.is_receiving() {
-                self.close(slot, connection, shared, ConnectionFault::Late);
+                self.close(slot, connection, shared, ConnectionFault::TimedOut);
             } else {
                 self.slots.put(slot, connection);
             }

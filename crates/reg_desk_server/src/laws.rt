@@ -32,7 +32,7 @@ pub fn each_line_is_answered_once_in_order<S: Link, H: Handler>()
 /// after that are dropped (`HasServed`). `HttpConnection::advance`, `answer` and `complete` preserve this, also while a signature is requested, and
 /// if no more of the request is received.
 pub fn each_request_is_answered_once<S: Link, H: Handler>()
-    ensures begins { (client : HttpConnection S H H.Ticket H.Line) → HasReceived client.stage []
+    ensures begins { (client : HttpConnection S H H.Ticket H.ControlTicket) → HasReceived client.stage []
         → HasServed S.Write.contents S.Read.remaining H.Handler client.link client }
     ensures advances { ServesOn S.Write.contents S.Read.remaining H.Handler }
     ensures answers { (s t : H)

@@ -23,7 +23,7 @@ pub(crate) struct Requester {
 
 /// A signature that an answer needs, and when its time is up.
 #[derive(Clone, Copy)]
-pub(crate) struct Pending {
+pub(crate) struct WantedSignature {
     pub(crate) requester: Requester,
     /// In milliseconds of the handler's clock.
     pub(crate) deadline: u64,
@@ -32,7 +32,7 @@ pub(crate) struct Pending {
 /// A requested signature. The requester's HTTP connection keeps the connection to the signer.
 #[derive(Clone, Copy)]
 pub(crate) struct Requested {
-    pub(crate) pending: Pending,
+    pub(crate) pending: WantedSignature,
     /// Whether the connection to the signer is at its end, so that all of the answer has arrived.
     pub(crate) has_arrived: bool,
 }
@@ -40,7 +40,7 @@ pub(crate) struct Requested {
 /// The signatures that were requested, each on its own connection, and the queue of those that are to be requested.
 #[derive(Drop)]
 pub(crate) struct SignatureRequests {
-    queue: VecDeque<Pending>,
+    queue: VecDeque<WantedSignature>,
     requested: Vec<Option<Requested>>,
     /// Until when no signature is requested, because the last request would have blocked.
     paused: Option<u64>,
@@ -62,7 +62,7 @@ impl SignatureRequests {
     pub(crate) fn add(&mut self, requester: Requester, now: u64) -> bool {
         let deadline = now.saturating_add(TIMEOUT_MILLIS);
         self.queue
-            .push_back(Pending {
+            .push_back(WantedSignature {
                 requester,
                 deadline,
             })
@@ -82,7 +82,7 @@ impl SignatureRequests {
     }
 
     /// The next of the queue, and a free index for it; `None` during a pause, if no index is free, or if the queue is empty.
-    pub(crate) fn next(&mut self, now: u64) -> Option<(Pending, usize)> {
+    pub(crate) fn next(&mut self, now: u64) -> Option<(WantedSignature, usize)> {
         if let Some(paused) = self.paused {
             if now < paused {
                 return None;
@@ -94,13 +94,13 @@ impl SignatureRequests {
     }
 
     /// Puts a signature back at the head of the queue, because its request would have blocked, and begins a pause.
-    pub(crate) fn requeue(&mut self, pending: Pending, now: u64) {
+    pub(crate) fn requeue(&mut self, pending: WantedSignature, now: u64) {
         self.paused = Some(now.saturating_add(PAUSE_MILLIS));
         // There is capacity for it: it was taken from there.
         let _ = self.queue.push_front(pending);
     }
 
-    pub(crate) fn take_expired(&mut self, now: u64) -> Option<Pending> {
+    pub(crate) fn take_expired(&mut self, now: u64) -> Option<WantedSignature> {
         match self.queue.front() {
             Some(first) if first.deadline <= now => self.queue.pop_front(),
             _ => None,
@@ -121,7 +121,7 @@ impl SignatureRequests {
     }
 
     /// Keeps a requested signature at a free index. Returns whether there was memory for it.
-    pub(crate) fn put(&mut self, index: usize, pending: Pending) -> bool {
+    pub(crate) fn put(&mut self, index: usize, pending: WantedSignature) -> bool {
         self.polls = POLLS;
         let requested = Requested {
             pending,

@@ -27,7 +27,7 @@ enum Progress {
 pub(crate) struct WaitingLine<H: Handler> {
     slot: usize,
     connection: ControlConnection<UnixStream>,
-    ticket: H::Line,
+    ticket: H::ControlTicket,
     /// The message to be signed, with how much of it was sent.
     message: Unsent,
     /// The connection to the signer, if there is one yet.
@@ -41,7 +41,7 @@ impl<H: Handler> WaitingLine<H> {
     pub(crate) fn new(
         slot: usize,
         connection: ControlConnection<UnixStream>,
-        deferred: Deferred<H::Line>,
+        deferred: Deferred<H::ControlTicket>,
         now: u64,
     ) -> WaitingLine<H> {
         WaitingLine {
@@ -118,7 +118,7 @@ impl<H: Handler> WaitingLine<H> {
     ) -> (
         usize,
         ControlConnection<UnixStream>,
-        Deferred<H::Line>,
+        Deferred<H::ControlTicket>,
         Option<SignatureRequest>,
     ) {
         let WaitingLine {

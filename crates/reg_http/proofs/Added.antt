@@ -16,7 +16,7 @@ use Rattle.reg_core.specs.declared.rows.RequestRow.{RequestRow}
 use Rattle.reg_http.specs.Added.{AddsARequestAtMost}
 use Rattle.reg_http.specs.Answers.{of_any_kind}
 use Rattle.reg_core_laws.specs.Run.{Happens}
-use Rattle.reg_office_api.specs.CallSteps.{Signs, Ocsps}
+use Rattle.reg_office_api.specs.CallSteps.{Signs, AnswersOcsp}
 use Rattle.reg_office_api.specs.Responses.{Replies}
 use Rattle.reg_office_api.specs.Signatories.{Signatory}
 use Rattle.reg_office_api.specs.declared.response.ResponseKind.{ResponseKind}
@@ -62,6 +62,6 @@ replies_stay signs signatory before now request (Ok response) after came = came.
 replies_stay signs signatory before now request (Err memory) after came = came
 
 pub ocsps_stay : (signs : Signs) (signatory : Signatory) (before : Records) (now : ℕ) (request : List ℕ) (given : Result (ResponseKind × List ℕ) NoMemory)
-    (after : Records) → of_any_kind (Ocsps signs signatory) before now request given after → after ≡ before
+    (after : Records) → of_any_kind (AnswersOcsp signs signatory) before now request given after → after ≡ before
 ocsps_stay signs signatory before now request (Ok response) after came = came.1
 ocsps_stay signs signatory before now request (Err memory) after came = came

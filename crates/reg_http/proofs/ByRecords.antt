@@ -1,8 +1,8 @@
 -- What a request comes to, by the calls of an office, is a step of the records that stand in it.
 use Rattle.std.proofs.Common.{◌≡◌, ℕ, List, refl, subst, sym}
 use Rattle.std.specs.Prelude.{Result, Ok, Err}
-use Rattle.reg_office_api.specs.CallSteps.{Runs, Asks, Ocsps, Crls}
-use Rattle.reg_office_api.specs.Calls.{RunsIn, AsksIn, DraftsIn, CrlsIn}
+use Rattle.reg_office_api.specs.CallSteps.{Runs, Asks, AnswersOcsp, GivesCrl}
+use Rattle.reg_office_api.specs.Calls.{RunsIn, AsksIn, DraftsIn, GivesCrlIn}
 use Rattle.reg_office_api.specs.Drafts.{Begins, Drafts}
 use Rattle.reg_office_api.specs.Leads.{Leads}
 use Rattle.reg_office_api.specs.Responses.{Replies}
@@ -16,7 +16,7 @@ use Rattle.reg_core.specs.declared.memory.Memory.{Memory}
 use Rattle.reg_http_head.specs.Response.{Response}
 use Rattle.reg_http.specs.Added.{AddsARequestAtMost}
 use Rattle.reg_http.specs.Answers.{Answers, BeginsIn, BeginsTo, RespondsIn, RespondsTo, BeginsOcsp, of_any_kind}
-use Rattle.reg_http.specs.RoutedRequests.{RoutedRequest, refused, method_not_allowed, unread, malformed, ocsp_of, crl_of, status_of, counts_of, request_of}
+use Rattle.reg_http.specs.RoutedRequests.{RoutedRequest, refused, method_not_allowed, unreadable, malformed, ocsp_of, crl_of, status_of, counts_of, request_of}
 use Rattle.reg_http.specs.AnswerEffects.{AnswerEffects, answer_effects}
 use Rattle.reg_http.specs.declared.answered.Answered.{Answered}
 use Rattle.reg_crl.specs.Signing.{signed_by}
@@ -36,20 +36,20 @@ module _ {O : Type 0} (office : Office O) (now : ℕ) (s t : O) where
     -- what is told, over the records, which gain one request for revocation at most
     abbrev Answer : RoutedRequest → AnswerEffects → Signatory → Records → Records → Type 0
     Answer what it signatory before after =
-        Answers (Runs office.signs signatory) Asks (replies signatory) Crls now before what it after × AddsARequestAtMost now before after
+        Answers (Runs office.signs signatory) Asks (replies signatory) GivesCrl now before what it after × AddsARequestAtMost now before after
 
     stayed : (what : RoutedRequest) (it : AnswerEffects) → t ≡ s
-        → ((signatory : Signatory) (before after : Records) → after ≡ before → Answers (Runs office.signs signatory) Asks (replies signatory) Crls now before what it after)
+        → ((signatory : Signatory) (before after : Records) → after ≡ before → Answers (Runs office.signs signatory) Asks (replies signatory) GivesCrl now before what it after)
         → Leads office.is_clean office.stands (Answer what it) s t
     stayed what it same from =
         follows office.is_clean office.stands _ (Answer what it)
         (λ signatory before after still. (from signatory before after still, nothing_added now before after still)) s t (stays office.is_clean office.stands s t same)
 
-    pub answer_leads : (what : RoutedRequest) (it : AnswerEffects) → Answers (RunsIn office) (AsksIn office) RepliesBy (CrlsIn office) now s what it t
+    pub answer_leads : (what : RoutedRequest) (it : AnswerEffects) → Answers (RunsIn office) (AsksIn office) RepliesBy (GivesCrlIn office) now s what it t
         → Leads office.is_clean office.stands (Answer what it) s t
     answer_leads (refused status) it (same, is) = stayed (refused status) it same (λ signatory before after still. (still, is))
     answer_leads (method_not_allowed method) it (same, is) = stayed (method_not_allowed method) it same (λ signatory before after still. (still, is))
-    answer_leads unread it (same, is) = stayed unread it same (λ signatory before after still. (still, is))
+    answer_leads unreadable it (same, is) = stayed unreadable it same (λ signatory before after still. (still, is))
     answer_leads malformed it (same, is) = stayed malformed it same (λ signatory before after still. (still, is))
     answer_leads (ocsp_of request) it (given, came, is) =
         follows office.is_clean office.stands _ (Answer (ocsp_of request) it)
@@ -73,12 +73,12 @@ module _ {O : Type 0} (office : Office O) (now : ℕ) (s t : O) where
 
   pub responds_leads : (asks : RoutedRequest) (response : Response) → RespondsIn office now s asks response t
       → Leads office.is_clean office.stands
-      (λ signatory before after. RespondsTo (Runs office.signs signatory) Asks (Ocsps office.signs signatory) Crls now before asks response after
+      (λ signatory before after. RespondsTo (Runs office.signs signatory) Asks (AnswersOcsp office.signs signatory) GivesCrl now before asks response after
       × AddsARequestAtMost now before after)
       s t
   responds_leads asks response (it, answered, same) =
       follows office.is_clean office.stands _ _ (λ signatory before after made. ((it, made.0, same), made.1)) s t
-      (answer_leads (λ signatory. of_any_kind (Ocsps office.signs signatory)) (ocsps_stay office.signs) asks it answered)
+      (answer_leads (λ signatory. of_any_kind (AnswersOcsp office.signs signatory)) (ocsps_stay office.signs) asks it answered)
 
   -- the answer, or what is left to be signed for it
   pub begins_to : (what asks : RoutedRequest) (begun : ReadyOrUnsigned Answered Drafted) → what ≡ asks → BeginsIn office now s what begun t → BeginsIn office now s asks begun t
@@ -86,7 +86,7 @@ module _ {O : Type 0} (office : Office O) (now : ℕ) (s t : O) where
 
   pub begin_leads : (asks : RoutedRequest) (begun : ReadyOrUnsigned Answered Drafted) → BeginsIn office now s asks begun t
       → Leads office.is_clean office.stands
-      (λ signatory before after. BeginsTo (Runs office.signs signatory) Asks (Replies office.signs signatory) Crls (Drafts signatory) now before asks begun after
+      (λ signatory before after. BeginsTo (Runs office.signs signatory) Asks (Replies office.signs signatory) GivesCrl (Drafts signatory) now before asks begun after
       × AddsARequestAtMost now before after)
       s t
   begin_leads asks (Ready answered) made = answer_leads (Replies office.signs) (replies_stay office.signs) asks (answer_effects answered) made

@@ -1,6 +1,6 @@
 -- The answer to each request, by the calls of the office.
 use Rattle.std.specs.Prelude.{◌≡◌, ℕ, List, Option, Result, Ok, Err, codes}
-use Rattle.reg_office_api.specs.Calls.{RunsIn, AsksIn, OcspsIn, RepliesIn, DraftsIn, CrlsIn}
+use Rattle.reg_office_api.specs.Calls.{RunsIn, AsksIn, AnswersOcspIn, RepliesIn, DraftsIn, GivesCrlIn}
 use Rattle.reg_office_api.specs.declared.office.Office.{Ghosts as Office}
 use Rattle.reg_office_api.specs.declared.response.OcspResponse.{OcspResponse}
 use Rattle.reg_office_api.specs.declared.response.ResponseKind.{ResponseKind}
@@ -14,7 +14,7 @@ use Rattle.reg_core.specs.declared.refusal.Fault.{Fault}
 use Rattle.reg_core.specs.declared.refusal.Fault.TheVariants.{Refused}
 use Rattle.reg_core.specs.declared.refusal.Refusal.TheVariants.{Syntax}
 use Rattle.reg_http_head.specs.Response.{Response}
-use Rattle.reg_http.specs.RoutedRequests.{RoutedRequest, refused, method_not_allowed, unread, malformed, ocsp_of, crl_of, status_of, counts_of, request_of}
+use Rattle.reg_http.specs.RoutedRequests.{RoutedRequest, refused, method_not_allowed, unreadable, malformed, ocsp_of, crl_of, status_of, counts_of, request_of}
 use Rattle.reg_http.specs.Bodies.{http_refusal, fault_response, der, malformed_text}
 use Rattle.reg_http.specs.Bodies.{method_not_allowed as only_response}
 use Rattle.reg_http.specs.AnswerEffects.{AnswerEffects, plain, outcome_effects, request_effects, crl_effects, ocsp_effects, answer_effects}
@@ -27,19 +27,19 @@ use Rattle.reg_io.specs.declared.begun.ReadyOrUnsigned.TheVariants.{Ready, Unsig
 module _ {S : Type 0} (runs : S → ℕ → Command → Result Reply Fault → S → Type 0)
     (asks : S → ℕ → Query → Result Reply Fault → S → Type 0)
     (replies : S → ℕ → List ℕ → Result (ResponseKind × List ℕ) Memory → S → Type 0)
-    (crls : S → Option ℕ → Result (List ℕ) Fault → S → Type 0) where
+    (gives_crl : S → Option ℕ → Result (List ℕ) Fault → S → Type 0) where
   -- the answer to a request; only a request for revocation runs a command
   abbrev pub Answers : ℕ → S → RoutedRequest → AnswerEffects → S → Type 0
   Answers now s (refused status) it t = (t ≡ s) × (it ≡ plain (http_refusal status))
   Answers now s (method_not_allowed method) it t = (t ≡ s) × (it ≡ plain (only_response method))
-  Answers now s unread it t = (t ≡ s) × (it ≡ plain (fault_response (Refused Syntax)))
+  Answers now s unreadable it t = (t ≡ s) × (it ≡ plain (fault_response (Refused Syntax)))
   Answers now s malformed it t =
       (t ≡ s) × (it ≡ plain (der (codes "application/ocsp-response") malformed_text))
   Answers now s (ocsp_of request) it t =
       (given : Result (ResponseKind × List ℕ) Memory) × replies s now request given t
       × (it ≡ ocsp_effects given)
   Answers now s (crl_of number) it t =
-      (given : Result (List ℕ) Fault) × crls s number given t × (it ≡ crl_effects given)
+      (given : Result (List ℕ) Fault) × gives_crl s number given t × (it ≡ crl_effects given)
   Answers now s (status_of serial) it t =
       (given : Result Reply Fault) × asks s now (Status serial) given t × (it ≡ outcome_effects given)
   Answers now s counts_of it t =
@@ -75,7 +75,7 @@ bytes_in (Err memory) = Err memory
 -- if the office reports no kind: a response of any kind
 abbrev pub of_any_kind : {S : Type 0} → (S → ℕ → List ℕ → Result (List ℕ) Memory → S → Type 0)
     → S → ℕ → List ℕ → Result (ResponseKind × List ℕ) Memory → S → Type 0
-of_any_kind ocsps s now request given t = ocsps s now request (bytes_in given) t
+of_any_kind answers_ocsp s now request given t = answers_ocsp s now request (bytes_in given) t
 
 -- the response to a request, if OCSP responses are bytes without a kind
 abbrev pub RespondsTo
@@ -84,20 +84,20 @@ abbrev pub RespondsTo
     → (S → ℕ → List ℕ → Result (List ℕ) Memory → S → Type 0)
     → (S → Option ℕ → Result (List ℕ) Fault → S → Type 0)
     → ℕ → S → RoutedRequest → Response → S → Type 0
-RespondsTo runs asks ocsps crls now s what response t =
-    (it : AnswerEffects) × Answers runs asks (of_any_kind ocsps) crls now s what it t
+RespondsTo runs asks answers_ocsp gives_crl now s what response t =
+    (it : AnswerEffects) × Answers runs asks (of_any_kind answers_ocsp) gives_crl now s what it t
     × (response ≡ it.response)
 
 -- the answers of an office, with its relations
 abbrev pub AnswersIn : {O : Type 0} → Office O → ℕ → O → RoutedRequest → AnswerEffects → O → Type 0
-AnswersIn office = Answers (RunsIn office) (AsksIn office) (RepliesIn office) (CrlsIn office)
+AnswersIn office = Answers (RunsIn office) (AsksIn office) (RepliesIn office) (GivesCrlIn office)
 
 -- the same, or the draft of a response to be signed
 abbrev pub BeginsIn
     : {O : Type 0} → Office O → ℕ → O → RoutedRequest → ReadyOrUnsigned Answered Drafted → O → Type 0
 BeginsIn office =
-    BeginsTo (RunsIn office) (AsksIn office) (RepliesIn office) (CrlsIn office) (DraftsIn office)
+    BeginsTo (RunsIn office) (AsksIn office) (RepliesIn office) (GivesCrlIn office) (DraftsIn office)
 
 -- its responses, by its calls
 abbrev pub RespondsIn : {O : Type 0} → Office O → ℕ → O → RoutedRequest → Response → O → Type 0
-RespondsIn office = RespondsTo (RunsIn office) (AsksIn office) (OcspsIn office) (CrlsIn office)
+RespondsIn office = RespondsTo (RunsIn office) (AsksIn office) (AnswersOcspIn office) (GivesCrlIn office)

@@ -4,7 +4,7 @@ pub mod RoutedRequests
 pub mod Bodies
 pub mod Exchanges
 pub mod Lists
-pub mod Parts
+pub mod Meanings
 pub mod RouteNames
 pub mod Routes
 pub mod Served

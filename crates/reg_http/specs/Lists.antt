@@ -18,15 +18,15 @@ use Rattle.reg_http.specs.declared.lists.ListRequest.{ListRequest}
 use Rattle.reg_http.specs.declared.lists.ListRequest.TheVariants.{OnlyGet, Unreadable, Page}
 
 -- the page that is requested; `Unreadable` if the list or its query can't be read
-abbrev pub or_unread : Option PageQuery → ListRequest
-or_unread (Some wanted) = Page wanted
-or_unread None = Unreadable
+abbrev pub or_unreadable : Option PageQuery → ListRequest
+or_unreadable (Some wanted) = Page wanted
+or_unreadable None = Unreadable
 
 -- the page that a path `/list/WORD` and its query request
 abbrev pub page_of_path : List ℕ → List ℕ → ListRequest
 page_of_path path decoded_query =
     if starts_with (λ a b. a == b) path (codes "/list/")
-    then or_unread (page_query (drop 6 path) decoded_query) else Unreadable
+    then or_unreadable (page_query (drop 6 path) decoded_query) else Unreadable
 
 -- the same for a target (RFC 3986 3.3, 3.4): a path, and after `?` the query, percent-decoded
 unfoldable pub page_in : List ℕ → ListRequest

@@ -22,7 +22,7 @@ use Rattle.reg_http.specs.declared.route.Route.TheVariants.{Ocsp, OcspRest, Crl,
 pub data RoutedRequest : Type 0 where
   refused : ℕ → RoutedRequest
   method_not_allowed : List ℕ → RoutedRequest
-  unread : RoutedRequest
+  unreadable : RoutedRequest
   malformed : RoutedRequest
   ocsp_of : List ℕ → RoutedRequest
   crl_of : Option ℕ → RoutedRequest
@@ -68,14 +68,14 @@ wanted_in value =
 abbrev pub wanted : List ℕ → Option (ℕ × List ℕ)
 wanted body = option_and_then wanted_in (json_of body)
 
--- the request with a value that was read; `unread` if it can't be read
-abbrev pub or_unread : {A : Type 0} → (A → RoutedRequest) → Option A → RoutedRequest
-or_unread asks (Some value) = asks value
-or_unread asks None = unread
+-- the request with a value that was read; `unreadable` if it can't be read
+abbrev pub or_unreadable : {A : Type 0} → (A → RoutedRequest) → Option A → RoutedRequest
+or_unreadable asks (Some value) = asks value
+or_unreadable asks None = unreadable
 
--- a request for revocation, with its serial number and the word of its ground; `unread` if it can't be read
+-- a request for revocation, with its serial number and the word of its ground; `unreadable` if it can't be read
 abbrev pub revocation_request : Option (ℕ × List ℕ) → RoutedRequest
-revocation_request wanted = or_unread (λ (it : ℕ × List ℕ). request_of it.0 it.1) wanted
+revocation_request wanted = or_unreadable (λ (it : ℕ × List ℕ). request_of it.0 it.1) wanted
 
 -- an OCSP request that was decoded; `malformed` if it can't be decoded
 abbrev pub or_malformed : Option (List ℕ) → RoutedRequest
@@ -87,19 +87,22 @@ abbrev pub by_method : List ℕ → List ℕ → RoutedRequest → RoutedRequest
 by_method has method asks = if bytes_eq method has then asks else method_not_allowed has
 
 -- the meaning of a request at a route, with the variable part of the path
-abbrev pub asked_at : List ℕ → Route → List ℕ → List ℕ → RoutedRequest
-asked_at method Ocsp over body = by_method (codes "POST") method (ocsp_of body)
-asked_at method OcspRest over body = by_method (codes "GET") method (or_malformed (decoded over))
-asked_at method Crl over body = by_method (codes "GET") method (crl_of None)
-asked_at method CrlNumber over body =
-    by_method (codes "GET") method (or_unread (λ n. crl_of (Some n)) (number_of over))
-asked_at method Status over body = by_method (codes "GET") method (or_unread status_of (serial_of over))
-asked_at method Counts over body = by_method (codes "GET") method counts_of
-asked_at method Requests over body = by_method (codes "POST") method (revocation_request (wanted body))
-asked_at method _ over body = refused 404
+abbrev pub request_at_route : List ℕ → Route → List ℕ → List ℕ → RoutedRequest
+request_at_route method Ocsp over body = by_method (codes "POST") method (ocsp_of body)
+request_at_route method OcspRest over body = by_method (codes "GET") method (or_malformed (decoded over))
+request_at_route method Crl over body = by_method (codes "GET") method (crl_of None)
+request_at_route method CrlNumber over body =
+    by_method (codes "GET") method (or_unreadable (λ n. crl_of (Some n)) (number_of over))
+request_at_route method Status over body =
+    by_method (codes "GET") method (or_unreadable status_of (serial_of over))
+request_at_route method Counts over body = by_method (codes "GET") method counts_of
+request_at_route method Requests over body =
+    by_method (codes "POST") method (revocation_request (wanted body))
+request_at_route method _ over body = refused 404
 
 -- the meaning of a request
 abbrev pub asked : List ℕ → List ℕ → List ℕ → RoutedRequest
 asked method target body =
-    if is_rooted target then asked_at method (route (path_of target)).0 (route (path_of target)).1 body
+    if is_rooted target
+    then request_at_route method (route (path_of target)).0 (route (path_of target)).1 body
     else refused 400

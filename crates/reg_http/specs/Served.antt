@@ -1,7 +1,7 @@
 -- How serving one request ends.
 use Rattle.std.specs.Prelude.{◌≡◌, ℕ, ◌+◌, ◌≤◌, ◌⊎◌, List, length, Option, Result, Ok, Err}
 use Rattle.std.specs.Io.KnownBytes.{Consumes, Appends}
-use Rattle.reg_office_api.specs.Calls.{RunsIn, AsksIn, OcspsIn, CrlsIn}
+use Rattle.reg_office_api.specs.Calls.{RunsIn, AsksIn, AnswersOcspIn, GivesCrlIn}
 use Rattle.reg_office_api.specs.declared.office.Office.{Ghosts as Office}
 use Rattle.reg_core.specs.declared.command.Command.{Command}
 use Rattle.reg_core.specs.declared.command.Query.{Query}
@@ -25,13 +25,14 @@ pub record TakesRequest (input left : Option (List ℕ)) (took : List ℕ) : Typ
 -- The office's relations, as in `RespondsTo`; `s` is the office before, `t` after.
 module _ {S : Type 0} (runs : S → ℕ → Command → Result Reply Fault → S → Type 0)
     (asks : S → ℕ → Query → Result Reply Fault → S → Type 0)
-    (ocsps : S → ℕ → List ℕ → Result (List ℕ) NoMemory → S → Type 0)
-    (crls : S → Option ℕ → Result (List ℕ) Fault → S → Type 0) where
+    (answers_ocsp : S → ℕ → List ℕ → Result (List ℕ) NoMemory → S → Type 0)
+    (gives_crl : S → Option ℕ → Result (List ℕ) Fault → S → Type 0) where
   -- the text of the refusal, or of the answer; the constant text if there was no memory for an answer
   abbrev pub Responds : ℕ → S → Part → List ℕ → S → Type 0
   Responds now s (refused status) text t = (t ≡ s) × IsText (http_refusal status) now text
   Responds now s (asked method target body) text t =
-      ((response : Response) × RespondsTo runs asks ocsps crls now s (asks_for method target body) response t
+      ((response : Response)
+      × RespondsTo runs asks answers_ocsp gives_crl now s (asks_for method target body) response t
       × IsText response now text)
       ⊎ ((t ≡ s) × (text ≡ memory_text))
 
@@ -73,9 +74,9 @@ module _ {S : Type 0} (runs : S → ℕ → Command → Result Reply Fault → S
 module _ {O : Type 0} (office : Office O) where
   abbrev pub ReplyEndsIn
       : ℕ → O → O → Part → Option (List ℕ) → Option (List ℕ) → Result (Unit {0}) Fault → Type 0
-  ReplyEndsIn = ReplyEnds (RunsIn office) (AsksIn office) (OcspsIn office) (CrlsIn office)
+  ReplyEndsIn = ReplyEnds (RunsIn office) (AsksIn office) (AnswersOcspIn office) (GivesCrlIn office)
 
   abbrev pub ServingEndsIn
       : ℕ → O → O → Option (List ℕ) → Option (List ℕ) → Option (List ℕ) → Option (List ℕ)
       → Result (Unit {0}) Fault → Type 0
-  ServingEndsIn = ServingEnds (RunsIn office) (AsksIn office) (OcspsIn office) (CrlsIn office)
+  ServingEndsIn = ServingEnds (RunsIn office) (AsksIn office) (AnswersOcspIn office) (GivesCrlIn office)

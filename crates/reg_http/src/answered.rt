@@ -18,7 +18,7 @@ use reg_office_api::{OcspResponse, SignatureOutcome, StoreEffect};
 
 /// A request for revocation that was entered or decided, as the log names it.
 #[derive(Clone, Copy)]
-pub struct NamedRequest {
+pub struct LoggedRequest {
     pub id: u64,
     pub serial: Serial,
     /// The word of its ground, if it was entered.
@@ -32,7 +32,7 @@ pub struct Answered {
     pub signature: SignatureOutcome,
     pub store: StoreEffect,
     /// The request for revocation that was entered, for the log.
-    pub named: Option<NamedRequest>,
+    pub named: Option<LoggedRequest>,
 }
 
 impl Answered {
@@ -100,7 +100,7 @@ pub(crate) fn outcome_answer(buffer: Vec<u8>, outcome: Outcome) -> Answered
     }
 }
 
-/// The answer to a request for revocation, with its [`NamedRequest`] if it was entered.
+/// The answer to a request for revocation, with its [`LoggedRequest`] if it was entered.
 pub(crate) fn request_answer(
     buffer: Vec<u8>,
     serial: Serial,
@@ -117,11 +117,11 @@ pub(crate) fn request_answer(
     answered
 }
 
-fn entered_request(serial: Serial, word: Label, outcome: &Outcome) -> Option<NamedRequest>
+fn entered_request(serial: Serial, word: Label, outcome: &Outcome) -> Option<LoggedRequest>
     ensures { result ≡ entered_request serial word outcome.now }
 {
     match outcome {
-        Ok(Reply::Request { id, .. }) => Some(NamedRequest {
+        Ok(Reply::Request { id, .. }) => Some(LoggedRequest {
             id: *id,
             serial,
             ground: Some(word),

@@ -7,7 +7,7 @@ ghost use Rattle.reg_http.specs.Bodies.{ocsp_reply};
 ghost use Rattle.reg_http.specs.Exchanges.{IsEmpty, IsMemoryAnswer, PutsText, HasNoEffects, HasOnlySignature, HasEffects, BeginsExchange, AnswersText};
 ghost use Rattle.reg_http.specs.AnswerEffects.{answer_effects};
 
-use crate::answered::{Answered, NamedRequest, ocsp_answer};
+use crate::answered::{Answered, LoggedRequest, ocsp_answer};
 use crate::bodies::json_buffer;
 use crate::route::Route;
 use reg_core::{Memory, Moment};
@@ -39,7 +39,7 @@ pub struct Exchange {
     pub signature: SignatureOutcome,
     pub store: StoreEffect,
     /// The request for revocation that was entered, for the log.
-    pub named: Option<NamedRequest>,
+    pub named: Option<LoggedRequest>,
     pub text: Vec<u8>,
 }
 

@@ -5,14 +5,14 @@ mod answered;
 mod bodies;
 mod exchange;
 mod lists;
-mod parts;
+mod meaning;
 mod paths;
 mod respond;
 mod route;
 pub mod routes;
 mod serve;
 
-pub use answered::{Answered, NamedRequest};
+pub use answered::{Answered, LoggedRequest};
 pub use bodies::json;
 pub use exchange::{Exchange, UnsignedResponse, begun_exchange, text_buffer};
 pub use lists::answer_list;

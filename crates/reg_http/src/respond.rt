@@ -4,12 +4,12 @@ ghost use Rattle.std.specs.Prelude.{◌≡◌, ◌≤◌, [], codes, vec_capacit
 ghost use Rattle.reg_http_head.specs.Response.{shown};
 ghost use Rattle.reg_http.specs.Answers.{AnswersIn};
 ghost use Rattle.reg_http.specs.Bodies.{der, malformed_text};
-ghost use Rattle.reg_http.specs.Parts.{request_of_call};
+ghost use Rattle.reg_http.specs.Meanings.{request_of_call};
 ghost use Rattle.reg_http.specs.AnswerEffects.{answer_effects};
 
 use crate::answered::{Answered, answer_of_fault, crl_answer, outcome_answer, request_answer};
 use crate::bodies::{OCSP_RESPONSE, der, method_not_allowed, refusal};
-use crate::parts::Call;
+use crate::meaning::Call;
 use reg_core::{Command, Fault, Moment, Query, Refusal};
 use reg_http_head::{Answer, put};
 use reg_office_api::Office;

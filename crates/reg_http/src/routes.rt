@@ -1,7 +1,7 @@
 //! Answers one request, by its route.
 
 ghost use Rattle.std.specs.Prelude.{◌≡◌, IfOk, OnErr, codes};
-ghost use Rattle.reg_office_api.specs.CallSteps.{Runs, Asks, Ocsps, Crls};
+ghost use Rattle.reg_office_api.specs.CallSteps.{Runs, Asks, AnswersOcsp, GivesCrl};
 ghost use Rattle.reg_office_api.specs.Drafts.{Drafts};
 ghost use Rattle.reg_office_api.specs.Calls.{LeadsIn};
 ghost use Rattle.reg_office_api.specs.Responses.{Replies};
@@ -10,12 +10,12 @@ ghost use Rattle.reg_http.specs.Added.{AddsARequestAtMost};
 ghost use Rattle.reg_http.specs.Answers.{BeginsIn, BeginsTo, RespondsIn, RespondsTo};
 ghost use Rattle.reg_http.specs.RoutedRequests.{asked, requested_serial};
 ghost use Rattle.reg_http.specs.Bodies.{http_refusal, method_not_allowed as only_response};
-ghost use Rattle.reg_http.specs.Parts.{request_of_call};
+ghost use Rattle.reg_http.specs.Meanings.{request_of_call};
 ghost use Rattle.reg_http.specs.AnswerEffects.{fault_effects, plain, answer_effects};
 
 use crate::answered::{Answered, answer_of_fault, begun_answer, ocsp_answer};
 use crate::bodies::{json_buffer, method_not_allowed, refusal};
-use crate::parts::{Call, Meaning, meaning_of};
+use crate::meaning::{Call, Meaning, meaning_of};
 use crate::respond::respond;
 use http::Method;
 use reg_core::{Fault, Ground, Memory, Moment, Serial};
@@ -42,7 +42,7 @@ pub fn answer<O: Office>(
 ) -> Result<Answer, Memory>
     ensures ok { IfOk result (λ answer. LeadsIn O.Office
         (λ signatory before after.
-        RespondsTo (Runs O.signs signatory) Asks (Ocsps O.signs signatory) Crls now before
+        RespondsTo (Runs O.signs signatory) Asks (AnswersOcsp O.signs signatory) GivesCrl now before
         (asked method.now target.now body.now) (shown answer) after
         × AddsARequestAtMost now before after)
         office.old office.new) }
@@ -70,7 +70,8 @@ pub fn begin<O: Office>(
 ) -> Result<ReadyOrUnsigned<Answered, Draft>, Memory>
     ensures ok { IfOk result (λ begun. LeadsIn O.Office
         (λ signatory before after.
-        BeginsTo (Runs O.signs signatory) Asks (Replies O.signs signatory) Crls (Drafts signatory) now before
+        BeginsTo (Runs O.signs signatory) Asks (Replies O.signs signatory) GivesCrl (Drafts signatory) now
+        before
         (asked method.now target.now body.now) begun after
         × AddsARequestAtMost now before after)
         office.old office.new) }

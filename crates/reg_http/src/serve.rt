@@ -3,7 +3,7 @@
 ghost use Rattle.std.specs.Prelude.{◌≡◌, ◌≢◌, ◌≤◌, ◌⊎◌, [], ℕ, List, IfErr, OnOk, vec_capacity};
 ghost use Rattle.std.specs.Io.KnownBytes.{Appends};
 ghost use Rattle.reg_io.specs.Put.{AppendsPrefix};
-ghost use Rattle.reg_office_api.specs.CallSteps.{Runs, Asks, Ocsps, Crls};
+ghost use Rattle.reg_office_api.specs.CallSteps.{Runs, Asks, AnswersOcsp, GivesCrl};
 ghost use Rattle.reg_office_api.specs.Calls.{LeadsIn};
 ghost use Rattle.reg_http_head.specs.Frame.{part_of};
 ghost use Rattle.reg_http_head.specs.Response.{IsText, memory_text, shown};
@@ -83,7 +83,7 @@ fn reply<W: Write, O: Office>(
     requires buffer { 512 ≤ vec_capacity buffer }
     ensures ends { LeadsIn O.Office
         (λ signatory before after.
-        ReplyEnds (Runs O.signs signatory) Asks (Ocsps O.signs signatory) Crls now before after
+        ReplyEnds (Runs O.signs signatory) Asks (AnswersOcsp O.signs signatory) GivesCrl now before after
         (part_of request) (W.contents writer.old) (W.contents writer.new) result
         × AddsARequestAtMost now before after)
         office.old office.new }
@@ -94,7 +94,7 @@ fn reply<W: Write, O: Office>(
 {
     match request {
         Request::Refused(status) => refuse(alloc, writer, buffer, status, now),
-        Request::Asked {
+        Request::Valid {
             method,
             target,
             body,
@@ -129,7 +129,7 @@ pub fn serve_one<R: Read, W: Write, O: Office>(
 ) -> Result<(), Fault>
     ensures ends { LeadsIn O.Office
         (λ signatory before after.
-        ServingEnds (Runs O.signs signatory) Asks (Ocsps O.signs signatory) Crls now before after
+        ServingEnds (Runs O.signs signatory) Asks (AnswersOcsp O.signs signatory) GivesCrl now before after
         (R.remaining reader.old) (R.remaining reader.new) (W.contents writer.old) (W.contents writer.new)
         result
         × AddsARequestAtMost now before after)

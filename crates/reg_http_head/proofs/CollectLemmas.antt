@@ -9,10 +9,10 @@ use Rattle.httparse.specs.Spans.{span_bytes}
 use Rattle.reg_http_head.specs.Head.{blank_line, longest_head, RefusesHead, IsHeadAt}
 use Rattle.reg_http_head.specs.Frame.{Part, refused, asked, AsksFor, Framed, HasHead, IsUnfinished}
 use Rattle.reg_http_head.specs.Bytes.{IsExact}
-use Rattle.reg_http_head.specs.Collected.{HoldsRequest, IsWholeRequest, IsUnmarked, IsRefusedRequest, NeedsBytes, Knows, IsAllKnown}
-use Rattle.reg_http_head.specs.declared.known.HeadIn.{HeadIn}
-use Rattle.reg_http_head.specs.declared.known.ScanState.{ScanState}
-use Rattle.reg_http_head.specs.declared.known.ScanState.TheVariants.{Unmarked, Refused, Asked}
+use Rattle.reg_http_head.specs.Collected.{HoldsRequest, IsWholeRequest, HasNoHeadEnd, IsRefusedRequest, NeedsBytes, Knows, IsAllKnown}
+use Rattle.reg_http_head.specs.declared.scan_state.HeadIn.{HeadIn}
+use Rattle.reg_http_head.specs.declared.scan_state.ScanState.{ScanState}
+use Rattle.reg_http_head.specs.declared.scan_state.ScanState.TheVariants.{NoHeadEnd, Refused, Valid}
 use Rattle.reg_http_head.proofs.FrameLemmas.{head_of_more, take_of_more}
 
 -- a head that is refused is refused by its own bytes
@@ -24,19 +24,19 @@ refused_at bytes end status head refuses =
     (head.ends.within, inr (end, kept, subst P (sym same) refuses))
 
 -- 8,192 bytes in which no head ends
-pub refused_long : (bytes : List ℕ) → longest_head ≤ length bytes → IsUnmarked bytes longest_head → (longest_head ≤ length bytes) × IsRefusedRequest bytes longest_head 431
+pub refused_long : (bytes : List ℕ) → longest_head ≤ length bytes → HasNoHeadEnd bytes longest_head → (longest_head ≤ length bytes) × IsRefusedRequest bytes longest_head 431
 refused_long bytes long none =
     (long, inl (refl, (length-take-le longest_head bytes long, no_delimiter_in_prefix blank_line bytes longest_head none)))
 
 -- what is told is known
 pub known_of_told : (bytes : List ℕ) (known : ScanState) → IsAllKnown bytes known → Knows bytes known
-known_of_told bytes (Unmarked count) told = (omega (arith, told.0), told.2)
+known_of_told bytes (NoHeadEnd count) told = (omega (arith, told.0), told.2)
 known_of_told bytes (Refused count status) told = told
-known_of_told bytes (Asked head) told = told
+known_of_told bytes (Valid head) told = told
 
 -- what is known stays so, however the bytes go on
 pub known_of_more : (bytes more : List ℕ) (known : ScanState) → Knows bytes known → Knows (bytes ++ more) known
-known_of_more bytes more (Unmarked count) known = (
+known_of_more bytes more (NoHeadEnd count) known = (
   omega (arith, known.0, length-append bytes more),
   λ n below ends. known.1 n below (ends.0, sym (take-append-le n bytes more (omega (arith, known.0))) ∙ ends.1),
 )
@@ -44,7 +44,7 @@ known_of_more bytes more (Refused count status) known =
     let same : take count (bytes ++ more) ≡ take count bytes = take-append-le count bytes more known.0 in
     let P : List ℕ → Type 0 = λ b. Framed b (refused status) in
     (omega (arith, known.0, length-append bytes more), subst P (sym same) known.1)
-known_of_more bytes more (Asked it) known = record {
+known_of_more bytes more (Valid it) known = record {
   head = known.head;
   has_head = head_of_more bytes more it.end known.has_head;
   stands = (let P : List ℕ → Type 0 = λ b. IsHeadAt b it.spans known.head in subst P (sym (take_of_more bytes more it.end known.has_head)) known.stands);
@@ -122,7 +122,7 @@ exact_of_needs bytes it needs all =
     }
 
 -- no head yet, or a head with less than its body
-pub unfinished_of_unmarked : (bytes : List ℕ) (count : ℕ) → IsAllKnown bytes (Unmarked count) → IsUnfinished bytes
+pub unfinished_of_unmarked : (bytes : List ℕ) (count : ℕ) → IsAllKnown bytes (NoHeadEnd count) → IsUnfinished bytes
 unfinished_of_unmarked bytes count told =
     let P : List ℕ → Type 0 = λ b. HasNoDelimiter blank_line b in
     inl (

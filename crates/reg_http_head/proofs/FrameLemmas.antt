@@ -92,4 +92,4 @@ module _ (input left : Option (List ℕ)) (before after : List ℕ) where
   pub unfinished_at_fault : (short : FillsShort blank_line input left before after 0) → length after ≡ longest_head → IsUnfinished short.took
   unfinished_at_fault short long =
       let P : List ℕ → Type 0 = λ bytes. HasNoDelimiter blank_line bytes in
-      inl (omega (arith, short.room, long), subst P short.fills.stands short.unmarked)
+      inl (omega (arith, short.room, long), subst P short.fills.stands short.no_delimiter)

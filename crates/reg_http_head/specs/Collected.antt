@@ -4,9 +4,9 @@ use Rattle.httparse.specs.Grammar.{RequestHead}
 use Rattle.reg_io.specs.Delimiter.{EndsWith}
 use Rattle.reg_http_head.specs.Head.{blank_line, longest_head, IsHeadAt}
 use Rattle.reg_http_head.specs.Frame.{Part, refused, Framed, HasHead}
-use Rattle.reg_http_head.specs.declared.known.HeadIn.{HeadIn}
-use Rattle.reg_http_head.specs.declared.known.ScanState.{ScanState}
-use Rattle.reg_http_head.specs.declared.known.ScanState.TheVariants.{Unmarked, Refused, Asked}
+use Rattle.reg_http_head.specs.declared.scan_state.HeadIn.{HeadIn}
+use Rattle.reg_http_head.specs.declared.scan_state.ScanState.{ScanState}
+use Rattle.reg_http_head.specs.declared.scan_state.ScanState.TheVariants.{NoHeadEnd, Refused, Valid}
 
 -- the bytes begin with a whole request, which has this meaning
 pub record HoldsRequest (bytes : List ℕ) (part : Part) : Type 0 where
@@ -21,8 +21,8 @@ pub record IsWholeRequest (bytes : List ℕ) : Type 0 where
   pub holds : HoldsRequest bytes part
 
 -- no head ends in the first `count` bytes
-abbrev pub IsUnmarked : List ℕ → ℕ → Type 0
-IsUnmarked bytes count = (n : ℕ) → n ≤ count → ¬ EndsWith (take n bytes) blank_line
+abbrev pub HasNoHeadEnd : List ℕ → ℕ → Type 0
+HasNoHeadEnd bytes count = (n : ℕ) → n ≤ count → ¬ EndsWith (take n bytes) blank_line
 
 -- the first `count` bytes are refused with this status
 abbrev pub IsRefusedRequest : List ℕ → ℕ → ℕ → Type 0
@@ -37,12 +37,13 @@ pub record NeedsBytes (bytes : List ℕ) (it : HeadIn) : Type 0 where
 
 -- what is known about the bytes, whatever comes after them
 abbrev pub Knows : List ℕ → ScanState → Type 0
-Knows bytes (Unmarked count) = (count ≤ length bytes) × IsUnmarked bytes count
+Knows bytes (NoHeadEnd count) = (count ≤ length bytes) × HasNoHeadEnd bytes count
 Knows bytes (Refused count status) = (count ≤ length bytes) × IsRefusedRequest bytes count status
-Knows bytes (Asked head) = NeedsBytes bytes head
+Knows bytes (Valid head) = NeedsBytes bytes head
 
 -- what is known after all of the bytes were searched: if no head ends in them, they are fewer than 8,192
 abbrev pub IsAllKnown : List ℕ → ScanState → Type 0
-IsAllKnown bytes (Unmarked count) = (count ≡ length bytes) × (count < longest_head) × IsUnmarked bytes count
+IsAllKnown bytes (NoHeadEnd count) =
+    (count ≡ length bytes) × (count < longest_head) × HasNoHeadEnd bytes count
 IsAllKnown bytes (Refused count status) = (count ≤ length bytes) × IsRefusedRequest bytes count status
-IsAllKnown bytes (Asked head) = NeedsBytes bytes head
+IsAllKnown bytes (Valid head) = NeedsBytes bytes head

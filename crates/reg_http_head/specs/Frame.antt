@@ -7,7 +7,7 @@ use Rattle.reg_core.specs.declared.refusal.Fault.TheVariants as fault
 use Rattle.reg_io.specs.Delimiter.{FirstDelimiter, HasNoDelimiter}
 use Rattle.reg_http_head.specs.Head.{blank_line, longest_head, IsHead, RefusesHead, body_size}
 use Rattle.reg_http_head.specs.declared.request.Request.{Request}
-use Rattle.reg_http_head.specs.declared.request.Request.TheVariants.{Refused, Asked}
+use Rattle.reg_http_head.specs.declared.request.Request.TheVariants.{Refused, Valid}
 use Rattle.reg_http_head.specs.declared.request.RequestRef.{RequestRef}
 use Rattle.reg_http_head.specs.declared.request.RequestRef.TheVariants as collected
 
@@ -62,9 +62,9 @@ TakesAtMost input left most IsSo =
 -- the meaning of a request that was read
 abbrev pub part_of : Request → Part
 part_of (Refused status) = refused status
-part_of (Asked method target body) = asked method (string_bytes target) body.items
+part_of (Valid method target body) = asked method (string_bytes target) body.items
 
 -- the meaning of one that was collected
 abbrev pub part_of_ref : RequestRef → Part
 part_of_ref (collected.Refused status) = refused status
-part_of_ref (collected.Asked method target body) = asked method target.now body.now
+part_of_ref (collected.Valid method target body) = asked method target.now body.now

@@ -4,8 +4,8 @@ ghost use Rattle.std.specs.Prelude.{◌≡◌, ◌≤◌, length, IfErr, IfOk};
 ghost use Rattle.reg_http_head.specs.Collected.{HoldsRequest, Knows, NeedsBytes};
 ghost use Rattle.reg_http_head.specs.Frame.{part_of_ref};
 
-use crate::known::{HeadIn, ScanState, scan_all};
 use crate::request::RequestRef;
+use crate::scan_state::{HeadIn, ScanState, scan_all};
 use reg_core::Fault;
 use std::alloc::{AllocError, Global};
 
@@ -29,7 +29,7 @@ impl Collected {
     {
         Collected {
             bytes: Vec::new(alloc),
-            known: ScanState::Unmarked(0),
+            known: ScanState::NoHeadEnd(0),
         }
     }
 
@@ -58,9 +58,9 @@ impl Collected {
     {
         self.known = scan_all(self.bytes.as_slice(), self.known);
         match self.known {
-            ScanState::Unmarked(_) => false,
+            ScanState::NoHeadEnd(_) => false,
             ScanState::Refused(..) => true,
-            ScanState::Asked(head) => head.needed <= self.bytes.len(),
+            ScanState::Valid(head) => head.needed <= self.bytes.len(),
         }
     }
 
@@ -69,7 +69,7 @@ impl Collected {
         ensures { result ≡ true → ∥ IsExact (collected_bytes self.now) ∥₁ }
     {
         match self.known {
-            ScanState::Asked(head) => head.needed == self.bytes.len(),
+            ScanState::Valid(head) => head.needed == self.bytes.len(),
             _ => false,
         }
     }
@@ -84,15 +84,15 @@ impl Collected {
     {
         let bytes = self.bytes.as_slice();
         match scan_all(bytes, self.known) {
-            ScanState::Unmarked(_) => Err(Fault::Read),
+            ScanState::NoHeadEnd(_) => Err(Fault::Read),
             ScanState::Refused(_, status) => Ok(RequestRef::Refused(status)),
-            ScanState::Asked(head) if head.needed <= bytes.len() => asked_at(alloc, bytes, head),
-            ScanState::Asked(_) => Err(Fault::Read),
+            ScanState::Valid(head) if head.needed <= bytes.len() => request_at(alloc, bytes, head),
+            ScanState::Valid(_) => Err(Fault::Read),
         }
     }
 }
 
-fn asked_at(alloc: Global, bytes: &[u8], head: HeadIn) -> Result<RequestRef<'_>, Fault>
+fn request_at(alloc: Global, bytes: &[u8], head: HeadIn) -> Result<RequestRef<'_>, Fault>
     requires head { ∥ NeedsBytes bytes.now head ∥₁ }
     requires ordered { head.end ≤ head.needed }
     requires whole { head.needed ≤ length bytes.now }
@@ -101,7 +101,7 @@ fn asked_at(alloc: Global, bytes: &[u8], head: HeadIn) -> Result<RequestRef<'_>,
 {
     let head_bytes = &bytes[..head.end];
     match head.spans.method_in(alloc, head_bytes) {
-        Ok(method) => Ok(RequestRef::Asked {
+        Ok(method) => Ok(RequestRef::Valid {
             method,
             target: head.spans.target_in(head_bytes),
             body: &bytes[head.end..head.needed],

@@ -5,10 +5,10 @@ mod answer;
 mod collected;
 mod fields;
 mod head;
-mod known;
 pub mod laws;
 mod request;
 mod response;
+mod scan_state;
 pub mod status;
 
 pub use answer::Answer;

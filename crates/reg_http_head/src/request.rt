@@ -24,7 +24,7 @@ pub(crate) const BLANK_LINE: &[u8] = b"\r\n\r\n";
 pub enum Request {
     /// The head is refused with this status, before any route is found.
     Refused(u16),
-    Asked {
+    Valid {
         method: Method,
         /// The target, as it stands in the request line (RFC 9112 3.2).
         target: String,
@@ -37,7 +37,7 @@ pub enum Request {
 #[derive(Drop)]
 pub enum RequestRef<'b> {
     Refused(u16),
-    Asked {
+    Valid {
         method: Method,
         target: &'b str,
         body: &'b [u8],
@@ -141,7 +141,7 @@ fn owned(alloc: Global, head: &[u8], spans: HeadSpans, body: Vec<u8>) -> Result<
 {
     let method = spans.method_in(alloc, head).map_err(|_| Fault::Memory)?;
     let target = String::from_str(alloc, spans.target_in(head)).map_err(|_| Fault::Memory)?;
-    Ok(Request::Asked {
+    Ok(Request::Valid {
         method,
         target,
         body,

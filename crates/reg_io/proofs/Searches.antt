@@ -70,7 +70,7 @@ breaks_off delimiter input middle left before between ys buffered filled k so_fa
       took = kept.took;
       fills = kept.fills;
       room = omega (arith, kept.count);
-      unmarked = subst (λ n. HasNoDelimiter delimiter (take n (put_mid filled k between ys))) kept.count
+      no_delimiter = subst (λ n. HasNoDelimiter delimiter (take n (put_mid filled k between ys))) kept.count
           (no_mark_of_fronts delimiter (put_mid filled k between ys) filled (unmarked_read delimiter between ys filled k (omega arith) none));
     }
 

@@ -41,7 +41,7 @@ pub record FillsShort (delimiter : List ℕ) (input left : Option (List ℕ)) (b
   pub took : List ℕ
   pub fills : Fills input left before after buffered took
   pub room : buffered + length took < length after
-  pub unmarked : HasNoDelimiter delimiter (take (buffered + length took) after)
+  pub no_delimiter : HasNoDelimiter delimiter (take (buffered + length took) after)
 
 -- ---- laws
 

@@ -29,16 +29,16 @@ pub fn fill_to_delimiter<R: Read>(
     delimiter: &[u8],
 ) -> Result<Reached, ReadFault>
     requires buffered_fits { buffered ≤ length buf.old }
-    requires mark_is_there { 0 < length delimiter.now }
+    requires delimiter_not_empty { 0 < length delimiter.now }
     ensures ok { IfOk result (FillsTo delimiter.now
         (R.remaining reader.old) (R.remaining reader.new) buf.old buf.new buffered) }
     ensures err { OnErr result (FillsShort delimiter.now
         (R.remaining reader.old) (R.remaining reader.new) buf.old buf.new buffered) }
 
     // If the buffer has a delimiter already, or is full, nothing is read.
-    ensures marked { (end : ℕ) → end ≤ buffered → EndsWith (take end buf.old) delimiter.now
+    ensures has_delimiter { (end : ℕ) → end ≤ buffered → EndsWith (take end buf.old) delimiter.now
         → (reader.new ≡ reader.old) × (buf.new ≡ buf.old) }
-    ensures no_room { buffered ≡ length buf.old → (reader.new ≡ reader.old) × (buf.new ≡ buf.old) }
+    ensures is_full { buffered ≡ length buf.old → (reader.new ≡ reader.old) × (buf.new ≡ buf.old) }
 {
     let mut filled = buffered;
     let mut searched: usize = 0;
@@ -92,7 +92,7 @@ pub fn fill_exact<R: Read>(reader: &mut R, buf: &mut [u8], buffered: usize) -> R
     ensures err { OnErr result ((took : List ℕ)
         × Fills (R.remaining reader.old) (R.remaining reader.new) buf.old buf.new buffered took
         × (buffered + length took < length buf.new)) }
-    ensures no_room { buffered ≡ length buf.old → (reader.new ≡ reader.old) × (buf.new ≡ buf.old) }
+    ensures is_full { buffered ≡ length buf.old → (reader.new ≡ reader.old) × (buf.new ≡ buf.old) }
 {
     let mut filled = buffered;
     while filled < buf.len() {

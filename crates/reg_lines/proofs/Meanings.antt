@@ -14,7 +14,7 @@ use Rattle.reg_core.specs.declared.command.Query.TheVariants.{Status, Counts, Li
 use Rattle.reg_lines.specs.Fields.{fields_of}
 use Rattle.reg_lines.specs.Meaning.{Meaning, means_command, means_query, is_ocsp_line, IsUnreadable, LineMeans, OneMeaning, SpellsCommand, SpellsOcsp, SpellsQuery, SpellsRegister, meaning_of}
 use Rattle.reg_lines.specs.LineReading.{alone, query_by, four, hex_of, number_alone, ocsp_of, one, order_of, register_by, register_of, request_of, revoking_by, meaning_by, meaning_in_fields, serial_alone, subscriber_of, two}
-use Rattle.reg_lines.specs.declared.line.CommandLine.{CommandLine}
+use Rattle.reg_lines.specs.declared.line.ParsedLine.{ParsedLine}
 use Rattle.reg_lines.proofs.Readings.{hex_of-is, hex_of-some}
 
 -- ---- steps that may fail
@@ -263,17 +263,17 @@ said_means line (means_query q) said = said
 said_means line (is_ocsp_line bytes) said = said
 
 -- what is read is what the line means
-pub means_found : (line : List ℕ) (r : Option CommandLine) → option_map meaning_of r ≡ meaning_in_fields (fields_of line) → IfSome r (λ read. LineMeans line (meaning_of read))
+pub means_found : (line : List ℕ) (r : Option ParsedLine) → option_map meaning_of r ≡ meaning_in_fields (fields_of line) → IfSome r (λ read. LineMeans line (meaning_of read))
 means_found line None e = tt
 means_found line (Some read) e = said_means line (meaning_of read) (fields_said (fields_of line) (meaning_of read) (sym e))
 
 -- and what it means is read
-pub means_only : (line : List ℕ) (r : Option CommandLine) (m : Meaning) → option_map meaning_of r ≡ meaning_in_fields (fields_of line) → LineMeans line m
+pub means_only : (line : List ℕ) (r : Option ParsedLine) (m : Meaning) → option_map meaning_of r ≡ meaning_in_fields (fields_of line) → LineMeans line m
     → option_map meaning_of r ≡ Some m
 means_only line r m e is = e ∙ means_said line m is
 
 -- where nothing is read, it means nothing
-pub means_none : (line : List ℕ) (r : Option CommandLine) → option_map meaning_of r ≡ meaning_in_fields (fields_of line) → IfNone r (IsUnreadable line)
+pub means_none : (line : List ℕ) (r : Option ParsedLine) → option_map meaning_of r ≡ meaning_in_fields (fields_of line) → IfNone r (IsUnreadable line)
 means_none line None e = λ m is. let both : None ≡ Some m = e ∙ means_said line m is in cc
 means_none line (Some read) e = tt
 

@@ -256,5 +256,5 @@ module _ {S : Type 0} (runs : S → List ℕ → List ℕ → S → Type 0) (lon
           office = stays;
           wrote = kept;
         },
-        inl (subst HasNoLf to.fills.stands (no_delimiter_of_byte 10 _ to.unmarked)),
+        inl (subst HasNoLf to.fills.stands (no_delimiter_of_byte 10 _ to.no_delimiter)),
       )

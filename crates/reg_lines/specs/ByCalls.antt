@@ -1,6 +1,6 @@
 -- The calls of an office for a line.
 use Rattle.std.specs.Prelude.{◌≡◌, ◌<◌, ℕ, List, Result, Err}
-use Rattle.reg_office_api.specs.CallSteps.{Signs, Runs, Asks, Ocsps}
+use Rattle.reg_office_api.specs.CallSteps.{Signs, Runs, Asks, AnswersOcsp}
 use Rattle.reg_office_api.specs.Leads.{Leads}
 use Rattle.reg_office_api.specs.Signatories.{Signatory}
 use Rattle.reg_office_api.specs.declared.office.Office.{Ghosts as Office}
@@ -24,7 +24,7 @@ Lines signs signatory before now (ran command outcome) after =
     Runs signs signatory before now command outcome after
 Lines signs signatory before now (asked query outcome) after = Asks before now query outcome after
 Lines signs signatory before now (responded request given) after =
-    Ocsps signs signatory before now request given after
+    AnswersOcsp signs signatory before now request given after
 
 -- the result of a call is a fault of the signer
 abbrev pub FailsToSign : Call → Type 0

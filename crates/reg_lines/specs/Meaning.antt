@@ -11,8 +11,8 @@ use Rattle.reg_core.specs.declared.command.Command.TheVariants.{Subscriber, Orde
 use Rattle.reg_core.specs.declared.command.Query.{Query}
 use Rattle.reg_core.specs.declared.command.Query.TheVariants.{Status, Counts, Listing, Overdue, NextCrl}
 use Rattle.reg_lines.specs.Fields.{fields_of}
-use Rattle.reg_lines.specs.declared.line.CommandLine.{CommandLine}
-use Rattle.reg_lines.specs.declared.line.CommandLine.TheVariants as line
+use Rattle.reg_lines.specs.declared.line.ParsedLine.{ParsedLine}
+use Rattle.reg_lines.specs.declared.line.ParsedLine.TheVariants as line
 
 -- the meaning of a command line: a command, a query, or the bytes of an OCSP request (RFC 6960 4.1)
 pub data Meaning : Type 0 where
@@ -78,7 +78,7 @@ abbrev pub decoded_bytes : List ℕ → List ℕ
 decoded_bytes digits = unwrap_or (result_ok (decode_of digits)) []
 
 -- the meaning of a line that was read
-abbrev pub meaning_of : CommandLine → Meaning
+abbrev pub meaning_of : ParsedLine → Meaning
 meaning_of (line.Command command) = means_command command
 meaning_of (line.Query query) = means_query query
 meaning_of (line.Ocsp digits) = is_ocsp_line (decoded_bytes digits.now)

@@ -20,7 +20,7 @@ pub use accepted::is_accepted;
 pub use answered::{Answered, Ended, LineKind, OcspReply, RefusedCommand};
 pub use fields::Fields;
 pub use host::Host;
-pub use line::{CommandLine, read_line};
+pub use line::{ParsedLine, read_line};
 pub use lines::{LONGEST_COMMAND, LONGEST_LINE, MOST_LINES, run_lines};
 pub use moments::{command_in, take_moment, without_end};
 pub use reply::{LONGEST_REPLY, ReplyText};

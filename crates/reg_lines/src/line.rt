@@ -12,7 +12,7 @@ use reg_core::{Command, Label, Moment, Query, Serial, read_number};
 
 /// The meaning of a line.
 #[derive(Clone, Copy)]
-pub enum CommandLine<'a> {
+pub enum ParsedLine<'a> {
     Command(Command),
     Query(Query),
     /// An OCSP request: its hexadecimal digits, an even number of them, at least two.
@@ -20,7 +20,7 @@ pub enum CommandLine<'a> {
 }
 
 /// Reads a line without its moment and its line end: `None` if it can't be read. No line has two meanings.
-pub fn read_line(line: &[u8]) -> Option<CommandLine<'_>>
+pub fn read_line(line: &[u8]) -> Option<ParsedLine<'_>>
     ensures found { IfSome result (λ said. LineMeans line.now (meaning_of said)) }
     ensures only { (meaning : Meaning) → LineMeans line.now meaning
         → option_map meaning_of result ≡ Some meaning }
@@ -32,7 +32,7 @@ pub fn read_line(line: &[u8]) -> Option<CommandLine<'_>>
 
 /// Reads the fields of a line: `subscriber`, `order`, `register`, or else what `read_revoking` reads.
 #[tactic(auto, unfolding(crate::specs::LineReading::meaning_in_fields, crate::specs::LineReading::meaning_by))]
-fn read_fields(mut fields: Fields<'_>) -> Option<CommandLine<'_>>
+fn read_fields(mut fields: Fields<'_>) -> Option<ParsedLine<'_>>
     ensures { option_map meaning_of result ≡ meaning_in_fields fields.entry }
 {
     let word = fields.next()?;
@@ -49,17 +49,17 @@ fn read_fields(mut fields: Fields<'_>) -> Option<CommandLine<'_>>
 
 /// Reads `request`, `decline`, `revoke`, `crl`, or else what `read_query` reads.
 #[tactic(auto, unfolding(crate::specs::LineReading::revoking_by))]
-fn read_revoking<'a>(word: &[u8], fields: Fields<'a>) -> Option<CommandLine<'a>>
+fn read_revoking<'a>(word: &[u8], fields: Fields<'a>) -> Option<ParsedLine<'a>>
     ensures { option_map meaning_of result ≡ revoking_by word.now fields.entry }
 {
     if word == b"request".as_slice() {
         command(read_request(fields))
     } else if word == b"decline".as_slice() {
         let request = number_alone(fields)?;
-        Some(CommandLine::Command(Command::Decline { request }))
+        Some(ParsedLine::Command(Command::Decline { request }))
     } else if word == b"revoke".as_slice() {
         let request = number_alone(fields)?;
-        Some(CommandLine::Command(Command::Revoke { request }))
+        Some(ParsedLine::Command(Command::Revoke { request }))
     } else if word == b"crl".as_slice() {
         command(alone(Command::Crl, fields))
     } else {
@@ -69,17 +69,17 @@ fn read_revoking<'a>(word: &[u8], fields: Fields<'a>) -> Option<CommandLine<'a>>
 
 /// Reads a query or `ocsp`; `None` for any other word.
 #[tactic(auto, unfolding(crate::specs::LineReading::query_by))]
-fn read_query<'a>(word: &[u8], fields: Fields<'a>) -> Option<CommandLine<'a>>
+fn read_query<'a>(word: &[u8], fields: Fields<'a>) -> Option<ParsedLine<'a>>
     ensures { option_map meaning_of result ≡ query_by word.now fields.entry }
 {
     if word == b"status".as_slice() {
         let serial = serial_alone(fields)?;
-        Some(CommandLine::Query(Query::Status(serial)))
+        Some(ParsedLine::Query(Query::Status(serial)))
     } else if word == b"counts".as_slice() {
         query(alone(Query::Counts, fields))
     } else if word == b"listing".as_slice() {
         let serial = serial_alone(fields)?;
-        Some(CommandLine::Query(Query::Listing(serial)))
+        Some(ParsedLine::Query(Query::Listing(serial)))
     } else if word == b"overdue".as_slice() {
         query(alone(Query::Overdue, fields))
     } else if word == b"next-crl".as_slice() {
@@ -91,23 +91,23 @@ fn read_query<'a>(word: &[u8], fields: Fields<'a>) -> Option<CommandLine<'a>>
     }
 }
 
-fn command<'a>(command: Option<Command>) -> Option<CommandLine<'a>>
+fn command<'a>(command: Option<Command>) -> Option<ParsedLine<'a>>
     ensures { option_map meaning_of result ≡ option_map means_command command }
 {
-    Some(CommandLine::Command(command?))
+    Some(ParsedLine::Command(command?))
 }
 
-fn query<'a>(query: Option<Query>) -> Option<CommandLine<'a>>
+fn query<'a>(query: Option<Query>) -> Option<ParsedLine<'a>>
     ensures { option_map meaning_of result ≡ option_map means_query query }
 {
-    Some(CommandLine::Query(query?))
+    Some(ParsedLine::Query(query?))
 }
 
-fn ocsp(digits: Option<&[u8]>) -> Option<CommandLine<'_>>
+fn ocsp(digits: Option<&[u8]>) -> Option<ParsedLine<'_>>
     ensures { option_map meaning_of result
         ≡ option_map (λ d. is_ocsp_line (decoded_bytes d.now)) digits.entry }
 {
-    Some(CommandLine::Ocsp(digits?))
+    Some(ParsedLine::Ocsp(digits?))
 }
 
 /// The value for a word without arguments: `None` if a field is left.

@@ -9,7 +9,7 @@ ghost use Rattle.reg_lines.specs.Meaning.{is_ocsp_line, decoded_bytes};
 ghost use Rattle.reg_lines.specs.Replies.{with_lf};
 
 use crate::answered::{Answered, LineKind, OcspReply};
-use crate::line::{CommandLine, read_line};
+use crate::line::{ParsedLine, read_line};
 use reg_core::{Fault, Moment, Refusal};
 use reg_office_api::Office;
 use std::alloc::{AllocError, Global};
@@ -25,15 +25,15 @@ pub fn run_line<O: Office>(alloc: Global, office: &mut O, now: Moment, line: &[u
     ensures device { ComesTo (LineCalls O.Office) now office.old line.now result office.new }
 {
     match read_line(line) {
-        Some(CommandLine::Command(command)) => {
+        Some(ParsedLine::Command(command)) => {
             let outcome = office.run_one(alloc, now, &command);
             Answered::Completed(LineKind::Command(command), outcome)
         }
-        Some(CommandLine::Query(query)) => {
+        Some(ParsedLine::Query(query)) => {
             let outcome = office.ask(alloc, now, &query);
             Answered::Completed(LineKind::Query(query), outcome)
         }
-        Some(CommandLine::Ocsp(digits)) => run_ocsp(alloc, office, now, digits),
+        Some(ParsedLine::Ocsp(digits)) => run_ocsp(alloc, office, now, digits),
         None => unreadable(),
     }
 }

@@ -7,11 +7,11 @@ use Rattle.std.proofs.lemmas.List.{length-append}
 use Rattle.reg_core.specs.Integer.{IsBytes}
 use Rattle.reg_der.specs.Authority.{IsKey}
 use Rattle.reg_der.specs.Der.{tlv}
-use Rattle.reg_der.specs.ValueReading.{Gives}
+use Rattle.reg_der.specs.ValueReading.{AgreesWith}
 use Rattle.reg_der.specs.WrittenValues.{bits_value}
 use Rattle.reg_der.proofs.PublicLaws.{value_size, bind_then, kept, some_is}
 use Rattle.reg_ocsp.specs.declared.certificate.SubjectPublicKey.{SubjectPublicKey}
-use Rattle.reg_ocsp.specs.Certificate.{Form, IsCertificateOf, key_info, certificate, no_unused, as_key, key_info_at, after_subject_at, signed_part_at, certificate_at}
+use Rattle.reg_ocsp.specs.Certificate.{CertificateTree, IsCertificateOf, key_info, certificate, no_unused, as_key, key_info_at, after_subject_at, signed_part_at, certificate_at}
 use Rattle.reg_der.specs.TaggedValues.{expect_at, whole_at, optional_at}
 use Rattle.reg_ocsp.specs.Request.{optional}
 use Rattle.reg_ocsp.specs.Views.{key_model}
@@ -207,7 +207,7 @@ certificate_takes bytes x each e =
     let t1 = subject_takes part rest t0.each read_rest in
     let t2 = expect_takes 0x30 rest info t1.each read_info in
     let t3 = key_info_takes info.0 x t2.inner e3 in
-    let form : Form = record {
+    let form : CertificateTree = record {
       version = t1.version;
       serial = t1.serial;
       signature = t1.signature;
@@ -233,7 +233,7 @@ certificate_takes bytes x each e =
       is_key = t3.is_key;
     })))
 
-certificate_reads : (c : Form) → IsKey c.key → length (certificate c) ≤ 65536 → certificate_at (certificate c) ≡ Some (tlv 0x30 c.algorithm, c.key)
+certificate_reads : (c : CertificateTree) → IsKey c.key → length (certificate c) ≤ 65536 → certificate_at (certificate c) ≡ Some (tlv 0x30 c.algorithm, c.key)
 unfolding certificate_at
 certificate_reads c is small =
     let info = tlv 0x30 c.algorithm ++ bits_value c.key in
@@ -260,12 +260,12 @@ certificate_again bytes algorithm key is =
 
 -- ---- what the call gives
 
-pub is_found : (bytes : List ℕ) (result : Option SubjectPublicKey) → IsBytes bytes → Gives key_model result (certificate_at bytes)
+pub is_found : (bytes : List ℕ) (result : Option SubjectPublicKey) → IsBytes bytes → AgreesWith key_model result (certificate_at bytes)
     → IfSome result (λ it. IsCertificateOf bytes it.algorithm.now it.key.now)
 is_found bytes (Some it) each gives = certificate_takes bytes (key_model it) each gives
 is_found bytes None each gives = tt
 
-pub is_only : (bytes : List ℕ) (result : Option SubjectPublicKey) → Gives key_model result (certificate_at bytes)
+pub is_only : (bytes : List ℕ) (result : Option SubjectPublicKey) → AgreesWith key_model result (certificate_at bytes)
     → (algorithm key : List ℕ) → IsCertificateOf bytes algorithm key → option_map key_model result ≡ Some (algorithm, key)
 is_only bytes (Some it) gives algorithm key is = sym gives ∙ certificate_again bytes algorithm key is
 is_only bytes None gives algorithm key is = absurd (let bad : None ≡ Some (algorithm, key) = sym gives ∙ certificate_again bytes algorithm key is in cc)

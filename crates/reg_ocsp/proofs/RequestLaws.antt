@@ -10,7 +10,7 @@ use Rattle.reg_core.specs.Integer.{IsBytes}
 use Rattle.reg_der.specs.Der.{tlv, length_octets}
 use Rattle.reg_der.specs.ValueReading.{Takes}
 use Rattle.reg_der.proofs.PublicLaws.{value_size, bind_then, kept, some_is}
-use Rattle.reg_ocsp.specs.Request.{Single, IsSingle, Extension, AreExtensions, Id, cert_id_in, Form, IsForm, single, request_version, optional, extensions, to_be_signed, spelling, echoed_nonce, nonce_of, first_nonce, IsOcspRequest, OneReading, cert_id, algorithm, raw_length, IsNonce, CanBeAnswered}
+use Rattle.reg_ocsp.specs.Request.{Single, IsSingle, Extension, AreExtensions, Id, cert_id_in, RequestTree, IsRequestTree, single, request_version, optional, extensions, to_be_signed, spelling, echoed_nonce, nonce_of, first_nonce, IsOcspRequest, OneReading, cert_id, algorithm, raw_length, IsNonce, CanBeAnswered}
 use Rattle.reg_ocsp.specs.declared.asked.Asked.{Asked}
 use Rattle.reg_ocsp.specs.declared.fault.RequestFault.{RequestFault}
 use Rattle.reg_ocsp.specs.declared.fault.RequestFault.TheVariants.{Malformed, Memory}
@@ -244,7 +244,7 @@ request_takes bytes x each e =
     let t0 = parts_takes bytes parts each read_parts in
     let s = t0.within in
     let t1 = ids_takes parts.0 ids s.inner read_ids in
-    let made : Form = record { version = s.flag; requestor = s.requestor; singles = t1.all.trees; extensions = s.tree; signature = t0.outer.signature } in
+    let made : RequestTree = record { version = s.flag; requestor = s.requestor; singles = t1.all.trees; extensions = s.tree; signature = t0.outer.signature } in
     let spelled : bytes ≡ spelling made =
     t0.outer.spelled ∙ ap (λ (r : List ℕ). tlv 0x30 (tlv 0x30 r ++ optional 0xA0 t0.outer.signature)) (s.spelled ∙ ap (λ (list : List ℕ). signed_text s.flag s.requestor list s.tree) t1.all.spelled) in
     subst (λ (y : List Id × Option (List ℕ)). IsOcspRequest bytes y.0 y.1) (some_is (ids, parts.1) x e2)
@@ -255,7 +255,7 @@ request_takes bytes x each e =
       built = record { allowed = record { some = t1.some; each = t1.all.fits; extensions = s.fits }; spelled = spelled; asks = t1.all.same; repeats = s.same };
     })))
 
-list_small : (f : Form) → length (spelling f) ≤ 65536 → length (flat_map single f.singles) ≤ 65536
+list_small : (f : RequestTree) → length (spelling f) ≤ 65536 → length (flat_map single f.singles) ≤ 65536
 list_small f small =
     let list = flat_map single f.singles in
     let last = extensions 0xA2 f.extensions in
@@ -271,7 +271,7 @@ list_small f small =
       (value_size 0x30 list).least,
     )
 
-spelling_reads : (f : Form) → IsForm f → length (spelling f) ≤ 65536 → request_at (spelling f) ≡ Some (map cert_id_in f.singles, nonce_of f.extensions)
+spelling_reads : (f : RequestTree) → IsRequestTree f → length (spelling f) ≤ 65536 → request_at (spelling f) ≡ Some (map cert_id_in f.singles, nonce_of f.extensions)
 unfolding request_at
 spelling_reads f allowed small =
     let list = flat_map single f.singles in

@@ -13,7 +13,7 @@ use Rattle.reg_der.specs.TaggedValues.{expect_at, whole_at, optional_at}
 -- A Certificate. Each field that is not read further is the contents of its value: `version` (if it is written) to `subject`; `algorithm`, of
 -- the public key; `signature_algorithm` and `signed`, which are signatureAlgorithm and signatureValue. `key` is the bits of the public key, and
 -- `behind` the bytes after subjectPublicKeyInfo in the TBSCertificate (unique identifiers, extensions).
-pub record Form : Type 0 where
+pub record CertificateTree : Type 0 where
   pub version : Option (List ℕ)
   pub serial : List ℕ
   pub signature : List ℕ
@@ -27,25 +27,25 @@ pub record Form : Type 0 where
   pub signed : List ℕ
 
 -- SubjectPublicKeyInfo ::= SEQUENCE { algorithm AlgorithmIdentifier, subjectPublicKey BIT STRING }, without unused bits
-abbrev pub key_info : Form → List ℕ
+abbrev pub key_info : CertificateTree → List ℕ
 key_info c = tlv 0x30 (tlv 0x30 c.algorithm ++ bits_value c.key)
 
 -- TBSCertificate ::= SEQUENCE { version [0] EXPLICIT Version DEFAULT v1, serialNumber INTEGER, signature AlgorithmIdentifier, issuer Name,
 -- validity SEQUENCE, subject Name, subjectPublicKeyInfo, .. }
-abbrev pub to_be_signed : Form → List ℕ
+abbrev pub to_be_signed : CertificateTree → List ℕ
 to_be_signed c =
     tlv 0x30 (optional 0xA0 c.version ++ (tlv 0x02 c.serial ++ (tlv 0x30 c.signature ++ (tlv 0x30 c.issuer
     ++ (tlv 0x30 c.validity ++ (tlv 0x30 c.subject ++ (key_info c ++ c.behind)))))))
 
 -- Certificate ::= SEQUENCE { tbsCertificate, signatureAlgorithm AlgorithmIdentifier, signatureValue BIT STRING }
-abbrev pub certificate : Form → List ℕ
+abbrev pub certificate : CertificateTree → List ℕ
 certificate c = tlv 0x30 (to_be_signed c ++ (tlv 0x30 c.signature_algorithm ++ tlv 0x03 c.signed))
 
 -- the bytes, at most 65,536, are a certificate whose subjectPublicKeyInfo has this AlgorithmIdentifier and these bits of a key
 pub record IsCertificateOf (bytes algorithm key : List ℕ) : Type 0 where
   pub each : IsBytes bytes
   pub short : length bytes ≤ 65536
-  pub form : Form
+  pub form : CertificateTree
   pub spelled : bytes ≡ certificate form
   pub under : algorithm ≡ tlv 0x30 form.algorithm
   pub of_key : key ≡ form.key

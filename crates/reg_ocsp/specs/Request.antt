@@ -31,7 +31,7 @@ pub record Single : Type 0 where
 
 -- an OCSPRequest: whether version 0 is written; the contents of requestorName and of optionalSignature, which are not checked, if
 -- they are written; the requests; requestExtensions, if they are written
-pub record Form : Type 0 where
+pub record RequestTree : Type 0 where
   pub version : Bool
   pub requestor : Option (List ℕ)
   pub singles : List Single
@@ -90,13 +90,13 @@ request_version false = []
 
 -- TBSRequest ::= SEQUENCE { version, requestorName [1] EXPLICIT GeneralName OPTIONAL, requestList SEQUENCE OF Request,
 -- requestExtensions [2] EXPLICIT Extensions OPTIONAL }
-abbrev pub to_be_signed : Form → List ℕ
+abbrev pub to_be_signed : RequestTree → List ℕ
 to_be_signed f =
     tlv 0x30 (request_version f.version
     ++ (optional 0xA1 f.requestor ++ (tlv 0x30 (flat_map single f.singles) ++ extensions 0xA2 f.extensions)))
 
 -- OCSPRequest ::= SEQUENCE { tbsRequest, optionalSignature [0] EXPLICIT Signature OPTIONAL }
-abbrev pub spelling : Form → List ℕ
+abbrev pub spelling : RequestTree → List ℕ
 spelling f = tlv 0x30 (to_be_signed f ++ optional 0xA0 f.signature)
 
 -- ---- what is allowed
@@ -125,7 +125,7 @@ pub record IsSingle (s : Single) : Type 0 where
   pub extensions : AreExtensions s.extensions
 
 -- there is at least one request, and each request and each extension is allowed
-pub record IsForm (f : Form) : Type 0 where
+pub record IsRequestTree (f : RequestTree) : Type 0 where
   pub some : 1 ≤ length f.singles
   pub each : AllByRecursion IsSingle f.singles
   pub extensions : AreExtensions f.extensions
@@ -171,8 +171,9 @@ nonce_of (Some es) = echoed_nonce (first_nonce es)
 -- ---- the relation
 
 -- the bytes are the encoding of this tree, which has these CertIDs and this nonce to repeat
-pub record IsRequestOf (bytes : List ℕ) (ids : List Id) (nonce : Option (List ℕ)) (f : Form) : Type 0 where
-  pub allowed : IsForm f
+pub record IsRequestOf (bytes : List ℕ) (ids : List Id) (nonce : Option (List ℕ))
+    (f : RequestTree) : Type 0 where
+  pub allowed : IsRequestTree f
   pub spelled : bytes ≡ spelling f
   pub asks : ids ≡ map cert_id_in f.singles
   pub repeats : nonce ≡ nonce_of f.extensions
@@ -181,7 +182,7 @@ pub record IsRequestOf (bytes : List ℕ) (ids : List Id) (nonce : Option (List 
 pub record IsOcspRequest (bytes : List ℕ) (ids : List Id) (nonce : Option (List ℕ)) : Type 0 where
   pub each : IsBytes bytes
   pub short : length bytes ≤ 65536
-  pub form : Form
+  pub form : RequestTree
   pub built : IsRequestOf bytes ids nonce form
 
 -- bytes have at most one reading as a request

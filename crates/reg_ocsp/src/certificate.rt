@@ -1,7 +1,7 @@
 //! Reads the public key of a certificate (RFC 5280 4.1).
 
 ghost use Rattle.std.specs.Prelude.{◌≡◌, ◌≤◌, ℕ, List, Some, IfOk, IfSome, IsErrOf, length, option_map};
-ghost use Rattle.reg_der.specs.ValueReading.{Gives};
+ghost use Rattle.reg_der.specs.ValueReading.{AgreesWith};
 ghost use Rattle.reg_ocsp.specs.Certificate.{IsCertificateOf, after_subject_at, as_key, certificate_at, key_info_at, no_unused, signed_part_at};
 ghost use Rattle.reg_ocsp.specs.Views.{key_model};
 ghost use Rattle.reg_ocsp.specs.declared.certificate.CertificateFault.TheVariants.{Memory};
@@ -116,7 +116,7 @@ pub fn subject_public_key(certificate: &[u8]) -> Option<SubjectPublicKey<'_>>
 
 #[tactic(auto, unfolding(crate::specs::Certificate::certificate_at))]
 fn read_certificate(bytes: &[u8]) -> Option<SubjectPublicKey<'_>>
-    ensures { Gives key_model result (certificate_at bytes.now) }
+    ensures { AgreesWith key_model result (certificate_at bytes.now) }
 {
     let part = tbs_contents(bytes)?;
     let (info, _) = expect(SEQUENCE, after_subject(part)?)?;
@@ -126,7 +126,7 @@ fn read_certificate(bytes: &[u8]) -> Option<SubjectPublicKey<'_>>
 /// The contents of the TBSCertificate of a certificate.
 #[tactic(auto, unfolding(crate::specs::Certificate::signed_part_at))]
 fn tbs_contents(bytes: &[u8]) -> Option<&[u8]>
-    ensures { Gives (λ x. x.now) result (signed_part_at bytes.now) }
+    ensures { AgreesWith (λ x. x.now) result (signed_part_at bytes.now) }
 {
     if bytes.len() > LONGEST_CERTIFICATE {
         return None;
@@ -140,7 +140,7 @@ fn tbs_contents(bytes: &[u8]) -> Option<&[u8]>
 /// The fields after the subject, in the contents of a TBSCertificate.
 #[tactic(auto, unfolding(crate::specs::Certificate::after_subject_at))]
 fn after_subject(part: &[u8]) -> Option<&[u8]>
-    ensures { Gives (λ x. x.now) result (after_subject_at part.now) }
+    ensures { AgreesWith (λ x. x.now) result (after_subject_at part.now) }
 {
     let (_, rest) = optional(TAGGED_0, part)?;
     let (_, rest) = expect(INTEGER, rest)?;
@@ -154,7 +154,7 @@ fn after_subject(part: &[u8]) -> Option<&[u8]>
 /// The key and its algorithm, from the contents of a SubjectPublicKeyInfo.
 #[tactic(auto, unfolding(crate::specs::Certificate::key_info_at))]
 fn key_info(bytes: &[u8]) -> Option<SubjectPublicKey<'_>>
-    ensures { Gives key_model result (key_info_at bytes.now) }
+    ensures { AgreesWith key_model result (key_info_at bytes.now) }
 {
     let (algorithm, rest) = expect(SEQUENCE, bytes)?;
     let bits = without_unused_bits(whole(BIT_STRING, rest)?)?;
@@ -167,7 +167,7 @@ fn key_info(bytes: &[u8]) -> Option<SubjectPublicKey<'_>>
 
 /// The bits in the contents of a BIT STRING; `None` if some are unused.
 fn without_unused_bits(contents: &[u8]) -> Option<&[u8]>
-    ensures { Gives (λ x. x.now) result (no_unused contents.now) }
+    ensures { AgreesWith (λ x. x.now) result (no_unused contents.now) }
 {
     match contents {
         [unused, bits @ ..] if *unused == 0 => Some(bits),
@@ -177,7 +177,7 @@ fn without_unused_bits(contents: &[u8]) -> Option<&[u8]>
 
 /// The bits, if they can be a key: 1 to 2,048 bytes.
 fn checked_key(bits: &[u8]) -> Option<&[u8]>
-    ensures { Gives (λ x. x.now) result (as_key bits.now) }
+    ensures { AgreesWith (λ x. x.now) result (as_key bits.now) }
 {
     if bits.is_empty() || bits.len() > LONGEST_KEY {
         return None;

@@ -1,5 +1,5 @@
 ghost use Rattle.std.specs.Prelude.{◌≡◌, ◌<◌, length, IfSome, option_copied};
-ghost use Rattle.reg_der.specs.ValueReading.{Gives};
+ghost use Rattle.reg_der.specs.ValueReading.{AgreesWith};
 ghost use Rattle.reg_ocsp.specs.RequestReading.{critical_at, extension_at, fields_at, flag_of, last_nonce_at, nonce_at, written_flag};
 ghost use Rattle.reg_ocsp.specs.RequestReading as spec;
 ghost use Rattle.reg_ocsp.specs.Views.{extension_model};
@@ -23,13 +23,13 @@ pub(crate) struct Extension<'a> {
 /// nonce; `None` if any of the Extensions is invalid.
 #[tactic(auto, unfolding(crate::specs::RequestReading::last_nonce_at))]
 pub(crate) fn nonce_under(tag: u8, bytes: &[u8]) -> Option<Option<&[u8]>>
-    ensures { Gives (λ x. option_copied x) result (last_nonce_at tag bytes.now) }
+    ensures { AgreesWith (λ x. option_copied x) result (last_nonce_at tag bytes.now) }
 {
     written_nonce(last(tag, bytes)?)
 }
 
 fn written_nonce(extensions: Option<&[u8]>) -> Option<Option<&[u8]>>
-    ensures { Gives (λ x. option_copied x) result (spec.written_nonce (option_copied extensions.entry)) }
+    ensures { AgreesWith (λ x. option_copied x) result (spec.written_nonce (option_copied extensions.entry)) }
 {
     match extensions {
         None => Some(None),
@@ -40,7 +40,7 @@ fn written_nonce(extensions: Option<&[u8]>) -> Option<Option<&[u8]>>
 /// The value of the first nonce in Extensions, which are all of the bytes.
 #[tactic(auto, unfolding(crate::specs::RequestReading::nonce_at))]
 fn first_nonce(bytes: &[u8]) -> Option<Option<&[u8]>>
-    ensures { Gives (λ x. option_copied x) result (nonce_at bytes.now) }
+    ensures { AgreesWith (λ x. option_copied x) result (nonce_at bytes.now) }
 {
     let mut rest = whole(SEQUENCE, bytes)?;
     let mut nonce = None;
@@ -57,7 +57,7 @@ fn first_nonce(bytes: &[u8]) -> Option<Option<&[u8]>>
 /// The first Extension, and the bytes after it.
 #[tactic(auto, unfolding(crate::specs::RequestReading::extension_at))]
 fn next_extension(bytes: &[u8]) -> Option<(Extension<'_>, &[u8])>
-    ensures exact { Gives (λ x. (extension_model x.0, x.1.now)) result (extension_at bytes.now) }
+    ensures exact { AgreesWith (λ x. (extension_model x.0, x.1.now)) result (extension_at bytes.now) }
     ensures shorter { IfSome result (λ x. length x.1.now < length bytes.now) }
 {
     let (outer, rest) = expect(SEQUENCE, bytes)?;
@@ -68,7 +68,7 @@ fn next_extension(bytes: &[u8]) -> Option<(Extension<'_>, &[u8])>
 /// The Extension with these contents.
 #[tactic(auto, unfolding(crate::specs::RequestReading::fields_at))]
 fn extension_of(bytes: &[u8]) -> Option<Extension<'_>>
-    ensures { Gives extension_model result (fields_at bytes.now) }
+    ensures { AgreesWith extension_model result (fields_at bytes.now) }
 {
     let (identifier, after_identifier) = expect(OBJECT_IDENTIFIER, bytes)?;
     let (critical, after_critical) = critical(after_identifier)?;
@@ -94,7 +94,7 @@ fn is_refused(identifier: &[u8], critical: Option<bool>) -> bool
 /// `critical`, if it is written, and the bytes after it.
 #[tactic(auto, unfolding(crate::specs::RequestReading::critical_at))]
 fn critical(bytes: &[u8]) -> Option<(Option<bool>, &[u8])>
-    ensures { Gives (λ x. (x.0, x.1.now)) result (critical_at bytes.now) }
+    ensures { AgreesWith (λ x. (x.0, x.1.now)) result (critical_at bytes.now) }
 {
     let (written, rest) = optional(BOOLEAN, bytes)?;
     match written {

@@ -1,7 +1,7 @@
 //! Reads an OCSP request (RFC 6960 4.1.1).
 
 ghost use Rattle.std.specs.Prelude.{◌≡◌, ℕ, List, Option, ◌≤◌, ◌<◌, length, IfOk, IfSome, IsErrOf, option_copied};
-ghost use Rattle.reg_der.specs.ValueReading.{Gives, value_at};
+ghost use Rattle.reg_der.specs.ValueReading.{AgreesWith, value_at};
 ghost use Rattle.reg_ocsp.specs.Request.{CanBeAnswered, Id, IsNonce, IsOcspRequest};
 ghost use Rattle.reg_ocsp.specs.RequestReading.{algorithm_at, ids_at, list_at, hashes_and_serial_at, parts_at, read_all, request_at, serial_at, signed_at, single_at, target_at, tbs_at, version_at};
 ghost use Rattle.reg_ocsp.specs.RequestReading as spec;
@@ -57,7 +57,7 @@ fn request(alloc: Global, bytes: &[u8]) -> Result<Asked<'_>, RequestFault>
 /// The contents of requestList, and the nonce to repeat.
 #[tactic(auto, unfolding(crate::specs::RequestReading::parts_at))]
 fn parts(bytes: &[u8]) -> Option<(&[u8], Option<&[u8]>)>
-    ensures { Gives (λ x. (x.0.now, option_copied x.1)) result (parts_at bytes.now) }
+    ensures { AgreesWith (λ x. (x.0.now, option_copied x.1)) result (parts_at bytes.now) }
 {
     if bytes.len() > LONGEST_REQUEST {
         return None;
@@ -68,7 +68,7 @@ fn parts(bytes: &[u8]) -> Option<(&[u8], Option<&[u8]>)>
 /// The contents of the TBSRequest.
 #[tactic(auto, unfolding(crate::specs::RequestReading::tbs_at))]
 fn to_be_signed(bytes: &[u8]) -> Option<&[u8]>
-    ensures { Gives (λ x. x.now) result (tbs_at bytes.now) }
+    ensures { AgreesWith (λ x. x.now) result (tbs_at bytes.now) }
 {
     let (signed, rest) = expect(SEQUENCE, whole(SEQUENCE, bytes)?)?;
     last(TAGGED_0, rest)?;
@@ -78,7 +78,7 @@ fn to_be_signed(bytes: &[u8]) -> Option<&[u8]>
 /// The contents of requestList, and the nonce to repeat, from the contents of a TBSRequest.
 #[tactic(auto, unfolding(crate::specs::RequestReading::signed_at))]
 fn signed_parts(bytes: &[u8]) -> Option<(&[u8], Option<&[u8]>)>
-    ensures { Gives (λ x. (x.0.now, option_copied x.1)) result (signed_at bytes.now) }
+    ensures { AgreesWith (λ x. (x.0.now, option_copied x.1)) result (signed_at bytes.now) }
 {
     let (list, rest) = list(bytes)?;
     let nonce = nonce_under(TAGGED_2, rest)?;
@@ -88,7 +88,7 @@ fn signed_parts(bytes: &[u8]) -> Option<(&[u8], Option<&[u8]>)>
 /// The contents of requestList in the contents of a TBSRequest, and the bytes after it.
 #[tactic(auto, unfolding(crate::specs::RequestReading::list_at))]
 fn list(bytes: &[u8]) -> Option<(&[u8], &[u8])>
-    ensures { Gives (λ x. (x.0.now, x.1.now)) result (list_at bytes.now) }
+    ensures { AgreesWith (λ x. (x.0.now, x.1.now)) result (list_at bytes.now) }
 {
     let (_, rest) = optional(TAGGED_1, after_version(bytes)?)?;
     let (list, rest) = expect(SEQUENCE, rest)?;
@@ -98,7 +98,7 @@ fn list(bytes: &[u8]) -> Option<(&[u8], &[u8])>
 /// The bytes after the version, which is 0 or left out.
 #[tactic(auto, unfolding(crate::specs::RequestReading::version_at))]
 fn after_version(bytes: &[u8]) -> Option<&[u8]>
-    ensures { Gives (λ x. x.now) result (version_at bytes.now) }
+    ensures { AgreesWith (λ x. x.now) result (version_at bytes.now) }
 {
     let (version, rest) = optional(TAGGED_0, bytes)?;
     match version {
@@ -137,7 +137,7 @@ fn ids(alloc: Global, bytes: &[u8]) -> Result<Vec<CertId<'_>>, RequestFault>
 /// The CertID of the first Request, and the bytes after that Request.
 #[tactic(auto, unfolding(crate::specs::RequestReading::single_at))]
 fn single(bytes: &[u8]) -> Option<(CertId<'_>, &[u8])>
-    ensures exact { Gives (λ x. (id_model x.0, x.1.now)) result (single_at bytes.now) }
+    ensures exact { AgreesWith (λ x. (id_model x.0, x.1.now)) result (single_at bytes.now) }
     ensures shorter { IfSome result (λ x. length x.1.now < length bytes.now) }
 {
     let (outer, rest) = expect(SEQUENCE, bytes)?;
@@ -149,7 +149,7 @@ fn single(bytes: &[u8]) -> Option<(CertId<'_>, &[u8])>
 /// The CertID at the front, and the bytes after it.
 #[tactic(auto, unfolding(crate::specs::RequestReading::target_at))]
 fn cert_id(bytes: &[u8]) -> Option<(CertId<'_>, &[u8])>
-    ensures { Gives (λ x. (id_model x.0, x.1.now)) result (target_at bytes.now) }
+    ensures { AgreesWith (λ x. (id_model x.0, x.1.now)) result (target_at bytes.now) }
 {
     let (outer, rest) = expect(SEQUENCE, bytes)?;
     let (algorithm, after_algorithm) = algorithm(outer.contents)?;
@@ -167,7 +167,7 @@ fn cert_id(bytes: &[u8]) -> Option<(CertId<'_>, &[u8])>
 /// issuerNameHash, issuerKeyHash, and the contents octets of serialNumber.
 #[tactic(auto, unfolding(crate::specs::RequestReading::hashes_and_serial_at))]
 fn hashes_and_serial(bytes: &[u8]) -> Option<(&[u8], &[u8], &[u8])>
-    ensures { Gives (λ x. (x.0.now, x.1.now, x.2.now)) result (hashes_and_serial_at bytes.now) }
+    ensures { AgreesWith (λ x. (x.0.now, x.1.now, x.2.now)) result (hashes_and_serial_at bytes.now) }
 {
     let (name_hash, after_name) = expect(OCTET_STRING, bytes)?;
     let (key_hash, after_key) = expect(OCTET_STRING, after_name)?;
@@ -177,7 +177,7 @@ fn hashes_and_serial(bytes: &[u8]) -> Option<(&[u8], &[u8], &[u8])>
 
 #[tactic(auto, unfolding(crate::specs::RequestReading::serial_at))]
 fn serial(bytes: &[u8]) -> Option<&[u8]>
-    ensures { Gives (λ x. x.now) result (serial_at bytes.now) }
+    ensures { AgreesWith (λ x. x.now) result (serial_at bytes.now) }
 {
     let octets = whole(INTEGER, bytes)?;
     if is_shortest(octets) {
@@ -190,7 +190,7 @@ fn serial(bytes: &[u8]) -> Option<&[u8]>
 /// The whole DER value of the AlgorithmIdentifier at the front, and the bytes after it.
 #[tactic(auto, unfolding(crate::specs::RequestReading::algorithm_at))]
 fn algorithm(bytes: &[u8]) -> Option<(&[u8], &[u8])>
-    ensures { Gives (λ x. (x.0.now, x.1.now)) result (algorithm_at bytes.now) }
+    ensures { AgreesWith (λ x. (x.0.now, x.1.now)) result (algorithm_at bytes.now) }
 {
     let (outer, rest) = expect(SEQUENCE, bytes)?;
     let (identifier, parameters) = expect(OBJECT_IDENTIFIER, outer.contents)?;

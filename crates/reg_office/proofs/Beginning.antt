@@ -2,7 +2,7 @@
 use Rattle.std.proofs.Common.{◌≡◌, ◌≢◌, ◌<◌, ◌⊎◌, ℕ, List, Vec, inl, inr, refl, sym, subst, ◌∙◌, arith}
 use Rattle.std.proofs.lemmas.Bool.{false≢true}
 use Rattle.std.specs.Prelude.{◌↔◌, Option, Some, None, IsSome, Result, Ok, Err, IfOk, IsErrAnd}
-use Rattle.reg_core.specs.Checks.{clock_checks, first_of_all}
+use Rattle.reg_core.specs.Checks.{clock_checks, first_refusal}
 use Rattle.reg_core.specs.Issuer.{Issuer}
 use Rattle.reg_core.specs.Records.{Records}
 use Rattle.reg_core.specs.declared.memory.Memory.{Memory}
@@ -54,7 +54,7 @@ module _ (signs : Signs) (responder : Responder) (records : Records) (now : ℕ)
 
   -- so is the ResponseData, signed or left to be signed; or internalError, where the signer failed
   pub message_begun : (ids : List Id) (echo : Option (List ℕ)) (message : List ℕ) (result : Result (ReadyOrUnsigned OcspResponse Drafted) Memory)
-      → IsOcspRequest request ids echo → first_of_all (clock_checks now records.last) ≡ None
+      → IsOcspRequest request ids echo → first_refusal (clock_checks now records.last) ≡ None
       → IsOcspData (responder_key responder records) records now ids echo message → IfOk result (IsResponseOver signs responder message)
       → IfOk result (IsBegun signs responder records now request)
   message_begun ids echo message (Ok (Ready response)) asks timely of_records (inl (kind_is, signed)) =
@@ -74,7 +74,7 @@ module _ (signs : Signs) (responder : Responder) (records : Records) (now : ℕ)
       inr (ids, echo, asks, inr (subst P (sym timely) whole))
   read_reply ids echo Malformed bytes asks is = absurd is
   read_reply ids echo TryLater bytes asks ((why, refused), is) =
-      inr (ids, echo, asks, inr (late (first_of_all (clock_checks now records.last)) why (IsResponse signs responder records now ids echo) bytes refused is))
+      inr (ids, echo, asks, inr (late (first_refusal (clock_checks now records.last)) why (IsResponse signs responder records now ids echo) bytes refused is))
   read_reply ids echo StoreFailure bytes asks is = inr (ids, echo, asks, inl is)
   read_reply ids echo SignerFailure bytes asks is = inr (ids, echo, asks, inl is)
 
@@ -168,7 +168,7 @@ signed_malformed signs identity request draft bytes read (inr (signature, signed
 
 -- the clock's refusal of a moment
 pub refused_by_clock : (records : Records) (now : ℕ) (result : Result (Issuer × ℕ) ResponseFault) → IsErrAnd result (λ told. told ≡ fault.Clock)
-    → IsSome (first_of_all (clock_checks now records.last)) → IsResponding records now result
+    → IsSome (first_refusal (clock_checks now records.last)) → IsResponding records now result
 refused_by_clock records now (Ok it) told refused = absurd told
 refused_by_clock records now (Err why) told refused =
     let P : ResponseFault → Type 0 = λ it. IsResponding records now (Err it) in

@@ -56,14 +56,14 @@ may_change {signed = signed} records now command decided other it = record {
 }
 
 -- a refusal that applies, or a fault of the store
-pub fault_happens : {T : Type 0} (IsWhat : T → Type 0) (signed : CertList → List ℕ → Type 0) (records : Records) (now : ℕ) (command : Command) (fault : Fault)
-    → now < clock_end → IsTableFault fault → IsDecidedOr {T = T} (refusal records now command) IsWhat (Err fault) → Happens signed records now command (Err fault) records
-fault_happens IsWhat signed records now command (Refused why) below is_fault refused = (step_refused signed records now command why refused).step records refl
-fault_happens IsWhat signed records now command Memory below is_fault it = (below, refl)
-fault_happens IsWhat signed records now command Store below is_fault it = (below, refl)
-fault_happens IsWhat signed records now command SignerFailed below is_fault it = absurd is_fault
-fault_happens IsWhat signed records now command Read below is_fault it = absurd is_fault
-fault_happens IsWhat signed records now command Write below is_fault it = absurd is_fault
+pub fault_happens : {T : Type 0} (IsDecision : T → Type 0) (signed : CertList → List ℕ → Type 0) (records : Records) (now : ℕ) (command : Command) (fault : Fault)
+    → now < clock_end → IsTableFault fault → IsDecidedOr {T = T} (refusal records now command) IsDecision (Err fault) → Happens signed records now command (Err fault) records
+fault_happens IsDecision signed records now command (Refused why) below is_fault refused = (step_refused signed records now command why refused).step records refl
+fault_happens IsDecision signed records now command Memory below is_fault it = (below, refl)
+fault_happens IsDecision signed records now command Store below is_fault it = (below, refl)
+fault_happens IsDecision signed records now command SignerFailed below is_fault it = absurd is_fault
+fault_happens IsDecision signed records now command Read below is_fault it = absurd is_fault
+fault_happens IsDecision signed records now command Write below is_fault it = absurd is_fault
 
 the_fault : (fault other : Fault) → IsErrOf {T = Reply} (Err fault) other → fault ≡ other
 the_fault fault other told = cc

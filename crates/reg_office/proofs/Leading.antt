@@ -16,7 +16,7 @@ use Rattle.reg_crl.specs.Signing.{Identity, signed_by}
 use Rattle.reg_crl.specs.declared.signer.Signer.{Ghosts as Signer}
 use Rattle.reg_core_laws.specs.Run.{Happens}
 use Rattle.reg_office_api.specs.Signatories.{Signatory}
-use Rattle.reg_office_api.specs.CallSteps.{CommandStep, Signs, Runs, Ocsps}
+use Rattle.reg_office_api.specs.CallSteps.{CommandStep, Signs, Runs, AnswersOcsp}
 use Rattle.reg_office_api.specs.Drafts.{Begins, Drafts, IsDraft}
 use Rattle.reg_office_api.specs.Responses.{Replies}
 use Rattle.reg_office_api.specs.declared.response.OcspResponse.{OcspResponse}
@@ -126,11 +126,11 @@ module _ {C S : Type 0} (g : Ghosts C) (signer : Signer S) (old new : Office C S
   -- an OCSP request that is answered
   pub response_leads : {Z : Type 0} (now : ℕ) (request : List ℕ) (result : Result (Vec ℕ Z) Memory)
       → OfficeLooks g signer (λ records. IfOk result (λ answer. IsOcspReply signer.signs (seen signer old).1.answers records now request answer.items)) old new
-      → OfficeLeads g signer (λ signatory before after. Ocsps signer.signs signatory before now request (items_of result) after) old new
+      → OfficeLeads g signer (λ signatory before after. AnswersOcsp signer.signs signatory before now request (items_of result) after) old new
   response_leads now request (Ok bytes) looks =
-      office_leads _ (λ signatory before after. Ocsps signer.signs signatory before now request (Ok bytes.items) after) looks (λ records replied. (replied, refl))
+      office_leads _ (λ signatory before after. AnswersOcsp signer.signs signatory before now request (Ok bytes.items) after) looks (λ records replied. (replied, refl))
   response_leads now request (Err memory) looks =
-      office_leads _ (λ signatory before after. Ocsps signer.signs signatory before now request (Err memory) after) looks (λ records replied. refl)
+      office_leads _ (λ signatory before after. AnswersOcsp signer.signs signatory before now request (Err memory) after) looks (λ records replied. refl)
 
   -- an OCSP request that is begun
   pub beginning_leads : (now : ℕ) (request : List ℕ) (result : Result (ReadyOrUnsigned OcspResponse Drafted) Memory)

@@ -5,7 +5,7 @@ use Rattle.std.specs.List.{AllByRecursion, cons_option, find}
 use Rattle.std.proofs.lemmas.Bool.{cases_Bool, cases_order, le-ltb, lt-ltb, ltb-true, ltb-false}
 use Rattle.std.proofs.lemmas.Option.{slice_get-map}
 use Rattle.std.proofs.lemmas.List.{length-take-le, take_all, take_more}
-use Rattle.reg_core.specs.Checks.{clock_checks, first_of_all}
+use Rattle.reg_core.specs.Checks.{clock_checks, first_refusal}
 use Rattle.reg_core.specs.Crls.{row_of}
 use Rattle.reg_core.specs.Records.{Records, Crl}
 use Rattle.reg_core.specs.Sound.{NumberedFrom, SoundRows}
@@ -29,9 +29,9 @@ use Rattle.reg_store_tables.specs.Tables.{rows_of}
 use Rattle.reg_store_tables.proofs.PublicLaws.{mapped}
 use Rattle.reg_office.specs.Faults.{IsTableFault}
 use Rattle.reg_office.specs.Looking.{IsDecidedOr}
-use Rattle.reg_office.specs.Numbered.{certificate_listed, certificates_after, cursor_of, row_at, numbered_table}
-use Rattle.reg_office.specs.declared.pages.Numbered.{Numbered}
-use Rattle.reg_office.specs.declared.pages.Numbered.TheVariants.{OpenRequests, Overdue, Requests, Subscribers, Orders}
+use Rattle.reg_office.specs.ListById.{certificate_listed, certificates_after, cursor_of, row_at, numbered_table}
+use Rattle.reg_office.specs.declared.pages.ListById.{ListById}
+use Rattle.reg_office.specs.declared.pages.ListById.TheVariants.{OpenRequests, Overdue, Requests, Subscribers, Orders}
 
 split_end : {A B : Type 0} (f : A → Option B) (xs : List A) (x : A) → filter_map f (xs ++ x ∷ []) ≡ filter_map f xs ++ filter_map f (x ∷ [])
 split_end f [] x = refl
@@ -50,7 +50,7 @@ row_more f xs i x row done new within is told was now =
 
 -- a page that the clock lets be told, or its refusal, or a fault of the store
 pub paged : (records : Records) (now most : ℕ) (from : Cursor) (result : Result Page Fault) → IfErr result IsTableFault
-    → IsDecidedOr (first_of_all (clock_checks now records.last)) (λ given. (first_of_all (clock_checks now records.last) ≡ None) × IsPage records now most from given) result
+    → IsDecidedOr (first_refusal (clock_checks now records.last)) (λ given. (first_refusal (clock_checks now records.last) ≡ None) × IsPage records now most from given) result
     → IsPaged records now most from result
 paged records now most from (Ok given) is it = it
 paged records now most from (Err (Refused why)) is it = it
@@ -284,7 +284,7 @@ module _ (records : Records) (sound : SoundRows records) (now after most end : �
         numbered_next key row_for (λ id. find (λ a. key a == id) xs) at xs numbered found after most end is next told,
       )
 
-  pub numbered_page : (list : Numbered) → end ≡ min (rows_of records (numbered_table list)) (after + most)
+  pub numbered_page : (list : ListById) → end ≡ min (rows_of records (numbered_table list)) (after + most)
       → rows ≡ filter_map (row_at records now list) (numbers (after + 1) (end - after))
       → next ≡ cond (nat_lt after end && ((end - after) == most)) (Some (cursor_of list end)) None
       → (rows ≡ (page records now most (cursor_of list after)).rows) × (next ≡ (page records now most (cursor_of list after)).next)

@@ -16,12 +16,12 @@ use Rattle.reg_core.specs.declared.rows.OrderRow.{OrderRow}
 use Rattle.reg_core.specs.declared.rows.RequestRow.{RequestRow}
 use Rattle.reg_core.specs.declared.rows.RevocationRow.{RevocationRow}
 use Rattle.reg_core.specs.declared.rows.SubscriberRow.{SubscriberRow}
-use Rattle.reg_core_lists.specs.Lists.{certificate_line, certificate_row, expiring_row, history_row, lateness_of, open_row, order_row, overdue_row, request_line, revoked_row, status_at, subscriber_of_order}
-use Rattle.reg_core_lists.specs.declared.rows.CertificateLine.{CertificateLine}
-use Rattle.reg_core_lists.specs.declared.rows.OrderLine.{OrderLine}
+use Rattle.reg_core_lists.specs.Lists.{listed_certificate, certificate_row, expiring_row, history_row, lateness_of, open_row, order_row, overdue_row, listed_request, revoked_row, status_at, subscriber_of_order}
+use Rattle.reg_core_lists.specs.declared.rows.ListedCertificate.{ListedCertificate}
+use Rattle.reg_core_lists.specs.declared.rows.ListedOrder.{ListedOrder}
 use Rattle.reg_core_lists.specs.declared.rows.RequestHistory.{RequestHistory}
-use Rattle.reg_core_lists.specs.declared.rows.RequestLine.{RequestLine}
-use Rattle.reg_core_lists.specs.declared.rows.RevokedLine.{RevokedLine}
+use Rattle.reg_core_lists.specs.declared.rows.ListedRequest.{ListedRequest}
+use Rattle.reg_core_lists.specs.declared.rows.ListedRevocation.{ListedRevocation}
 use Rattle.reg_core_lists.specs.declared.rows.Row.{Row}
 use Rattle.reg_core_lists.specs.declared.rows.Row.TheVariants.{Certificate, History, Order, Request, Revoked}
 use Rattle.reg_store_tables.proofs.PublicLaws.{not_good}
@@ -53,7 +53,7 @@ module _ (records : Records) where
   listed_nowhere serial none = ap (option_map listing_by) none
 
   module _ (now : ℕ) (certificate : CertRow) where
-    abbrev line_with : SubscriberRow → CertificateLine
+    abbrev line_with : SubscriberRow → ListedCertificate
     line_with subscriber = record {
       certificate = certificate;
       subscriber = subscriber;
@@ -61,7 +61,7 @@ module _ (records : Records) where
       listing = listing records certificate.serial;
     }
 
-    abbrev told_with : Option RevocationRow → SubscriberRow → Option Listing → CertificateLine
+    abbrev told_with : Option RevocationRow → SubscriberRow → Option Listing → ListedCertificate
     told_with revocation subscriber listed = record {
       certificate = certificate;
       subscriber = subscriber;
@@ -70,26 +70,26 @@ module _ (records : Records) where
     }
 
     -- what is told of a certificate
-    pub line_is : (line : CertificateLine) (revocation : Option RevocationRow) (subscriber : SubscriberRow) (listed : Option Listing)
+    pub line_is : (line : ListedCertificate) (revocation : Option RevocationRow) (subscriber : SubscriberRow) (listed : Option Listing)
         → line ≡ told_with revocation subscriber listed → Some subscriber ≡ subscriber_of_order records certificate.order
         → listed ≡ listing records certificate.serial → revocation ≡ revocation_in records.revocations certificate.serial
-        → Some line ≡ certificate_line records now certificate
+        → Some line ≡ listed_certificate records now certificate
     line_is line revocation subscriber listed told owner is revoked =
         let whole : told_with revocation subscriber listed ≡ line_with subscriber = λ i. told_with (revoked i) subscriber (is i) in
-        ap (λ (it : CertificateLine). Some it) (told ∙ whole) ∙ ap (option_map line_with) owner
+        ap (λ (it : ListedCertificate). Some it) (told ∙ whole) ∙ ap (option_map line_with) owner
 
     -- as a row
-    pub row_is : (line : CertificateLine) → Some line ≡ certificate_line records now certificate → Some (Certificate line) ≡ certificate_row records now certificate
-    row_is line is = ap (option_map (λ (it : CertificateLine). Certificate it)) is
+    pub row_is : (line : ListedCertificate) → Some line ≡ listed_certificate records now certificate → Some (Certificate line) ≡ certificate_row records now certificate
+    row_is line is = ap (option_map (λ (it : ListedCertificate). Certificate it)) is
 
-    line_status : (owner : Option SubscriberRow) (line : CertificateLine) → Some line ≡ option_map line_with owner → line.status ≡ status_at records now certificate
+    line_status : (owner : Option SubscriberRow) (line : ListedCertificate) → Some line ≡ option_map line_with owner → line.status ≡ status_at records now certificate
     line_status None line is = absurd (let no : ⊥ = cc in no)
     line_status (Some subscriber) line is =
         let same : line ≡ line_with subscriber = cc in
-        ap (λ (it : CertificateLine). it.status) same
+        ap (λ (it : ListedCertificate). it.status) same
 
     -- as a row, where it is good
-    pub good_is : (line : CertificateLine) (row : Option Row) → Some line ≡ certificate_line records now certificate
+    pub good_is : (line : ListedCertificate) (row : Option Row) → Some line ≡ listed_certificate records now certificate
         → row ≡ cond (is_good line.status) (Some (Certificate line)) None
         → row ≡ cond (is_good (status_at records now certificate)) (certificate_row records now certificate) None
     good_is line row is told =
@@ -131,19 +131,19 @@ declined_so false good row is = absurd (false≢true is)
 
 module _ (records : Records) (request : RequestRow) where
   abbrev one_of : Option Row
-  one_of = option_map (λ (line : RequestLine). Request line) (request_line records request)
+  one_of = option_map (λ (line : ListedRequest). Request line) (listed_request records request)
 
-  abbrev request_with : CertRow → SubscriberRow → RequestLine
+  abbrev request_with : CertRow → SubscriberRow → ListedRequest
   request_with certificate subscriber = record { request = request; due = deadline request; certificate = certificate; subscriber = subscriber }
 
   -- what is told of a request
-  pub request_is : (line : RequestLine) (certificate : CertRow) → line.request ≡ request → line.due ≡ deadline request → line.certificate ≡ certificate
+  pub request_is : (line : ListedRequest) (certificate : CertRow) → line.request ≡ request → line.due ≡ deadline request → line.certificate ≡ certificate
       → Some line.subscriber ≡ subscriber_of_order records certificate.order → Some certificate ≡ certificate_in records.certificates request.serial
-      → Some line ≡ request_line records request
+      → Some line ≡ listed_request records request
   request_is line certificate same due held owner found =
       let whole : line ≡ request_with certificate line.subscriber =
       λ i. record { request = same i; due = due i; certificate = held i; subscriber = line.subscriber } in
-      ap (λ (it : RequestLine). Some it) whole ∙ ap (option_map (request_with certificate)) owner
+      ap (λ (it : ListedRequest). Some it) whole ∙ ap (option_map (request_with certificate)) owner
       ∙ ap (option_and_then (λ (it : CertRow). option_map (request_with it) (subscriber_of_order records it.order))) found
 
 module _ (records : Records) (now : ℕ) (request : RequestRow) where
@@ -158,10 +158,10 @@ module _ (records : Records) (now : ℕ) (request : RequestRow) where
   open_is certificate revocation good undeclined found revoked is =
       (λ i. not (undeclined i) && is_good (status_by now ((sym found) i) ((sym revoked) i))) ∙ sym is
 
-  pub open_told : (good : Bool) (line : RequestLine) → is_open records now request ≡ good → good ≡ true
-      → Some line ≡ request_line records request → Some (Request line) ≡ open_row records now request
+  pub open_told : (good : Bool) (line : ListedRequest) → is_open records now request ≡ good → good ≡ true
+      → Some line ≡ listed_request records request → Some (Request line) ≡ open_row records now request
   open_told good line is passed told =
-      ap (option_map (λ (it : RequestLine). Request it)) told ∙ sym (ap (λ b. cond b (one_of records request) None) (is ∙ passed))
+      ap (option_map (λ (it : ListedRequest). Request it)) told ∙ sym (ap (λ b. cond b (one_of records request) None) (is ∙ passed))
 
   pub open_none : (good : Bool) → is_open records now request ≡ good → good ≡ false → None ≡ open_row records now request
   open_none good is failed = sym (ap (λ b. cond b (one_of records request) None) (is ∙ failed))
@@ -176,60 +176,60 @@ module _ (records : Records) (now : ℕ) (request : RequestRow) where
   pub overdue_none : (due : ℕ) → due ≡ deadline request → nat_lt due now ≡ false → None ≡ overdue_row records now request
   overdue_none due is early = sym (ap (λ b. cond b (open_row records now request) None) (sym (ap (λ moment. nat_lt moment now) is) ∙ early))
 
-  abbrev history_with : Status → RequestLine → RequestHistory
+  abbrev history_with : Status → ListedRequest → RequestHistory
   history_with is line = record { request = line; status = is; lateness = lateness_of now request line.certificate is }
 
   -- what became of any
-  pub history_is : (line : RequestLine) (certificate : CertRow) (revocation : Option RevocationRow) (history : RequestHistory)
+  pub history_is : (line : ListedRequest) (certificate : CertRow) (revocation : Option RevocationRow) (history : RequestHistory)
       → history.request ≡ line → history.status ≡ status_by now (Some certificate) revocation
       → history.lateness ≡ lateness_of now request line.certificate history.status
-      → Some line ≡ request_line records request → Some certificate ≡ certificate_in records.certificates request.serial
+      → Some line ≡ listed_request records request → Some certificate ≡ certificate_in records.certificates request.serial
       → revocation ≡ revocation_in records.revocations request.serial → Some (History history) ≡ history_row records now request
   history_is line certificate revocation history same is late told found revoked =
       let whole : history ≡ history_with (status_by now (Some certificate) revocation) line =
       λ i. record { request = same i; status = is i; lateness = (late ∙ ap (lateness_of now request line.certificate) is) i } in
       ap (λ (it : RequestHistory). Some (History it)) whole
       ∙ (λ i. Some (History (history_with (status_by now (found i) (revoked i)) line)))
-      ∙ ap (λ (it : Option RequestLine). option_map (λ (one : RequestHistory). History one) (option_map (history_with (status records request.serial now)) it)) told
+      ∙ ap (λ (it : Option ListedRequest). option_map (λ (one : RequestHistory). History one) (option_map (history_with (status records request.serial now)) it)) told
 
 -- ---- revocations
 
 module _ (records : Records) (now : ℕ) (revocation : RevocationRow) where
-  abbrev revoked_with : RequestRow → CertificateLine → RevokedLine
+  abbrev revoked_with : RequestRow → ListedCertificate → ListedRevocation
   revoked_with request line = record { certificate = line; revocation = revocation; request = request; due = deadline request }
 
-  abbrev line_of : Option CertRow → Option CertificateLine
-  line_of registered = option_and_then (certificate_line records now) registered
+  abbrev line_of : Option CertRow → Option ListedCertificate
+  line_of registered = option_and_then (listed_certificate records now) registered
 
   -- what is told of a revocation
-  pub revoked_is : (request : RequestRow) (registered : CertRow) (line : RevokedLine) → line.revocation ≡ revocation → line.request ≡ request
+  pub revoked_is : (request : RequestRow) (registered : CertRow) (line : ListedRevocation) → line.revocation ≡ revocation → line.request ≡ request
       → line.due ≡ deadline request → Some request ≡ request_in records.requests revocation.request
-      → Some registered ≡ certificate_in records.certificates revocation.serial → Some line.certificate ≡ certificate_line records now registered
+      → Some registered ≡ certificate_in records.certificates revocation.serial → Some line.certificate ≡ listed_certificate records now registered
       → Some (Revoked line) ≡ revoked_row records now revocation
   revoked_is request registered line same led due found held told =
       let whole : line ≡ revoked_with request line.certificate =
       λ i. record { certificate = line.certificate; revocation = same i; request = led i; due = due i } in
       let known : Some line.certificate ≡ line_of (certificate_in records.certificates revocation.serial) = told ∙ ap line_of held in
-      ap (λ (it : RevokedLine). Some (Revoked it)) whole
-      ∙ ap (λ (it : Option CertificateLine). option_map (λ (one : RevokedLine). Revoked one) (option_map (revoked_with request) it)) known
-      ∙ ap (λ (it : Option RequestRow). option_map (λ (one : RevokedLine). Revoked one)
+      ap (λ (it : ListedRevocation). Some (Revoked it)) whole
+      ∙ ap (λ (it : Option ListedCertificate). option_map (λ (one : ListedRevocation). Revoked one) (option_map (revoked_with request) it)) known
+      ∙ ap (λ (it : Option RequestRow). option_map (λ (one : ListedRevocation). Revoked one)
       (option_and_then (λ (one : RequestRow). option_map (revoked_with one) (line_of (certificate_in records.certificates revocation.serial))) it)) found
 
 -- ---- orders
 
 module _ (records : Records) (order : OrderRow) where
-  abbrev order_with : Option CertRow → SubscriberRow → OrderLine
+  abbrev order_with : Option CertRow → SubscriberRow → ListedOrder
   order_with certificate subscriber = record { order = order; subscriber = subscriber; serial = option_map (λ (it : CertRow). it.serial) certificate }
 
   -- what is told of an order
-  pub order_is : (line : OrderLine) (certificate : Option CertRow) → line.order ≡ order → Some line.subscriber ≡ subscriber_in records.subscribers order.subscriber
+  pub order_is : (line : ListedOrder) (certificate : Option CertRow) → line.order ≡ order → Some line.subscriber ≡ subscriber_in records.subscribers order.subscriber
       → line.serial ≡ option_map (λ (it : CertRow). it.serial) certificate → certificate ≡ certificate_of_order records.certificates order.id
       → Some (Order line) ≡ order_row records order
   order_is line certificate same owner serial filled =
       let whole : line ≡ order_with (certificate_of_order records.certificates order.id) line.subscriber =
       λ i. record { order = same i; subscriber = line.subscriber; serial = (serial ∙ ap (option_map (λ (it : CertRow). it.serial)) filled) i } in
-      let told = ap (λ (it : OrderLine). Some it) whole ∙ ap (option_map (order_with (certificate_of_order records.certificates order.id))) owner in
-      ap (option_map (λ (it : OrderLine). Order it)) told
+      let told = ap (λ (it : ListedOrder). Some it) whole ∙ ap (option_map (order_with (certificate_of_order records.certificates order.id))) owner in
+      ap (option_map (λ (it : ListedOrder). Order it)) told
 
 -- ---- a row at an id
 

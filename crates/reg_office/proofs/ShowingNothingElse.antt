@@ -2,7 +2,7 @@
 use Rattle.std.proofs.Common.{◌≡◌, ◌⊎◌, ◌==◌, ℕ, Bool, true, false, nat_lt, cond, List, [], ◌∷◌, ◌++◌, get_or, Option, Some, None, Result, Ok, IsFalse, inl, inr, refl, sym, ap, ◌∙◌, subst, arith}
 use Rattle.std.specs.Prelude.{IsSomeAnd}
 use Rattle.std.proofs.lemmas.Bool.Decides.{nat_tests}
-use Rattle.reg_core.specs.Checks.{clock_checks, first_of_all}
+use Rattle.reg_core.specs.Checks.{clock_checks, first_refusal}
 use Rattle.reg_core.specs.Decisions.{refused_or}
 use Rattle.reg_core.specs.Records.{Records, certificate_in, revocation_in, request_in}
 use Rattle.reg_core.specs.Sound.{Sound}
@@ -272,7 +272,7 @@ nowhere_shown signs identity history moves agree run serial not_revoked =
       when_asked = λ moment told answered.
           subst
           (λ (status : Status). IsFalse (is_revoked status))
-          (sym (told_is (first_of_all (clock_checks moment run.after.last)) (status run.after serial moment) told answered))
+          (sym (told_is (first_refusal (clock_checks moment run.after.last)) (status run.after serial moment) told answered))
           (status_unrevoked run.after serial is moment);
       by_ocsp = λ moment reached responder.
           ocsp_tells

@@ -2,7 +2,7 @@
 use Rattle.std.proofs.Common.{◌≡◌, ℕ, false, nat_le, nat_lt, List, [], ◌∷◌, Option, None, inl, inr, subst, arith}
 use Rattle.std.specs.List.{AllZip}
 use Rattle.std.proofs.lemmas.Bool.Decides.{nat_tests}
-use Rattle.reg_core.specs.Checks.{clock_end, clock_checks, first_of_all}
+use Rattle.reg_core.specs.Checks.{clock_end, clock_checks, first_refusal}
 use Rattle.reg_core.specs.Records.{Records}
 use Rattle.reg_core.specs.Sound.{SoundRows}
 use Rattle.reg_core.specs.declared.command.Status.{Status}
@@ -20,7 +20,7 @@ use Rattle.reg_office.specs.Shown.{IsReached, AnswersStatuses, ResponseHasStatus
 pub on_clock
     : (records : Records) (moment : ℕ)
     → IsReached records moment
-    → first_of_all (clock_checks moment records.last) ≡ None
+    → first_refusal (clock_checks moment records.last) ≡ None
 on_clock records moment reached =
     let before_end : nat_le clock_end moment ≡ false = grind (arith, nat_tests, reached.not_ended) in
     let not_back : nat_lt moment records.last ≡ false = grind (arith, nat_tests, reached.not_back) in

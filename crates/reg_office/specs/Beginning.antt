@@ -1,6 +1,6 @@
 -- The response to an OCSP request, or a draft of it that is not signed yet.
 use Rattle.std.specs.Prelude.{◌≡◌, ◌⊎◌, ◌↔◌, ℕ, ◌+◌, List, Option, Some, None, Result, Ok, Err, IsSome, Vec, unwrap_or}
-use Rattle.reg_core.specs.Checks.{clock_checks, first_of_all}
+use Rattle.reg_core.specs.Checks.{clock_checks, first_refusal}
 use Rattle.reg_core.specs.Issuer.{Issuer}
 use Rattle.reg_core.specs.Records.{Records}
 use Rattle.reg_ocsp.specs.Drafts.{Drafted, drafted_response}
@@ -48,9 +48,9 @@ key_in records own = unwrap_or own records.issuer.key
 -- the issuer, and now plus the life of an OCSP answer; or the clock checks refuse this moment; or memory or the store failed
 abbrev pub IsResponding : Records → ℕ → Result (Issuer × ℕ) ResponseFault → Type 0
 IsResponding records now (Ok it) =
-    (first_of_all (clock_checks now records.last) ≡ None) × (it.0 ≡ records.issuer)
+    (first_refusal (clock_checks now records.last) ≡ None) × (it.0 ≡ records.issuer)
     × (it.1 ≡ now + records.policy.ocsp_life)
-IsResponding records now (Err fault.Clock) = IsSome (first_of_all (clock_checks now records.last))
+IsResponding records now (Err fault.Clock) = IsSome (first_refusal (clock_checks now records.last))
 IsResponding records now (Err fault.Memory) = Unit {0}
 IsResponding records now (Err fault.Store) = Unit {0}
 
@@ -58,8 +58,8 @@ IsResponding records now (Err fault.Store) = Unit {0}
 abbrev pub IsMessage : {Z : Type 0} → List ℕ → Records → ℕ → List Id → Option (List ℕ)
     → Result (Vec ℕ Z) ResponseFault → Type 0
 IsMessage key records now ids echo (Ok bytes) =
-    (first_of_all (clock_checks now records.last) ≡ None) × IsOcspData key records now ids echo bytes.items
-IsMessage key records now ids echo (Err fault.Clock) = IsSome (first_of_all (clock_checks now records.last))
+    (first_refusal (clock_checks now records.last) ≡ None) × IsOcspData key records now ids echo bytes.items
+IsMessage key records now ids echo (Err fault.Clock) = IsSome (first_refusal (clock_checks now records.last))
 IsMessage key records now ids echo (Err fault.Memory) = Unit {0}
 IsMessage key records now ids echo (Err fault.Store) = Unit {0}
 

@@ -13,4 +13,4 @@ pub mod Stands
 pub mod Calls
 pub mod Cases
 pub mod Decisions
-pub mod Numbered
+pub mod ListById

@@ -3,7 +3,7 @@ use Rattle.std.specs.Prelude.{◌≡◌, ℕ, [], ◌++◌, Option, None, Some, 
 use Rattle.sqlite_trees.specs.declared.store.Store.{Ghosts}
 use Rattle.sqlite.specs.Held.{Held}
 use Rattle.reg_core.specs.Changes.{Fits, changed_by}
-use Rattle.reg_core.specs.Checks.{clock_checks, first_of_all}
+use Rattle.reg_core.specs.Checks.{clock_checks, first_refusal}
 use Rattle.reg_core.specs.Queries.{query_checks, query_reply}
 use Rattle.reg_core.specs.Records.{Records}
 use Rattle.reg_core.specs.Step.{changed, refusal, reply}
@@ -17,21 +17,21 @@ use Rattle.reg_core.specs.declared.refusal.Refusal.{Refusal}
 use Rattle.reg_store_tables.specs.LookUps.{LooksUp}
 use Rattle.reg_office.specs.Faults.{IsTableFault}
 
--- a decision, of which `IsWhat` holds; or the refusal that applies; a fault says nothing of the records
+-- a decision, of which `IsDecision` holds; or the refusal that applies; a fault says nothing of the records
 abbrev pub IsDecidedOr : {T : Type 0} → Option Refusal → (T → Type 0) → Result T Fault → Type 0
-IsDecidedOr refused IsWhat (Ok decided) = IsWhat decided
-IsDecidedOr refused IsWhat (Err (Refused why)) = refused ≡ Some why
-IsDecidedOr refused IsWhat (Err Memory) = Unit {0}
-IsDecidedOr refused IsWhat (Err Store) = Unit {0}
-IsDecidedOr refused IsWhat (Err Signer) = Unit {0}
-IsDecidedOr refused IsWhat (Err Read) = Unit {0}
-IsDecidedOr refused IsWhat (Err Write) = Unit {0}
+IsDecidedOr refused IsDecision (Ok decided) = IsDecision decided
+IsDecidedOr refused IsDecision (Err (Refused why)) = refused ≡ Some why
+IsDecidedOr refused IsDecision (Err Memory) = Unit {0}
+IsDecidedOr refused IsDecision (Err Store) = Unit {0}
+IsDecidedOr refused IsDecision (Err Signer) = Unit {0}
+IsDecidedOr refused IsDecision (Err Read) = Unit {0}
+IsDecidedOr refused IsDecision (Err Write) = Unit {0}
 
 -- look-ups, and a decision over their answers: the refusal that applies to the records, or what is decided
 pub record LooksAndDecides {C T : Type 0} (g : Ghosts C) (old new : Held C)
-    (refused : Records → Option Refusal) (IsWhat : Records → T → Type 0)
+    (refused : Records → Option Refusal) (IsDecision : Records → T → Type 0)
     (result : Result T Fault) : Type 0 where
-  pub looks : LooksUp g old new (λ records. IsDecidedOr (refused records) (IsWhat records) result)
+  pub looks : LooksUp g old new (λ records. IsDecidedOr (refused records) (IsDecision records) result)
   pub faults : IfErr result IsTableFault
 
 -- no refusal applies to the command, this is its reply, and this is the one change that it makes of the records, which fits them
@@ -50,11 +50,11 @@ DecidesCommand g old new now command result =
 
 -- the refusal of a moment by the clock checks
 abbrev pub clock_refusal : Records → ℕ → Option Refusal
-clock_refusal records now = first_of_all (clock_checks now records.last)
+clock_refusal records now = first_refusal (clock_checks now records.last)
 
 -- the refusal that applies to a query at a moment: by the clock checks, or else by those of the query
 abbrev pub query_refusal : Records → ℕ → Query → Option Refusal
-query_refusal records now query = first_of_all (clock_checks now records.last ++ query_checks records query)
+query_refusal records now query = first_refusal (clock_checks now records.last ++ query_checks records query)
 
 -- the answer to a query at a moment: the refusal that applies, or the reply if none applies
 abbrev pub AnswersQuery : {C : Type 0} → Ghosts C → Held C → Held C → ℕ → Query → Result Reply Fault → Type 0

@@ -137,7 +137,7 @@ fn ocsp_data<C: Alter>(
         (ids_model asked.now.ids.items) (option_copied asked.now.nonce) result) }
     ensures bounded { IfOk result (λ bytes. length bytes.items ≤ 2 ^ 27) }
 {
-    let (issuer, next) = responding(tables, now)?;
+    let (issuer, next) = issuer_and_next_update(tables, now)?;
     let answers = answers(alloc, tables, &issuer, now, &asked.ids)?;
     let key = key_of(own_key, &issuer);
     Ok(response_data_by(alloc, key, now, next, &answers, asked.nonce)?)
@@ -153,13 +153,13 @@ fn key_of<'a>(own: Option<&'a [u8]>, issuer: &'a Issuer) -> &'a [u8]
 }
 
 /// The issuer, and the nextUpdate of an answer given now; `Clock` if the clock checks refuse the moment.
-fn responding<C: Alter>(
+fn issuer_and_next_update<C: Alter>(
     tables: &mut Tables<C>,
     now: Moment,
 ) -> Result<(Issuer, Moment), ResponseFault>
     ensures { LooksUp C.Store tables.old tables.new (λ records. IsResponding records now result) }
 {
-    let (last, issuer, life) = tables.responding()?;
+    let (last, issuer, life) = tables.ocsp_head()?;
     clock(now, last)?;
     Ok((issuer, now.plus(life)))
 }

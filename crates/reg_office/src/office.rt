@@ -90,7 +90,7 @@ impl<C: Alter, S: Signer> reg_office_api::Office for Office<C, S> {
     ghost use Rattle.reg_office_api.specs.Items.{items_of};
     ghost use Rattle.reg_office_api.specs.LookUps.{IsOfStore, PageStep};
     ghost use Rattle.reg_office_api.specs.Ocsp.{HasNoReading, IsOcspReply};
-    ghost use Rattle.reg_office_api.specs.Settings.{Identifies, Reschedules};
+    ghost use Rattle.reg_office_api.specs.Settings.{SetsKeyIdentifier, ReplacesSchedule};
     ghost use Rattle.reg_store_changes.specs.AfterStoppedChange.{IsScheduled};
     ghost use Rattle.reg_der.specs.Issuers.{with_key_identifier};
     ghost use Rattle.reg_store_tables.specs.Stays.{Changed, Stays};
@@ -262,7 +262,7 @@ impl<C: Alter, S: Signer> reg_office_api::Office for Office<C, S> {
     }
 
     fn set_schedule(&mut self, alloc: Global, schedule: Schedule) -> Result<(), Fault>
-        ensures sets { OfficeLeads C.Store S.Signer (λ signatory. Reschedules schedule result)
+        ensures sets { OfficeLeads C.Store S.Signer (λ signatory. ReplacesSchedule schedule result)
             self.old self.new }
         ensures faults { IfErr result IsOfStore }
         ensures ok { (records : Records) → StandsIn C.Store S.Signer self.old records
@@ -281,7 +281,7 @@ impl<C: Alter, S: Signer> reg_office_api::Office for Office<C, S> {
     }
 
     fn set_key_identifier(&mut self, alloc: Global, octets: Label) -> Result<(), Fault>
-        ensures sets { OfficeLeads C.Store S.Signer (λ signatory. Identifies octets result)
+        ensures sets { OfficeLeads C.Store S.Signer (λ signatory. SetsKeyIdentifier octets result)
             self.old self.new }
         ensures faults { IfErr result IsOfStore }
         ensures ok { (records : Records) → StandsIn C.Store S.Signer self.old records

@@ -8,9 +8,9 @@ ghost use Rattle.reg_core_lists.specs.declared.cursor.Cursor.TheVariants as curs
 ghost use Rattle.reg_core_lists.specs.declared.rows.Row.TheVariants as kind;
 ghost use Rattle.reg_office.specs.Looking.{LooksAndDecides, clock_refusal};
 ghost use Rattle.reg_store_tables.specs.LookUps.{Learns, LooksUp};
-ghost use Rattle.reg_office.specs.Numbered.{certificate_listed, certificates_after, cursor_of, last_of_full, row_at, numbered_table};
+ghost use Rattle.reg_office.specs.ListById.{certificate_listed, certificates_after, cursor_of, last_of_full, row_at, numbered_table};
 
-use crate::lines::{
+use crate::rows::{
     certificate_row, expiring_row, history_row, open_row, order_at, order_row, overdue_row,
     request_at, revoked_row, subscriber_at,
 };
@@ -22,7 +22,7 @@ use std::alloc::Global;
 
 /// A list over a table whose ids are 1, 2, 3 and so on.
 #[derive(Clone, Copy)]
-pub(crate) enum Numbered {
+pub(crate) enum ListById {
     OpenRequests,
     Overdue,
     Requests,
@@ -63,16 +63,16 @@ fn page_of<C: Alter>(
             certificates(tables, alloc, now, Some(before), after, most)
         }
         Cursor::OpenRequests(after) => {
-            page_by_ids(tables, alloc, now, Numbered::OpenRequests, after, most)
+            page_by_ids(tables, alloc, now, ListById::OpenRequests, after, most)
         }
-        Cursor::Overdue(after) => page_by_ids(tables, alloc, now, Numbered::Overdue, after, most),
+        Cursor::Overdue(after) => page_by_ids(tables, alloc, now, ListById::Overdue, after, most),
         Cursor::Requests(after) => {
-            page_by_ids(tables, alloc, now, Numbered::Requests, after, most)
+            page_by_ids(tables, alloc, now, ListById::Requests, after, most)
         }
         Cursor::Subscribers(after) => {
-            page_by_ids(tables, alloc, now, Numbered::Subscribers, after, most)
+            page_by_ids(tables, alloc, now, ListById::Subscribers, after, most)
         }
-        Cursor::Orders(after) => page_by_ids(tables, alloc, now, Numbered::Orders, after, most),
+        Cursor::Orders(after) => page_by_ids(tables, alloc, now, ListById::Orders, after, most),
         Cursor::Crls(after) => crls(tables, alloc, after, most),
     }
 }
@@ -274,7 +274,7 @@ fn page_by_ids<C: Alter>(
     tables: &mut Tables<C>,
     alloc: Global,
     now: Moment,
-    list: Numbered,
+    list: ListById,
     after: u64,
     most: u64,
 ) -> Result<Page, DatabaseFault>
@@ -293,7 +293,7 @@ fn page_by_ids<C: Alter>(
 }
 
 /// The cursor of the next page, past `end`, if this page read `most` ids; `None` if there are no more pages.
-fn next_of(list: Numbered, after: u64, end: u64, most: u64) -> Option<Cursor>
+fn next_of(list: ListById, after: u64, end: u64, most: u64) -> Option<Cursor>
     ensures { result ≡ cond (nat_lt after end && ((end - after) == most)) (Some (cursor_of list end)) None }
 {
     if after < end && end - after == most {
@@ -313,27 +313,27 @@ fn end_of(held: u64, after: u64, most: u64) -> u64
     }
 }
 
-fn table_of(list: Numbered) -> Table
+fn table_of(list: ListById) -> Table
     ensures { result ≡ numbered_table list }
 {
     match list {
-        Numbered::OpenRequests => Table::Requests,
-        Numbered::Overdue => Table::Requests,
-        Numbered::Requests => Table::Requests,
-        Numbered::Subscribers => Table::Subscribers,
-        Numbered::Orders => Table::Orders,
+        ListById::OpenRequests => Table::Requests,
+        ListById::Overdue => Table::Requests,
+        ListById::Requests => Table::Requests,
+        ListById::Subscribers => Table::Subscribers,
+        ListById::Orders => Table::Orders,
     }
 }
 
-fn cursor_of(list: Numbered, after: u64) -> Cursor
+fn cursor_of(list: ListById, after: u64) -> Cursor
     ensures { result ≡ cursor_of list after }
 {
     match list {
-        Numbered::OpenRequests => Cursor::OpenRequests(after),
-        Numbered::Overdue => Cursor::Overdue(after),
-        Numbered::Requests => Cursor::Requests(after),
-        Numbered::Subscribers => Cursor::Subscribers(after),
-        Numbered::Orders => Cursor::Orders(after),
+        ListById::OpenRequests => Cursor::OpenRequests(after),
+        ListById::Overdue => Cursor::Overdue(after),
+        ListById::Requests => Cursor::Requests(after),
+        ListById::Subscribers => Cursor::Subscribers(after),
+        ListById::Orders => Cursor::Orders(after),
     }
 }
 
@@ -341,26 +341,26 @@ fn cursor_of(list: Numbered, after: u64) -> Cursor
 fn row_at<C: Alter>(
     tables: &mut Tables<C>,
     now: Moment,
-    list: Numbered,
+    list: ListById,
     id: u64,
 ) -> Result<Option<Row>, DatabaseFault>
     ensures { Learns C.Store tables.old tables.new result (λ records row. row ≡ row_at records now list id) }
 {
     match list {
-        Numbered::OpenRequests => {
+        ListById::OpenRequests => {
             let open = request_at(tables, id)?;
             open_row(tables, now, open)
         }
-        Numbered::Overdue => {
+        ListById::Overdue => {
             let late = request_at(tables, id)?;
             overdue_row(tables, now, late)
         }
-        Numbered::Requests => {
+        ListById::Requests => {
             let request = request_at(tables, id)?;
             history_row(tables, now, request)
         }
-        Numbered::Subscribers => Ok(Some(Row::Subscriber(subscriber_at(tables, id)?))),
-        Numbered::Orders => {
+        ListById::Subscribers => Ok(Some(Row::Subscriber(subscriber_at(tables, id)?))),
+        ListById::Orders => {
             let order = order_at(tables, id)?;
             order_row(tables, order)
         }

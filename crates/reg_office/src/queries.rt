@@ -2,7 +2,7 @@
 
 ghost use Rattle.std.specs.Prelude.{◌≡◌, ◌≤◌, ◌<◌, None, IfOk, IfSome, IsSome};
 ghost use Rattle.reg_core.specs.Calendar.{clock_end};
-ghost use Rattle.reg_core.specs.Checks.{first_of_all};
+ghost use Rattle.reg_core.specs.Checks.{first_refusal};
 ghost use Rattle.reg_core.specs.Due.{due, earliest, unlisted};
 ghost use Rattle.reg_core.specs.Queries.{listing as listing_of, query_checks, query_reply};
 ghost use Rattle.reg_core.specs.Records.{certificate_in};
@@ -32,8 +32,8 @@ pub(crate) fn answer<C: Alter>(
 /// The reply to a query at a moment that passed the clock checks.
 fn reply_to<C: Alter>(tables: &mut Tables<C>, now: Moment, query: &Query) -> Result<Reply, Fault>
     ensures { LooksAndDecides C.Store tables.old tables.new
-        (λ records. first_of_all (query_checks records query.now))
-        (λ records reply. records.last ≤ now → (first_of_all (query_checks records query.now) ≡ None)
+        (λ records. first_refusal (query_checks records query.now))
+        (λ records reply. records.last ≤ now → (first_refusal (query_checks records query.now) ≡ None)
         × (query_reply records now query.now ≡ reply)) result }
 {
     match *query {
@@ -48,7 +48,7 @@ fn reply_to<C: Alter>(tables: &mut Tables<C>, now: Moment, query: &Query) -> Res
 /// Which CRLs list a serial number; `UnknownSerial` if it is not registered.
 fn listing<C: Alter>(tables: &mut Tables<C>, serial: Serial) -> Result<Option<Listing>, Fault>
     ensures { LooksAndDecides C.Store tables.old tables.new
-        (λ records. first_of_all (query_checks records (AskListing serial))) (λ records found.
+        (λ records. first_refusal (query_checks records (AskListing serial))) (λ records found.
         IsSome (certificate_in records.certificates serial) × (found ≡ listing_of records serial)) result }
 {
     match tables.cert(serial)? {

@@ -22,14 +22,14 @@ abbrev pub Asks : Records → ℕ → Query → Result Reply Fault → Records �
 Asks before now query outcome after = IsAnswered before now query outcome × (after ≡ before)
 
 -- an OCSP request: its response (RFC 6960 4.2), or out of memory; the records stay
-abbrev pub Ocsps : Signs → Signatory → Records → ℕ → List ℕ → Result (List ℕ) Memory → Records → Type 0
-Ocsps signs signatory before now request (Ok response) after =
+abbrev pub AnswersOcsp : Signs → Signatory → Records → ℕ → List ℕ → Result (List ℕ) Memory → Records → Type 0
+AnswersOcsp signs signatory before now request (Ok response) after =
     IsOcspReply signs signatory.answers before now request response × (after ≡ before)
-Ocsps signs signatory before now request (Err memory) after = after ≡ before
+AnswersOcsp signs signatory before now request (Err memory) after = after ≡ before
 
 -- the bytes of a CRL, or why there are none; the records stay
-abbrev pub Crls : Records → Option ℕ → Result (List ℕ) Fault → Records → Type 0
-Crls before number given after = IsGiven before number given × (after ≡ before)
+abbrev pub GivesCrl : Records → Option ℕ → Result (List ℕ) Fault → Records → Type 0
+GivesCrl before number given after = IsGiven before number given × (after ≡ before)
 
 -- ---- each as a step from the records before it to those after it, given the signers
 
@@ -42,7 +42,7 @@ QueryStep now query outcome = λ signatory before after. Asks before now query o
 
 abbrev pub OcspStep : Signs → ℕ → List ℕ → Result (List ℕ) Memory → Signatory → Records → Records → Type 0
 OcspStep signs now request given =
-    λ signatory before after. Ocsps signs signatory before now request given after
+    λ signatory before after. AnswersOcsp signs signatory before now request given after
 
 abbrev pub CrlStep : Option ℕ → Result (List ℕ) Fault → Signatory → Records → Records → Type 0
-CrlStep number given = λ signatory before after. Crls before number given after
+CrlStep number given = λ signatory before after. GivesCrl before number given after

@@ -38,8 +38,8 @@ module _ {O : Type 0} (office : Office O) where
   AsksIn s now query outcome t = Leads office.is_clean office.stands (QueryStep now query outcome) s t
 
   -- an OCSP request, with the bytes of its response
-  abbrev pub OcspsIn : O → ℕ → List ℕ → Result (List ℕ) Memory → O → Type 0
-  OcspsIn s now request given t =
+  abbrev pub AnswersOcspIn : O → ℕ → List ℕ → Result (List ℕ) Memory → O → Type 0
+  AnswersOcspIn s now request given t =
       Leads office.is_clean office.stands (OcspStep office.signs now request given) s t
 
   -- an OCSP request, with the kind and the bytes of its response
@@ -55,5 +55,5 @@ module _ {O : Type 0} (office : Office O) where
       (λ signatory before after. Drafts signatory before now request draft after) s t
 
   -- the bytes of a CRL
-  abbrev pub CrlsIn : O → Option ℕ → Result (List ℕ) Fault → O → Type 0
-  CrlsIn s number given t = Leads office.is_clean office.stands (CrlStep number given) s t
+  abbrev pub GivesCrlIn : O → Option ℕ → Result (List ℕ) Fault → O → Type 0
+  GivesCrlIn s number given t = Leads office.is_clean office.stands (CrlStep number given) s t

@@ -1,6 +1,6 @@
 -- Drafts: OCSP responses that are not signed yet (RFC 6960 2.2, 4.2.1).
 use Rattle.std.specs.Prelude.{◌≡◌, ℕ, List, Option, None, Result, Ok, Err}
-use Rattle.reg_core.specs.Checks.{clock_checks, first_of_all}
+use Rattle.reg_core.specs.Checks.{clock_checks, first_refusal}
 use Rattle.reg_core.specs.Records.{Records}
 use Rattle.reg_core.specs.declared.memory.Memory.{Memory}
 use Rattle.reg_ocsp.specs.Drafts.{Drafted}
@@ -32,7 +32,7 @@ pub record IsDraft (responder : Responder) (records : Records) (now : ℕ) (requ
   pub ids : List Id
   pub nonce : Option (List ℕ)
   pub is_request : IsOcspRequest request ids nonce
-  pub timely : first_of_all (clock_checks now records.last) ≡ None
+  pub timely : first_refusal (clock_checks now records.last) ≡ None
   pub read : IsReadDraft responder records now ids nonce draft
 
 -- the draft for a request, by the office's responder; the records don't change

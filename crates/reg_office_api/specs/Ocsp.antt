@@ -1,7 +1,7 @@
 -- The response to an OCSP request, from the records of a register (RFC 6960 2.2, 2.3, 4.2.1).
 use Rattle.std.specs.Prelude.{◌≡◌, ℕ, ◌+◌, ◌⊎◌, List, Option, Some, None}
 use Rattle.std.specs.List.{AllZip}
-use Rattle.reg_core.specs.Checks.{clock_checks, first_of_all}
+use Rattle.reg_core.specs.Checks.{clock_checks, first_refusal}
 use Rattle.reg_core.specs.Records.{Records}
 use Rattle.reg_core.specs.Status.{status}
 use Rattle.reg_core.specs.declared.command.Status.{Status}
@@ -63,7 +63,7 @@ IsTimely None IsWhole bytes = IsWhole bytes
 abbrev pub IsReadReply : Signs → Responder → Records → ℕ → List Id → Option (List ℕ) → List ℕ → Type 0
 IsReadReply signs responder records now ids nonce bytes =
     (bytes ≡ refusal_response Internal)
-    ⊎ IsTimely (first_of_all (clock_checks now records.last))
+    ⊎ IsTimely (first_refusal (clock_checks now records.last))
     (IsResponse signs responder records now ids nonce) bytes
 
 -- the response to any bytes: malformedRequest if they are no request, else the response to the request

@@ -1,6 +1,6 @@
 -- OCSP responses by their kind (RFC 6960 4.2.1), and what a kind says about the signature and the store.
 use Rattle.std.specs.Prelude.{◌≡◌, ◌⊎◌, ℕ, List, Option, Some, None, Result, Ok, Err}
-use Rattle.reg_core.specs.Checks.{clock_checks, first_of_all}
+use Rattle.reg_core.specs.Checks.{clock_checks, first_refusal}
 use Rattle.reg_core.specs.Records.{Records}
 use Rattle.reg_core.specs.declared.memory.Memory.{Memory}
 use Rattle.reg_core.specs.declared.refusal.Fault.{Fault}
@@ -23,11 +23,11 @@ use Rattle.reg_office_api.specs.declared.response.ResponseKind.TheVariants.{Sign
 abbrev pub IsReadResponse : Signs → Responder → Records → ℕ → List Id → Option (List ℕ)
     → ResponseKind → List ℕ → Type 0
 IsReadResponse signs responder records now ids echo Signed bytes =
-    (first_of_all (clock_checks now records.last) ≡ None)
+    (first_refusal (clock_checks now records.last) ≡ None)
     × IsResponse signs responder records now ids echo bytes
 IsReadResponse signs responder records now ids echo Malformed bytes = ⊥
 IsReadResponse signs responder records now ids echo TryLater bytes =
-    ((refusal : Refusal) × (first_of_all (clock_checks now records.last) ≡ Some refusal))
+    ((refusal : Refusal) × (first_refusal (clock_checks now records.last) ≡ Some refusal))
     × (bytes ≡ refusal_response status.TryLater)
 IsReadResponse signs responder records now ids echo StoreFailure bytes =
     bytes ≡ refusal_response status.Internal

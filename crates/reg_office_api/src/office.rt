@@ -17,7 +17,7 @@ pub trait Office {
     ghost use Rattle.reg_office_api.specs.Items.{items_of};
     ghost use Rattle.reg_office_api.specs.Leads.{Leads, Looks};
     ghost use Rattle.reg_office_api.specs.LookUps.{HasRequestLoad, HasLongest, HasOpen, HasSummary, IsOfStore, PageStep};
-    ghost use Rattle.reg_office_api.specs.Settings.{Identifies, Reschedules};
+    ghost use Rattle.reg_office_api.specs.Settings.{SetsKeyIdentifier, ReplacesSchedule};
     ghost use Rattle.reg_office_api.specs.Signatories.{Signatory};
     ghost use Rattle.reg_core.specs.Records.{Records};
     ghost use Rattle.reg_core.specs.declared.refusal.Fault.TheVariants.{Signer};
@@ -106,13 +106,15 @@ pub trait Office {
 
     /// Sets the schedule of longest validities, which is no command: nothing else changes, and at an error nothing does.
     fn set_schedule(&mut self, alloc: Global, schedule: Schedule) -> Result<(), Fault>
-        ensures sets { Leads is_clean stands (λ signatory. Reschedules schedule result) self.old self.new }
+        ensures sets { Leads is_clean stands (λ signatory. ReplacesSchedule schedule result)
+            self.old self.new }
         ensures faults { IfErr result IsOfStore };
 
     /// Gives the issuer a key identifier of its own, which its CRLs have from the next one on (RFC 5280 5.2.1). It is no command:
     /// nothing else changes, and at an error nothing does.
     fn set_key_identifier(&mut self, alloc: Global, octets: Label) -> Result<(), Fault>
-        ensures sets { Leads is_clean stands (λ signatory. Identifies octets result) self.old self.new }
+        ensures sets { Leads is_clean stands (λ signatory. SetsKeyIdentifier octets result)
+            self.old self.new }
         ensures faults { IfErr result IsOfStore };
 
     /// How many signatures the signer of CRLs and that of OCSP answers failed to make; the same count twice if one signer makes both.

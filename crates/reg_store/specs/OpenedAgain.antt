@@ -11,7 +11,7 @@ use Rattle.reg_core.specs.Sound.{SoundRows}
 use Rattle.reg_store_tables.specs.Kept.{ShowsKept}
 use Rattle.reg_store_tables.specs.Schema.{no_schema}
 use Rattle.reg_store_tables.specs.Shows.{Shows}
-use Rattle.reg_store_changes.specs.AfterStoppedChange.{IsNamed, IsScheduled}
+use Rattle.reg_store_changes.specs.AfterStoppedChange.{IsIssuerSet, IsScheduled}
 use Rattle.reg_der.specs.Issuers.{with_issuer}
 use Rattle.reg_store_migration.specs.Older.{ShowsOlder}
 use Rattle.reg_store_migration.specs.declared.version.OlderVersion.{OlderVersion}
@@ -60,6 +60,6 @@ abbrev pub OpensWithAnIssuer : {S : Type 0} → Ghosts S → Type 0
 OpensWithAnIssuer {S = S} g =
     (old new again : Held S) (records : Records) (issuer : Issuer)
     → ShowsKept g old records → records.issuer.key ≡ issuer.key → IsTrue (state g old).is_open
-    → IsLive (state g old) → Survives (state g old) (state g new) (IsNamed g old issuer)
+    → IsLive (state g old) → Survives (state g old) (state g new) (IsIssuerSet g old issuer)
     → IsOpenedAgain g new again
     → ∥ ShowsKept g again records ⊎ ShowsKept g again (with_issuer records issuer) ∥₁

@@ -23,7 +23,7 @@ use Rattle.reg_core.specs.declared.rows.CertRow.{CertRow}
 use Rattle.reg_core.specs.declared.rows.RevocationRow.{RevocationRow}
 use Rattle.reg_store_tables.specs.DerivedRows.{good, revoked, expired, is_good_letter, ends_before, Standing, Listed, DerivedRows, letter_counts, turned, with_counts}
 use Rattle.reg_store_tables.specs.Kept.{letter_of, standing_of, not_after_of, listed_of, Kept}
-use Rattle.reg_store_changes.specs.DerivedEffects.{lettered, swept, ended_by, is_good_at, good_at, with_revoked_letter, has_passed, with_last_listing, with_good, marked, shifted}
+use Rattle.reg_store_changes.specs.DerivedEffects.{lettered, with_expired, ended_by, is_good_at, good_at, with_revoked_letter, has_passed, with_last_listing, with_good, with_last_listings, shifted}
 use Rattle.reg_store_changes.specs.ChangeEffects.{derived_after}
 use Rattle.reg_store_tables.proofs.PublicLaws.{map_same, found_each, counts_stand}
 use Rattle.reg_store_changes.proofs.Letters.{counts_swept, counts_good, counts_revoked, ended_enough}
@@ -66,21 +66,21 @@ letters_pass records now sound up =
 
 module _ (records : Records) (columns : DerivedRows) (now : ℕ) (sound : SoundRows records) (up : records.last ≤ now) (kept : Kept columns records) where
   -- the letters once time has passed
-  passed : IsPermutation (map (standing_of (touched records now)) records.certificates) (swept now columns).letters
-  passed = subst (λ those. IsPermutation those (swept now columns).letters) (letters_pass records now sound up)
+  passed : IsPermutation (map (standing_of (touched records now)) records.certificates) (with_expired now columns).letters
+  passed = subst (λ those. IsPermutation those (with_expired now columns).letters) (letters_pass records now sound up)
       (IsPermutation-map (turned (ends_before now) (lettered expired)) (map (standing_of records) records.certificates) columns.letters kept.letters)
 
   counted : columns.counts ≡ letter_counts columns.letters
   counted = kept.counts ∙ sym (counts_stand records (found_each records sound) columns.letters kept.letters)
 
-  moved : shifted columns.counts (ended_by now columns) 0 0 ≡ letter_counts (swept now columns).letters
+  moved : shifted columns.counts (ended_by now columns) 0 0 ≡ letter_counts (with_expired now columns).letters
   moved = ap (λ base. shifted base (ended_by now columns) 0 0) counted ∙ counts_swept now columns.letters
 
   enough : ended_by now columns ≤ columns.counts.good
   enough = subst (λ (base : Counts). ended_by now columns ≤ base.good) (sym counted) (ended_enough now columns.letters)
 
   moved_stand : shifted columns.counts (ended_by now columns) 0 0 ≡ counts (touched records now) now
-  moved_stand = moved ∙ counts_stand (touched records now) (found_each records sound) (swept now columns).letters passed
+  moved_stand = moved ∙ counts_stand (touched records now) (found_each records sound) (with_expired now columns).letters passed
 
 -- ---- one certificate more
 
@@ -126,10 +126,10 @@ module _ (records : Records) (columns : DerivedRows) (now : ℕ) (sound : SoundR
       ap₂ (λ known revocation. standing_at now row known revocation) found_row (unrevoked records row.serial sound fresh)
       ∙ ap (λ b. letter_standing row (cond b Expired Good)) not_ended
 
-  letters_grown : IsPermutation (map (standing_of later) later.certificates) (with_good row.serial row.not_after (swept now columns)).letters
+  letters_grown : IsPermutation (map (standing_of later) later.certificates) (with_good row.serial row.not_after (with_expired now columns)).letters
   letters_grown =
       let new : Standing = record { serial = row.serial; not_after = row.not_after; letter = good } in
-      subst (λ those. IsPermutation those ((swept now columns).letters ++ new ∷ []))
+      subst (λ those. IsPermutation those ((with_expired now columns).letters ++ new ∷ []))
       (sym (map-append (standing_of later) records.certificates (row ∷ []) ∙ ap₂ ◌++◌ old_letters (ap (λ x. x ∷ []) new_letter)))
       (IsPermutation-append _ _ _ _ (passed records columns now sound up kept) (IsPermutation-refl (new ∷ [])))
 
@@ -147,8 +147,8 @@ module _ (records : Records) (columns : DerivedRows) (now : ℕ) (sound : SoundR
   kept_certificate : Kept (derived_after now (Certificate row) columns) (with_certificate records now row)
   kept_certificate = record {
     letters = letters_grown;
-    counts = counts_good (ended_by now columns) row.serial row.not_after columns.counts (swept now columns).letters (moved records columns now sound up kept) (enough records columns now sound up kept)
-        ∙ counts_stand later found_all (with_good row.serial row.not_after (swept now columns)).letters letters_grown;
+    counts = counts_good (ended_by now columns) row.serial row.not_after columns.counts (with_expired now columns).letters (moved records columns now sound up kept) (enough records columns now sound up kept)
+        ∙ counts_stand later found_all (with_good row.serial row.not_after (with_expired now columns)).letters letters_grown;
     listed = subst (λ those. IsPermutation those columns.listed) (sym old_listed) kept.listed;
   }
 
@@ -197,9 +197,9 @@ module _ (records : Records) (columns : DerivedRows) (now : ℕ) (sound : SoundR
       ]))
       records.certificates (found_each records sound))
 
-  letters_lost : IsPermutation (map (standing_of revoking) records.certificates) (with_revoked_letter row.serial (swept now columns)).letters
-  letters_lost = subst (λ those. IsPermutation those (with_revoked_letter row.serial (swept now columns)).letters) letters_revoked
-      (IsPermutation-map (turned (is_good_at row.serial) (lettered revoked)) (map (standing_of (touched records now)) records.certificates) (swept now columns).letters (passed records columns now sound up kept))
+  letters_lost : IsPermutation (map (standing_of revoking) records.certificates) (with_revoked_letter row.serial (with_expired now columns)).letters
+  letters_lost = subst (λ those. IsPermutation those (with_revoked_letter row.serial (with_expired now columns)).letters) letters_revoked
+      (IsPermutation-map (turned (is_good_at row.serial) (lettered revoked)) (map (standing_of (touched records now)) records.certificates) (with_expired now columns).letters (passed records columns now sound up kept))
 
   new_listed : row.first ≡ next_number records.crls → listed_of revoking row ≡ record { serial = row.serial; at = row.at; reason = row.reason; first = row.first; not_after = certificate.not_after; last = None }
   new_listed next =
@@ -221,9 +221,9 @@ module _ (records : Records) (columns : DerivedRows) (now : ℕ) (sound : SoundR
     | inr apart ↦ ap (λ b. b && is_good_letter (standing_of (touched records now) c).letter) apart ∙ sym apart
   ]
 
-  good_once : good_at row.serial (swept now columns) ≡ 1
+  good_once : good_at row.serial (with_expired now columns) ≡ 1
   good_once =
-      length_permutation _ _ (IsPermutation-filter (is_good_at row.serial) (map (standing_of (touched records now)) records.certificates) (swept now columns).letters (passed records columns now sound up kept))
+      length_permutation _ _ (IsPermutation-filter (is_good_at row.serial) (map (standing_of (touched records now)) records.certificates) (with_expired now columns).letters (passed records columns now sound up kept))
       ∙ ap length (filter-map (is_good_at row.serial) (standing_of (touched records now)) records.certificates) ∙ length-map _ _
       ∙ same_length (λ c. is_good_at row.serial (standing_of (touched records now) c)) (λ (c : CertRow). c.serial == row.serial) records.certificates
       (all_weaker (λ (c : CertRow). certificate_in records.certificates c.serial ≡ Some c) (λ (c : CertRow). is_good_at row.serial (standing_of (touched records now) c) ≡ (c.serial == row.serial)) good_here records.certificates (found_each records sound))
@@ -232,8 +232,8 @@ module _ (records : Records) (columns : DerivedRows) (now : ℕ) (sound : SoundR
   kept_revocation : row.first ≡ next_number records.crls → Kept (derived_after now (Revocation row certificate.not_after) columns) (with_revocation records now row)
   kept_revocation next = record {
     letters = letters_lost;
-    counts = counts_revoked (ended_by now columns) row.serial columns.counts (swept now columns).letters (moved records columns now sound up kept) good_once (enough records columns now sound up kept)
-        ∙ counts_stand revoking (found_each records sound) (with_revoked_letter row.serial (swept now columns)).letters letters_lost;
+    counts = counts_revoked (ended_by now columns) row.serial columns.counts (with_expired now columns).letters (moved records columns now sound up kept) good_once (enough records columns now sound up kept)
+        ∙ counts_stand revoking (found_each records sound) (with_revoked_letter row.serial (with_expired now columns)).letters letters_lost;
     listed =
         let new : Listed = record { serial = row.serial; at = row.at; reason = row.reason; first = row.first; not_after = certificate.not_after; last = None } in
         subst (λ those. IsPermutation those (columns.listed ++ new ∷ []))
@@ -283,7 +283,7 @@ module _ (records : Records) (columns : DerivedRows) (now : ℕ) (sound : SoundR
       (all_join (SoundRevocation records.last records.certificates records.requests records.crls) (λ (r : RevocationRow). r.first ≤ next_number records.crls)
       (λ (r : RevocationRow). turned (has_passed crl.this_update) (with_last_listing crl.number) (listed_of records r) ≡ listed_of (with_crl records now crl) r) listed_on records.revocations sound.revocations.each (first_by_next records sound))
 
-  kept_crl : Kept (with_counts (shifted columns.counts (ended_by now columns) 0 0) (marked crl.number crl.this_update (swept now columns))) (with_crl records now crl)
+  kept_crl : Kept (with_counts (shifted columns.counts (ended_by now columns) 0 0) (with_last_listings crl.number crl.this_update (with_expired now columns))) (with_crl records now crl)
   kept_crl = record {
     letters = passed records columns now sound up kept;
     counts = moved_stand records columns now sound up kept;

@@ -13,7 +13,7 @@ use Rattle.reg_core.specs.declared.change.Change.TheVariants.{Touch, Subscriber,
 use Rattle.reg_store_tables.specs.DerivedRows.{DerivedRows, office_days}
 use Rattle.reg_store_tables.specs.Stays.{Changed, Looked, Moves, Stays}
 use Rattle.reg_store_tables.proofs.PublicLaws.{on_err, looked_fails, moves_as}
-use Rattle.reg_store_changes.specs.AfterStoppedChange.{IsNamed, IsScheduled}
+use Rattle.reg_store_changes.specs.AfterStoppedChange.{IsIssuerSet, IsScheduled}
 use Rattle.reg_store_changes.specs.ChangeEffects.{derived_rows_after}
 use Rattle.reg_store_changes.specs.ChangeSteps.{Puts}
 use Rattle.reg_store_changes.specs.MadeChanges.{MakesChange, SetsIssuer, SetsSchedule}
@@ -85,10 +85,10 @@ module _ {S A E : Type 0} {g : Ghosts S} {old new : Held S} (result : Result A E
     err = stays;
   }
 
-  pub issuer_not_set : {issuer : Issuer} → Survives (state g old) (state g new) (IsNamed g old issuer) → SetsIssuer g old new issuer result
+  pub issuer_not_set : {issuer : Issuer} → Survives (state g old) (state g new) (IsIssuerSet g old issuer) → SetsIssuer g old new issuer result
   issuer_not_set {issuer = issuer} survives = record {
     ok = λ records kept key. on_err _ result told;
     days = λ records kept key. on_err _ result told;
-    changed = unchanged (IsNamed g old issuer) survives;
+    changed = unchanged (IsIssuerSet g old issuer) survives;
     err = stays;
   }

@@ -29,9 +29,9 @@ use Rattle.reg_core_laws.proofs.PublicLaws.{numbered_map}
 use Rattle.reg_store_tables.proofs.PublicLaws.{compares, and_true, eq_number, lt_number, eq_text, eq_serial, passes, all_of, is_g, IsWriting, updates, IsKeyed, behind_table, behind_keyed, behind_turned, behind_passing, stored_table, stored_keyed, stored_turned, made, cast_int, cast_null, turns_rows, turns_spares, Counted, both_after}
 use Rattle.reg_store_tables.specs.Stays.{Ran}
 use Rattle.reg_store_tables.specs.Steps.{Turns, TurnsCounted}
-use Rattle.reg_store_changes.specs.ChangeSteps.{Renames}
+use Rattle.reg_store_changes.specs.ChangeSteps.{ReplacesIssuer}
 use Rattle.reg_der.specs.Issuers.{with_issuer}
-use Rattle.reg_store_changes.specs.DerivedEffects.{lettered, swept, ended_by, is_good_at, with_revoked_letter, good_at, has_passed, with_last_listing, marked}
+use Rattle.reg_store_changes.specs.DerivedEffects.{lettered, with_expired, ended_by, is_good_at, with_revoked_letter, good_at, has_passed, with_last_listing, with_last_listings}
 use Rattle.reg_store_changes.specs.declared.sql.TheConstants.{SWEEP, MARK_REVOKED, SET_LAST, SET_NAME, SET_DECLINED, MARK_LISTED}
 use Rattle.reg_store_changes.proofs.Meaning.{equals, below, text, lends, sweep_means, mark_revoked_means, set_last_means, set_name_means, set_declined_means, mark_listed_means}
 use Rattle.reg_store_tables.proofs.PublicLaws as Edits
@@ -104,7 +104,7 @@ module _ (old new : State) (count : ℕ) where
       )
 
   -- the good certificates that ended have ended, and the UPDATE answers how many
-  pub sweeps : (now : ℕ) {moment : ValueRef} → Ran SWEEP.now (lends moment ∷ []) old new count → moment ≡ lent.Int (pos now) → TurnsCounted (swept now) (ended_by now) count old.now new.now
+  pub sweeps : (now : ℕ) {moment : ValueRef} → Ran SWEEP.now (lends moment ∷ []) old new count → moment ≡ lent.Int (pos now) → TurnsCounted (with_expired now) (ended_by now) count old.now new.now
   sweeps now given is =
       letters_turned SWEEP.now (number now ∷ []) (subst (λ params. Ran SWEEP.now params old new count) (λ i. lends (is i) ∷ []) given)
       (equals (col 1 3) (text (codes "G")) ∷ below (col 1 2) (col 0 0) ∷ []) (col 1 1 ∷ col 1 2 ∷ text (codes "X") ∷ []) (ends_before now) (lettered expired) sweep_means
@@ -118,7 +118,7 @@ module _ (old new : State) (count : ℕ) where
       (equals (col 1 1) (col 0 0) ∷ equals (col 1 3) (text (codes "G")) ∷ []) (col 1 1 ∷ col 1 2 ∷ text (codes "R") ∷ []) (is_good_at serial) (lettered revoked) mark_revoked_means
       (λ id row its. mark_test serial id row in_range its) (λ id row. simp cast_int) (λ row its. its)
 
-  pub marks_listed : (n now : ℕ) {at moment : ValueRef} → Ran MARK_LISTED.now (lends at ∷ lends moment ∷ []) old new count → at ≡ lent.Int (pos n) → moment ≡ lent.Int (pos now) → Turns (λ records. records) (marked n now) old.now new.now
+  pub marks_listed : (n now : ℕ) {at moment : ValueRef} → Ran MARK_LISTED.now (lends at ∷ lends moment ∷ []) old new count → at ≡ lent.Int (pos n) → moment ≡ lent.Int (pos now) → Turns (λ records. records) (with_last_listings n now) old.now new.now
   unfolding register_schema
   marks_listed n now given is0 is1 records columns both =
       let params = number n ∷ number now ∷ [] in
@@ -126,7 +126,7 @@ module _ (old new : State) (count : ℕ) where
       let it = counted_turned MARK_LISTED.now params old new count ran both.shown.schema stored_listed (λ (row : Listed). row.serial) columns.listed (has_passed now) (with_last_listing n) 9 listed
       (op2 (Is Binary) (col 1 6) (lit Null) ∷ below (col 1 5) (col 0 1) ∷ []) (col 1 1 ∷ col 1 2 ∷ col 1 3 ∷ col 1 4 ∷ col 1 5 ∷ col 0 0 ∷ []) refl mark_listed_means refl
       (λ id row its. passed_test n now id row) (λ id row. simp cast_int) (λ row its. its) both.kept.listed both.kept.listed_serials in
-      both_after 15 old.now new.now records records columns (marked n now columns) both it.0.keeps_schema (turns_spares listed _ _ old.now.trees new.now count it.0)
+      both_after 15 old.now new.now records records columns (with_last_listings n now columns) both it.0.keeps_schema (turns_spares listed _ _ old.now.trees new.now count it.0)
       (refl, refl, refl, refl, refl, refl, refl, refl) both.shown.rows.policy (refl, refl, it.1, refl)
 
   -- ---- a table of one row
@@ -145,7 +145,7 @@ module _ (old new : State) (count : ℕ) where
       both_after 0 old.now new.now records (touched records now) columns columns both turns.keeps_schema (turns_spares office _ _ old.now.trees new.now count turns)
       ((both.shown.rows.days, rows), refl, refl, refl, refl, refl, refl, refl) both.shown.rows.policy (refl, refl, refl, ap office_days rows ∙ sym (ap office_days was) ∙ both.kept.days)
 
-  pub sets_name : (issuer : Issuer) {name : List ℕ} → Ran SET_NAME.now (Blob name ∷ []) old new count → name ≡ issuer.name → Renames issuer old.now new.now
+  pub sets_name : (issuer : Issuer) {name : List ℕ} → Ran SET_NAME.now (Blob name ∷ []) old new count → name ≡ issuer.name → ReplacesIssuer issuer old.now new.now
   unfolding register_schema
   sets_name issuer given is records columns key both =
       let params = Blob issuer.name ∷ [] in

@@ -24,7 +24,7 @@ IsScheduled g old steps trees =
     (records : Records) → ShowsKept g old records → ShowsDerivedAfterStop (with_schedule records steps) trees
 
 -- the rows after an issuer with the same key was set
-abbrev pub IsNamed : {S : Type 0} → Ghosts S → Held S → Issuer → Trees → Type 0
-IsNamed g old issuer trees =
+abbrev pub IsIssuerSet : {S : Type 0} → Ghosts S → Held S → Issuer → Trees → Type 0
+IsIssuerSet g old issuer trees =
     (records : Records) → ShowsKept g old records → records.issuer.key ≡ issuer.key
     → ShowsDerivedAfterStop (with_issuer records issuer) trees

@@ -5,7 +5,7 @@ use Rattle.reg_core.specs.declared.change.Change.{Change}
 use Rattle.reg_core.specs.declared.change.Change.TheVariants.{Certificate, Revocation, Crl as NewCrl}
 use Rattle.reg_core.specs.declared.rows.CrlRow.{CrlRow}
 use Rattle.reg_store_tables.specs.DerivedRows.{DerivedRows, with_counts}
-use Rattle.reg_store_changes.specs.DerivedEffects.{swept, ended_by, with_revoked_letter, good_at, with_good, with_unlisted, marked, shifted}
+use Rattle.reg_store_changes.specs.DerivedEffects.{with_expired, ended_by, with_revoked_letter, good_at, with_good, with_unlisted, with_last_listings, shifted}
 
 -- a CRL with its bytes
 abbrev pub crl_of : CrlRow → List ℕ → Crl
@@ -31,11 +31,11 @@ abbrev pub derived_rows_after : Change → DerivedRows → DerivedRows
 derived_rows_after (Certificate row) columns = with_good row.serial row.not_after columns
 derived_rows_after (Revocation row not_after) columns =
     with_unlisted row not_after (with_revoked_letter row.serial columns)
-derived_rows_after (NewCrl row der) columns = marked row.number row.this_update columns
+derived_rows_after (NewCrl row der) columns = with_last_listings row.number row.this_update columns
 derived_rows_after change columns = columns
 
 -- the derived tables after a change at a moment
 abbrev pub derived_after : ℕ → Change → DerivedRows → DerivedRows
 derived_after now change columns =
     with_counts (shifted columns.counts (ended_by now columns) (lost change) (added change))
-    (derived_rows_after change (swept now columns))
+    (derived_rows_after change (with_expired now columns))

@@ -16,7 +16,7 @@ use Rattle.reg_store_tables.specs.Shows.{AreRecordsAndDerived}
 use Rattle.reg_store_tables.specs.Staged.{IsStaged}
 use Rattle.reg_store_tables.specs.Steps.{TurnsWhere}
 use Rattle.reg_store_changes.specs.ChangeEffects.{TurnsOne, derived_after, derived_rows_after}
-use Rattle.reg_store_changes.specs.DerivedEffects.{good_at, swept, with_revoked_letter, with_unlisted}
+use Rattle.reg_store_changes.specs.DerivedEffects.{good_at, with_expired, with_revoked_letter, with_unlisted}
 
 -- a certificate with this notAfter, which had one good letter, is revoked
 abbrev pub Revokes : RevocationRow → ℕ → Database → Database → Type 0
@@ -40,11 +40,11 @@ pub record Enters (now : ℕ) (change : Change) (counts : Counts) (old new : Dat
       → AreRecordsAndDerived new (changed_by records now change) (derived_after now change columns)
       × IsDatabase new
   pub one : (records : Records) (columns : DerivedRows) → AreRecordsAndDerived old records columns
-      → TurnsOne change (swept now columns)
+      → TurnsOne change (with_expired now columns)
 
 -- an issuer with the same key replaces the one before
-abbrev pub Renames : Issuer → Database → Database → Type 0
-Renames issuer =
+abbrev pub ReplacesIssuer : Issuer → Database → Database → Type 0
+ReplacesIssuer issuer =
     TurnsWhere (λ records. records.issuer.key ≡ issuer.key) (λ records. with_issuer records issuer)
     (λ columns. columns)
 

@@ -9,8 +9,8 @@ abbrev pub lettered : Letter → Standing → Standing
 lettered letter row = record row { letter = letter }
 
 -- the letters of good certificates that ended before a moment become expired
-abbrev pub swept : ℕ → DerivedRows → DerivedRows
-swept now columns =
+abbrev pub with_expired : ℕ → DerivedRows → DerivedRows
+with_expired now columns =
     record columns { letters = map (turned (ends_before now) (lettered expired)) columns.letters }
 
 -- how many good certificates ended before a moment
@@ -61,8 +61,8 @@ abbrev pub with_last_listing : ℕ → Listed → Listed
 with_last_listing number row = record row { last = Some number }
 
 -- a CRL becomes the last one of each revocation that has no last one yet and whose certificate ended before it
-abbrev pub marked : ℕ → ℕ → DerivedRows → DerivedRows
-marked number now columns =
+abbrev pub with_last_listings : ℕ → ℕ → DerivedRows → DerivedRows
+with_last_listings number now columns =
     record columns { listed = map (turned (has_passed now) (with_last_listing number)) columns.listed }
 
 -- the counts after some good certificates ended, some were revoked, and some were added

@@ -13,9 +13,9 @@ use Rattle.reg_store_tables.specs.DerivedRows.{DerivedRows}
 use Rattle.reg_store_tables.specs.Kept.{ShowsKept}
 use Rattle.reg_store_tables.specs.Shows.{KeepsOfficeDays, Shows, ShowsBoth}
 use Rattle.reg_store_tables.specs.Stays.{Changed, Stays}
-use Rattle.reg_store_changes.specs.AfterStoppedChange.{IsChanged, IsNamed, IsScheduled}
+use Rattle.reg_store_changes.specs.AfterStoppedChange.{IsChanged, IsIssuerSet, IsScheduled}
 use Rattle.reg_store_changes.specs.ChangeEffects.{TurnsOne}
-use Rattle.reg_store_changes.specs.DerivedEffects.{swept}
+use Rattle.reg_store_changes.specs.DerivedEffects.{with_expired}
 
 -- if the tables show records that the change fits, the office's row keeps its days
 abbrev pub LeavesOfficeDays : {S A E : Type 0} → Ghosts S → Held S → Held S → ℕ → Change → Result A E → Type 0
@@ -33,7 +33,7 @@ pub record MakesChange {S A E : Type 0} (g : Ghosts S) (old new : Held S) (now :
       → OnOk result (ShowsKept g new (changed_by records now change))
   pub one : HasCleanDisk (state g new) → (records : Records) (columns : DerivedRows)
       → ShowsBoth g old records columns
-      → OnOk result (TurnsOne change (swept now columns))
+      → OnOk result (TurnsOne change (with_expired now columns))
   pub days : LeavesOfficeDays g old new now change result
   pub changed : Changed g old new (IsChanged g old now change) result
 
@@ -58,5 +58,5 @@ pub record SetsIssuer {S A E : Type 0} (g : Ghosts S) (old new : Held S) (issuer
       → OnOk result (ShowsKept g new (with_issuer records issuer))
   pub days : (records : Records) → ShowsKept g old records → records.issuer.key ≡ issuer.key
       → OnOk result (KeepsOfficeDays g old new)
-  pub changed : Changed g old new (IsNamed g old issuer) result
+  pub changed : Changed g old new (IsIssuerSet g old issuer) result
   pub err : OnErr result (Stays (state g old) (state g new))

@@ -5,7 +5,7 @@ ghost use Rattle.reg_core.specs.Changes.{touched, with_certificate, with_crl};
 ghost use Rattle.reg_store_tables.specs.Stays.{Stepped};
 ghost use Rattle.reg_store_tables.specs.DerivedRows.{with_counts};
 ghost use Rattle.reg_store_tables.specs.Steps.{Continues, Makes, MakesRows, Turns, TurnsWhere};
-ghost use Rattle.reg_store_changes.specs.DerivedEffects.{with_good, marked, shifted};
+ghost use Rattle.reg_store_changes.specs.DerivedEffects.{with_good, with_last_listings, shifted};
 ghost use Rattle.reg_store_changes.specs.ChangeEffects.{crl_of, lost, added};
 ghost use Rattle.reg_store_changes.specs.ChangeSteps.{Enters, Puts, Revokes};
 
@@ -102,7 +102,8 @@ fn issue<S: Alter>(
 ) -> Result<(), DatabaseFault>
     ensures made { Makes S.Store tx.old tx.new result
         (TurnsWhere (λ records. row.number ≡ length records.crls + 1)
-        (λ records. with_crl records records.last (crl_of row der.now)) (marked row.number row.this_update)) }
+        (λ records. with_crl records records.last (crl_of row der.now))
+        (with_last_listings row.number row.this_update)) }
     ensures stepped { Stepped S.Store tx.old tx.new }
 {
     let (number, this_update) = (row.number, row.this_update);

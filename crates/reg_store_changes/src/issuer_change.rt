@@ -2,7 +2,7 @@
 
 ghost use Rattle.std.specs.Prelude.{◌≡◌, false};
 ghost use Rattle.reg_store_tables.specs.Stays.{Stepped};
-ghost use Rattle.reg_store_changes.specs.ChangeSteps.{Renames};
+ghost use Rattle.reg_store_changes.specs.ChangeSteps.{ReplacesIssuer};
 ghost use Rattle.reg_store_changes.specs.MadeChanges.{SetsIssuer};
 ghost use Rattle.reg_store_tables.specs.Steps.{MakesRows};
 
@@ -15,10 +15,10 @@ use sqlite::{Alter, Connection, Transaction};
 
 /// Writes the Name and the key identifiers into the column `name`.
 fn set_name<S: Alter>(tx: &mut Transaction<'_, S>, issuer: &Issuer) -> Result<(), DatabaseFault>
-    ensures made { MakesRows S.Store tx.old tx.new result (Renames issuer.now) }
+    ensures made { MakesRows S.Store tx.old tx.new result (ReplacesIssuer issuer.now) }
     ensures stepped { Stepped S.Store tx.old tx.new }
 {
-    write(tx, sql::SET_NAME, &[ValueRef::Blob(issuer.kept())])?;
+    write(tx, sql::SET_NAME, &[ValueRef::Blob(issuer.stored_name())])?;
     Ok(())
 }
 

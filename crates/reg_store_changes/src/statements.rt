@@ -5,7 +5,7 @@ ghost use Rattle.reg_core.specs.Changes.{touched, with_subscriber, with_order, w
 ghost use Rattle.reg_store_tables.specs.Stays.{Stepped};
 ghost use Rattle.reg_store_tables.specs.Steps.{Makes, MakesRows, Turns, TurnsDerivedRows, TurnsCounted, TurnsRecords, TurnsWhere, Yields};
 ghost use Rattle.reg_store_changes.specs.ChangeEffects.{crl_of};
-ghost use Rattle.reg_store_changes.specs.DerivedEffects.{swept, ended_by, with_revoked_letter, good_at, with_good, with_unlisted, marked};
+ghost use Rattle.reg_store_changes.specs.DerivedEffects.{with_expired, ended_by, with_revoked_letter, good_at, with_good, with_unlisted, with_last_listings};
 
 use crate::sql;
 use reg_core::{
@@ -23,7 +23,7 @@ pub fn expire_ended<S: Alter>(
     tx: &mut Transaction<'_, S>,
     now: Moment,
 ) -> Result<usize, DatabaseFault>
-    ensures made { Yields S.Store tx.old tx.new result (TurnsCounted (swept now) (ended_by now)) }
+    ensures made { Yields S.Store tx.old tx.new result (TurnsCounted (with_expired now) (ended_by now)) }
     ensures stepped { Stepped S.Store tx.old tx.new }
 {
     write(tx, sql::SWEEP, &[sql_moment(now)])
@@ -48,7 +48,8 @@ pub(crate) fn set_last_listed<S: Alter>(
     number: u64,
     this_update: Moment,
 ) -> Result<(), DatabaseFault>
-    ensures made { Makes S.Store tx.old tx.new result (TurnsDerivedRows (marked number this_update)) }
+    ensures made { Makes S.Store tx.old tx.new result
+        (TurnsDerivedRows (with_last_listings number this_update)) }
     ensures stepped { Stepped S.Store tx.old tx.new }
 {
     let number = sql_number(number)?;

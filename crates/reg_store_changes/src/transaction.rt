@@ -8,7 +8,7 @@ ghost use Rattle.reg_store_tables.specs.Commits.{Commits};
 
 use crate::change_statements::enter;
 use reg_core::{Change, Counts, Moment};
-use reg_store_tables::{DatabaseFault, stored_counts_now, write_statements};
+use reg_store_tables::{DatabaseFault, stored_counts_at_last, write_statements};
 use sqlite::{Alter, Connection};
 
 /// Makes a change at a moment, in one transaction. Errors: `Memory`; `Store` if the database fails, a count is missing or too
@@ -22,7 +22,7 @@ pub fn apply<S: Alter>(
     ensures makes { MakesChange S.Store conn.old conn.new now change.now result }
     ensures idle { conn.new.in_transaction ≡ false }
 {
-    let counts = stored_counts_now(conn)?;
+    let counts = stored_counts_at_last(conn)?;
     commit(conn, now, change, counts)
 }
 

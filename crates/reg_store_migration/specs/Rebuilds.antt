@@ -36,8 +36,8 @@ pub record Defines (text : List ℕ) (old new : Database) : Type 0 where
       → HasRows (indexed schema table index) rows new
 
 -- the derived tables are made
-abbrev pub AddsKept : Database → Database → Type 0
-AddsKept old new =
+abbrev pub AddsDerivedTables : Database → Database → Type 0
+AddsDerivedTables old new =
     (rows : Trees) → HasRows record_tables rows old → HasRows with_derived_tables (records_alone rows) new
 
 -- the table of the schedule is made, and the indexes

@@ -4,7 +4,7 @@ ghost use Rattle.reg_store_tables.specs.Schema.{register_schema};
 ghost use Rattle.reg_store_tables.specs.Stays.{Stepped};
 ghost use Rattle.reg_store_tables.specs.Steps.{Makes};
 ghost use Rattle.reg_store_migration.specs.Older.{with_derived_tables};
-ghost use Rattle.reg_store_migration.specs.Rebuilds.{AddsKept, AddsSchedule, Defines, Rebuilds};
+ghost use Rattle.reg_store_migration.specs.Rebuilds.{AddsDerivedTables, AddsSchedule, Defines, Rebuilds};
 
 use crate::sql;
 use crate::version::OlderVersion;
@@ -23,7 +23,7 @@ pub fn define<S: Alter>(tx: &mut Transaction<'_, S>, sql: &str) -> Result<(), Da
 
 /// Makes the derived tables.
 pub fn make_derived_tables<S: Alter>(tx: &mut Transaction<'_, S>) -> Result<(), DatabaseFault>
-    ensures made { Makes S.Store tx.old tx.new result AddsKept }
+    ensures made { Makes S.Store tx.old tx.new result AddsDerivedTables }
     ensures stepped { Stepped S.Store tx.old tx.new }
 {
     define(tx, schema::STANDING)?;

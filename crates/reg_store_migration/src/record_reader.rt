@@ -14,7 +14,7 @@ ghost use Rattle.reg_store_migration.specs.RecordReading.{AreAnswer, OfRecords};
 use crate::sql;
 use reg_core::{CertRow, CrlRow, Moment, RevocationRow, Serial};
 use reg_store_tables::DatabaseFault;
-use reg_store_tables::rows::{ShownRow, rows_in};
+use reg_store_tables::rows::{RowKind, rows_in};
 use reg_store_tables::sql::CERT_BY_SERIAL;
 use sqlite::types::ValueRef;
 use sqlite::{Alter, Row, Transaction, params};
@@ -60,7 +60,7 @@ fn end_in(rows: &[Row]) -> Result<Moment, DatabaseFault>
         → end ≡ certificate.not_after)) }
 {
     match rows {
-        [row] => match CertRow::in_row(row) {
+        [row] => match CertRow::read_row(row) {
             Some(certificate) => Ok(certificate.not_after),
             None => Err(DatabaseFault::Store),
         },

@@ -26,7 +26,7 @@ fn put_office<S: Alter>(
     let crl_life = sql_number(policy.crl_life())?;
     let ocsp_life = sql_number(policy.ocsp_life())?;
     let cap = sql_number(policy.cap())?;
-    let name = ValueRef::Blob(issuer.kept());
+    let name = ValueRef::Blob(issuer.stored_name());
     let key = ValueRef::Blob(issuer.key());
     write(
         tx,

@@ -105,7 +105,7 @@ fn check_issuer(alloc: Global, row: &Row) -> Result<(), StoreFault>
         None => Err(StoreFault::NotARegister),
         Some(name) => match bytes_at(row, 1) {
             None => Err(StoreFault::NotARegister),
-            Some(key) => match Issuer::of_kept(alloc, name, key) {
+            Some(key) => match Issuer::of_stored(alloc, name, key) {
                 Ok(_) => Ok(()),
                 Err(IssuerFault::Memory) => Err(StoreFault::Memory),
                 Err(IssuerFault::BadName) => Err(StoreFault::NotARegister),

@@ -43,7 +43,7 @@ module _ (db : Database) (records : Records) (shown : IsShownBy db records) (ser
   by_serial_given : Given (λ row. row.serial == serial) out records.certificates (selects 4 (column_is 1) columns [] no_limit) (serial_value serial ∷ []) rows
   by_serial_given =
       counted_given (λ row. IsSerial row.serial) stored_certificate (λ row. row.serial == serial) out records.certificates shown.rows.certificate_serials 4 (column_is 1) columns [] no_limit (serial_value serial ∷ []) CERT_BY_SERIAL.now names by_serial_text.means db refl rows reads
-      shown.rows.certificates (λ id row in_row. and_true _ ∙ eq_serial row.serial serial in_row is_serial) (λ id row. refl)
+      shown.rows.certificates (λ id row read_row. and_true _ ∙ eq_serial row.serial serial read_row is_serial) (λ id row. refl)
 
   pub by_serial_few : KeysDiffer (λ (row : CertRow). row.serial) records.certificates → length rows ≤ 1
   by_serial_few differ = given_few (λ row. row.serial == serial) out records.certificates 4 (column_is 1) columns [] (serial_value serial ∷ []) rows by_serial_given
@@ -61,7 +61,7 @@ module _ (db : Database) (records : Records) (shown : IsShownBy db records) (ord
   by_order_given : Given (λ row. row.order == order) out records.certificates (selects 4 (column_is 2) columns [] no_limit) (number order ∷ []) rows
   by_order_given =
       counted_given (λ row. IsSerial row.serial) stored_certificate (λ row. row.order == order) out records.certificates shown.rows.certificate_serials 4 (column_is 2) columns [] no_limit (number order ∷ []) CERT_BY_ORDER.now names by_order_text.means db refl rows reads
-      shown.rows.certificates (λ id row in_row. and_true _ ∙ eq_number row.order order) (λ id row. refl)
+      shown.rows.certificates (λ id row read_row. and_true _ ∙ eq_number row.order order) (λ id row. refl)
 
   pub by_order_few : KeysDiffer (λ (row : CertRow). row.order) records.certificates → length rows ≤ 1
   by_order_few differ = given_few (λ row. row.order == order) out records.certificates 4 (column_is 2) columns [] (number order ∷ []) rows by_order_given

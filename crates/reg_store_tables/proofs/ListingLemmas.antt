@@ -75,7 +75,7 @@ module _ (db : Database) (records : Records) (kept : DerivedRows) (both : AreRec
   in_kept : Given has_serial out kept.listed (selects 15 (column_is 1) columns [] no_limit) (serial_value serial ∷ []) rows
   in_kept =
       counted_given (λ (row : Listed). IsSerial row.serial) stored_listed has_serial out kept.listed both.kept.listed_serials 15 (column_is 1) columns [] no_limit (serial_value serial ∷ []) LISTED_BY_SERIAL.now names listed_text.means db refl rows reads
-      both.kept.listed (λ id row in_row. and_true _ ∙ eq_serial row.serial serial in_row is_serial) (λ id row. refl)
+      both.kept.listed (λ id row read_row. and_true _ ∙ eq_serial row.serial serial read_row is_serial) (λ id row. refl)
 
   -- of the rows of the revocations themselves
   listed_given : Given has_serial out listed_rows (selects 15 (column_is 1) columns [] no_limit) (serial_value serial ∷ []) rows

@@ -14,7 +14,7 @@ use Rattle.reg_store_tables.specs.Schema.{register_schema}
 use Rattle.reg_store_tables.specs.Rows.{number, stored_office}
 use Rattle.reg_store_tables.specs.Shows.{IsShownBy}
 use Rattle.reg_store_tables.specs.ReadStatements.{command_of}
-use Rattle.reg_store_tables.specs.declared.sql.TheConstants.{LAST, ISSUER, RESPONDING, TERMS}
+use Rattle.reg_store_tables.specs.declared.sql.TheConstants.{LAST, ISSUER, OCSP_HEAD, TERMS}
 use Rattle.reg_store_tables.proofs.Queries.{selects, as_command, no_limit, Given, keyed_given}
 use Rattle.reg_store_tables.proofs.Selecting.{select_never}
 use Rattle.reg_store_tables.proofs.FailingLemmas.{IsSelect, select}
@@ -45,10 +45,10 @@ unfolding understood everything register_schema first
 issuer_text =
     select ISSUER.now 0 [] (col 1 3 ∷ col 1 4 ∷ []) [] no_limit (codes "name" ∷ codes "pubkey" ∷ []) (λ (_ : Unit {0}). []) refl (refl, refl) refl (select_never ISSUER.now _ _ refl refl refl) (λ it. (omega arith, refl)) (λ it. refl)
 
-pub responding_text : IsSelect RESPONDING.now (selects 0 [] (col 1 9 ∷ col 1 3 ∷ col 1 4 ∷ col 1 7 ∷ []) [] no_limit) (codes "last_at" ∷ codes "name" ∷ codes "pubkey" ∷ codes "ocsp_life" ∷ []) (λ (_ : Unit {0}). [])
+pub responding_text : IsSelect OCSP_HEAD.now (selects 0 [] (col 1 9 ∷ col 1 3 ∷ col 1 4 ∷ col 1 7 ∷ []) [] no_limit) (codes "last_at" ∷ codes "name" ∷ codes "pubkey" ∷ codes "ocsp_life" ∷ []) (λ (_ : Unit {0}). [])
 unfolding understood everything register_schema first
 responding_text =
-    select RESPONDING.now 0 [] (col 1 9 ∷ col 1 3 ∷ col 1 4 ∷ col 1 7 ∷ []) [] no_limit (codes "last_at" ∷ codes "name" ∷ codes "pubkey" ∷ codes "ocsp_life" ∷ []) (λ (_ : Unit {0}). []) refl (refl, refl) refl (select_never RESPONDING.now _ _ refl refl refl) (λ it. (omega arith, refl)) (λ it. refl)
+    select OCSP_HEAD.now 0 [] (col 1 9 ∷ col 1 3 ∷ col 1 4 ∷ col 1 7 ∷ []) [] no_limit (codes "last_at" ∷ codes "name" ∷ codes "pubkey" ∷ codes "ocsp_life" ∷ []) (λ (_ : Unit {0}). []) refl (refl, refl) refl (select_never OCSP_HEAD.now _ _ refl refl refl) (λ it. (omega arith, refl)) (λ it. refl)
 
 pub terms_text : IsSelect TERMS.now (selects 0 [] (col 1 6 ∷ col 1 7 ∷ col 1 8 ∷ []) [] no_limit) (codes "crl_life" ∷ codes "ocsp_life" ∷ codes "cap" ∷ []) (λ (_ : Unit {0}). [])
 unfolding understood everything register_schema first
@@ -65,6 +65,6 @@ module _ (db : Database) (records : Records) (shown : IsShownBy db records) (row
   pub terms_rows : Reads (command_of (understood register_schema TERMS.now)) db [] rows → rows ≡ (number records.policy.crl_life ∷ number records.policy.ocsp_life ∷ number records.policy.cap ∷ []) ∷ []
   terms_rows reads = office_rows (col 1 6 ∷ col 1 7 ∷ col 1 8 ∷ []) TERMS.now (codes "crl_life" ∷ codes "ocsp_life" ∷ codes "cap" ∷ []) terms_text.means db records shown rows reads
 
-  pub responding_rows : Reads (command_of (understood register_schema RESPONDING.now)) db [] rows
+  pub responding_rows : Reads (command_of (understood register_schema OCSP_HEAD.now)) db [] rows
       → rows ≡ (number records.last ∷ Blob records.issuer.name ∷ Blob records.issuer.key ∷ number records.policy.ocsp_life ∷ []) ∷ []
-  responding_rows reads = office_rows (col 1 9 ∷ col 1 3 ∷ col 1 4 ∷ col 1 7 ∷ []) RESPONDING.now (codes "last_at" ∷ codes "name" ∷ codes "pubkey" ∷ codes "ocsp_life" ∷ []) responding_text.means db records shown rows reads
+  responding_rows reads = office_rows (col 1 9 ∷ col 1 3 ∷ col 1 4 ∷ col 1 7 ∷ []) OCSP_HEAD.now (codes "last_at" ∷ codes "name" ∷ codes "pubkey" ∷ codes "ocsp_life" ∷ []) responding_text.means db records shown rows reads

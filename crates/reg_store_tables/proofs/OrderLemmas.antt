@@ -41,7 +41,7 @@ module _ (db : Database) (records : Records) (shown : IsShownBy db records) (id 
   by_id_given : Given (λ row. row.id == id) out records.orders (selects 3 (column_is 0) columns [] no_limit) (number id ∷ []) rows
   by_id_given =
       keyed_given (λ _. Unit {0}) stored_order (λ row. row.id == id) out records.orders (all_of (λ _. Unit {0}) (λ _. tt) records.orders) 3 (column_is 0) columns [] no_limit (number id ∷ []) ORDER_BY_ID.now names by_id_text.means db refl rows reads
-      shown.rows.orders (λ row in_row. and_true _ ∙ eq_number row.id id) (λ row. refl)
+      shown.rows.orders (λ row read_row. and_true _ ∙ eq_number row.id id) (λ row. refl)
 
   pub by_id_few : length rows ≤ 1
   by_id_few = given_few (λ row. row.id == id) out records.orders 3 (column_is 0) columns [] (number id ∷ []) rows by_id_given

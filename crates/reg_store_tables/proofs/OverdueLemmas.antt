@@ -81,7 +81,7 @@ module _ (db : Database) (records : Records) (shown : IsShownBy db records) (row
   undeclined_given : Given undeclined out records.requests (selects 7 undeclined_terms columns by_id no_limit) [] rows
   undeclined_given =
       keyed_given (λ (row : RequestRow). IsSerial row.serial) stored_request undeclined out records.requests shown.rows.request_serials 7 undeclined_terms columns by_id no_limit [] UNDECLINED.now names undeclined_text.means db refl rows reads
-      shown.rows.requests (λ row in_row. and_true _ ∙ eq_number (cond row.declined 1 0) 0 ∙ flag_is row.declined) (λ row. refl)
+      shown.rows.requests (λ row read_row. and_true _ ∙ eq_number (cond row.declined 1 0) 0 ∙ flag_is row.declined) (λ row. refl)
 
   pub undeclined_are : rows ≡ map shown_request (filter undeclined records.requests)
   undeclined_are =

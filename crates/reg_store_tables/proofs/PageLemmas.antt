@@ -138,7 +138,7 @@ module _ (db : Database) (records : Records) (shown : IsShownBy db records) (aft
   pub certs_shown : KeysDiffer (λ (row : CertRow). row.serial) records.certificates → rows ≡ map shown_certificate (take most (past (λ (row : CertRow). row.serial) after records.certificates))
   certs_shown =
       page_shown (λ row. row.serial) stored_certificate shown_certificate records.certificates shown.rows.certificate_serials 4 cert_columns CERTS_AFTER.now cert_names certs_text.means db refl shown.rows.certificates after most rows reads
-      (λ id row in_row. and_true _ ∙ gt_serial row.serial after in_row low) (λ id row. refl)
+      (λ id row read_row. and_true _ ∙ gt_serial row.serial after read_row low) (λ id row. refl)
 
   pub certs_serials : AllByRecursion (λ (row : CertRow). IsSerial row.serial) (take most (past (λ (row : CertRow). row.serial) after records.certificates))
   certs_serials = past_have (λ (row : CertRow). row.serial) (λ (row : CertRow). IsSerial row.serial) after most records.certificates shown.rows.certificate_serials
@@ -161,7 +161,7 @@ module _ (db : Database) (records : Records) (shown : IsShownBy db records) (aft
   pub revocations_shown : KeysDiffer (λ (row : RevocationRow). row.serial) records.revocations → rows ≡ map shown_revocation (take most (past (λ (row : RevocationRow). row.serial) after records.revocations))
   revocations_shown =
       page_shown (λ row. row.serial) stored_revocation shown_revocation records.revocations shown.rows.revocation_serials 8 revocation_columns REVOCATIONS_AFTER.now revocation_names revocations_text.means db refl shown.rows.revocations after most rows reads
-      (λ id row in_row. and_true _ ∙ gt_serial row.serial after in_row low) (λ id row. refl)
+      (λ id row read_row. and_true _ ∙ gt_serial row.serial after read_row low) (λ id row. refl)
 
   pub revocations_serials : AllByRecursion (λ (row : RevocationRow). IsSerial row.serial) (take most (past (λ (row : RevocationRow). row.serial) after records.revocations))
   revocations_serials = past_have (λ (row : RevocationRow). row.serial) (λ (row : RevocationRow). IsSerial row.serial) after most records.revocations shown.rows.revocation_serials

@@ -42,7 +42,7 @@ module _ (db : Database) (records : Records) (shown : IsShownBy db records) (id 
   by_id_given : Given (λ row. row.id == id) out records.requests (selects 7 (column_is 0) columns [] no_limit) (number id ∷ []) rows
   by_id_given =
       keyed_given (λ row. IsSerial row.serial) stored_request (λ row. row.id == id) out records.requests shown.rows.request_serials 7 (column_is 0) columns [] no_limit (number id ∷ []) REQUEST_BY_ID.now names by_id_text.means db refl rows reads
-      shown.rows.requests (λ row in_row. and_true _ ∙ eq_number row.id id) (λ row. refl)
+      shown.rows.requests (λ row read_row. and_true _ ∙ eq_number row.id id) (λ row. refl)
 
   pub by_id_few : length rows ≤ 1
   by_id_few = given_few (λ row. row.id == id) out records.requests 7 (column_is 0) columns [] (number id ∷ []) rows by_id_given

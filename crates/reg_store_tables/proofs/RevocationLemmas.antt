@@ -43,7 +43,7 @@ module _ (db : Database) (records : Records) (shown : IsShownBy db records) (ser
   by_serial_given : Given (λ row. row.serial == serial) out records.revocations (selects 8 (column_is 1) columns [] no_limit) (serial_value serial ∷ []) rows
   by_serial_given =
       counted_given (λ row. IsSerial row.serial) stored_revocation (λ row. row.serial == serial) out records.revocations shown.rows.revocation_serials 8 (column_is 1) columns [] no_limit (serial_value serial ∷ []) REVOCATION_BY_SERIAL.now names by_serial_text.means db refl rows reads
-      shown.rows.revocations (λ id row in_row. and_true _ ∙ eq_serial row.serial serial in_row is_serial) (λ id row. refl)
+      shown.rows.revocations (λ id row read_row. and_true _ ∙ eq_serial row.serial serial read_row is_serial) (λ id row. refl)
 
   pub by_serial_few : KeysDiffer (λ (row : RevocationRow). row.serial) records.revocations → length rows ≤ 1
   by_serial_few differ = given_few (λ row. row.serial == serial) out records.revocations 8 (column_is 1) columns [] (serial_value serial ∷ []) rows by_serial_given

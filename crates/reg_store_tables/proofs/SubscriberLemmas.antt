@@ -44,7 +44,7 @@ module _ (db : Database) (records : Records) (shown : IsShownBy db records) (id 
   by_id_given : Given (λ row. row.id == id) out records.subscribers (selects 1 (column_is 0) columns [] no_limit) (number id ∷ []) rows
   by_id_given =
       keyed_given (λ _. Unit {0}) stored_subscriber (λ row. row.id == id) out records.subscribers (all_of (λ _. Unit {0}) (λ _. tt) records.subscribers) 1 (column_is 0) columns [] no_limit (number id ∷ []) SUBSCRIBER_BY_ID.now names by_id_text.means db refl rows reads
-      shown.rows.subscribers (λ row in_row. and_true _ ∙ eq_number row.id id) (λ row. refl)
+      shown.rows.subscribers (λ row read_row. and_true _ ∙ eq_number row.id id) (λ row. refl)
 
   pub by_id_few : length rows ≤ 1
   by_id_few = given_few (λ row. row.id == id) out records.subscribers 1 (column_is 0) columns [] (number id ∷ []) rows by_id_given
@@ -65,7 +65,7 @@ module _ (db : Database) (records : Records) (shown : IsShownBy db records) (nam
   by_name_given : Given (λ row. bytes_eq row.name name) out records.subscribers (selects 1 (column_is 2) columns [] no_limit) (Text name ∷ []) rows
   by_name_given =
       keyed_given (λ _. Unit {0}) stored_subscriber (λ row. bytes_eq row.name name) out records.subscribers (all_of (λ _. Unit {0}) (λ _. tt) records.subscribers) 1 (column_is 2) columns [] no_limit (Text name ∷ []) SUBSCRIBER_BY_NAME.now names by_name_text.means db refl rows reads
-      shown.rows.subscribers (λ row in_row. and_true _ ∙ eq_text row.name name) (λ row. refl)
+      shown.rows.subscribers (λ row read_row. and_true _ ∙ eq_text row.name name) (λ row. refl)
 
   pub by_name_few : KeysDiffer (λ (row : SubscriberRow). row.name) records.subscribers → length rows ≤ 1
   by_name_few differ = given_few (λ row. bytes_eq row.name name) out records.subscribers 1 (column_is 2) columns [] (Text name ∷ []) rows by_name_given

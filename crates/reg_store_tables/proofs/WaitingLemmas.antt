@@ -85,7 +85,7 @@ module _ (db : Database) (records : Records) (shown : IsShownBy db records) (ser
   waiting_given : Given (undeclined_of serial) out records.requests (selects 7 terms columns newest_first as_many) (serial_value serial ∷ number most ∷ []) rows
   waiting_given =
       keyed_given (λ (row : RequestRow). IsSerial row.serial) stored_request (undeclined_of serial) out records.requests shown.rows.request_serials 7 terms columns newest_first as_many (serial_value serial ∷ number most ∷ []) UNDECLINED_OF.now names waiting_text.means db refl
-      rows reads shown.rows.requests (λ row in_row. both_tests _ _ _ _ (eq_number (cond row.declined 1 0) 0 ∙ flag_is row.declined) (eq_serial row.serial serial in_row is_serial)) (λ row. refl)
+      rows reads shown.rows.requests (λ row read_row. both_tests _ _ _ _ (eq_number (cond row.declined 1 0) 0 ∙ flag_is row.declined) (eq_serial row.serial serial read_row is_serial)) (λ row. refl)
 
   -- as many rows as there are of these requests, but at most as many as are wanted
   pub waiting_rows : length rows ≡ min most (length (filter (undeclined_of serial) records.requests))

@@ -40,19 +40,20 @@ pub record ReadsBy {C T W : Type 0} (g : Ghosts C) (old new : Held C) (text : Li
       → ShownWell (state g old) text params wanted
       → FailsWith Store (state g old) (state g new) result
 
-module _ {C R : Type 0} (is_keyed has_values : R → Type 0) (shown : R → Row) (g : Ghosts C) (old new : Held C)
+module _ {C R : Type 0} (has_valid_serial has_values : R → Type 0) (shown : R → Row) (g : Ghosts C)
+    (old new : Held C)
     (text : List ℕ) (params : Row) where
   -- a statement that reads at most one row
   abbrev pub ReadsRow : Result (Option R) DatabaseFault → Type 0
   ReadsRow result =
-      ReadsBy g old new text params result (λ found. found) (ShowsRow is_keyed shown)
-      (ShowsOneRow (λ it. is_keyed it × has_values it) shown)
+      ReadsBy g old new text params result (λ found. found) (ShowsRow has_valid_serial shown)
+      (ShowsOneRow (λ it. has_valid_serial it × has_values it) shown)
 
   -- a statement that reads exactly one row
   abbrev pub ReadsOne : Result R DatabaseFault → Type 0
   ReadsOne result =
-      ReadsBy g old new text params result (λ found. found) (ShowsOnly is_keyed shown)
-      (ShowsOnly (λ it. is_keyed it × has_values it) shown)
+      ReadsBy g old new text params result (λ found. found) (ShowsOnly has_valid_serial shown)
+      (ShowsOnly (λ it. has_valid_serial it × has_values it) shown)
 
 -- ---- a look-up
 

@@ -28,6 +28,6 @@ pub use fault::{DatabaseFault, RowFault, StoreFault};
 pub use office::{issuer, policy};
 pub use schedule_rows::put_schedule_steps;
 pub use sizes::Table;
-pub use status_counts::stored_counts_now;
+pub use status_counts::stored_counts_at_last;
 pub use tables::Tables;
 pub use write_statements::set_counts;

@@ -12,7 +12,7 @@ ghost use Rattle.reg_store_tables.specs.ShownRows.{shown_responding};
 use crate::fault::DatabaseFault;
 use crate::read_statements::{look_up_all, look_up_one, only, read};
 use crate::rows::{ClockMoment, Step, Terms};
-use crate::sql::{ISSUER, LAST, RESPONDING, STEPS, TERMS};
+use crate::sql::{ISSUER, LAST, OCSP_HEAD, STEPS, TERMS};
 use crate::sql_values::{bytes_at, clock_moment_at, life_at};
 use crate::tables::Tables;
 use reg_core::{Moment, Policy, Schedule};
@@ -43,12 +43,12 @@ impl<S: Alter> Tables<S> {
     }
 
     /// The last accepted moment, the issuer, and the life of OCSP answers in seconds, read by one statement.
-    pub fn responding(&mut self) -> Result<(Moment, Issuer, u64), DatabaseFault>
+    pub fn ocsp_head(&mut self) -> Result<(Moment, Issuer, u64), DatabaseFault>
         ensures finds { Finds S.Store self.old self.new result (λ records it.
             (it.0 ≡ records.last) × (it.1 ≡ records.issuer) × (it.2 ≡ records.policy.ocsp_life)) }
         ensures short { IfOk result (λ it. it.2 ≤ 863999) }
     {
-        let found = read(&mut self.connection, RESPONDING, &[])?;
+        let found = read(&mut self.connection, OCSP_HEAD, &[])?;
         responding_in(*found.allocator(), only(&found)?)
     }
 }
@@ -66,7 +66,7 @@ fn issuer_in(alloc: Global, row: &Row, at: usize) -> Result<Issuer, DatabaseFaul
         None => Err(DatabaseFault::Store),
         Some(name) => match bytes_at(row, at + 1) {
             None => Err(DatabaseFault::Store),
-            Some(key) => Ok(Issuer::of_kept(alloc, name, key)?),
+            Some(key) => Ok(Issuer::of_stored(alloc, name, key)?),
         },
     }
 }

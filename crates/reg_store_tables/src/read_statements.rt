@@ -8,7 +8,7 @@ ghost use Rattle.reg_store_tables.specs.ReadStatements.{IsReading};
 ghost use Rattle.reg_store_tables.specs.ShownRows.{ShowsAll};
 
 use crate::fault::DatabaseFault;
-use crate::rows::{ShownRow, row_in, rows_in};
+use crate::rows::{RowKind, row_in, rows_in};
 use sqlite::types::ValueRef;
 use sqlite::{Alter, Connection, Row};
 
@@ -26,13 +26,13 @@ pub(crate) fn read<S: Alter>(
 }
 
 /// The record in the only row that a query returns; `None` if it returns no row. `Store` for more rows.
-pub(crate) fn look_up<S: Alter, T: ShownRow>(
+pub(crate) fn look_up<S: Alter, T: RowKind>(
     conn: &mut Connection<S>,
     sql: &str,
     params: &[ValueRef<'_>],
 ) -> Result<Option<T::Record>, DatabaseFault>
     ensures reads { IsReading sql.now
-        → ReadsRow T.is_keyed T.has_values T.shown S.Store conn.old conn.new sql.now
+        → ReadsRow T.has_valid_serial T.has_values T.shown S.Store conn.old conn.new sql.now
         (bound params.now) result }
     ensures idle { conn.old.in_transaction ≡ false → conn.new.in_transaction ≡ false }
 {
@@ -41,13 +41,13 @@ pub(crate) fn look_up<S: Alter, T: ShownRow>(
 }
 
 /// The record in the only row that a query returns. `Store` for no row and for more.
-pub(crate) fn look_up_one<S: Alter, T: ShownRow>(
+pub(crate) fn look_up_one<S: Alter, T: RowKind>(
     conn: &mut Connection<S>,
     sql: &str,
     params: &[ValueRef<'_>],
 ) -> Result<T::Record, DatabaseFault>
     ensures reads { IsReading sql.now
-        → ReadsOne T.is_keyed T.has_values T.shown S.Store conn.old conn.new sql.now
+        → ReadsOne T.has_valid_serial T.has_values T.shown S.Store conn.old conn.new sql.now
         (bound params.now) result }
     ensures idle { conn.old.in_transaction ≡ false → conn.new.in_transaction ≡ false }
 {
@@ -59,14 +59,15 @@ pub(crate) fn look_up_one<S: Alter, T: ShownRow>(
 }
 
 /// The record in each row that a query returns.
-pub(crate) fn look_up_all<S: Alter, T: ShownRow>(
+pub(crate) fn look_up_all<S: Alter, T: RowKind>(
     conn: &mut Connection<S>,
     sql: &str,
     params: &[ValueRef<'_>],
 ) -> Result<Vec<T::Record>, DatabaseFault>
     ensures reads { IsReading sql.now
         → ReadsBy S.Store conn.old conn.new sql.now (bound params.now) result (λ found. found.items)
-        (ShowsAll T.is_keyed T.shown) (ShowsAll (λ it. T.is_keyed it × T.has_values it) T.shown) }
+        (ShowsAll T.has_valid_serial T.shown)
+        (ShowsAll (λ it. T.has_valid_serial it × T.has_values it) T.shown) }
     ensures idle { conn.old.in_transaction ≡ false → conn.new.in_transaction ≡ false }
 {
     let rows = read(conn, sql, params)?;

@@ -17,7 +17,7 @@ use sqlite::Row;
 use std::alloc::Global;
 
 /// A kind of row, and how it is read.
-pub trait ShownRow {
+pub trait RowKind {
     ghost use Rattle.std.specs.Prelude.{◌≡◌, IfSome, IsSome};
     ghost use Rattle.sqlite_value.specs.Order.{Row as Cells};
     ghost use Rattle.reg_store_tables.specs.ShownRows.{HasCells};
@@ -29,20 +29,21 @@ pub trait ShownRow {
     ghost shown: { Self.Record → Cells };
 
     /// The serial number of a value, if it has one, is valid (RFC 5280 4.1.2.2).
-    ghost is_keyed: { Self.Record → Type 0 };
+    ghost has_valid_serial: { Self.Record → Type 0 };
 
     /// The other fields of a value are within the ranges of the register's types.
     ghost has_values: { Self.Record → Type 0 };
 
     /// Reads a row: `None` if a column has another type or an invalid value.
-    fn in_row(row: &Row) -> Option<Self::Record>
-        ensures read { (it : Self.Record) → is_keyed it → row.now ≡ shown it
+    fn read_row(row: &Row) -> Option<Self::Record>
+        ensures read { (it : Self.Record) → has_valid_serial it → row.now ≡ shown it
             → IfSome result (λ read. read ≡ it) }
-        ensures has { (it : Self.Record) → is_keyed it → has_values it → row.now ≡ shown it → IsSome result }
-        ensures told { IfSome result (λ it. is_keyed it × HasCells 0 row.now (shown it)) };
+        ensures has { (it : Self.Record) → has_valid_serial it → has_values it → row.now ≡ shown it
+            → IsSome result }
+        ensures told { IfSome result (λ it. has_valid_serial it × HasCells 0 row.now (shown it)) };
 }
 
-impl ShownRow for SubscriberRow {
+impl RowKind for SubscriberRow {
     ghost use Rattle.reg_store_tables.specs.ReadStatements.{shown_subscriber};
     ghost use Rattle.reg_core.specs.Label.{IsLabel};
 
@@ -50,11 +51,11 @@ impl ShownRow for SubscriberRow {
 
     ghost shown = { shown_subscriber };
 
-    ghost is_keyed = { λ _. Unit {0} };
+    ghost has_valid_serial = { λ _. Unit {0} };
 
     ghost has_values = { λ it. IsLabel it.name };
 
-    fn in_row(row: &Row) -> Option<SubscriberRow> {
+    fn read_row(row: &Row) -> Option<SubscriberRow> {
         Some(SubscriberRow {
             id: number_at(row, 0)?,
             name: label_at(row, 1)?,
@@ -62,18 +63,18 @@ impl ShownRow for SubscriberRow {
     }
 }
 
-impl ShownRow for OrderRow {
+impl RowKind for OrderRow {
     ghost use Rattle.reg_store_tables.specs.ReadStatements.{shown_order};
 
     type Record = OrderRow;
 
     ghost shown = { shown_order };
 
-    ghost is_keyed = { λ _. Unit {0} };
+    ghost has_valid_serial = { λ _. Unit {0} };
 
     ghost has_values = { λ _. Unit {0} };
 
-    fn in_row(row: &Row) -> Option<OrderRow> {
+    fn read_row(row: &Row) -> Option<OrderRow> {
         Some(OrderRow {
             id: number_at(row, 0)?,
             subscriber: number_at(row, 1)?,
@@ -82,7 +83,7 @@ impl ShownRow for OrderRow {
     }
 }
 
-impl ShownRow for CertRow {
+impl RowKind for CertRow {
     ghost use Rattle.reg_store_tables.specs.ReadStatements.{shown_certificate};
     ghost use Rattle.reg_core.specs.Serial.{IsSerial};
     ghost use Rattle.reg_store_tables.specs.RecordValues.{IsValidity};
@@ -91,11 +92,11 @@ impl ShownRow for CertRow {
 
     ghost shown = { shown_certificate };
 
-    ghost is_keyed = { λ it. IsSerial it.serial };
+    ghost has_valid_serial = { λ it. IsSerial it.serial };
 
     ghost has_values = { λ it. IsValidity it.not_before it.not_after };
 
-    fn in_row(row: &Row) -> Option<CertRow> {
+    fn read_row(row: &Row) -> Option<CertRow> {
         Some(CertRow {
             serial: serial_at(row, 0)?,
             order: number_at(row, 1)?,
@@ -105,7 +106,7 @@ impl ShownRow for CertRow {
     }
 }
 
-impl ShownRow for RequestRow {
+impl RowKind for RequestRow {
     ghost use Rattle.reg_store_tables.specs.ReadStatements.{shown_request};
     ghost use Rattle.reg_core.specs.Serial.{IsSerial};
     ghost use Rattle.std.specs.Prelude.{◌<◌};
@@ -115,11 +116,11 @@ impl ShownRow for RequestRow {
 
     ghost shown = { shown_request };
 
-    ghost is_keyed = { λ it. IsSerial it.serial };
+    ghost has_valid_serial = { λ it. IsSerial it.serial };
 
     ghost has_values = { λ it. it.received < clock_end };
 
-    fn in_row(row: &Row) -> Option<RequestRow> {
+    fn read_row(row: &Row) -> Option<RequestRow> {
         Some(RequestRow {
             id: number_at(row, 0)?,
             serial: serial_at(row, 1)?,
@@ -130,7 +131,7 @@ impl ShownRow for RequestRow {
     }
 }
 
-impl ShownRow for RevocationRow {
+impl RowKind for RevocationRow {
     ghost use Rattle.reg_store_tables.specs.ReadStatements.{shown_revocation};
     ghost use Rattle.reg_core.specs.Serial.{IsSerial};
     ghost use Rattle.reg_store_tables.specs.RecordValues.{AreMomentAndReason};
@@ -139,11 +140,11 @@ impl ShownRow for RevocationRow {
 
     ghost shown = { shown_revocation };
 
-    ghost is_keyed = { λ it. IsSerial it.serial };
+    ghost has_valid_serial = { λ it. IsSerial it.serial };
 
     ghost has_values = { λ it. AreMomentAndReason it.at it.reason };
 
-    fn in_row(row: &Row) -> Option<RevocationRow> {
+    fn read_row(row: &Row) -> Option<RevocationRow> {
         Some(RevocationRow {
             serial: serial_at(row, 0)?,
             at: clock_moment_at(row, 1)?,
@@ -154,7 +155,7 @@ impl ShownRow for RevocationRow {
     }
 }
 
-impl ShownRow for CrlRow {
+impl RowKind for CrlRow {
     ghost use Rattle.reg_store_tables.specs.ReadStatements.{shown_crl};
     ghost use Rattle.std.specs.Prelude.{◌<◌};
     ghost use Rattle.reg_core.specs.Calendar.{clock_end};
@@ -163,11 +164,11 @@ impl ShownRow for CrlRow {
 
     ghost shown = { shown_crl };
 
-    ghost is_keyed = { λ _. Unit {0} };
+    ghost has_valid_serial = { λ _. Unit {0} };
 
     ghost has_values = { λ it. it.this_update < clock_end };
 
-    fn in_row(row: &Row) -> Option<CrlRow> {
+    fn read_row(row: &Row) -> Option<CrlRow> {
         Some(CrlRow {
             number: number_at(row, 0)?,
             this_update: clock_moment_at(row, 1)?,
@@ -175,7 +176,7 @@ impl ShownRow for CrlRow {
     }
 }
 
-impl ShownRow for Entry {
+impl RowKind for Entry {
     ghost use Rattle.reg_store_tables.specs.ReadStatements.{shown_entry};
     ghost use Rattle.reg_core.specs.Serial.{IsSerial};
     ghost use Rattle.reg_store_tables.specs.RecordValues.{AreMomentAndReason};
@@ -184,11 +185,11 @@ impl ShownRow for Entry {
 
     ghost shown = { shown_entry };
 
-    ghost is_keyed = { λ it. IsSerial it.serial };
+    ghost has_valid_serial = { λ it. IsSerial it.serial };
 
     ghost has_values = { λ it. AreMomentAndReason it.at it.reason };
 
-    fn in_row(row: &Row) -> Option<Entry> {
+    fn read_row(row: &Row) -> Option<Entry> {
         Some(Entry {
             serial: serial_at(row, 0)?,
             at: clock_moment_at(row, 1)?,
@@ -197,18 +198,18 @@ impl ShownRow for Entry {
     }
 }
 
-impl ShownRow for Counts {
+impl RowKind for Counts {
     ghost use Rattle.reg_store_tables.specs.ShownRows.{shown_counts};
 
     type Record = Counts;
 
     ghost shown = { shown_counts };
 
-    ghost is_keyed = { λ _. Unit {0} };
+    ghost has_valid_serial = { λ _. Unit {0} };
 
     ghost has_values = { λ _. Unit {0} };
 
-    fn in_row(row: &Row) -> Option<Counts> {
+    fn read_row(row: &Row) -> Option<Counts> {
         Some(Counts {
             good: number_at(row, 0)?,
             revoked: number_at(row, 1)?,
@@ -217,18 +218,18 @@ impl ShownRow for Counts {
     }
 }
 
-impl ShownRow for Listing {
+impl RowKind for Listing {
     ghost use Rattle.reg_store_tables.specs.ShownRows.{shown_listing};
 
     type Record = Listing;
 
     ghost shown = { shown_listing };
 
-    ghost is_keyed = { λ _. Unit {0} };
+    ghost has_valid_serial = { λ _. Unit {0} };
 
     ghost has_values = { λ _. Unit {0} };
 
-    fn in_row(row: &Row) -> Option<Listing> {
+    fn read_row(row: &Row) -> Option<Listing> {
         Some(Listing {
             first: number_at(row, 0)?,
             last: number_or_null_at(row, 1)?,
@@ -239,7 +240,7 @@ impl ShownRow for Listing {
 /// A step of the schedule: a moment, and the longest validity in days from it on.
 pub struct Step;
 
-impl ShownRow for Step {
+impl RowKind for Step {
     ghost use Rattle.reg_store_tables.specs.ReadStatements.{shown_step};
     ghost use Rattle.reg_core.specs.Calendar.{IsMoment};
 
@@ -247,11 +248,11 @@ impl ShownRow for Step {
 
     ghost shown = { shown_step };
 
-    ghost is_keyed = { λ _. Unit {0} };
+    ghost has_valid_serial = { λ _. Unit {0} };
 
     ghost has_values = { λ it. IsMoment it.0 };
 
-    fn in_row(row: &Row) -> Option<(Moment, u64)> {
+    fn read_row(row: &Row) -> Option<(Moment, u64)> {
         Some((moment_at(row, 0)?, number_at(row, 1)?))
     }
 }
@@ -259,18 +260,18 @@ impl ShownRow for Step {
 /// A row of one number.
 pub(crate) struct Number;
 
-impl ShownRow for Number {
+impl RowKind for Number {
     ghost use Rattle.reg_store_tables.specs.ShownRows.{shown_number};
 
     type Record = u64;
 
     ghost shown = { shown_number };
 
-    ghost is_keyed = { λ _. Unit {0} };
+    ghost has_valid_serial = { λ _. Unit {0} };
 
     ghost has_values = { λ _. Unit {0} };
 
-    fn in_row(row: &Row) -> Option<u64> {
+    fn read_row(row: &Row) -> Option<u64> {
         Some(number_at(row, 0)?)
     }
 }
@@ -278,7 +279,7 @@ impl ShownRow for Number {
 /// One moment, before the end of the clock.
 pub(crate) struct ClockMoment;
 
-impl ShownRow for ClockMoment {
+impl RowKind for ClockMoment {
     ghost use Rattle.reg_store_tables.specs.ShownRows.{shown_number};
     ghost use Rattle.std.specs.Prelude.{◌<◌};
     ghost use Rattle.reg_core.specs.Calendar.{clock_end};
@@ -287,11 +288,11 @@ impl ShownRow for ClockMoment {
 
     ghost shown = { shown_number };
 
-    ghost is_keyed = { λ _. Unit {0} };
+    ghost has_valid_serial = { λ _. Unit {0} };
 
     ghost has_values = { λ it. it < clock_end };
 
-    fn in_row(row: &Row) -> Option<Moment> {
+    fn read_row(row: &Row) -> Option<Moment> {
         Some(clock_moment_at(row, 0)?)
     }
 }
@@ -299,33 +300,34 @@ impl ShownRow for ClockMoment {
 /// The lives of CRLs and of OCSP responses in seconds, and the cap.
 pub(crate) struct Terms;
 
-impl ShownRow for Terms {
+impl RowKind for Terms {
     ghost use Rattle.reg_store_tables.specs.ShownRows.{shown_terms};
 
     type Record = (u64, u64, u64);
 
     ghost shown = { shown_terms };
 
-    ghost is_keyed = { λ _. Unit {0} };
+    ghost has_valid_serial = { λ _. Unit {0} };
 
     ghost has_values = { λ _. Unit {0} };
 
-    fn in_row(row: &Row) -> Option<(u64, u64, u64)> {
+    fn read_row(row: &Row) -> Option<(u64, u64, u64)> {
         Some((number_at(row, 0)?, number_at(row, 1)?, number_at(row, 2)?))
     }
 }
 
 /// Reads all rows. [`RowFault::At`] has the index of the first row with a column of another type or an invalid value.
-pub fn rows_in<T: ShownRow>(alloc: Global, rows: &[Row]) -> Result<Vec<T::Record>, RowFault>
-    ensures read { (shown : List T.Record) → AllByRecursion T.is_keyed shown → rows.now ≡ map T.shown shown
+pub fn rows_in<T: RowKind>(alloc: Global, rows: &[Row]) -> Result<Vec<T::Record>, RowFault>
+    ensures read { (shown : List T.Record) → AllByRecursion T.has_valid_serial shown
+        → rows.now ≡ map T.shown shown
         → IfOk result (λ read. read.items ≡ shown) }
-    ensures has { (shown : List T.Record) → AllByRecursion T.is_keyed shown
+    ensures has { (shown : List T.Record) → AllByRecursion T.has_valid_serial shown
         → AllByRecursion T.has_values shown → rows.now ≡ map T.shown shown
         → IfErr result (λ why. why ≡ RowFault.Memory) }
 {
     let mut found = Vec::new(alloc);
     for row in rows {
-        match T::in_row(row) {
+        match T::read_row(row) {
             Some(it) => found.push(it)?,
             None => return Err(RowFault::At(found.len())),
         }
@@ -334,16 +336,16 @@ pub fn rows_in<T: ShownRow>(alloc: Global, rows: &[Row]) -> Result<Vec<T::Record
 }
 
 /// Reads the only row; `None` if there is no row. `Store` if there are more rows, or if the row has a column of another type or an invalid value.
-pub(crate) fn row_in<T: ShownRow>(rows: &[Row]) -> Result<Option<T::Record>, DatabaseFault>
-    ensures read { (wanted : Option T.Record) → IsRowOf T.is_keyed T.shown rows.now wanted
+pub(crate) fn row_in<T: RowKind>(rows: &[Row]) -> Result<Option<T::Record>, DatabaseFault>
+    ensures read { (wanted : Option T.Record) → IsRowOf T.has_valid_serial T.shown rows.now wanted
         → IfOk result (λ found. found ≡ wanted) }
     ensures has { (wanted : Option T.Record)
-        → IsRowOf (λ it. T.is_keyed it × T.has_values it) T.shown rows.now wanted
+        → IsRowOf (λ it. T.has_valid_serial it × T.has_values it) T.shown rows.now wanted
         → OnErr result (2 ≤ length rows.now) }
 {
     match rows {
         [] => Ok(None),
-        [row] => match T::in_row(row) {
+        [row] => match T::read_row(row) {
             Some(it) => Ok(Some(it)),
             None => Err(DatabaseFault::Store),
         },

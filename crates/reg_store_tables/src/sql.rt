@@ -6,7 +6,7 @@ pub(crate) const ISSUER: &str = "SELECT name, pubkey FROM office";
 
 pub(crate) const TERMS: &str = "SELECT crl_life, ocsp_life, cap FROM office";
 
-pub(crate) const RESPONDING: &str = "SELECT last_at, name, pubkey, ocsp_life FROM office";
+pub(crate) const OCSP_HEAD: &str = "SELECT last_at, name, pubkey, ocsp_life FROM office";
 /// The steps of the schedule, in the order of their moments.
 pub const STEPS: &str = "SELECT from_at, days FROM longest ORDER BY from_at";
 

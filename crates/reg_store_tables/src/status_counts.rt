@@ -25,7 +25,7 @@ impl<S: Alter> Tables<S> {
             ShowsKept S.Store self.old records → SoundRows records → records.last ≤ now
             → found ≡ status.counts records now) }
     {
-        let kept = stored_counts_now(&mut self.connection)?;
+        let kept = stored_counts_at_last(&mut self.connection)?;
         let ended = ended_before(&mut self.connection, now)?;
         Ok(Counts {
             good: kept.good.checked_sub(ended).ok_or(DatabaseFault::Store)?,
@@ -36,7 +36,7 @@ impl<S: Alter> Tables<S> {
 }
 
 /// The counts in the table `kept`, as of the last accepted moment. It reads one row.
-pub fn stored_counts_now<S: Alter>(conn: &mut Connection<S>) -> Result<Counts, DatabaseFault>
+pub fn stored_counts_at_last<S: Alter>(conn: &mut Connection<S>) -> Result<Counts, DatabaseFault>
     ensures { Finds S.Store conn.old conn.new result (λ records counts.
         (kept : DerivedRows) → ShowsBoth S.Store conn.old records kept → counts ≡ kept.counts) }
 {

@@ -4,4 +4,4 @@ use Rattle.reg_audit.specs.Cells.{IsOfSomeRecord}
 use Rattle.reg_audit.proofs.complete.each_stands.Given as goal
 
 abbrev pub invariant-loop-row : goal.invariant-loop-row
-invariant-loop-row g l = AllByRecursion (IsOfSomeRecord g.T.ShownRow.is_keyed g.T.ShownRow.shown) (take l.row-index l.rows)
+invariant-loop-row g l = AllByRecursion (IsOfSomeRecord g.T.RowKind.has_valid_serial g.T.RowKind.shown) (take l.row-index l.rows)

@@ -1,5 +1,5 @@
 use Rattle.std.proofs.Common.{get_or, sym, subst}
-use Rattle.reg_audit.specs.ReadTexts.{IsReadOf, IsReadFrom}
+use Rattle.reg_audit.specs.ReadQueries.{IsReadOf, IsReadFrom}
 use Rattle.reg_audit.proofs.Whole.{read_at, there_are}
 use Rattle.reg_audit.proofs.read_rows.rows_at.Goals as goal
 

@@ -5,9 +5,9 @@ use Rattle.sqlite.specs.State.{HasCleanDisk}
 use Rattle.reg_core.specs.Calendar.{clock_end}
 use Rattle.reg_core.specs.declared.rows.CrlRow.{CrlRow}
 use Rattle.reg_store_tables.proofs.PublicLaws.{both_shows, looked_shows, looked_then}
-use Rattle.reg_audit_rows.specs.KeptAsRead.{listed_in}
-use Rattle.reg_audit.specs.ReadTexts.{whole}
-use Rattle.reg_audit.specs.Faults.{EndsAtBrokenRow, IsBrokenRow}
+use Rattle.reg_audit_rows.specs.DerivedAsRead.{listed_in}
+use Rattle.reg_audit.specs.ReadQueries.{whole}
+use Rattle.reg_audit.specs.Faults.{EndsAtBrokenRow, BreaksRule}
 use Rattle.reg_audit.specs.Stored.{IsStored}
 use Rattle.reg_audit.specs.declared.sql.AuditQuery.TheVariants.{Office}
 use Rattle.reg_audit_rows.proofs.PublicLaws.{on_ok, if_err}
@@ -34,13 +34,13 @@ returns-clause-bytes g c records columns shows are kept clean =
 
 pub returns-in_err-crls-clause-rows : goal.returns-in_err-crls-clause-rows
 returns-in_err-crls-clause-rows g c records columns are values sound kept =
-    let no : IsBrokenRow c.in_err-crls.field-0.0 → ⊥ =
+    let no : BreaksRule c.in_err-crls.field-0.0 → ⊥ =
     λ is. c.in_err-crls.ensures.has records columns (c.rows_at.ensures.read records columns whole Office are (omega arith)) (each_has records columns values sound kept) (row_is_broken _ is) in
     search rules
 
 pub returns-in_err-listed-clause-rows : goal.returns-in_err-listed-clause-rows
 returns-in_err-listed-clause-rows g c records columns are values sound kept =
-    let no : IsBrokenRow c.in_err-listed.field-0.0 → ⊥ =
+    let no : BreaksRule c.in_err-listed.field-0.0 → ⊥ =
     λ is. c.in_err-listed.ensures.has records columns (c.rows_at-2.ensures.read records columns whole Office are (omega arith)) (each_has records columns values sound kept) (row_is_broken _ is) in
     search rules
 

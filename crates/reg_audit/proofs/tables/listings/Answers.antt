@@ -2,7 +2,7 @@ use Rattle.std.proofs.Common.{map, refl, ap, ◌∙◌}
 use Rattle.reg_core.specs.Calendar.{IsMoment}
 use Rattle.reg_store_tables.proofs.PublicLaws.{ok_then}
 use Rattle.reg_store_tables.specs.DerivedRows as column
-use Rattle.reg_audit_rows.specs.KeptAsRead.{listed_in}
+use Rattle.reg_audit_rows.specs.DerivedAsRead.{listed_in}
 use Rattle.reg_audit_rows.specs.declared.derived_rows.Listed.{Listed}
 use Rattle.reg_audit_rows.proofs.PublicLaws.{listed_out}
 use Rattle.reg_audit.specs.ReadableValues.{AreMomentAndReason}

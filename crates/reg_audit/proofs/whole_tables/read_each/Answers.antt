@@ -3,7 +3,7 @@ use Rattle.std.proofs.lemmas.List.{take_all}
 use Rattle.sqlite.specs.Held.{state}
 use Rattle.sqlite.specs.State.{HasCleanDisk}
 use Rattle.reg_store_tables.proofs.PublicLaws.{looked_both, looked_then, stays_holds}
-use Rattle.reg_audit.specs.ReadTexts.{IsReadOf, IsReadFrom, AreRead, AreReadFrom}
+use Rattle.reg_audit.specs.ReadQueries.{IsReadOf, IsReadFrom, AreRead, AreReadFrom}
 use Rattle.reg_audit.specs.declared.sql.AuditQuery.TheVariants.{Office}
 use Rattle.reg_audit.proofs.Whole.{are_more, holds_register}
 use Rattle.reg_audit.proofs.whole_tables.read_each.Goals as goal

@@ -7,7 +7,7 @@ use Rattle.reg_store_tables.specs.DerivedRows.{DerivedRows}
 use Rattle.reg_store_tables.specs.Schema.{register_schema}
 use Rattle.reg_store_tables.specs.Shows.{Holds, ShowsBoth}
 use Rattle.reg_store_tables.specs.Stays.{Looked}
-use Rattle.reg_audit.specs.ReadTexts.{AreRead, AreReadFrom}
+use Rattle.reg_audit.specs.ReadQueries.{AreRead, AreReadFrom}
 use Rattle.reg_audit.proofs.whole_tables.read_each.Given as goal
 
 abbrev pub invariant-loop-what : goal.invariant-loop-what

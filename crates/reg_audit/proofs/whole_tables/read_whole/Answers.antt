@@ -6,7 +6,7 @@ use Rattle.sqlite.specs.Listing.{understood}
 use Rattle.reg_store_tables.specs.ReadStatements.{IsReading, command_of}
 use Rattle.reg_store_tables.specs.Schema.{register_schema}
 use Rattle.reg_store_tables.proofs.PublicLaws.{both_shows, both_then, ok_then, shows_register}
-use Rattle.reg_audit.specs.ReadTexts.{text_of}
+use Rattle.reg_audit.specs.ReadQueries.{sql_of}
 use Rattle.reg_audit.proofs.Whole.{holds_register}
 use Rattle.reg_audit.proofs.Statements.{reading}
 use Rattle.reg_audit.proofs.whole_tables.read_whole.Goals as goal
@@ -29,7 +29,7 @@ returns-clause-from g c db holds schema clean =
     let register = holds_register g.S.Store c.args.conn.now db holds schema in
     ok_then c.read.result (c.read.ensures.rows is_reading register clean) (λ rows answers.
     let was_clean : HasCleanDisk s = omega (arith, c.read.ensures.clean, clean) in
-    subst (λ (d : Database). Reads (command_of (understood register_schema (text_of c.args.what))) d [] rows.items) (holds.tables was_clean answers.is_open)
+    subst (λ (d : Database). Reads (command_of (understood register_schema (sql_of c.args.what))) d [] rows.items) (holds.tables was_clean answers.is_open)
     (subst (λ (text : List ℕ). Reads (command_of (understood register_schema text)) s.now [] rows.items) c.text.ensures answers.reads))
 
 pub returns-clause-looked : goal.returns-clause-looked

@@ -1,5 +1,5 @@
 use Rattle.std.proofs.Common.{◌≡◌, ◌≤◌, filter, length, take}
-use Rattle.reg_audit_rows.specs.KeptAsRead.{same_letter}
+use Rattle.reg_audit_rows.specs.DerivedAsRead.{same_letter}
 use Rattle.reg_audit_rows.specs.declared.derived_rows.Standing.{Standing}
 use Rattle.reg_audit_rows.proofs.derived_rows.count_of.Given as goal
 

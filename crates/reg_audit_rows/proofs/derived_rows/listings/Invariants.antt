@@ -3,7 +3,7 @@ use Rattle.std.specs.BTreeMap.{get}
 use Rattle.std.specs.Ordering.{nat_cmp}
 use Rattle.reg_core.specs.Sound.{NumberedFrom, NeverDecreases}
 use Rattle.reg_core.specs.declared.rows.CrlRow.{CrlRow}
-use Rattle.reg_audit_rows.specs.KeptAsRead.{listed_with}
+use Rattle.reg_audit_rows.specs.DerivedAsRead.{listed_with}
 use Rattle.reg_audit_rows.proofs.derived_rows.listings.Given as goal
 
 abbrev pub invariant-loop-revocation : goal.invariant-loop-revocation

@@ -1,7 +1,7 @@
 use Rattle.std.proofs.Common.{◌≡◌, ℕ, map, take}
 use Rattle.std.specs.BTreeMap.{get}
 use Rattle.std.specs.Ordering.{nat_cmp}
-use Rattle.reg_audit_rows.specs.KeptAsRead.{standing_by}
+use Rattle.reg_audit_rows.specs.DerivedAsRead.{standing_by}
 use Rattle.reg_audit_rows.proofs.derived_rows.standings.Given as goal
 
 abbrev pub invariant-loop-certificate : goal.invariant-loop-certificate

@@ -4,7 +4,7 @@ use Rattle.std.specs.List.Sorted.{IsPermutation}
 use Rattle.std.specs.Ordering.{nat_cmp}
 use Rattle.reg_core.specs.Status.{counts}
 use Rattle.reg_store_tables.specs.Kept.{Kept}
-use Rattle.reg_audit_rows.specs.KeptAsRead.{found_counts}
+use Rattle.reg_audit_rows.specs.DerivedAsRead.{found_counts}
 use Rattle.reg_audit_rows.specs.Faults.{IsBroken}
 use Rattle.reg_audit_rows.proofs.Fits.{crls_read}
 use Rattle.reg_audit_rows.proofs.Following.{counts_made, letters_follow, letters_back, letters_differ, listed_follow, listed_back, listed_differ}

@@ -12,7 +12,7 @@ returns-clause-moves g c =
     WordAt c.args.accepted.now g.M.Office.Office.signs c.args.now signatory before c.args.line.now c.answer_word-reply.result.text.items after in
     still_then g.M.Office.Office.is_clean g.M.Office.Office.stands step _ _ _
     (follows g.M.Office.Office.is_clean g.M.Office.Office.stands _ (λ signatory before after. after ≡ before) (λ signatory before after looked. looked.1) _ _
-    c.named_before-named.ensures)
+    c.decided_request-named.ensures)
     (then_still g.M.Office.Office.is_clean g.M.Office.Office.stands step _ _ _ c.answer_word-reply.ensures.moves c.keep_due_reason.ensures)
 
 pub returns-clause-counted : goal.returns-clause-counted

@@ -2,7 +2,7 @@ use Rattle.std.proofs.Common.{◌∙◌, ap}
 use Rattle.std.specs.Prelude.{IfOk}
 use Rattle.std.proofs.lemmas.Result.{IfOk-weaker}
 use Rattle.reg_http.specs.AnswerEffects.{plain, answer_effects}
-use Rattle.reg_desk_jobs.specs.Watched.{HasFound, AnswersHealth, health_response}
+use Rattle.reg_desk_jobs.specs.HealthRoutes.{HasFound, AnswersHealth, health_response}
 use Rattle.reg_desk_jobs.proofs.Looks.{looks_as}
 use Rattle.reg_desk_jobs.proofs.health_routes.health_at.Goals as goal
 

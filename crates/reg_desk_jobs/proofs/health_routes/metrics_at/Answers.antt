@@ -1,7 +1,7 @@
 use Rattle.std.specs.Prelude.{IfOk}
 use Rattle.std.proofs.lemmas.Result.{IfOk-weaker}
 use Rattle.reg_http.specs.AnswerEffects.{answer_effects}
-use Rattle.reg_desk_jobs.specs.Watched.{HasFound, Recounts, AnswersMetrics}
+use Rattle.reg_desk_jobs.specs.HealthRoutes.{HasFound, Recounts, AnswersMetrics}
 use Rattle.reg_desk_jobs.proofs.Looks.{looks_as, looks_then}
 use Rattle.reg_desk_jobs.proofs.health_routes.metrics_at.Goals as goal
 

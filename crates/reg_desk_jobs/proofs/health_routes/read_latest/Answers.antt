@@ -1,6 +1,6 @@
 use Rattle.std.proofs.Common.{Ok, None, subst}
 use Rattle.reg_office_api.specs.Answered.{IsGiven}
-use Rattle.reg_desk_jobs.specs.Watched.{IsReadAt, IsUnsigned}
+use Rattle.reg_desk_jobs.specs.HealthRoutes.{IsReadAt, IsUnsigned}
 use Rattle.reg_desk_jobs.proofs.Looks.{looks_as, read_at}
 use Rattle.reg_desk_jobs.proofs.health_routes.read_latest.Goals as goal
 

@@ -1,5 +1,5 @@
 use Rattle.std.proofs.Common.{Ok, inl, inr, refl}
-use Rattle.reg_desk_jobs.specs.Watched.{HasRequests, Recounts}
+use Rattle.reg_desk_jobs.specs.HealthRoutes.{HasRequests, Recounts}
 use Rattle.reg_desk_jobs.proofs.Looks.{looks_as}
 use Rattle.reg_desk_jobs.proofs.health_routes.recount.Goals as goal
 

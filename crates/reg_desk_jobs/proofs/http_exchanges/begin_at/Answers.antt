@@ -2,7 +2,7 @@ use Rattle.std.proofs.Common.{◌∙◌, ap, refl, sym}
 use Rattle.reg_office_api.proofs.PublicLaws.{follows}
 use Rattle.reg_http.specs.RoutedRequests.{asked}
 use Rattle.reg_desk_jobs.specs.Admission.{BeginsAdmitted}
-use Rattle.reg_desk_jobs.specs.Beginning.{BeginsAt}
+use Rattle.reg_desk_jobs.specs.RequestOutcomes.{BeginsAt}
 use Rattle.reg_desk_jobs.specs.Exchanges.{dispatch}
 use Rattle.reg_desk_jobs.specs.declared.http_exchanges.Dispatch.TheVariants.{ToHealth, ToLimits, ToList, ToMetrics, ToRegister}
 use Rattle.reg_desk_jobs.proofs.Admitting.{was_counted}

@@ -4,12 +4,12 @@ use Rattle.reg_desk_jobs.specs.SignerAnswers.{AnsweredAtSomePath}
 use Rattle.reg_desk_jobs.proofs.Answering.{asked_answers, refused_answers}
 use Rattle.reg_desk_jobs.proofs.http_exchanges.exchange_at.Goals as goal
 
-pub returns-in-Ok-Asked-clause-moves : goal.returns-in-Ok-Asked-clause-moves
-returns-in-Ok-Asked-clause-moves g c =
+pub returns-in-Ok-Valid-clause-moves : goal.returns-in-Ok-Valid-clause-moves
+returns-in-Ok-Valid-clause-moves g c =
     asked_answers g.M.Office.Office.is_clean g.M.Office.Office.stands g.M.Office.Office.signs c.args.now c.args.admission.now _ c.args.is_open _ _ (AnsweredAtSomePath g.M.Machine.signer_answered)
     (λ identity message answer given form. g.met.M.Machine.answer_in_form_signs identity given.0 message answer given.1 form)
-    (collected_bytes c.args.request.now) c.in-Ok-Asked.method c.in-Ok-Asked.target.now c.in-Ok-Asked.body.now c.of-route.result
-    c.begin_at-begun.result c.begun_exchange.result (rw c.in-Ok-Asked.field-0-is at c.in-Ok-Asked.ensures.ok) c.begun_exchange.ensures
+    (collected_bytes c.args.request.now) c.in-Ok-Valid.method c.in-Ok-Valid.target.now c.in-Ok-Valid.body.now c.of-route.result
+    c.begin_at-begun.result c.begun_exchange.result (rw c.in-Ok-Valid.field-0-is at c.in-Ok-Valid.ensures.ok) c.begun_exchange.ensures
     c.begin_at-begun.ensures.counted c.begin_at-begun.ensures.moves
 
 pub returns-in-Ok-Refused-clause-moves : goal.returns-in-Ok-Refused-clause-moves

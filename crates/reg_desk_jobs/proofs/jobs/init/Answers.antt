@@ -5,8 +5,8 @@ use Rattle.reg_desk_jobs.proofs.jobs.init.Goals as goal
 -- a path was claimed, or something lay there and the machine is as it was
 claims : {M : Type 0} (Claimed Lies : Type 0) (machine start : M) (is_ours : Bool) → (IsTrue is_ours → Claimed) → (IsFalse is_ours → Lies)
     → (IsFalse is_ours → start ≡ machine) → Claimed ⊎ (Lies × (start ≡ machine))
-claims Claimed Lies machine start true claimed lies same = inl (claimed refl)
-claims Claimed Lies machine start false claimed lies same = inr (lies refl, same refl)
+claims Claimed Lies machine start true claimed taken same = inl (claimed refl)
+claims Claimed Lies machine start false claimed taken same = inr (taken refl, same refl)
 
 pub returns-then-is_ours : goal.returns-then-is_ours
 returns-then-is_ours g c =
@@ -17,12 +17,12 @@ returns-then-is_ours g c =
 
 pub returns-in-Err-NotEmpty : goal.returns-in-Err-NotEmpty
 returns-in-Err-NotEmpty g c =
-    let claimed = rw c.as_str-path.ensures at (claims _ _ _ _ c.in-Ok.is_ours c.in-Ok.ensures.ours c.in-Ok.ensures.lies c.in-Ok.ensures.same) in
+    let claimed = rw c.as_str-path.ensures at (claims _ _ _ _ c.in-Ok.is_ours c.in-Ok.ensures.ours c.in-Ok.ensures.taken c.in-Ok.ensures.same) in
     let makes = rw (c.as_str-path.ensures, c.in-Err-NotEmpty.field-0-is, c.in_ok-issuer.ensures.ok.1) at c.in-Err-NotEmpty.ensures in
     inr (c.in_ok-issuer.issuer, search rules, search rules, (c.claim.new.self, c.make_at.new.machine, claimed, makes, inl (inl refl, refl)))
 
 pub returns-else-is_ours : goal.returns-else-is_ours
 returns-else-is_ours g c =
-    let lies = rw c.as_str-path.ensures at (c.in-Ok.ensures.lies c.if-is_ours.false) in
+    let taken = rw c.as_str-path.ensures at (c.in-Ok.ensures.taken c.if-is_ours.false) in
     let makes = rw c.as_str-path.ensures at c.in-Err-make_at.ensures in
     search rules

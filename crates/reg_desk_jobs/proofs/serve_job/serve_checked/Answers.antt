@@ -1,24 +1,24 @@
 use Rattle.std.proofs.Common.{inr}
 use Rattle.reg_desk_jobs.proofs.Comparing.{has_all_then, uncompared}
 use Rattle.reg_desk_jobs.proofs.serve_job.serve_checked.Goals as goal
-use Rattle.reg_desk_jobs.proofs.serve_job.serve_checked.Goals.{then-is_published+in-Ok, else-is_published}
+use Rattle.reg_desk_jobs.proofs.serve_job.serve_checked.Goals.{then-has_crl+in-Ok, else-has_crl}
 
 pub returns-clause-ends : goal.returns-clause-ends
 returns-clause-ends g c =
     let ran = c.serve_desk.ensures in
-    elim c.if-is_published.branch [
-      | then-is_published+in-Ok w ↦ inr (
+    elim c.if-has_crl.branch [
+      | then-has_crl+in-Ok w ↦ inr (
         ran.0,
         ran.1,
-        has_all_then g.M.Office.Office.is_clean g.M.Office.Office.stands (g.R.Read.remaining c.args.reader.now) _ _ c.args.is_published _ c.args.office
+        has_all_then g.M.Office.Office.is_clean g.M.Office.Office.stands (g.R.Read.remaining c.args.reader.now) _ _ c.args.has_crl _ c.args.office
             w.check_published.new.office c.serve_desk.result.0 w.in-Ok.ensures.compares (rw w.office-is at ran.2),
         rw (w.writer-is, w.in-Ok.ensures.unwritten) at ran.3,
       )
-      | else-is_published w ↦ inr (
+      | else-has_crl w ↦ inr (
         ran.0,
         ran.1,
-        uncompared g.M.Office.Office.is_clean g.M.Office.Office.stands (g.R.Read.remaining c.args.reader.now) c.args.is_published _ c.args.office
-            c.serve_desk.result.0 w.if-is_published.false (rw w.office-is at ran.2),
+        uncompared g.M.Office.Office.is_clean g.M.Office.Office.stands (g.R.Read.remaining c.args.reader.now) c.args.has_crl _ c.args.office
+            c.serve_desk.result.0 w.if-has_crl.false (rw w.office-is at ran.2),
         rw w.writer-is at ran.3,
       )
     ]

@@ -1,7 +1,7 @@
 use Rattle.std.proofs.Common.{rules, subst}
 use Rattle.sqlite.specs.Steps.{over_memory}
 use Rattle.reg_core.specs.Records.{Records}
-use Rattle.reg_crl_signer.specs.Both.{digest}
+use Rattle.reg_crl_signer.specs.KeyOrDigestSignatures.{digest}
 use Rattle.reg_desk_jobs.specs.Digest.{digests}
 use Rattle.reg_office.specs.AfterStoppedCommand.{LeavesReported}
 use Rattle.reg_office.specs.Stands.{Stands}

@@ -1,7 +1,7 @@
 use Rattle.std.proofs.Common.{ap, inr}
 use Rattle.reg_desk_jobs.specs.Digest.{digest_alone}
 use Rattle.reg_desk_jobs.specs.Sample.{sample_records}
-use Rattle.reg_crl_signer.specs.Both.{digest}
+use Rattle.reg_crl_signer.specs.KeyOrDigestSignatures.{digest}
 use Rattle.reg_office.specs.Answering.{signatory_of}
 use Rattle.reg_desk_program.proofs.Clean.{always_clean}
 use Rattle.reg_desk_program.proofs.memory.script_in_memory.Goals as goal

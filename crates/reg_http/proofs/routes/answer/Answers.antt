@@ -1,10 +1,10 @@
 use Rattle.std.proofs.Common.{refl}
-use Rattle.reg_office_api.specs.Calls.{RunsIn, AsksIn, OcspsIn, RepliesIn, CrlsIn}
+use Rattle.reg_office_api.specs.Calls.{RunsIn, AsksIn, AnswersOcspIn, RepliesIn, GivesCrlIn}
 use Rattle.reg_office_api.specs.Items.{items_of}
 use Rattle.reg_http_head.specs.Response.{shown}
 use Rattle.reg_http.specs.Answers.{of_any_kind}
 use Rattle.reg_http.specs.RoutedRequests.{asked, ocsp_of}
-use Rattle.reg_http.specs.Parts.{request_of_call}
+use Rattle.reg_http.specs.Meanings.{request_of_call}
 use Rattle.reg_http.specs.AnswerEffects.{answer_effects}
 use Rattle.reg_http.proofs.ByRecords.{responds_leads, responds_to}
 use Rattle.reg_http.proofs.Replying.{call_answers, ocsp_responds}
@@ -13,7 +13,7 @@ use Rattle.reg_http.proofs.routes.answer.Goals as goal
 pub returns-in-Posted-clause-calls : goal.returns-in-Posted-clause-calls
 returns-in-Posted-clause-calls g c =
     responds_to g.O.Office c.args.now _ _ (ocsp_of c.args.body.now) _ (shown c.ocsp_answer.result) (rw c.in-Posted.is at c.in_ok-meaning_of.ensures)
-    (ocsp_responds (RunsIn g.O.Office) (AsksIn g.O.Office) (OcspsIn g.O.Office) (CrlsIn g.O.Office) c.args.now _ _ c.args.body.now
+    (ocsp_responds (RunsIn g.O.Office) (AsksIn g.O.Office) (AnswersOcspIn g.O.Office) (GivesCrlIn g.O.Office) c.args.now _ _ c.args.body.now
     (items_of c.ocsp.result) (shown c.ocsp_answer.result) c.ocsp.ensures c.ocsp_answer.ensures)
 
 pub returns-in-Posted-clause-ok : goal.returns-in-Posted-clause-ok
@@ -25,7 +25,7 @@ pub returns-in-Decoded-clause-calls : goal.returns-in-Decoded-clause-calls
 returns-in-Decoded-clause-calls g c =
     responds_to g.O.Office c.args.now _ _ (ocsp_of c.in-Decoded.request.items) _ (shown c.ocsp_answer-in-Decoded.result)
     (rw c.in-Decoded.is at c.in_ok-meaning_of.ensures)
-    (ocsp_responds (RunsIn g.O.Office) (AsksIn g.O.Office) (OcspsIn g.O.Office) (CrlsIn g.O.Office) c.args.now _ _ c.in-Decoded.request.items
+    (ocsp_responds (RunsIn g.O.Office) (AsksIn g.O.Office) (AnswersOcspIn g.O.Office) (GivesCrlIn g.O.Office) c.args.now _ _ c.in-Decoded.request.items
     (items_of c.ocsp-in-Decoded.result) (shown c.ocsp_answer-in-Decoded.result) (rw c.deref.ensures.value at c.ocsp-in-Decoded.ensures)
     c.ocsp_answer-in-Decoded.ensures)
 
@@ -39,7 +39,7 @@ returns-in-Other-clause-calls g c =
     responds_to g.O.Office c.args.now _ _ (request_of_call c.in-Other.call) _ (shown c.respond.result.answer)
     (rw c.in-Other.is at c.in_ok-meaning_of.ensures) (
       answer_effects c.respond.result,
-      call_answers (RunsIn g.O.Office) (AsksIn g.O.Office) (RepliesIn g.O.Office) (of_any_kind (OcspsIn g.O.Office)) (CrlsIn g.O.Office)
+      call_answers (RunsIn g.O.Office) (AsksIn g.O.Office) (RepliesIn g.O.Office) (of_any_kind (AnswersOcspIn g.O.Office)) (GivesCrlIn g.O.Office)
           c.args.now c.args.office.now c.respond.new.office c.in-Other.call (answer_effects c.respond.result) c.respond.ensures,
       refl,
     )

@@ -1,5 +1,5 @@
 use Rattle.reg_io.specs.declared.begun.ReadyOrUnsigned.TheVariants.{Ready}
-use Rattle.reg_http.specs.Parts.{request_of_call}
+use Rattle.reg_http.specs.Meanings.{request_of_call}
 use Rattle.reg_http.specs.RoutedRequests.{asked, ocsp_of}
 use Rattle.reg_http.proofs.ByRecords.{begin_leads, begins_ocsp, begins_to}
 use Rattle.reg_http.proofs.routes.begin.Goals as goal

@@ -8,5 +8,5 @@ loop-filled-preserved g c = record {
       c.loop-filled.invariant.so_far c.in-Ok.ensures.bound.0
       (omega (arith, c.read.auto.buf, length-take {A = ℕ}, length-drop {A = ℕ}))
       (search rules) c.in-Ok.ensures.bytes.0;
-  no_room = λ full. absurd (omega (arith, c.loop-filled.invariant.so_far.count));
+  is_full = λ full. absurd (omega (arith, c.loop-filled.invariant.so_far.count));
 }

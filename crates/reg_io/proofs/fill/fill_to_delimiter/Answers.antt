@@ -7,9 +7,9 @@ pub reading-init : goal.reading-init
 reading-init g c = record {
   so_far = so_far_start _ c.args.buf.now c.args.buffered c.requires.buffered_fits;
   searched_held = omega arith;
-  unmarked = unmarked_start c.args.delimiter.now c.args.buf.now c.requires.mark_is_there;
-  marked = λ end below ends. (refl, refl);
-  no_room = λ full. (refl, refl);
+  no_delimiter = unmarked_start c.args.delimiter.now c.args.buf.now c.requires.delimiter_not_empty;
+  has_delimiter = λ end below ends. (refl, refl);
+  is_full = λ full. (refl, refl);
 }
 
 pub returns-then-filled-buf-clause-ok : goal.returns-then-filled-buf-clause-ok
@@ -24,8 +24,8 @@ returns-in-Ok-eq0-clause-ok g c =
     c.reading.invariant.so_far (omega (arith, c.reading.invariant.so_far.fills.within, c.reading.invariant.so_far.count))
     whole (search rules) c.in_default.ensures c.in-Ok-eq0.field-0-test c.in-Ok-eq0.ensures.bytes
 
-pub returns-in-Ok-eq0-clause-marked : goal.returns-in-Ok-eq0-clause-marked
-returns-in-Ok-eq0-clause-marked g c end below ends =
+pub returns-in-Ok-eq0-clause-has_delimiter : goal.returns-in-Ok-eq0-clause-has_delimiter
+returns-in-Ok-eq0-clause-has_delimiter g c end below ends =
     absurd (unmarked_before c.args.delimiter.now _ _ c.args.buf.now c.reading.buf c.args.buffered c.reading.filled c.reading.invariant.so_far c.requires.buffered_fits c.in_default.ensures end below ends)
 
 pub reading-preserved : goal.reading-preserved
@@ -35,10 +35,10 @@ reading-preserved g c = record {
       (omega (arith, c.read.auto.buf, length-take {A = ℕ}, length-drop {A = ℕ}))
       (search rules) c.in-Ok.ensures.bytes.0;
   searched_held = omega arith;
-  unmarked = unmarked_read c.args.delimiter.now c.reading.buf c.read.new.buf c.reading.filled _ (search rules) c.in_default.ensures;
-  marked = λ end below ends. absurd (unmarked_before c.args.delimiter.now _ _ c.args.buf.now c.reading.buf c.args.buffered c.reading.filled
+  no_delimiter = unmarked_read c.args.delimiter.now c.reading.buf c.read.new.buf c.reading.filled _ (search rules) c.in_default.ensures;
+  has_delimiter = λ end below ends. absurd (unmarked_before c.args.delimiter.now _ _ c.args.buf.now c.reading.buf c.args.buffered c.reading.filled
       c.reading.invariant.so_far c.requires.buffered_fits c.in_default.ensures end below ends);
-  no_room = λ full. absurd (omega (arith, c.reading.invariant.so_far.count));
+  is_full = λ full. absurd (omega (arith, c.reading.invariant.so_far.count));
 }
 
 pub returns-in-Err-clause-err : goal.returns-in-Err-clause-err
@@ -47,6 +47,6 @@ returns-in-Err-clause-err g c =
     c.reading.invariant.so_far (omega (arith, c.reading.invariant.so_far.fills.within, c.reading.invariant.so_far.count))
     (search rules) c.in_default.ensures c.in-Err.ensures.bytes
 
-pub returns-in-Err-clause-marked : goal.returns-in-Err-clause-marked
-returns-in-Err-clause-marked g c end below ends =
+pub returns-in-Err-clause-has_delimiter : goal.returns-in-Err-clause-has_delimiter
+returns-in-Err-clause-has_delimiter g c end below ends =
     absurd (unmarked_before c.args.delimiter.now _ _ c.args.buf.now c.reading.buf c.args.buffered c.reading.filled c.reading.invariant.so_far c.requires.buffered_fits c.in_default.ensures end below ends)

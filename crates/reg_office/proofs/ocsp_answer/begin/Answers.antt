@@ -1,6 +1,6 @@
 use Rattle.std.proofs.Common.{ap, inl, inr, refl}
 use Rattle.std.specs.Prelude.{Err, option_copied}
-use Rattle.reg_core.specs.Checks.{clock_checks, first_of_all}
+use Rattle.reg_core.specs.Checks.{clock_checks, first_refusal}
 use Rattle.reg_ocsp.specs.Response.{refusal_response}
 use Rattle.reg_ocsp.specs.Views.{ids_model}
 use Rattle.reg_ocsp.specs.declared.response.RefusalStatus.TheVariants as status
@@ -39,7 +39,7 @@ returns-in-Ok-ocsp_data-clause-refuses g c =
 pub returns-in-Err-Clock-clause-looks : goal.returns-in-Err-Clock-clause-looks
 returns-in-Err-Clock-clause-looks g c =
     so (rw c.in-Err-Clock.field-0-is at c.in-Err-Clock.ensures.looks) (λ records sound told.
-    let refusal = the_refusal (first_of_all (clock_checks c.args.now records.last)) told in
+    let refusal = the_refusal (first_refusal (clock_checks c.args.now records.last)) told in
     ready_begun g.S.Signer.signs _ records c.args.now c.args.request.now _ _ c.refused-in-Err-Clock.result
     (inr (ids_model c.in-Ok.asked.ids.items, option_copied c.in-Ok.asked.nonce, c.in-Ok.ensures.found, (refusal, refl))) c.refused-in-Err-Clock.ensures)
 

@@ -16,13 +16,13 @@ response_data_by-requires g c =
 
 pub returns-in_err-answers-clause-looks : goal.returns-in_err-answers-clause-looks
 returns-in_err-answers-clause-looks g c =
-    by_none (looked_then c.responding.ensures.looked c.answers.ensures.looks.looked) (λ records.
+    by_none (looked_then c.issuer_and_next_update.ensures.looked c.answers.ensures.looks.looked) (λ records.
     no_message _ records c.args.now _ _ c.from_residual-in_err-answers.result c.in_err-answers.field-0.0 c.from_residual-in_err-answers.ensures.1
     c.in_err-answers.ensures.faults)
 
 pub returns-in_err-response_data_by-clause-looks : goal.returns-in_err-response_data_by-clause-looks
 returns-in_err-response_data_by-clause-looks g c =
-    by_none (looked_then c.responding.ensures.looked c.answers.ensures.looks.looked) (λ records.
+    by_none (looked_then c.issuer_and_next_update.ensures.looked c.answers.ensures.looks.looked) (λ records.
     no_message _ records c.args.now _ _ c.from_residual-in_err-response_data_by.result Memory c.from_residual-in_err-response_data_by.ensures.1 (inl refl))
 
 pub returns-clause-looks : goal.returns-clause-looks

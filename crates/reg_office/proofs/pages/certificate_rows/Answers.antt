@@ -2,7 +2,7 @@ use Rattle.std.proofs.Common.{◌∙◌, ap}
 use Rattle.std.specs.Prelude.{filter_map}
 use Rattle.std.proofs.lemmas.List.{take_all}
 use Rattle.reg_store_tables.proofs.PublicLaws.{and_so, by_none, looked_none, looked_then, not_found, so}
-use Rattle.reg_office.specs.Numbered.{certificate_listed}
+use Rattle.reg_office.specs.ListById.{certificate_listed}
 use Rattle.reg_office.proofs.Paging.{row_more}
 use Rattle.reg_office.proofs.pages.certificate_rows.Goals as goal
 

@@ -1,6 +1,6 @@
 use Rattle.std.proofs.Common.{◌≡◌, take}
 use Rattle.std.specs.Prelude.{filter_map}
-use Rattle.reg_office.specs.Numbered.{certificate_listed}
+use Rattle.reg_office.specs.ListById.{certificate_listed}
 use Rattle.reg_store_tables.specs.LookUps.{LooksUp}
 use Rattle.reg_office.proofs.pages.certificate_rows.Given as goal
 

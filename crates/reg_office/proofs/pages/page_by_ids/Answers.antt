@@ -3,7 +3,7 @@ use Rattle.std.specs.Prelude.{filter_map, min}
 use Rattle.reg_core_lists.proofs.PublicLaws.{numbers}
 use Rattle.reg_store_tables.specs.Tables.{rows_of}
 use Rattle.reg_store_tables.proofs.PublicLaws.{and_so, by_finding, by_none, looked_none, looked_then, not_found, so}
-use Rattle.reg_office.specs.Numbered.{row_at, numbered_table}
+use Rattle.reg_office.specs.ListById.{row_at, numbered_table}
 use Rattle.reg_office.proofs.Paging.{ended_at, id_more, no_ids, numbered_page}
 use Rattle.reg_office.proofs.pages.page_by_ids.Goals as goal
 

@@ -2,7 +2,7 @@ use Rattle.std.proofs.Common.{◌≡◌, ◌≤◌, ◌+◌, ◌-◌}
 use Rattle.std.specs.Prelude.{filter_map}
 use Rattle.reg_core_lists.proofs.PublicLaws.{numbers}
 use Rattle.reg_store_tables.specs.LookUps.{LooksUp}
-use Rattle.reg_office.specs.Numbered.{row_at}
+use Rattle.reg_office.specs.ListById.{row_at}
 use Rattle.reg_office.proofs.pages.page_by_ids.Given as goal
 
 abbrev pub invariant-loop-before : goal.invariant-loop-before

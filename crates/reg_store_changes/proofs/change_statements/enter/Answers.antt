@@ -5,7 +5,7 @@ use Rattle.reg_store_tables.specs.Shows.{AreRecordsAndDerived}
 use Rattle.reg_store_tables.specs.DerivedRows.{with_counts}
 use Rattle.reg_store_tables.proofs.PublicLaws.{moves_on, then_moves, stepped_clean, under_way}
 use Rattle.reg_store_changes.specs.ChangeEffects.{lost, added, derived_rows_after, derived_after}
-use Rattle.reg_store_changes.specs.DerivedEffects.{swept, ended_by, shifted}
+use Rattle.reg_store_changes.specs.DerivedEffects.{with_expired, ended_by, shifted}
 use Rattle.reg_store_changes.proofs.Making.{moment_set}
 use Rattle.reg_store_changes.proofs.change_statements.enter.Goals as goal
 
@@ -20,13 +20,13 @@ returns-clause-made g c clean =
     then_moves _ _ _ _ _ _ c.close.result (moves_on first second) (c.close.ensures.made clean) (λ _ closes. record {
       turns = λ records columns same sound fits both.
           let swept_now = first.tables records columns both in
-          let put = second.tables.turns records (swept now columns) now sound fits swept_now.0 in
+          let put = second.tables.turns records (with_expired now columns) now sound fits swept_now.0 in
           let later = changed_by records records.last change in
-          let around = derived_rows_after change (swept now columns) in
+          let around = derived_rows_after change (with_expired now columns) in
           let next : c.in_ok-next.next ≡ shifted columns.counts (ended_by now columns) (lost change) (added change) =
           c.in_ok-next.ensures.shifted ∙ ap (λ n. shifted c.args.counts n (lost change) (added change)) swept_now.1
           ∙ ap (λ counts. shifted counts (ended_by now columns) (lost change) (added change)) same in
           let closed = subst (λ counts. AreRecordsAndDerived s3.now (touched later now) (with_counts counts around)) next (closes.0 later around put) in
           (subst (λ those. AreRecordsAndDerived s3.now those (derived_after now change columns)) (moment_set records now change) closed, closes.1.obeys put.shown.schema);
-      one = λ records columns both. second.tables.one records (swept now columns) (first.tables records columns both).0;
+      one = λ records columns both. second.tables.one records (with_expired now columns) (first.tables records columns both).0;
     })

@@ -8,7 +8,7 @@ use Rattle.reg_store_tables.specs.Shows.{AreRecordsAndDerived}
 use Rattle.reg_store_tables.proofs.PublicLaws.{kept_shows, looked_both, shows_register, changes, keeps, keeps_days, led, looked_changes, stays_days, moving-was_clean as was_clean, at_rest}
 use Rattle.reg_store_changes.specs.AfterStoppedChange.{IsChanged}
 use Rattle.reg_store_changes.specs.ChangeEffects.{derived_after}
-use Rattle.reg_store_changes.specs.DerivedEffects.{swept}
+use Rattle.reg_store_changes.specs.DerivedEffects.{with_expired}
 use Rattle.reg_store_changes.proofs.Law.{kept_change}
 use Rattle.reg_store_changes.proofs.Making.{beside_days, keeps_days_then, not_made, same_days}
 use Rattle.reg_store_changes.proofs.transaction.apply.Goals as goal
@@ -19,8 +19,8 @@ returns-clause-makes g c =
     let now = c.args.now in
     let change = c.args.change.now in
     let old = c.args.conn.now in
-    let mid = c.stored_counts_now.new.conn in
-    let looked = c.stored_counts_now.ensures.looked in
+    let mid = c.stored_counts_at_last.new.conn in
+    let looked = c.stored_counts_at_last.ensures.looked in
     let done = c.commit.ensures in
     let was : HasCleanDisk (state s c.commit.new.conn) → HasCleanDisk (state s mid) = was_clean (state s mid) (state s c.commit.new.conn) done.survives.clean in
     let counted : (records : Records) (kept : ShowsKept s old records) → HasCleanDisk (state s mid) → c.in_ok-counts.counts ≡ kept.0.counts =
@@ -37,7 +37,7 @@ returns-clause-makes g c =
           (stays_days s old mid looked.survives.clean (looked.same (shows_register s old records (kept_shows s old records kept))))
           (keeps_days done (λ db. AreRecordsAndDerived db records kept.0) (looked_both looked records kept.0 kept.1) (λ clean before after both on.
           let made = on.turns records kept.0 (counted records kept (was clean)) sound fits both in
-          same_days before after records _ kept.0 _ both made.0 (beside_days change (swept now kept.0))));
+          same_days before after records _ kept.0 _ both made.0 (beside_days change (with_expired now kept.0))));
       changed =
           looked_changes c.commit.result looked (changes done (IsChanged s old now change) (λ clean up after trees is on records kept sound le fits.
           let made = on.turns records kept.0 (counted records kept clean) sound fits ((looked_both looked records kept.0 kept.1).tables clean up) in
@@ -46,4 +46,4 @@ returns-clause-makes g c =
     }
 
 pub returns-in_err-counts-clause-makes : goal.returns-in_err-counts-clause-makes
-returns-in_err-counts-clause-makes g c = not_made _ c.from_residual.ensures.0 c.stored_counts_now.ensures.looked
+returns-in_err-counts-clause-makes g c = not_made _ c.from_residual.ensures.0 c.stored_counts_at_last.ensures.looked

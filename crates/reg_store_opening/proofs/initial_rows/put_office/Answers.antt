@@ -22,7 +22,7 @@ returns-clause-made g c clean =
       cap = (omega (arith, c.cap.ensures), omega (arith, c.cap.ensures));
     } in
     let ran = subst (λ params. Ran PUT_OFFICE.now params old new c.in_ok-write.field-0)
-    (λ i. (ap Blob c.kept.ensures.kept) i ∷ (ap Blob c.key.ensures.key) i ∷ (number_is _ _ c.in_ok-days.ensures.value ∙ ap number (c.greatest.ensures.days ∙ ap greatest_of c.schedule.ensures.schedule)) i
+    (λ i. (ap Blob c.stored_name.ensures.stored_name) i ∷ (ap Blob c.key.ensures.key) i ∷ (number_is _ _ c.in_ok-days.ensures.value ∙ ap number (c.greatest.ensures.days ∙ ap greatest_of c.schedule.ensures.schedule)) i
     ∷ (number_is _ _ c.in_ok-crl_life.ensures.value ∙ ap number c.crl_life.ensures.seconds) i
     ∷ (number_is _ _ c.in_ok-ocsp_life.ensures.value ∙ ap number c.ocsp_life.ensures.seconds) i
     ∷ (number_is _ _ c.in_ok-cap.ensures.value ∙ ap number c.cap.ensures.rows) i ∷ [])

@@ -13,7 +13,7 @@ returns-in-Some-clause-reads g c reading =
       looked = asked.looked;
       live = asked.live;
       found = λ wanted register clean shows.
-          same_some (sym c.in-Some.is ∙ asked.found (Some wanted) register clean (λ rows answers. let it = shows rows answers in (the_row g.T.ShownRow.is_keyed g.T.ShownRow.shown wanted rows it.0 it.1).0));
+          same_some (sym c.in-Some.is ∙ asked.found (Some wanted) register clean (λ rows answers. let it = shows rows answers in (the_row g.T.RowKind.has_valid_serial g.T.RowKind.shown wanted rows it.0 it.1).0));
       fails = λ wanted may register shows clean. tt;
     }
 
@@ -25,5 +25,5 @@ returns-in-None-clause-reads g c reading =
       live = λ register clean. tt;
       found = λ wanted register clean shows. tt;
       fails = λ wanted may register shows clean store.
-          absurd (some_none (sym c.in-None.is ∙ asked.found (Some wanted) register clean (λ rows answers. let it = shows rows answers in (the_row g.T.ShownRow.is_keyed g.T.ShownRow.shown wanted rows it.0.0 it.1).0)));
+          absurd (some_none (sym c.in-None.is ∙ asked.found (Some wanted) register clean (λ rows answers. let it = shows rows answers in (the_row g.T.RowKind.has_valid_serial g.T.RowKind.shown wanted rows it.0.0 it.1).0)));
     }

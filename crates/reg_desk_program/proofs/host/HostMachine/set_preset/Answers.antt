@@ -3,4 +3,4 @@ use Rattle.reg_desk_program.proofs.Priming.{same_stands}
 use Rattle.reg_desk_program.proofs.host.HostMachine.set_preset.Goals as goal
 
 pub returns : goal.returns
-returns c = same_stands _ _ _ _ _ _ refl c.preset_wanted.ensures
+returns c = same_stands _ _ _ _ _ _ refl c.preset_next.ensures

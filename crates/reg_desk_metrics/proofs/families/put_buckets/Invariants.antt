@@ -1,7 +1,0 @@
-use Rattle.std.proofs.Common.{◌≡◌, ◌++◌}
-use Rattle.reg_desk_metrics.specs.Metrics.{buckets_text, sum_of}
-use Rattle.reg_desk_metrics.proofs.families.put_buckets.Given as goal
-
--- what the ranges so far put there, and their sum
-abbrev pub invariant-loop-index : goal.invariant-loop-index
-invariant-loop-index l = (l.text.items ≡ l.initial.text.items ++ buckets_text l.buckets l.index) × (l.sum ≡ sum_of l.buckets l.index)

@@ -1,7 +1,0 @@
-use Rattle.std.proofs.Common.{◌≡◌, ◌++◌}
-use Rattle.reg_desk_metrics.specs.Metrics.{routes_front}
-use Rattle.reg_desk_metrics.proofs.families.put_routes.Given as goal
-
--- what the routes so far put there
-abbrev pub invariant-loop-index : goal.invariant-loop-index
-invariant-loop-index l = l.text.items ≡ l.initial.text.items ++ routes_front l.tally l.index

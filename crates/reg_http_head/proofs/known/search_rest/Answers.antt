@@ -1,8 +1,0 @@
-use Rattle.std.proofs.Common.{arith, ◌≡◌}
-use Rattle.reg_http_head.proofs.CollectLemmas.{refused_long}
-use Rattle.reg_http_head.proofs.known.search_rest.Goals as goal
-
-pub returns-in-None : goal.returns-in-None
-returns-in-None c =
-    let full : c.min-within.result ≡ 8192 = c.if-within-eq-LONGEST_HEAD.true in
-    refused_long c.args.bytes.now (omega (arith, full, c.min-within.ensures)) (λ n below. c.in-None.ensures n (omega (arith, below, full)))
