@@ -40,15 +40,15 @@
 #include <time.h>
 #include <unistd.h>
 
-enum kind { ALLOC, READ, WRITE, SYNC, CUT, OPEN, UNLINK, LINK, STAT, LOCK, SOCKET, CONNECT, BIND, LISTEN, ACCEPT, POLL, CLOCK, RANDOM, KINDS };
+enum kind { ALLOC, READ, WRITE, SYNC, CUT, OPEN, UNLINK, LINK, STAT, LOCK, SOCKET, CONNECT, BIND, LISTEN, ACCEPT, POLL, WATCH, CLOCK, RANDOM, KINDS };
 enum { STEPS = KINDS, MET, COUNTS };
 
 static const char *const names[KINDS] = {
-    "alloc", "read", "write", "sync", "cut", "open", "unlink", "link", "stat", "lock", "socket", "connect", "bind", "listen", "accept", "poll", "clock",
+    "alloc", "read", "write", "sync", "cut", "open", "unlink", "link", "stat", "lock", "socket", "connect", "bind", "listen", "accept", "poll", "watch", "clock",
     "random",
 };
 static const int usual[KINDS] = {
-    ENOMEM, EIO, ENOSPC, EIO, EIO, EMFILE, EACCES, EPERM, EIO, EAGAIN, EMFILE, ECONNREFUSED, EADDRINUSE, EADDRINUSE, EMFILE, EBADF, EINVAL, EIO,
+    ENOMEM, EIO, ENOSPC, EIO, EIO, EMFILE, EACCES, EPERM, EIO, EAGAIN, EMFILE, ECONNREFUSED, EADDRINUSE, EADDRINUSE, EMFILE, EBADF, ENOSPC, EINVAL, EIO,
 };
 
 void *__libc_malloc(size_t);
@@ -543,6 +543,10 @@ int accept4(int file, struct sockaddr *restrict from, socklen_t *restrict size, 
 
 int epoll_wait(int file, struct epoll_event *events, int many, int milliseconds) {
     return ready && fails_now(POLL) ? -1 : syscall(SYS_epoll_wait, file, events, many, milliseconds);
+}
+
+int epoll_ctl(int file, int what, int other, struct epoll_event *event) {
+    return ready && what != EPOLL_CTL_DEL && fails_now(WATCH) ? -1 : syscall(SYS_epoll_ctl, file, what, other, event);
 }
 
 /* The clock. */

@@ -2,6 +2,8 @@
 clock that can't be read ends the desk with `F4 read`, and the register has each answered command."""
 
 import contextlib
+import socket
+import time
 
 from lib import faults, program
 from lib.faults import DAY_1, DAY_2, LIFE, REGISTERED, STORE, Course, Office
@@ -161,6 +163,28 @@ def an_interrupted_call_is_repeated(t, fail):
     opened = t.open(faults=faults.environment(count=t.room / "count", fail=fail))
     t.same([opened.send(COUNTS) for _ in range(3)], [COUNTED] * 3)
     t.same(faults.counted(t.room / "count")["met"], 1, "the fault was met")
+
+
+@test(seconds=3)
+def a_connection_that_the_kernel_does_not_watch_counts_as_a_request(t):
+    """Else `serve` would wait for ever: it accepts no more connections than requests."""
+    base = t.register("base.db", text(REGISTERED))
+    for at in range(1, 20):
+        faults.copy(base, t.room / "ca.db")
+        env = faults.environment(count=t.room / "count", fail=f"watch:{at}")
+        with program.Opened(["serve", "ca.db", "--requests", "2"], cwd=t.room, faults=env) as desk:
+            for _ in range(2 if desk.listens else 0):
+                with contextlib.suppress(ConnectionError), socket.create_connection(("127.0.0.1", desk.port), 10) as client:
+                    client.sendall(COUNTS[:9])
+                    time.sleep(0.05)
+                    client.sendall(COUNTS[9:])
+                    program.read_all(client)
+            desk.process.wait(20 * program.PATIENCE)
+            ended = desk.wait()
+            t.same((ended.status, ended.err), (0, b"") if desk.listens else (1, b"F4 read\n"), f"call {at} of epoll_ctl fails")
+        if not faults.counted(t.room / "count")["met"]:
+            break
+    t.true(2 < at < 19, f"{at - 1} calls")
 
 
 @each({"a socket": "socket:1", "the port": "bind:1", "listening": "listen:1"}, seconds=1)

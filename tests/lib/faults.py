@@ -15,7 +15,7 @@ from . import program
 from .trial import Failed
 
 KINDS = (
-    "alloc", "read", "write", "sync", "cut", "open", "unlink", "link", "stat", "lock", "socket", "connect", "bind", "listen", "accept", "poll", "clock",
+    "alloc", "read", "write", "sync", "cut", "open", "unlink", "link", "stat", "lock", "socket", "connect", "bind", "listen", "accept", "poll", "watch", "clock",
     "random",
 )  # fmt: skip
 COUNTED = (*KINDS, "steps", "met")

@@ -101,6 +101,10 @@ impl<H: Handler> HttpConnections<H> {
                     .register_again(link, token, interest, is_registered)
                 {
                     self.slots.put(slot, connection);
+                } else if connection.is_receiving() {
+                    // A connection that was accepted counts as a request once it is answered.
+                    connection.fault = Some(ConnectionFault::Broken);
+                    self.put_due(slot, connection);
                 } else {
                     self.close(slot, connection, shared, ConnectionFault::Broken);
                 }
