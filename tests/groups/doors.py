@@ -56,6 +56,19 @@ def the_ipv6_loopback_address_in_place_of_127_0_0_1(t):
     t.same((t.room / "log").read_text().split()[1].rpartition(":")[0], "[::1]", "the client in the log")
 
 
+@each({"the register": "ca.db", "a link to it": "link", "its write-ahead log": "ca.db-wal", "its journal": "ca.db-journal"})
+def a_log_in_the_place_of_a_register(t, log):
+    """Log lines would damage a file of the register, so the desk refuses it before it does anything else."""
+    t.register(lines=ENTERED)
+    (t.room / "link").symlink_to("ca.db")
+    before = (t.room / "ca.db").read_bytes()
+    for command in (["open", "ca.db", "--unsigned", "--control", "counter"], ["serve", "ca.db", "--requests", "1"]):
+        ran = t.desk(*command, "--port", free_port(), "--log-file", log, "--why")
+        t.same((ran.status, ran.out, ran.err), (1, b"", b"F5 write\n  the path already exists: give another one\n"))
+    t.same((t.room / "ca.db").read_bytes(), before)
+    t.has(t.done("audit", "ca.db"), "sound")
+
+
 @test
 def the_control_socket_by_its_older_name(t):
     t.register(lines=ENTERED)

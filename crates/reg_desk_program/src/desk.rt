@@ -3,13 +3,14 @@
 use crate::dispatch::perform_unreported;
 use crate::host::{Host, open_log};
 use crate::input::Input;
-use crate::progress::{CountedOutput, report_opening};
-use reg_core::{Fault, io_cause_of};
+use crate::progress::{CountedOutput, file_of, report_opening};
+use reg_core::{Cause, Fault, create_cause_of, io_cause_of};
 use reg_desk_cli::{Failure, Invocation, status_of};
 use reg_desk_jobs::report_exit;
 use std::cell::Cell;
-use std::io;
-use std::io::IsTerminal;
+use std::io::{ErrorKind, IsTerminal};
+use std::os::unix::fs::MetadataExt;
+use std::{fs, io};
 
 /// Does the job of an invocation over standard input, or the file that it reads, and standard output, and returns the exit status of [`perform`].
 /// If the log or the input file can't be opened, it does not start the job, reports the fault on standard error, and returns 1.
@@ -17,13 +18,17 @@ use std::io::IsTerminal;
 /// [`perform`]: crate::perform
 pub fn run_desk(rt: &HostRuntime, invocation: &Invocation<'_>) -> u8 {
     let log_file = log_path(invocation);
-    if let Err(error) = check_log(rt, log_file) {
-        return report_fault(rt, invocation, Fault::Write, &error);
+    if let Err(error) = check_log(rt, invocation) {
+        let cause = create_cause_of(error.kind());
+        return report_fault(rt, invocation, Fault::Write, cause);
     }
     report_opening(rt, &invocation.job);
     let mut input = match Input::of(rt, &invocation.job) {
         Ok(input) => input,
-        Err(error) => return report_fault(rt, invocation, Fault::Read, &error),
+        Err(error) => {
+            let cause = io_cause_of(error.kind());
+            return report_fault(rt, invocation, Fault::Read, cause);
+        }
     };
     let last_cause = Cell::new(None);
     let mut errors = rt.stderr();
@@ -54,10 +59,25 @@ fn log_path<'n>(invocation: &'n Invocation<'_>) -> Option<&'n str> {
     }
 }
 
-/// Checks that the log file can be opened for appending, and creates it if there is none.
-fn check_log(rt: &HostRuntime, log_file: Option<&str>) -> io::Result<()> {
-    if let Some(path) = log_file {
-        open_log(rt, path)?;
+/// Checks that the log file can be opened for appending, and creates it if there is none. A file of the register is refused, since log lines would
+/// damage it.
+fn check_log(rt: &HostRuntime, invocation: &Invocation<'_>) -> io::Result<()> {
+    let (Some(path), Some(register)) = (log_path(invocation), file_of(&invocation.job)) else {
+        return Ok(());
+    };
+    let log = open_log(rt, path)?.metadata()?;
+    let Ok(register) = fs::canonicalize(rt, register) else {
+        return Ok(());
+    };
+    for suffix in ["", "-wal", "-journal"] {
+        let mut part = String::new(rt.alloc());
+        part.push_str(register.as_str())?;
+        part.push_str(suffix)?;
+        if let Ok(found) = fs::metadata(rt, part.as_str()) {
+            if found.dev() == log.dev() && found.ino() == log.ino() {
+                return Err(ErrorKind::AlreadyExists.into());
+            }
+        }
     }
     Ok(())
 }
@@ -67,7 +87,7 @@ fn report_fault(
     rt: &HostRuntime,
     invocation: &Invocation<'_>,
     fault: Fault,
-    error: &io::Error,
+    cause: Option<Cause>,
 ) -> u8 {
     let ending = Err(Failure::Fault(fault));
     report_exit(
@@ -75,7 +95,7 @@ fn report_fault(
         &mut rt.stderr(),
         &ending,
         invocation.is_explained,
-        io_cause_of(error.kind()),
+        cause,
         None,
     );
     status_of(&ending)

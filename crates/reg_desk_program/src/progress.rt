@@ -113,7 +113,8 @@ fn is_long(job: &Job<'_>) -> bool {
     )
 }
 
-fn file_of<'a>(job: &Job<'a>) -> Option<&'a str> {
+/// The path of the register that a job opens.
+pub(crate) fn file_of<'a>(job: &Job<'a>) -> Option<&'a str> {
     match job {
         Job::Script { file, .. } => Some(file.as_ref()?.as_str()),
         Job::Lines(script) => Some(script.file.as_str()),
