@@ -21,7 +21,7 @@ usage() { echo "usage: $0 [--at-once GROUND,..] [--port PORT] SOCKET" >&2; exit 
 add_ground() {
     case $1 in
     asked | key-compromise | control-lost | superseded | nonconforming | affiliation | cessation | name-not-permitted | unauthorized | misuse | inaccurate) ;;
-    *) echo "$0: there is no ground $1" >&2; exit 2 ;;
+    *) echo "$0: --at-once: there is no ground $1" >&2; exit 2 ;;
     esac
     grounds=${grounds:+$grounds|}$1
 }

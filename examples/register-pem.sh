@@ -17,15 +17,16 @@ set -eu
 export LC_ALL=C
 desk=${DESK:-desk}
 control='' name='' order='' subscriber='' authority='' worst=0
-usage() { sed -n 's/^# \(Usage: \| \{7\}\)register-pem/\1register-pem/p' "$0" >&2; exit 2; }
+usage() { [ $# -eq 0 ] || echo "$0: $1" >&2; sed -n 's/^# \(Usage: \| \{7\}\)register-pem/\1register-pem/p' "$0" >&2; exit 2; }
 while getopts c:s:o:n:a: option; do
     case $option in
     c) control=$OPTARG ;; s) name=$OPTARG ;; o) order=$OPTARG ;; n) subscriber=$OPTARG ;; a) authority=$OPTARG ;; *) usage ;;
     esac
 done
 shift $((OPTIND - 1))
-case $#:${control:+c}${name:+s}${order:+o}${subscriber:+n} in 0:*) usage ;; *:c | *:cs | *:on) ;; *) usage ;; esac
-case $order$subscriber in *[!0-9]*) usage ;; esac
+[ $# -gt 0 ] || usage "no CERTIFICATE is given"
+case ${control:+c}${name:+s}${order:+o}${subscriber:+n} in c | cs | on) ;; *) usage "give -c, or -o and -n" ;; esac
+case $order$subscriber in *[!0-9]*) usage "-o $order -n $subscriber: not numbers" ;; esac
 
 refuse() { echo "$certificate: $1" >&2; worst=3; }
 

@@ -124,7 +124,7 @@ def signer_of(key):
     if isinstance(key, ec.EllipticCurvePrivateKey):
         kinds = {"secp256r1": ("ecdsa-sha256", hashlib.sha256, hashes.SHA256()), "secp384r1": ("ecdsa-sha384", hashlib.sha384, hashes.SHA384())}
         if key.curve.name not in kinds:
-            sys.exit(f"no algorithm for the curve {key.curve.name}")
+            sys.exit(f"the key's curve is {key.curve.name}: only P-256 and P-384 have an algorithm here")
         name, *parts = kinds[key.curve.name]
         signer = Ecdsa(key, *parts)
         return name, signer.sign, signer.draw if signer.theirs else nothing

@@ -501,11 +501,15 @@ static _Noreturn void misuse(const char *why) {
     exit(2);
 }
 
-static long number_of(const char *text, long otherwise, long most) {
+static long number_of(int option, long otherwise, long most) {
+    const char *text = options[option];
     char *end = NULL;
     long number = text ? strtol(text, &end, 10) : otherwise;
-    if (text && (*end || number < 1 || number > most))
-        misuse("--processes has 1 to 256, --rate 1 to 1000000");
+    if (text && (*end || number < 1 || number > most)) {
+        char why[REASON];
+        (void)snprintf(why, sizeof why, "--%s %.40s: not a number from 1 to %ld", names[option], text, most);
+        misuse(why);
+    }
     return number;
 }
 
@@ -519,10 +523,14 @@ static void read_command_line(int argc, char **argv) {
             options[option] = optarg ? optarg : "";
         else
             misuse("an option can't be read");
-    processes = number_of(options[PROCESSES], 1, MOST_PROCESSES);
-    rate = number_of(options[RATE], 0, 1000000);
-    if (argc - optind < 1 || argc - optind > (options[INHERITED] ? 1 : 2) || (options[RESPONDER] && !options[ONLY_OURS]))
-        misuse("it takes KEY, SOCKET or --inherited; and --responder takes --only-ours");
+    processes = number_of(PROCESSES, 1, MOST_PROCESSES);
+    rate = number_of(RATE, 0, 1000000);
+    if (argc - optind < 1)
+        misuse("KEY is missing");
+    if (argc - optind > (options[INHERITED] ? 1 : 2))
+        misuse(options[INHERITED] ? "with --inherited, give KEY alone" : "give KEY and SOCKET, and no more");
+    if (options[RESPONDER] && !options[ONLY_OURS])
+        misuse("--responder needs --only-ours");
     key_name = argv[optind];
     path = argv[optind + 1];
     if (path && !*path)

@@ -85,7 +85,7 @@ static EVP_PKEY *read_token_key(const char *uri, char *pin, char *why) {
     bool is_ready = (!pin || ENGINE_ctrl_cmd_string(engine, "PIN", pin, 0)) && ENGINE_init(engine);
     EVP_PKEY *key = is_ready ? ENGINE_load_private_key(engine, uri, NULL, NULL) : NULL;
     if (key == NULL)
-        explain(why, "the token gives no such key");
+        explain(why, "the token gives no such key: check the URI, PKCS11_MODULE_PATH and --passphrase-file");
     return key;
 }
 

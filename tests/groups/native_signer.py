@@ -145,10 +145,14 @@ def a_key_that_can_t_be_read(t):
 @test(seconds=2)
 def a_command_line_that_can_t_be_read(t):
     it = Authority(t)
-    for words in ([], [it.key, "a", "b"], ["--bad", it.key], ["--rate", "0", it.key, "a"], ["--rate", "x", it.key, "a"], ["--processes", "257", it.key, "a"],
-                  [it.key, "a", "--inherited"], ["--responder", it.pem, it.key, "a"], ["--only-ours"], [it.key, ""]):
+    key = it.key
+    for words, told in (([], "KEY is missing"), ([key, "a", "b"], "give KEY and SOCKET, and no more"), (["--bad", key], "unrecognized option '--bad'"), ([key, ""], "SOCKET is empty"),
+                        (["--rate", "0", key, "a"], "--rate 0: not a number from 1 to 1000000"), (["--rate", "x", key, "a"], "--rate x: not a number from 1 to 1000000"),
+                        (["--processes", "257", key, "a"], "--processes 257: not a number from 1 to 256"), ([key, "a", "--inherited"], "with --inherited, give KEY alone"),
+                        (["--responder", it.pem, key, "a"], "--responder needs --only-ours"), (["--only-ours"], "option '--only-ours' requires an argument")):
         ran = t.tried(native.signer(), *words)
         t.same((ran.returncode, ran.stdout, b"Usage: desk-signer" in ran.stderr), (2, b"", True), f"{words}: status, output, usage")
+        t.has(ran.stderr.decode().splitlines()[0], told)
     t.same(list(t.room.glob("a*")), [], "no socket")
 
 

@@ -457,7 +457,7 @@ def certificates_as_lines_of_a_script(t):
 
 # Words that can't be read.
 WORDS = {
-    "register-pem.sh": ([], ["-c", "counter"], ["a.pem"], ["-o", "1", "a.pem"], ["-n", "1", "a.pem"], ["-c", "counter", "-o", "1", "-n", "1", "a.pem"],
+    "register-pem.sh": ([], ["-c", "counter"], ["-c", "counter", "-o", "1", "a.pem"], ["a.pem"], ["-o", "1", "a.pem"], ["-n", "1", "a.pem"], ["-c", "counter", "-o", "1", "-n", "1", "a.pem"],
                         ["-o", "one", "-n", "1", "a.pem"], ["-o", "1", "-n", "1", "-s", "acme", "a.pem"], ["-x", "a.pem"]),
     "publish-crl.sh": ([], ["http://127.0.0.1:1/crl", "www"], ["a", "b", "c", "d"]),
     "backup.sh": ([], ["ca.db"], ["ca.db", "copies", "counter", "7"]),
