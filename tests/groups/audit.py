@@ -333,7 +333,7 @@ def each_octet_before_the_signature_counts(t):
 def a_broken_reference_or_check_is_damage(t, statements):
     made(t, FIRST_DAY)
     alter(t, statements)
-    t.same(audited(t, "ca.db", "--why"), (1, "", "F2 store\n  damaged, or not a database: check the path and the disk\n"))
+    t.same(audited(t, "ca.db", "--why"), (1, "", "F2 store\n  damaged, or not a database: check the path and the disk (FILE)\n"))
 
 
 @each(NO_OFFICE)
@@ -415,7 +415,7 @@ def other_files_are_reported(t):
     (t.room / "text.db").write_text("no database\n" * 100)
     t.same(audited(t, "text.db"), (1, "", "F2 store\n"))
     ran = t.desk("audit", "none.db", "--why")
-    t.same((ran.status, ran.out, ran.err), (1, b"", b"F2 store\n  no such file\n"))
+    t.same((ran.status, ran.out, ran.err), (1, b"", b"F2 store\n  no such file (FILE)\n"))
     t.true(not (t.room / "none.db").exists(), "a file was made")
 
 
@@ -503,9 +503,9 @@ def a_file_that_is_no_register_stays_as_it_is(t, contents, line):
 
 @test
 def no_file_is_created_for_a_missing_register(t):
-    t.same(audited(t, "none.db", "--why"), (1, "", "F2 store\n  no such file\n"))
+    t.same(audited(t, "none.db", "--why"), (1, "", "F2 store\n  no such file (FILE)\n"))
     (t.room / "lost.db-wal").write_bytes(bytes(40))
-    t.same(audited(t, "lost.db", "--why"), (1, "", "F2 store\n  no such file\n"), "a log alone")
+    t.same(audited(t, "lost.db", "--why"), (1, "", "F2 store\n  no such file (FILE)\n"), "a log alone")
 
 
 @test(seconds=2)
@@ -555,4 +555,4 @@ def eight_at_once_all_succeed(t):
 def an_open_register_is_in_use(t):
     t.register(lines=FULL)
     t.open()
-    t.same(audited(t, "ca.db", "--why"), (1, "", "F2 store\n  in use by another program\n"))
+    t.same(audited(t, "ca.db", "--why"), (1, "", "F2 store\n  in use by another program (FILE)\n"))

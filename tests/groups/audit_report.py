@@ -248,7 +248,7 @@ def a_time_with_no_crl_and_one_that_ended(t):
 
 @each({
     "nobody at the port": (("--url", "http://127.0.0.1:1", "2026-01-01", "2026-02-01"), 1, "audit-report: http://127.0.0.1:1/list/crls?limit=250: "),
-    "no such register": (("--register", "none.db", "2026-01-01", "2026-02-01"), 1, "audit-report: none.db: F2 store no such file"),
+    "no such register": (("--register", "none.db", "2026-01-01", "2026-02-01"), 1, "audit-report: none.db: F2 store no such file (FILE)"),
     "no moment": (("2026-01-01", "soon"), 2, "FROM and TO are days"), "no such day": (("2026-02-30", "2026-03-01"), 2, "FROM and TO are days"),
     "backwards": (("2026-02-01", "2026-02-01"), 2, "FROM must be before TO"),
 }, seconds=2)  # fmt: skip

@@ -64,7 +64,7 @@ def a_log_in_the_place_of_a_register(t, log):
     before = (t.room / "ca.db").read_bytes()
     for command in (["open", "ca.db", "--unsigned", "--control", "counter"], ["serve", "ca.db", "--requests", "1"]):
         ran = t.desk(*command, "--port", free_port(), "--log-file", log, "--why")
-        t.same((ran.status, ran.out, ran.err), (1, b"", b"F5 write\n  the path already exists: give another one\n"))
+        t.same((ran.status, ran.out, ran.err), (1, b"", b"F5 write\n  the path already exists: give another one (--log-file)\n"))
     t.same((t.room / "ca.db").read_bytes(), before)
     t.has(t.done("audit", "ca.db"), "sound")
 

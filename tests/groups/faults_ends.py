@@ -67,7 +67,7 @@ def a_first_write_that_fails_is_reported(t, words):
 
 
 # An error of the system, and the line behind that of the fault where --why asks for it.
-CAUSES = {"ENOSPC": b"  disk full\n", "EACCES": b"  permission denied, or the file system is read-only\n", "EPIPE": b"", "EIO": b"", "ECONNRESET": b""}
+CAUSES = {"ENOSPC": b"  disk full (standard output)\n", "EACCES": b"  permission denied, or the file system is read-only (standard output)\n", "EPIPE": b"", "EIO": b"", "ECONNRESET": b""}
 
 
 @each({it: (it, line) for it, line in CAUSES.items()})

@@ -44,7 +44,7 @@ def a_register_whose_reply_can_not_be_printed_is_not_left(t):
 @test
 def a_read_only_file_system(t):
     ran = t.desk("init", "ca.db", *WORDS, "--why", faults=faults.environment(fail="open:1=EROFS", only="ca.db"))
-    t.same((ran.status, ran.out, ran.err), (1, b"", b"F2 store\n  permission denied, or the file system is read-only\n"))
+    t.same((ran.status, ran.out, ran.err), (1, b"", b"F2 store\n  permission denied, or the file system is read-only (FILE)\n"))
 
 
 @test

@@ -281,7 +281,7 @@ def no_right_to_read(t):
     t.register()
     os.chmod(t.room / "ca.db", 0)
     for command in ("crl", "script"):
-        for more, told in ((("--why",), b"F2 store\n  permission denied, or the file system is read-only\n"), ((), b"F2 store\n")):
+        for more, told in ((("--why",), b"F2 store\n  permission denied, or the file system is read-only (FILE)\n"), ((), b"F2 store\n")):
             ran = t.as_nobody(command, "ca.db", *more, given=A_LINE)
             t.same((ran.returncode, ran.stdout, ran.stderr), (1, b"", told), f"{command} {more}")
 
@@ -291,13 +291,13 @@ def no_right_to_make(t):
     folder = t.room / "closed"
     folder.mkdir(mode=0o555)
     ran = t.as_nobody("init", "closed/ca.db", "--name", program.NAME, "--key", program.KEY, "--why")
-    t.same((ran.returncode, ran.stdout, ran.stderr), (1, b"", b"F2 store\n  permission denied, or the file system is read-only\n"))
+    t.same((ran.returncode, ran.stdout, ran.stderr), (1, b"", b"F2 store\n  permission denied, or the file system is read-only (FILE)\n"))
     t.same(list(folder.iterdir()), [])
 
 
 @test
 def a_full_output(t):
-    for words, told in ((("--why",), b"F5 write\n  disk full\n"), ((), b"F5 write\n")):
+    for words, told in ((("--why",), b"F5 write\n  disk full (standard output)\n"), ((), b"F5 write\n")):
         with open("/dev/full", "wb") as full:
             ran = subprocess.run([program.program(), "script", *words], input=A_LINE, stdout=full, stderr=subprocess.PIPE, cwd=t.room, timeout=program.LONGEST)
         t.same((ran.returncode, ran.stderr), (1, told), f"script {words}")
@@ -313,7 +313,7 @@ def a_full_disk(t):
         raise Skipped("no file system can be mounted here")
     try:
         ran = t.desk("init", "disk/ca.db", "--name", program.NAME, "--key", program.KEY, "--why")
-        t.same((ran.status, ran.out, ran.err), (1, b"", b"F2 store\n  disk full\n"))
+        t.same((ran.status, ran.out, ran.err), (1, b"", b"F2 store\n  disk full (FILE)\n"))
         t.same(list((t.room / "disk").iterdir()), [], "what is left on it")
     finally:
         subprocess.run(["umount", t.room / "disk"], check=True)

@@ -98,7 +98,7 @@ def a_link_to_a_socket_is_not_taken_over(t):
     t.same((os.readlink(t.room / "counter"), (t.room / "stale").is_socket()), ("stale", True), "the link and the socket")
 
 
-WHY_NONE = {"in no folder": ("nowhere/counter", "  no such file\n"), "where a desk listens": ("counter", "  in use by another program\n"), "where a file lies": ("ca.db", "")}
+WHY_NONE = {"in no folder": ("nowhere/counter", "  no such file (--control)\n"), "where a desk listens": ("counter", "  in use by another program (--control)\n"), "where a file lies": ("ca.db", "")}
 
 
 @each(WHY_NONE)
@@ -1020,7 +1020,7 @@ def a_register_is_locked_before_its_log_is_opened(t, words):
         authority.until(lambda: (t.room / "goes-on.waits").exists(), "that the desk opens the log")
         other = t.desk("script", "ca.db", "--why", given=f"{DAY} subscriber acme\n")
         (t.room / "goes-on").touch()
-        t.same((other.status, other.out, other.err), (1, b"", b"F2 store\n  in use by another program\n"), "the other program")
+        t.same((other.status, other.out, other.err), (1, b"", b"F2 store\n  in use by another program (FILE)\n"), "the other program")
         t.same(ran.result().status, 0, words[0])
 
 
@@ -1146,7 +1146,8 @@ def a_register_to_which_sqlite_writes_is_not_read(t):
         other.execute("BEGIN IMMEDIATE")
         for words in (["audit", "ca.db"], ["copy", "ca.db", "copy.db"], ["crl", "ca.db"]):
             ran = t.desk(*words, "--why")
-            t.same((ran.status, ran.out, ran.err), (1, b"", b"F2 store\n  in use by another program\n"), program.shown(words))
+            place = b"" if words[0] == "copy" else b" (FILE)"
+            t.same((ran.status, ran.out, ran.err), (1, b"", b"F2 store\n  in use by another program%s\n" % place), program.shown(words))
 
 
 @each({"an audit": ["audit", "ca.db"], "a copy": ["copy", "ca.db", "copy.db"]})

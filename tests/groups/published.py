@@ -423,10 +423,10 @@ def nothing_is_printed(t):
     (t.room / "v1.crl").write_bytes(of_openssl(t))
     t.same(again(t, "--published", "v1.crl", status=1), ([], ["after-a-backup: v1.crl: the CRL has no number"]))
     t.same(again(t, "--log", "no.log", status=1)[0], [], "no log")
-    t.same(again(t, "--log", "ca.log", file="no.db", status=1), ([], ["after-a-backup: no.db: F2 store no such file"]))
+    t.same(again(t, "--log", "ca.log", file="no.db", status=1), ([], ["after-a-backup: no.db: F2 store no such file (FILE)"]))
     t.same(again(t, file="copy.db", status=2)[0], [], "neither")
     t.open("copy.db")
-    t.same(again(t, "--log", "ca.log", file="copy.db", status=1), ([], ["after-a-backup: copy.db: F2 store in use by another program"]))
+    t.same(again(t, "--log", "ca.log", file="copy.db", status=1), ([], ["after-a-backup: copy.db: F2 store in use by another program (FILE)"]))
 
 
 # docs/OPERATIONS.md, "Go back to a backup"

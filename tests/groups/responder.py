@@ -595,7 +595,7 @@ def a_certificate_that_can_t_be_used(t):
     embeds = lambda file, *words: opens(file, "--unsigned", "--embed", *words)
     bad_responder(t, opens("none.db", *("--responder", "responder.pem", *responder.words()[2:])))
     bad_responder(t, embeds("none.db", "ca.pem"))
-    bad_responder(t, embeds("none.db", "none.der", "--why"), b"bad-responder\n  no such file\n")
+    bad_responder(t, embeds("none.db", "none.der", "--why"), b"bad-responder\n  no such file (--embed)\n")
     for algorithm, name in (("ecdsa-sha384", "p384"), ("rsa-sha256", "rsa"), ("ed25519", "ed")):
         Responder(it, algorithm, name=name)
         bad_responder(t, opens("none.db", "--responder", f"{name}.der", *responder.words()[2:]))

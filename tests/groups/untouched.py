@@ -3,7 +3,7 @@
 from lib import program
 from lib.trial import each
 
-DAMAGED = "  damaged, or not a database: check the path and the disk\n"
+DAMAGED = "  damaged, or not a database: check the path and the disk"
 DAY = "2026-01-01T00:00:00Z"
 # A command, and what it is given.
 COMMANDS = {
@@ -34,7 +34,8 @@ FILES = {
 def a_command_leaves_it(t, words, given, contents, line, cause):
     (t.room / "ca.db").write_bytes(contents)
     words = [*words, program.free_port()] if words[-1] == "--port" else words
-    for more, told in (([], line), (["--why"], line + cause)):
+    place = "" if words[0] == "copy" else " (FILE)"
+    for more, told in (([], line), (["--why"], line + (f"{cause}{place}\n" if cause else ""))):
         with t.untouched(words[0]):
             ran = t.desk(*words, *more, given=given)
         t.same((ran.status, ran.out, ran.err), (1, b"", told.encode()))

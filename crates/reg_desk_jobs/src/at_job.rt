@@ -37,7 +37,7 @@ enum Step {
     End,
 }
 
-/// Sends each line of standard input to the control socket at a path, and writes its reply. Errors: `Read` if no program listens
+/// Sends each line of standard input to the control socket at a path, and writes its reply. Errors: `Read` if it can't connect
 /// there; else those of [`exchange_lines`].
 pub fn at<M: Machine, R: Read, W: Write>(
     alloc: Global,
@@ -92,10 +92,10 @@ fn exchange_lines_over<R: Read, W: Write>(
     }
 }
 
-/// Sends each line of the input to a control socket, once the reply to the line before has arrived, and writes each reply. A last line without
-/// its line end is not sent. Errors: after all lines were sent, `Refused` if a reply was a refusal or a fault, `NoLineEnd` if a last line
-/// without its line end is left, and `RefusedNoLineEnd` for both. `Read` if the input fails, or the connection fails or ends within a
-/// reply; `Write` if a line can't be sent, or a reply can't be written; `Memory`.
+/// Sends each line of the input to a control socket through `sent`, once the reply to the line before has come from `incoming`, and writes each
+/// reply to `writer`. A last line without its line end is not sent. Errors: after all lines were sent, `Refused` if a reply was a refusal or a
+/// fault, `NoLineEnd` if a last line without its line end is left, and `RefusedNoLineEnd` for both. `Read` if the input fails, or the connection
+/// fails or ends before the end of a reply; `Write` if a line can't be sent, or a reply can't be written; `Memory`.
 pub fn exchange_lines<R: BufRead, W: Write, C: BufRead, S: Write>(
     alloc: Global,
     input: &mut R,

@@ -3,6 +3,7 @@
 ghost use Rattle.std.specs.Prelude.{OnOk};
 ghost use Rattle.reg_desk_jobs.specs.Serving.{IsControlSocket};
 
+use crate::failure_cause::Location;
 use crate::machine::Machine;
 use mio::net::UnixListener;
 use reg_core::io_cause_of;
@@ -16,15 +17,15 @@ const OWNER_ONLY: u32 = 0o600;
 const MOST_WAITING: usize = 4_096;
 
 /// Creates a Unix socket at a path to which only its owner may connect, and listens on it without blocking. A stale socket, on which no program
-/// listens, is replaced, by exactly one of the desks that try at once. Errors: `AddrInUse` if a program listens there, or keeps the folder locked
-/// for ten seconds; `AlreadyExists` if the path is not a socket.
+/// listens, is replaced, by exactly one of the desks that try at once. Errors: `AddrInUse` if a program listens there, or keeps the socket's
+/// folder locked for ten seconds; `AlreadyExists` if the path is not a socket.
 pub(crate) fn create_control_socket<M: Machine>(machine: &M, path: &str) -> io::Result<UnixListener>
     ensures { OnOk result (IsControlSocket M.socket_created M.has_mode path.now) }
 {
     match create_for_owner(machine, path) {
         Ok(listener) => Ok(listener),
         Err(error) => {
-            machine.keep_cause(io_cause_of(error.kind()));
+            machine.keep_cause(Some(Location::Control), io_cause_of(error.kind()));
             Err(error)
         }
     }

@@ -4,6 +4,7 @@ use crate::clock::moment_at;
 use crate::copy_job::CopyFault;
 use crate::crl_signer::CrlSigner;
 use crate::deferred_commands::SignatureKind;
+use crate::failure_cause::{FailureCause, Location};
 use mio::net::{TcpListener, TcpStream, UnixListener};
 use mio::{Events, Poll};
 use reg_audit_rows::AuditResult;
@@ -325,11 +326,11 @@ pub trait Machine {
     fn warn(&self, line: &[u8])
         ensures { warned line.now };
 
-    /// Keeps the cause of a failed call.
-    fn keep_cause(&self, cause: Option<Cause>);
+    /// Keeps the cause of a failed call, and the location that it is about, if they are known.
+    fn keep_cause(&self, location: Option<Location>, cause: Option<Cause>);
 
     /// The last cause of a failed call, if one is known.
-    fn last_cause(&self) -> Option<Cause>;
+    fn last_cause(&self) -> Option<FailureCause>;
 
     /// The moment of the clock, or the last possible moment if the clock is past it; `Read` if it can't be read.
     final fn moment(&self) -> Result<Moment, Fault>
@@ -341,7 +342,7 @@ pub trait Machine {
         match self.seconds() {
             Ok(seconds) => Ok(moment_at(seconds)),
             Err(_) => {
-                self.keep_cause(Some(Cause::Clock));
+                self.keep_cause(None, Some(Cause::Clock));
                 Err(Fault::Read)
             }
         }

@@ -4,8 +4,9 @@ ghost use Rattle.std.specs.Prelude.{◌≡◌, ◌∷◌, [], ℕ, List, IfOk};
 ghost use Rattle.reg_desk_jobs.specs.Ends.{PrintsText, PrintsLine};
 ghost use Rattle.reg_desk_jobs.specs.FailureReports.{Adds, Explains, IsReportedLine, IsWritten, ReportsExit, ReportsReason};
 
+use crate::failure_cause::FailureCause;
 use crate::reasons::{Reason, reason_line};
-use reg_core::{Cause, Fault};
+use reg_core::Fault;
 use reg_desk_cli::{Failure, status_of};
 use reg_io::write_whole;
 use std::alloc::{AllocError, Global};
@@ -42,7 +43,7 @@ pub fn report_exit<W: Write>(
     errors: &mut W,
     ending: &Result<(), Failure>,
     is_asked: bool,
-    cause: Option<Cause>,
+    cause: Option<FailureCause>,
     reason: Option<Reason>,
 )
     ensures { Explains is_asked ending.now (W.contents errors.old) (W.contents errors.new) }
@@ -84,7 +85,7 @@ fn explain<W: Write>(
     errors: &mut W,
     is_asked: bool,
     status: u8,
-    cause: Option<Cause>,
+    cause: Option<FailureCause>,
     reason: Option<Reason>,
 )
     ensures { Adds is_asked status (W.contents errors.old) (W.contents errors.new) }
@@ -93,10 +94,10 @@ fn explain<W: Write>(
         return;
     }
     match (status, cause) {
-        (1, Some(cause)) => {
-            let line = cause.line();
-            report_line(errors, line.as_bytes());
-        }
+        (1, Some(cause)) => match cause.line(alloc) {
+            Ok(line) => report_line(errors, &line),
+            Err(_) => {}
+        },
         (3, _) => report_reason(alloc, errors, reason),
         _ => {}
     }

@@ -123,7 +123,7 @@ fn signer_after<C: Alter>(
     match mismatch(latest, signer.algorithm()) {
         None => Ok(signer),
         Some(why) => {
-            host.keep_cause(Some(why));
+            host.keep_cause(None, Some(why));
             Err(Failure::BadSigner)
         }
     }
@@ -153,7 +153,7 @@ fn open_signer(
     ) {
         Ok(signer) => Ok(signer),
         Err(Failure::BadSigner) => {
-            host.keep_cause(Some(Cause::OtherKey));
+            host.keep_cause(None, Some(Cause::OtherKey));
             Err(Failure::BadSigner)
         }
         Err(why) => Err(why),

@@ -2,11 +2,11 @@
 
 use crate::dispatch::perform_unreported;
 use crate::host::{Host, open_log};
-use crate::input::Input;
+use crate::input::{Input, input_path};
 use crate::progress::{CountedOutput, file_of, report_opening};
-use reg_core::{Cause, Fault, create_cause_of, io_cause_of};
+use reg_core::{Fault, create_cause_of, io_cause_of};
 use reg_desk_cli::{Failure, Invocation, status_of};
-use reg_desk_jobs::report_exit;
+use reg_desk_jobs::{FailureCause, Location, report_exit};
 use std::cell::Cell;
 use std::io::{ErrorKind, IsTerminal};
 use std::os::unix::fs::MetadataExt;
@@ -19,14 +19,15 @@ use std::{fs, io};
 pub fn run_desk(rt: &HostRuntime, invocation: &Invocation<'_>) -> u8 {
     let log_file = log_path(invocation);
     if let Err(error) = check_log(rt, invocation) {
-        let cause = create_cause_of(error.kind());
+        let cause = FailureCause::at(Some(Location::LogFile), create_cause_of(error.kind()));
         return report_fault(rt, invocation, Fault::Write, cause);
     }
     report_opening(rt, &invocation.job);
-    let mut input = match Input::of(rt, &invocation.job) {
+    let (location, path) = input_path(&invocation.job).unzip();
+    let mut input = match Input::of(rt, path) {
         Ok(input) => input,
         Err(error) => {
-            let cause = io_cause_of(error.kind());
+            let cause = FailureCause::at(location, io_cause_of(error.kind()));
             return report_fault(rt, invocation, Fault::Read, cause);
         }
     };
@@ -87,7 +88,7 @@ fn report_fault(
     rt: &HostRuntime,
     invocation: &Invocation<'_>,
     fault: Fault,
-    cause: Option<Cause>,
+    cause: Option<FailureCause>,
 ) -> u8 {
     let ending = Err(Failure::Fault(fault));
     report_exit(

@@ -143,7 +143,7 @@ fn run<M: Machine, R: Read, W: Write>(
 
 fn keep_terms_cause<M: Machine>(machine: &M, job: &Job<'_>, ending: &Result<(), Failure>) {
     if let Err(Failure::BadPolicy) = ending {
-        machine.keep_cause(wrong_terms(job));
+        machine.keep_cause(None, wrong_terms(job));
     }
 }
 

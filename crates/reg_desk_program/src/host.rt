@@ -28,7 +28,7 @@ use reg_desk_files::{
     ClaimFault, FileFault, Overlay, ReadFile, Source, Sources, UnreadFile, check_database,
     claim_file, copy_closed, copy_open, open_file, open_sources, read_at, remove_file,
 };
-use reg_desk_jobs::{CopyFault, CrlSigner, Machine, SignatureKind};
+use reg_desk_jobs::{CopyFault, CrlSigner, FailureCause, Location, Machine, SignatureKind};
 use reg_io::write_whole;
 use reg_office::Responder;
 use sqlite_disk::{Disk, Unknown};
@@ -60,7 +60,7 @@ const LOCK_PAUSE_MILLIS: u64 = 5;
 pub struct Host<'a> {
     pub(crate) rt: HostRuntime,
     /// The last cause of a failed call, if one is known.
-    pub(crate) last_cause: &'a Cell<Option<Cause>>,
+    pub(crate) last_cause: &'a Cell<Option<FailureCause>>,
     /// Whether exchanges are logged on standard error.
     pub(crate) logs_to_stderr: bool,
     /// The path of the file in which exchanges are logged, if one is given.
@@ -71,7 +71,7 @@ pub struct Host<'a> {
 
 impl<'a> Host<'a> {
     /// The failure for files that could not be read. Keeps its cause, if it has one.
-    pub(crate) fn failure_of(&self, why: UnreadFile) -> Failure
+    pub(crate) fn failure_of(&self, location: Option<Location>, why: UnreadFile) -> Failure
         requires { IsUnread why }
         ensures told { result ≡ failure_of why }
         ensures opening { IsOpenFailure result }
@@ -79,14 +79,14 @@ impl<'a> Host<'a> {
     {
         match why {
             UnreadFile::Nothing => Failure::NotARegister,
-            UnreadFile::Fault(why) => Failure::Fault(self.fault_of(why)),
+            UnreadFile::Fault(why) => Failure::Fault(self.fault_of(location, why)),
         }
     }
 
-    fn fault_of(&self, why: FileFault) -> Fault
+    fn fault_of(&self, location: Option<Location>, why: FileFault) -> Fault
         ensures { result ≡ why.fault }
     {
-        self.keep_cause(why.cause);
+        self.keep_cause(location, why.cause);
         why.fault
     }
 
@@ -94,7 +94,7 @@ impl<'a> Host<'a> {
         match TcpListener::bind(&self.rt, address) {
             Ok(listener) => Ok(listener),
             Err(error) => {
-                self.keep_cause(port_cause_of(error.kind()));
+                self.keep_cause(Some(Location::Port), port_cause_of(error.kind()));
                 Err(error)
             }
         }
@@ -107,7 +107,7 @@ impl<'a> Host<'a> {
             Ok(()) => Ok(true),
             Err(ClaimFault::Memory) => Err(Memory),
             Err(ClaimFault::Taken(cause)) => {
-                self.keep_cause(cause);
+                self.keep_cause(Some(Location::File), cause);
                 Ok(false)
             }
         }
@@ -217,14 +217,14 @@ impl<'a> Machine for Host<'a> {
     fn check_database(&self, path: &str) -> Result<(), Failure> {
         match check_database(&self.rt, path) {
             Ok(()) => Ok(()),
-            Err(why) => Err(self.failure_of(why)),
+            Err(why) => Err(self.failure_of(Some(Location::File), why)),
         }
     }
 
     fn connect(&mut self, path: &str) -> Result<FileConnection, Failure> {
         match open_file(&self.rt, path, Unknown) {
             Ok(connection) => Ok(connection),
-            Err(why) => Err(Failure::Fault(self.fault_of(why))),
+            Err(why) => Err(Failure::Fault(self.fault_of(Some(Location::File), why))),
         }
     }
 
@@ -283,21 +283,21 @@ impl<'a> Machine for Host<'a> {
     fn read(&self, path: &str) -> Result<Sources<ReadFile>, Failure> {
         match read_at(&self.rt, path) {
             Ok(sources) => Ok(sources),
-            Err(why) => Err(Failure::Fault(self.fault_of(why))),
+            Err(why) => Err(Failure::Fault(self.fault_of(Some(Location::File), why))),
         }
     }
 
     fn audit_in(&self, sources: Sources<ReadFile>) -> Result<AuditResult, Failure> {
         match open_sources(self.rt.alloc(), sources) {
             Ok(connection) => audit_over(self, connection),
-            Err(why) => Err(self.failure_of(why)),
+            Err(why) => Err(self.failure_of(Some(Location::File), why)),
         }
     }
 
     fn copy(&mut self, path: &str, to: &str) -> Result<u64, Failure> {
         match copy_closed(&self.rt, path, to) {
             Ok(bytes) => Ok(bytes),
-            Err(why) => Err(self.failure_of(why)),
+            Err(why) => Err(self.failure_of(None, why)),
         }
     }
 
@@ -374,7 +374,7 @@ impl<'a> Machine for Host<'a> {
         match UnixStream::connect(&self.rt, path) {
             Ok(stream) => Ok(stream),
             Err(error) => {
-                self.keep_cause(io_cause_of(error.kind()));
+                self.keep_cause(Some(Location::Socket), io_cause_of(error.kind()));
                 Err(error)
             }
         }
@@ -435,11 +435,11 @@ impl<'a> Machine for Host<'a> {
         let _ = write_whole(&mut errors, line);
     }
 
-    fn keep_cause(&self, cause: Option<Cause>) {
-        self.last_cause.set(cause);
+    fn keep_cause(&self, location: Option<Location>, cause: Option<Cause>) {
+        self.last_cause.set(FailureCause::at(location, cause));
     }
 
-    fn last_cause(&self) -> Option<Cause> {
+    fn last_cause(&self) -> Option<FailureCause> {
         self.last_cause.get()
     }
 }

@@ -1,6 +1,7 @@
 //! Standard input, or the file that a job reads.
 
-use reg_desk_cli::{Job, OpenJob, ServeJob};
+use reg_desk_cli::{Job, OpenJob, RowTask, ServeJob};
+use reg_desk_jobs::Location;
 use std::fs::File;
 use std::io;
 use std::io::{Read, Stdin};
@@ -12,29 +13,42 @@ pub(crate) enum Input {
 }
 
 impl Input {
-    /// Opens the file that a job reads; standard input if it reads none.
-    pub(crate) fn of(rt: &HostRuntime, job: &Job<'_>) -> io::Result<Input> {
-        match job {
-            Job::At {
-                rows: Some(path),
-                ..
-            }
-            | Job::EachRow { rows: path, .. }
-            | Job::Replay { log: path, .. }
-            | Job::Serve(
-                ServeJob {
-                    published: Some(path),
-                    ..
-                },
-            )
-            | Job::Open(
-                OpenJob {
-                    published: Some(path),
-                    ..
-                },
-            ) => { Ok(Input::File(File::open(rt, path.as_str())?)) }
-            _ => Ok(Input::Standard(rt.stdin())),
+    /// Opens the file at a path; standard input if there is none.
+    pub(crate) fn of(rt: &HostRuntime, path: Option<&str>) -> io::Result<Input> {
+        match path {
+            Some(path) => Ok(Input::File(File::open(rt, path)?)),
+            None => Ok(Input::Standard(rt.stdin())),
         }
+    }
+}
+
+/// The path of the file that a job reads in place of standard input, and the argument that names it.
+pub(crate) fn input_path<'a>(job: &Job<'a>) -> Option<(Location, &'a str)> {
+    match job {
+        Job::EachRow {
+            rows: path,
+            task: RowTask::Revoke,
+            ..
+        } => Some((Location::Revoke, path.as_str())),
+        Job::At {
+            rows: Some(path),
+            ..
+        }
+        | Job::EachRow { rows: path, .. } => Some((Location::Import, path.as_str())),
+        Job::Replay { log: path, .. } => Some((Location::Log, path.as_str())),
+        Job::Serve(
+            ServeJob {
+                published: Some(path),
+                ..
+            },
+        )
+        | Job::Open(
+            OpenJob {
+                published: Some(path),
+                ..
+            },
+        ) => Some((Location::Published, path.as_str())),
+        _ => None,
     }
 }
 

@@ -14,7 +14,7 @@ use reg_core::{Fault, io_cause_of};
 use reg_crl::Signer;
 use reg_crl_signer::is_key_identifier;
 use reg_desk_cli::{Argument, Failure, SignerAddress};
-use reg_desk_jobs::Machine;
+use reg_desk_jobs::{Location, Machine};
 use reg_ocsp::{Certificate, CertificateFault};
 use reg_office::Responder;
 use std::fs;
@@ -34,7 +34,7 @@ pub(crate) fn issuer_responder(
     match path {
         None => Ok(Responder::Issuer(None)),
         Some(path) => {
-            let certificate = certificate_at(host, path.as_str())?;
+            let certificate = certificate_at(host, Location::Embed, path.as_str())?;
             Ok(Responder::Issuer(Some(certificate)))
         }
     }
@@ -51,7 +51,7 @@ pub(crate) fn delegate_responder(
         (answers_by ⟦<FileSigner as Signer>⟧.identity crls responder)) }
     ensures faults { IfErr result IsOpenFailure }
 {
-    let certificate = certificate_at(host, path.as_str())?;
+    let certificate = certificate_at(host, Location::Responder, path.as_str())?;
     if !is_key_identifier(address.algorithm, certificate.algorithm()) {
         return Err(Failure::BadResponder);
     }
@@ -68,7 +68,7 @@ pub(crate) fn delegate_responder(
 }
 
 /// Reads the certificate in the file at a path. If the file can't be read, keeps the cause.
-fn certificate_at(host: &Host<'_>, path: &str) -> Result<Certificate, Failure>
+fn certificate_at(host: &Host<'_>, location: Location, path: &str) -> Result<Certificate, Failure>
     ensures { IfErr result (λ why. (why ≡ Failure.Fault Fault.Memory) ⊎ (why ≡ Failure.BadResponder)) }
 {
     let der = match fs::read(&host.rt, path) {
@@ -77,7 +77,7 @@ fn certificate_at(host: &Host<'_>, path: &str) -> Result<Certificate, Failure>
             return Err(Failure::Fault(Fault::Memory));
         }
         Err(error) => {
-            host.keep_cause(io_cause_of(error.kind()));
+            host.keep_cause(Some(location), io_cause_of(error.kind()));
             return Err(Failure::BadResponder);
         }
     };

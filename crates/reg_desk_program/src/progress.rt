@@ -1,7 +1,8 @@
 //! Shows the progress of a long job on standard error, if that is a terminal.
 
-use reg_core::{Cause, io_cause_of};
+use reg_core::io_cause_of;
 use reg_desk_cli::Job;
+use reg_desk_jobs::{FailureCause, Location};
 use std::cell::Cell;
 use std::io::{IsTerminal, Stdout, Write};
 use std::time::Clock;
@@ -17,7 +18,7 @@ const MEGABYTE: u64 = 1_000_000;
 pub(crate) struct CountedOutput<'a> {
     rt: &'a HostRuntime,
     output: Stdout,
-    last_cause: &'a Cell<Option<Cause>>,
+    last_cause: &'a Cell<Option<FailureCause>>,
     shows_progress: bool,
     lines: u64,
     /// The seconds of the monotonic clock at the start, and when progress was last shown.
@@ -30,7 +31,7 @@ impl<'a> CountedOutput<'a> {
     pub(crate) fn of(
         rt: &'a HostRuntime,
         job: &Job<'_>,
-        last_cause: &'a Cell<Option<Cause>>,
+        last_cause: &'a Cell<Option<FailureCause>>,
     ) -> CountedOutput<'a> {
         let output = rt.stdout();
         let shows_progress = is_long(job) && rt.stderr().is_terminal() && !output.is_terminal();
@@ -66,7 +67,10 @@ impl<'a> Write for CountedOutput<'a> {
         let count = match self.output.write(buf) {
             Ok(count) => count,
             Err(error) => {
-                self.last_cause.set(io_cause_of(error.kind()));
+                self.last_cause.set(FailureCause::at(
+                    Some(Location::Output),
+                    io_cause_of(error.kind()),
+                ));
                 return Err(error);
             }
         };
