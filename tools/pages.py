@@ -1,8 +1,8 @@
 #!/usr/bin/env python3
 """Checks the names in the pages against the repository: files and functions of docs/PROOFS.md and docs/ARCHITECTURE.md, definitions of docs/PROOFS.md, crates
-and their uses in docs/ARCHITECTURE.md, files and definitions of the chain in docs/MODEL.md, and links to headings. Also reports two crates that give one name
-to definitions, because the pages refer to a definition by its name; a promise of docs/PROOFS.md whose functions no call from `main` reaches; a proof that
-cites proofs of another crate outside of its PublicLaws; and a docs/architecture.svg that is out of date. Prints a line for each error, and exits with 1 if
+and their uses in docs/ARCHITECTURE.md, files and definitions that docs/MODEL.md names after a crate, and links to headings. Also reports two crates that give
+one name to definitions, because the pages refer to a definition by its name; a promise of docs/PROOFS.md whose functions no call from `main` reaches; a proof
+that cites proofs of another crate outside of its PublicLaws; and a docs/architecture.svg that is out of date. Prints a line for each error, and exits with 1 if
 there is one."""
 import re
 import sys
@@ -149,11 +149,10 @@ def look_at_crates():
         miss(architecture.PICTURE, "is not what tools/architecture.py draws")
 
 
-def look_at_chain():
-    """`| 7 | crate `File`, `file.rt` | ..` of docs/MODEL.md, and `| .. | crate `File.Definition` |`."""
+def look_at_model():
+    """`crate `File`, `file.rt`, ..` of docs/MODEL.md, and `crate `File.Definition``."""
     page = "docs/MODEL.md"
-    section = text(page).split("## The chain")[1].split("\n## ")[0]
-    for crate, names in re.findall(r"(reg_\w+) ((?:`[\w.]+`(?:, )?)+)", section):
+    for crate, names in re.findall(r"(reg_\w+)\s+((?:`[\w.]+`(?:,\s+)?)+)", text(page)):
         for name in re.findall(r"`([\w.]+)`", names):
             file, _, rest = name.partition(".")
             path = TOP / "crates" / crate / (f"src/{name}" if rest == "rt" else f"specs/{file}.antt")
@@ -174,7 +173,7 @@ def look_at_names():
             miss("specs", f"{name} is defined in {' and '.join(sorted(crates))}")
 
 
-for look in (look_at_links, look_at_ways, look_at_laws, look_at_promises, look_at_crates, look_at_chain, look_at_names, look_at_proofs):
+for look in (look_at_links, look_at_ways, look_at_laws, look_at_promises, look_at_crates, look_at_model, look_at_names, look_at_proofs):
     look()
 print(*missing, sep="\n", end="\n" if missing else "")
 sys.exit(1 if missing else 0)
