@@ -774,6 +774,8 @@ def a_socket_that_is_handed_over(t):
         t.callback(authority.end, process)
         verifies(t, it, message, signature(t.room / "handed.sign", message))
         t.same(signature(t.room / "handed.sign", b"hello"), b"", "a text")
+        # Else a process would wait in accept(2), where no signal ends it, for a client that another process has accepted.
+        t.same(os.get_blocking(listener.fileno()), False, "whether its socket blocks")
     t.same(ended(process)[0], 0, "ended by SIGTERM")
     t.true((t.room / "handed.sign").exists(), "the socket stays, which is not its own")
     ran = t.tried(*words)
