@@ -737,6 +737,18 @@ def is_idle(t, process):
     t.true(ticks() - before < 20, f"{ticks() - before} clock ticks in two seconds")
 
 
+@test(seconds=4)
+def it_uses_no_processor_time_while_256_clients_wait_for_their_turn(t):
+    """One signature a second. Further clients wait until the signer can accept them."""
+    it = Authority(t)
+    process = started(t, "--rate", 1, it.key)
+    for _ in range(262):
+        client = t.enter_context(connected(t.room / "ca.sign"))
+        client.sendall(b"a message")
+        client.shutdown(socket.SHUT_WR)
+    is_idle(t, process)
+
+
 @test(seconds=3)
 def its_standard_streams(t):
     """Closed from the start, no client gets a warning as its signature; and if their reader ends, the signer goes on."""
