@@ -625,6 +625,12 @@ def its_processes_end_together(t):
     t.true(not (t.room / "ca.sign").exists(), "its socket is removed")
     process = started(t, "--processes", 3, it.key)
     others = native.children(process)
+    process.send_signal(signal.SIGINT)
+    t.same((process.wait(program.LONGEST), process.stderr.read()), (0, b""), "ended by SIGINT")
+    authority.until(lambda: not any(map(native.is_there, others)), "the end of its other processes")
+    t.true(not (t.room / "ca.sign").exists(), "its socket is removed")
+    process = started(t, "--processes", 3, it.key)
+    others = native.children(process)
     process.kill()
     authority.until(lambda: not any(map(native.is_there, others)), "the end of the others, where the first is killed")
 
