@@ -586,6 +586,24 @@ def what_long_messages_take_is_given_back(t):
 
 
 @test(seconds=3)
+def long_messages_have_512_mib_together(t):
+    """Eight clients of more than 16 MiB have room for 64 MiB each. Then a message of a kilobyte has none."""
+    it = Authority(t)
+    process = started(t, it.key)
+    path, clients = t.room / "ca.sign", []
+    for at in range(8):
+        clients.append(t.enter_context(connected(path)))
+        clients[at].sendall(bytes((16 << 20) + 1))
+        authority.until(lambda: program.is_read(clients[at]), f"that long message {at} is read")
+    t.same((signature(path, bytes(1_024)), signature(path, bytes(1_023)) != b""), (b"", True), "a message of 1,024 octets, and whether one of 1,023 is signed")
+    for client in clients:
+        client.shutdown(socket.SHUT_WR)
+        t.true(program.read_all(client) != b"", "a long message is signed")
+    t.true(signature(path, bytes(1_024)) != b"", "a message behind them is signed")
+    t.same(ended(process), (0, [f"{NAME}a connection failed: out of memory for its message"]), "standard error")
+
+
+@test(seconds=3)
 def clients_beyond_its_descriptors(t):
     """A connection that it can't accept waits until another one has ended, and meanwhile the signer says so ten times a second."""
     it = Authority(t)
