@@ -556,6 +556,27 @@ def a_rate(t):
 
 
 @test(seconds=4)
+def clients_that_disconnect_together_take_no_other_connection(t):
+    """Eight clients wait for their turn at two signatures a second. The signer notices at once that four have gone, and signs for the others."""
+    it = Authority(t)
+    process = started(t, "--rate", 2, it.key)
+    t.true(signature(t.room / "ca.sign", b"a message") != b"", "the first signature")
+    clients = [t.enter_context(connected(t.room / "ca.sign")) for _ in range(8)]
+    for client in clients:
+        client.settimeout(20)
+        client.sendall(b"a message")
+        client.shutdown(socket.SHUT_WR)
+        authority.until(lambda: program.is_read(client), "that its message is read")
+    process.send_signal(signal.SIGSTOP)
+    for client in clients[::2]:
+        client.close()
+    process.send_signal(signal.SIGCONT)
+    for at in range(1, 8, 2):
+        t.true(program.read_all(clients[at]) != b"", f"the signature of client {at}")
+    t.same(ended(process)[0], 0, "its status")
+
+
+@test(seconds=4)
 def the_oldest_client_is_signed_for_first(t):
     """Five a second: all clients have sent their messages before the second signature."""
     it = Authority(t)
