@@ -535,7 +535,7 @@ def the_slowest_of_256_makes_room(t):
 
 @test(seconds=4)
 def a_rate(t):
-    """Twenty a second, in two processes: 30 signatures take at least 1.45 s. Refused messages don't count, and the signer doesn't sign for a client that has disconnected."""
+    """Twenty a second, in two processes: 30 signatures take at least 1.45 s, and 11 after a pause at least 0.5 s. Refused messages don't count, and the signer doesn't sign for a client that has disconnected."""
     it = Authority(t)
     message = answer_by_hand(filter_module().issuer_of(it.pem))
     process = started(t, "--rate", 20, "--processes", 2, "--only-ours", it.pem, it.key)
@@ -552,6 +552,11 @@ def a_rate(t):
     t.same([it for it in map(program.read_all, clients[:30]) if not it], [], "clients without a signature")
     waited = time.monotonic() - began
     t.true(1.45 <= waited < 20, f"30 signatures took {waited:.2f} s")
+    time.sleep(0.5)
+    began = time.monotonic()
+    t.same([it for it in (signature(path, message) for _ in range(11)) if not it], [], "clients without a signature after a pause")
+    waited = time.monotonic() - began
+    t.true(waited >= 0.5, f"11 signatures after a pause took {waited:.2f} s")
     t.same(len(ended(process)[1]), 1, "lines that are told")
 
 
