@@ -132,6 +132,37 @@ def a_key_whose_signatures_don_t_verify(t):
     t.same((ran.returncode, (t.room / "ca.sign").exists(), ran.stderr[:23]), (1, False, b"desk-signer: other.key:"), "status, whether it listens, and the beginning of its reason")
 
 
+def with_wrong_libcrypto():
+    """Words before those of the signer: libcrypto changes each signature, and ends the process where a nonce is drawn ahead (tests/wrong_libcrypto.c)."""
+    native.need_libcrypto()
+    return ["env", f"LD_PRELOAD={native.made('wrong_libcrypto.so', 'cc', '-shared', '-fPIC', '-O2', TESTS / 'wrong_libcrypto.c', '-ldl', '-o')}"]
+
+
+@each(ALGORITHMS, seconds=2)
+def signatures_that_don_t_verify(t, algorithm):
+    """With --only-ours the signer notices them, and gives none away."""
+    it = Authority(t, algorithm)
+    ran = t.tried(*with_wrong_libcrypto(), native.signer(), "--only-ours", it.pem, it.key)
+    t.same((ran.returncode, ran.stdout), (1, b""), "status and output")
+    t.has(ran.stderr, f"{NAME}{it.key}: its signature does not verify by the certificate".encode())
+    t.same(t.tool(*with_wrong_libcrypto(), native.signer(), it.key), f"{algorithm}\n".encode(), "without a certificate")
+
+
+@test(seconds=2)
+def with_fresh_nonces_none_is_drawn_ahead(t):
+    """Where one is drawn, the process ends, as it does without the option."""
+    it = Authority(t)
+    drawing = started(t, it.key, path="drawing.sign", before=with_wrong_libcrypto())
+    fresh = started(t, "--fresh-nonces", it.key, path="fresh.sign", before=with_wrong_libcrypto())
+    t.true(signature(t.room / "drawing.sign", b"a message") != b"", "the one that draws nonces signs")
+    authority.until(lambda: drawing.poll() is not None, "that it draws a nonce")
+    for _ in range(2):
+        t.true(signature(t.room / "fresh.sign", b"a message") != b"", "the other one signs")
+        # Time in which it could draw a nonce.
+        time.sleep(0.3)
+    t.same(ended(fresh), (0, []), "its status and standard error")
+
+
 @test(seconds=2)
 def a_key_that_can_t_be_read(t):
     it = Authority(t)
