@@ -1034,10 +1034,14 @@ def a_journal_that_has_nothing_to_play_back_is_passed_over(t, octets):
     t.same(t.done("script", "ca.db", given=f"{DAY} subscriber acme\n"), "subscriber 1\n")
 
 
-@test
-def a_register_with_a_second_name_is_not_opened(t):
+@each({"its file": "ca.db", "its log": "ca.db-wal"})
+def a_register_with_a_second_name_is_not_opened(t, path):
     t.register()
-    os.link(t.room / "ca.db", t.room / "second.db")
+    desk = t.open()
+    t.same(t.control().ask("subscriber acme"), "subscriber 1")
+    desk.end()
+    os.remove(t.room / "counter")
+    os.link(t.room / path, t.room / "second")
     with t.untouched("a register with two names"):
         for words in (["audit", "ca.db"], ["copy", "ca.db", "copy.db"], ["open", "ca.db", "--port", free_port(), "--control", "counter", "--unsigned"]):
             ran = t.desk(*words)
