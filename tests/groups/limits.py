@@ -945,6 +945,44 @@ def a_crl_at_the_control_socket_waits_for_a_signer_whose_queue_is_full(t):
             t.same(crl.result(), "crl 1 entries 0")
 
 
+WAITS = {"an answer": lambda t, desk: desk.ask("POST", "/ocsp", asks(1)).rpartition(b"\r\n\r\n")[2], "a line": lambda t, desk: t.control().ask("crl")}
+
+
+@each({what: (waits, fault) for (what, waits), fault in zip(WAITS.items(), (authority.INTERNAL, "F3 signer"))})
+def a_signer_whose_queue_stays_full_has_ten_seconds(t, waits, fault):
+    t.register(key=P256_KEY)
+    have_passed(t, 0)
+    connects = lambda: faults.counted(t.room / "count")["connect"]
+    with ThreadPoolExecutor(1) as pool, full_queue(t):
+        desk = t.open("ca.db", *SIGNING, faults=faults.environment(passed=t.room / "passed", count=t.room / "count"))
+        reply = pool.submit(waits, t, desk)
+        authority.until(connects, "that the signer is asked")
+        for millis in (9_999, 10_000):
+            t.same(reply.done(), False, f"whether it has ended before {millis} ms")
+            have_passed(t, millis)
+            # An iteration of the event loop, and what is left of it, is behind two answers.
+            t.same([parted(desk.send(COUNTS))[0] for _ in range(2)], [200, 200])
+        t.same(reply.result(20), fault)
+
+
+@each(WAITS, seconds=2)
+def a_signer_whose_queue_is_full_is_soon_asked_again(t, waits):
+    """A hundred times a second, although nothing else happens."""
+    t.register(key=P256_KEY)
+    connects = lambda: faults.counted(t.room / "count")["connect"]
+    with ThreadPoolExecutor(1) as pool, full_queue(t):
+        desk = t.open("ca.db", *SIGNING, faults=faults.environment(count=t.room / "count"))
+        pool.submit(waits, t, desk)
+        authority.until(connects, "that the signer is asked")
+        found = []
+        # A slow machine has four seconds, of the ten that the signer has.
+        while len(found) < 4 and max(found, default=0) < 20:
+            before = connects()
+            time.sleep(1)
+            found.append(connects() - before)
+    t.true(max(found) >= 20, f"so often in each second: {found}")
+
+
 @test
 def a_signer_that_has_no_room_is_asked_again_after_ten_milliseconds(t):
     t.register(key=P256_KEY)
