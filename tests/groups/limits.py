@@ -491,6 +491,19 @@ def a_connection_ends_with_its_answer(t):
 
 
 @test
+def a_signed_answer_has_a_second_to_be_read_if_its_client_sends_on(t):
+    """If the desk closed the connection with unread bytes, the client could lose its answer. No time passes."""
+    t.register(key=P256_KEY)
+    t.enter_context(Signers(t.room / "ca.sign"))
+    desk, request = Passing(t, *SIGNING), asks(1)
+    client = desk.comes(b"POST /ocsp HTTP/1.1\r\nContent-Length: %d\r\n\r\n" % len(request) + request + b"more")
+    t.true(ANY_SIGNATURE in read_all(client), "the answer has no signature")
+    authority.until(lambda: desk.files == desk.before + 1, "that it has its connection, and no other client has one", seconds=10)
+    desk.advance(1_000)
+    authority.until(lambda: desk.files == desk.before, "that its connection is closed", seconds=10)
+
+
+@test
 def who_did_not_take_an_answer_is_lost_at_the_end(t):
     """`desk serve` has answered its last request, and waits for a client of a long answer."""
     t.register(lines=f"{DAY} crl\n{DAY} crl\n")
