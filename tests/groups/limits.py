@@ -480,6 +480,19 @@ def a_client_is_late_after_49_days_too(t):
 
 
 @test
+def a_client_that_comes_after_a_pause_has_30_seconds(t):
+    """The desk has waited for 30 seconds when it connects."""
+    t.register()
+    desk = Passing(t)
+    t.same(parted(desk.desk.send(COUNTS))[0], 200, "an answer before the pause")
+    authority.until(lambda: desk.files == desk.before, "that nobody is connected")
+    desk.set_forward(30_000)
+    client = desk.comes(COUNTS[:9])
+    client.sendall(COUNTS[9:])
+    t.same(parted(read_all(client))[0], 200, "its answer")
+
+
+@test
 def a_connection_ends_with_its_answer(t):
     """The desk waits for no more of a client whose request had nothing behind it. No time passes."""
     t.register()
