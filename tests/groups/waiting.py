@@ -177,6 +177,23 @@ def a_disconnected_client_is_not_signed_for(t):
     t.same(passing.lost, [(port, "broken")], "the lost connections in the log")
 
 
+@test(seconds=3)
+def the_oldest_client_that_waits_for_a_signature_makes_room(t):
+    """Two clients wait, and all descriptors are theirs and those of their signatures. Another client is answered at once."""
+    held = Held(t)
+    t.register(key=P256_KEY)
+    desk, body = Passing(t, *SIGNING), asked_for(0x1100)
+    clients = [desk.comes(b"POST /ocsp HTTP/1.1\r\nContent-Length: %d\r\n\r\n" % len(body) + body) for _ in range(2)]
+    t.true(held.signers.until(2), "both signatures are requested")
+    authority.until(lambda: desk.files == desk.before + 4, "that no other connection is left")
+    t.tool("prlimit", "--pid", desk.desk.process.pid, f"--nofile={desk.files}:{desk.files}")
+    t.same(program.parted(desk.desk.send(b"GET /counts HTTP/1.1\r\n\r\n", timeout=20))[0], 200, "GET /counts")
+    t.same(program.read_all(clients[0]), b"", "the oldest is evicted, with no answer")
+    held.release.set()
+    t.true(is_signed(program.parted(program.read_all(clients[1]))[2]), "the answer of the other one")
+    desk.loses(clients[0], why="crowded")
+
+
 @test(seconds=2)
 def a_client_that_half_closes_after_its_request_is_answered(t):
     t.signer()
