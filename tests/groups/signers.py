@@ -498,7 +498,7 @@ def nobody_is_at_the_signer_s_socket(t, what):
     elif what == "socket":
         with socket.socket(socket.AF_UNIX) as it:
             it.bind(str(path))
-    t.same(tried(t, ["crl", "subscriber acme", "next-crl"]), ["F3 signer", "subscriber 1", "next-crl at-once"])
+    at_once(t, lambda: tried(t, ["crl", "subscriber acme", "next-crl"]), ["F3 signer", "subscriber 1", "next-crl at-once"], "a script")
     t.same(t.sql("ca.db", "SELECT count(*) FROM crl"), [(0,)])
     if what == "file":
         t.same(path.read_text(), "precious", "the file stays")
