@@ -585,6 +585,28 @@ def the_new_one_stays_whatever_the_clock_says(t):
     t.same((status, names(copies)), (0, [new, *(f"ca.db-209{year}0101T000000Z" for year in range(2, 8))]))
 
 
+def a_published_crl(t, **how):
+    _, desk = open_desk(t, "crl")
+    return publish(t, desk, **how)
+
+
+def a_new_copy(t, **how):
+    register_and_copies(t)
+    return back_up(t, **how)
+
+
+SYNCED = {"a published CRL": (a_published_crl, ["www/.publish-crl/ca.crl", "www/.publish-crl/ca.crl.pem"]), "a copy": (a_new_copy, ["copies/.backup/ca.db"])}
+
+
+@each(SYNCED, seconds=2)
+def what_is_kept_is_synced_before_it_has_its_name(t, script, wanted):
+    (t.room / "bin").mkdir()
+    (t.room / "bin/sync").write_text(f'#!/bin/sh\nls "$@" >>"{t.room}/synced" && exec {shutil.which("sync")} "$@"\n')
+    (t.room / "bin/sync").chmod(0o755)
+    t.same(script(t, more={"PATH": f"{t.room}/bin:{os.environ['PATH']}"})[0], 0, "its status")
+    t.same(re.sub(r"\.\w{6}/", "/", (t.room / "synced").read_text()).splitlines(), wanted, "files, in a folder that has six more characters in its name")
+
+
 def an_open_one(t):
     t.open("ca.db", "--control", "counter")
     return back_up(t)
