@@ -571,6 +571,9 @@ def a_copy_of_an_open_register_by_its_control_socket(t):
 @test(seconds=2)
 def seven_are_kept(t):
     copies = register_and_copies(t, *(f"ca.db-2026010{day}T000000Z" for day in range(1, 9)), "other.db-20250101T000000Z")
+    # What a run left that was killed.
+    (copies / ".backup.abc").mkdir()
+    (copies / ".backup.abc/ca.db").write_text("half")
     t.same(back_up(t)[0], 0)
     kept = names(copies)
     t.same(kept[:6], [f"ca.db-2026010{day}T000000Z" for day in range(3, 9)], "six older ones")
