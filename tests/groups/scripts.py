@@ -499,6 +499,8 @@ def names(folder):
 def a_copy_of_a_closed_register(t):
     copies = register_and_copies(t)
     before = {name: (t.room / name).read_bytes() for name in ("ca.db", "ca.db-wal") if (t.room / name).exists()}
+    if not os.geteuid():
+        shutil.chown(t.room / "ca.db", "nobody")
     status, out, told = back_up(t)
     t.same((status, told), (0, []))
     [copy] = copies.iterdir()
@@ -508,6 +510,7 @@ def a_copy_of_a_closed_register(t):
     modes = {it.name: "%o" % (it.stat().st_mode & 0o777) for it in [copy, *copy.iterdir()]}
     t.same({mode for name, mode in modes.items() if name.startswith("ca.db") and name != copy.name}, {"600"}, "modes of its files")
     t.same(modes[copy.name], "700")
+    t.same((copy / "ca.db").owner(), (t.room / "ca.db").owner(), "the owner of the register's file")
     # It is a register: to go back to it, copy its files.
     replies = t.done("script", copy / "ca.db", given="2026-01-02T00:00:00Z status 05\n2026-01-02T00:00:00Z counts\n")
     t.same(replies, "good\ngood 1 revoked 0 expired 0\n")
