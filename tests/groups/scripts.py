@@ -7,6 +7,8 @@ import re
 import shutil
 import subprocess
 import threading
+import time
+from concurrent.futures import ThreadPoolExecutor
 
 from lib import authority, program, registers
 from lib.authority import DAY, EXAMPLES, Authority, body_of, moment_of
@@ -234,6 +236,20 @@ def a_register_that_was_set_back(t):
     t.same(contents(t.room / "www"), before)
     at_control(t, "crl")
     t.same(publish(t, desk)[1], "crl 3 published in www\n", "a greater number is taken again")
+
+
+@test(seconds=3)
+def a_crl_is_published_once_another_run_has_ended(t):
+    _, desk = open_desk(t, "crl")
+    folder = os.open(t.room / "www", os.O_RDONLY)
+    fcntl.flock(folder, fcntl.LOCK_EX)
+    with ThreadPoolExecutor(1) as pool:
+        run = pool.submit(publish, t, desk)
+        # Time in which it could begin to write.
+        time.sleep(1)
+        t.same((run.done(), names(t.room / "www")), (False, []), "whether it has ended, and what is in the folder")
+        os.close(folder)
+        t.same(run.result(), (0, "crl 1 published in www\n", []))
 
 
 @test(seconds=3)
