@@ -92,7 +92,10 @@ def published(t, it, desk, number):
 @test(seconds=3)
 def a_crl_is_published_if_it_differs(t):
     it, desk = open_desk(t, "crl")
+    # As of a cron job whose files are for its user alone.
+    before = os.umask(0o077)
     t.same(publish(t, desk), (0, "crl 1 published in www\n", []), "the first one")
+    os.umask(before)
     published(t, it, desk, 1)
     before = contents(t.room / "www")
     t.same(publish(t, desk), (0, "", []), "the same again")
