@@ -7,7 +7,7 @@ import random
 import re
 from html.parser import HTMLParser
 
-from lib import authority, program
+from lib import authority, program, registers
 from lib.authority import DAY, EXAMPLES, moment_of
 from lib.program import parted
 from lib.trial import each, test
@@ -223,6 +223,21 @@ def a_part_of_the_time(t, made, url, desk, crls):
     report(t, "--register", "ca.db", "--folder", "closed", begin, end)
     for word in ("certificates", "revocations", "crls"):
         t.same(table(t, "closed", word), table(t, "part", word), f"{word} of a closed register")
+
+
+@test(seconds=4)
+def lists_of_several_pages(t):
+    """Of 1,100 certificates the table has all, and the page the first thousand."""
+    records = registers.Records(1_100)
+    registers.make(t.room / "ca.db", records, 3)
+    t.clock(records.last)
+    desk = t.open()
+    told = report(t, "--url", f"http://127.0.0.1:{desk.port}", "--folder", "it", "2026-01-01", "2027-01-01")
+    t.has(told, "it/report.html: 1100 certificates, 220 revocations, 220 requests, 40 CRLs, ")
+    t.same({row["serial"] for row in table(t, "it", "certificates")}, {cert[0].hex() for cert in records.certs}, "serial numbers")
+    page = (t.room / "it/report.html").read_text(encoding="utf-8")
+    t.same(len(Page(page).rows["Certificates whose notBefore is in the time"]), 1 + 1_000, "rows, with the names of the columns")
+    t.has(page, "The first 1,000 rows. All of them are in certificates.csv.")
 
 
 @test(seconds=3)
