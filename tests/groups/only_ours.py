@@ -394,6 +394,17 @@ def a_signer_is_tried_before_the_desk_starts(t, algorithm):
 
 
 @test(seconds=3)
+def a_signer_that_hangs_is_tried_for_ten_seconds(t):
+    """By check-signer.py. Here a second has a tenth of one."""
+    it = Authority(t)
+    t.signer("hangs.sign", lambda message, call: "hang")
+    (t.room / "sitecustomize.py").write_text(
+        "import socket\nsocket.socket.settimeout = lambda self, seconds, real=socket.socket.settimeout: real(self, seconds / 10)\n")
+    ran = t.tried("env", f"PYTHONPATH={t.room}", sys.executable, EXAMPLES / "check-signer.py", it.pem, *it.signing("hangs.sign"))
+    t.same((ran.returncode, ran.stdout, ran.stderr), (1, b"", b"hangs.sign: no signature: timed out\n"))
+
+
+@test(seconds=3)
 def a_responder_s_signer_is_tried_by_its_own_certificate(t):
     authority.need_cryptography(t)
     it, responder = Authority(t), Authority(t, name="ocsp", subject="/CN=R")
