@@ -2,6 +2,7 @@
 The accepted messages come from the program itself; the refused ones come from openssl, or are made by hand."""
 
 import random
+import signal
 import socket
 import subprocess
 import sys
@@ -364,6 +365,23 @@ def a_signature_that_does_not_verify(t, algorithm):
     t.same([f"its signature does not verify by {it.pem}" in line for line in told], [True] * 3, f"each is told of: {told}")
     authority.started(t, [*signer, it.key, "alone.sign"], t.room / "alone.sign")
     t.true(signature(t.room / "alone.sign", message) != b"", "without a certificate")
+
+
+@test(seconds=3)
+def a_client_that_has_gone_takes_no_signature_of_another(t):
+    """signer.py goes on once it can't write a signature."""
+    authority.need_cryptography(t)
+    it = Authority(t)
+    path, process = guard(t, it)
+    message = to_be_signed(t, it)[0]
+    process.send_signal(signal.SIGSTOP)
+    with socket.socket(socket.AF_UNIX) as client:
+        client.connect(str(path))
+        client.sendall(message)
+    process.send_signal(signal.SIGCONT)
+    t.true(signature(path, message) != b"", "the signature of another client")
+    process.terminate()
+    t.same((process.wait(program.LONGEST), process.stderr.read()), (0, b"a connection failed: [Errno 32] Broken pipe\n"), "its status and standard error")
 
 
 # The test message that a signer is tried with
