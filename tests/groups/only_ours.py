@@ -384,6 +384,17 @@ def a_client_that_has_gone_takes_no_signature_of_another(t):
     t.same((process.wait(program.LONGEST), process.stderr.read()), (0, b"a connection failed: [Errno 32] Broken pipe\n"), "its status and standard error")
 
 
+@test(seconds=2)
+def a_message_that_is_too_long_is_not_signed(t):
+    """By signer.py. Here a message has at most a thousand octets, and not 128 MiB."""
+    authority.need_cryptography(t)
+    it = Authority(t)
+    (t.room / "sitecustomize.py").write_text("import only_ours\nonly_ours.LONGEST = 1_000\n")
+    words = ["env", f"PYTHONPATH={t.room}:{EXAMPLES}", "python3", EXAMPLES / "signer.py", it.key, "short.sign"]
+    authority.started(t, words, t.room / "short.sign")
+    t.same([signature(t.room / "short.sign", bytes(size)) != b"" for size in (1_000, 1_001)], [True, False], "whether 1,000 and 1,001 octets are signed")
+
+
 # The test message that a signer is tried with
 
 
