@@ -75,8 +75,8 @@ def listed(t, file, word):
 
 
 def report(t, *words, status=0):
-    """Runs the script, which must end with this status; returns its output."""
-    ran = t.tried("python3", EXAMPLES / "audit-report.py", *words, env=dict(program.environment(), DESK=program.program()))
+    """Runs the script, which must end with this status and uses no proxy; returns its output."""
+    ran = t.tried("python3", EXAMPLES / "audit-report.py", *words, env=dict(program.environment(more=authority.NO_PROXY), DESK=program.program()))
     t.same(ran.returncode, status, f"status; it printed {ran.stdout + ran.stderr!r}")
     return (ran.stdout + ran.stderr).decode()
 

@@ -335,7 +335,7 @@ def issue_due_crl_at_once_among_many(t):
     t.same(play(t, *issues).stdout, b"", "each is on a CRL")
     control = t.control()
     t.same(control.ask("revoke 300").split()[0], "revoked")
-    t.same(play(t, *issues).stdout, b"crl 2 entries 300\n", "one is on none")
+    t.same(play(t, *issues, more=authority.NO_PROXY).stdout, b"crl 2 entries 300\n", "one is on none")
     for words, status, told in (((*issues[:5], "1", "counter"), 1, b"does not answer /metrics at port 1"), ((*issues[:3], "none", "counter"), 2, b"there is no ground none"),
                                 (issues[:4], 2, b"usage: "), ((*issues[:3], "", "counter"), 2, b"usage: "), ((*issues[:2], "--other", "x", "counter"), 2, b"usage: ")):
         ran = play(t, *words, status=status)

@@ -16,8 +16,8 @@ from lib.trial import Skipped, each, need, test
 
 
 def played(t, script, *words, before=(), more=None):
-    """Runs a script of examples/ with the tested program as its `desk`: its status, its output, and its lines on standard error."""
-    env = {**os.environ, "DESK": program.program(), "TZ": "America/New_York", **(more or {})}
+    """Runs a script of examples/ with the tested program as its `desk`: its status, its output, and its lines on standard error. It uses no proxy."""
+    env = {**os.environ, "DESK": program.program(), "TZ": "America/New_York", **authority.NO_PROXY, **(more or {})}
     ran = t.tried(*before, EXAMPLES / script if not before else t.room / script, *words, env=env)
     return ran.returncode, ran.stdout.decode(), ran.stderr.decode().splitlines()
 

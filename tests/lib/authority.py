@@ -40,6 +40,10 @@ REASONS = {"Unspecified": 0, "Key Compromise": 1, "CA Compromise": 2, "Affiliati
 MALFORMED, INTERNAL, TRY_LATER = (bytes.fromhex(f"30030A010{it}") for it in (1, 2, 3))
 
 
+# A proxy that no script uses: it is not there, and the desk is on the same machine.
+NO_PROXY = {"http_proxy": "http://127.0.0.1:1"}
+
+
 def now():
     """The machine's clock, in whole seconds."""
     return int(time.time())
