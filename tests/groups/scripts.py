@@ -415,6 +415,19 @@ def refused_certificates_are_reported_and_the_others_registered(t):
 
 
 @test(seconds=2)
+def a_certificate_of_a_ca_below_another_one(t):
+    """The other CA signed the certificate that is given."""
+    it, _ = unsigned_desk(t)
+    root = Authority(t, name="root", subject="/CN=Root")
+    (t.room / "ca.ext").write_text("basicConstraints=critical,CA:TRUE\n")
+    t.tool("openssl", "req", "-new", "-key", it.key, "-subj", "/CN=T", "-out", "below.csr")
+    t.tool("openssl", "x509", "-req", "-in", "below.csr", "-CA", root.pem, "-CAkey", root.key, "-set_serial", 1, "-days", 3650, "-extfile", "ca.ext", "-out", "below.pem")
+    issued(t, it, "a", "05")
+    wanted = "a.pem: serial number 05 registered, order 1 of subscriber 1\n"
+    t.same(register_pem(t, "-c", "counter", "-a", "below.pem", "a.pem"), (0, wanted, []))
+
+
+@test(seconds=2)
 def an_order_that_stays_without_its_certificate_is_reported(t):
     """Where fewer days are allowed now than there were, the order is accepted and the certificate is not."""
     it = Authority(t)
