@@ -358,7 +358,9 @@ def issuer_words_takes_name_and_key_out_of_a_certificate(t, algorithm, subject):
     # RFC 5280 4.1: the SEQUENCEs of a TBSCertificate are signature, issuer, validity, subject and key.
     name, key = fields[3][2], authority.values_of(fields[4][1])[1][1][1:]
     wanted = f"--name {name.hex()} --key {key.hex()}\n".encode()
-    t.same(play(t, "sh", EXAMPLES / "issuer-words.sh", it.pem).stdout, wanted, "of PEM")
+    (t.room / "left").mkdir()
+    t.same(play(t, "sh", EXAMPLES / "issuer-words.sh", it.pem, more={"TMPDIR": str(t.room / "left")}).stdout, wanted, "of PEM")
+    t.same(list((t.room / "left").iterdir()), [], "temporary files that are left")
     (t.room / "ca.der").write_bytes(der)
     t.same(play(t, "sh", EXAMPLES / "issuer-words.sh", "ca.der").stdout, wanted, "of DER")
     it.register()
