@@ -227,14 +227,19 @@ def a_part_of_the_time(t, made, url, desk, crls):
 
 @test(seconds=4)
 def lists_of_several_pages(t):
-    """Of 1,100 certificates the table has all, and the page the first thousand."""
+    """Of 1,100 certificates the table has all, and the page the first thousand. A CRL has more than 65,536 octets."""
     records = registers.Records(1_100)
     registers.make(t.room / "ca.db", records, 3)
+    number, update = records.updates[19]
+    crl = registers.sealed(number, update, [(at.to_bytes(20, "big"), update, 4) for at in range(1, 2_001)])
+    t.sql("ca.db", "UPDATE crl SET der = ? WHERE number = ?", crl, number)
     t.clock(records.last)
     desk = t.open()
     told = report(t, "--url", f"http://127.0.0.1:{desk.port}", "--folder", "it", "2026-01-01", "2027-01-01")
     t.has(told, "it/report.html: 1100 certificates, 220 revocations, 220 requests, 40 CRLs, ")
     t.same({row["serial"] for row in table(t, "it", "certificates")}, {cert[0].hex() for cert in records.certs}, "serial numbers")
+    t.same([(row["entries"], row["bytes"]) for row in table(t, "it", "crls") if row["crl"] == str(number)], [("2000", str(len(crl)))], "entries and octets of the CRL")
+    t.true(len(crl) > 65_536, f"{len(crl)} octets")
     page = (t.room / "it/report.html").read_text(encoding="utf-8")
     t.same(len(Page(page).rows["Certificates whose notBefore is in the time"]), 1 + 1_000, "rows, with the names of the columns")
     t.has(page, "The first 1,000 rows. All of them are in certificates.csv.")
