@@ -6,6 +6,7 @@ import signal
 import socket
 import subprocess
 import sys
+import time
 
 from lib import authority, program
 from lib.authority import EXAMPLES, INTERNAL, KEYS, Authority, body_of, inside, moment_of, values_of
@@ -431,6 +432,19 @@ def a_signer_that_hangs_is_tried_for_ten_seconds(t):
         "import socket\nsocket.socket.settimeout = lambda self, seconds, real=socket.socket.settimeout: real(self, seconds / 10)\n")
     ran = t.tried("env", f"PYTHONPATH={t.room}", sys.executable, EXAMPLES / "check-signer.py", it.pem, *it.signing("hangs.sign"))
     t.same((ran.returncode, ran.stdout, ran.stderr), (1, b"", b"hangs.sign: no signature: timed out\n"))
+
+
+@test(seconds=3)
+def a_signature_that_comes_in_pieces_is_tried_whole(t):
+    it = Authority(t)
+
+    def sign(peer, _):
+        for octet in it.sign(program.read_all(peer)):
+            peer.sendall(bytes([octet]))
+            time.sleep(0.001)
+
+    t.enter_context(authority.Peer(t.room / "ca.sign", sign))
+    t.same(checked(t, it.pem, *it.signing()), "")
 
 
 @test(seconds=3)
