@@ -118,6 +118,16 @@ def examples_signer_py_signs_under_each_algorithm(t, algorithm):
         it.verifies(t.done("crl", "ca.db", "--number", number).encode("latin-1"), f"CRL {number}")
 
 
+@test(seconds=4)
+def examples_signer_py_uses_no_processor_time_while_nobody_comes(t):
+    """Even if it draws nonces ahead."""
+    authority.need_cryptography(t)
+    it = Authority(t)
+    process = authority.started(t, ["python3", authority.EXAMPLES / "signer.py", it.key, "ca.sign"], t.room / "ca.sign")
+    t.true(signature(t.room / "ca.sign", b"a message") != b"", "it signs")
+    native_signer.is_idle(t, process)
+
+
 @test(seconds=5)
 def examples_signer_py_started_thrice_at_a_stale_socket(t):
     """Each takes half a second to remove what it found: one serves, and the others find that one."""
