@@ -242,7 +242,8 @@ def a_token_that_does_not_sign(t):
     lines = block("A key in hardware", "ALGORITHM=")
     top = folder_of(t)
     until = next(at for at, line in enumerate(lines) if line.startswith("SIGN="))
-    env = {**os.environ, "SOFTHSM2_CONF": str(top / "softhsm2.conf")}
+    (t.room / "left").mkdir()
+    env = {**os.environ, "SOFTHSM2_CONF": str(top / "softhsm2.conf"), "TMPDIR": str(t.room / "left")}
     typed(t, top, lines[:until])
     module = re.search(r"MODULE=(\S+)", lines[0])[1]
     (top / "wrong.pin").write_text("1174\n")
@@ -258,6 +259,7 @@ def a_token_that_does_not_sign(t):
     }.items():
         ran = t.tried("sh", authority.EXAMPLES / "pkcs11-signer.sh", *words, given=b"x" * 5000, env=env)
         t.same((ran.returncode == 0, ran.stdout != b""), (what == "the key", what == "the key"), what)
+    t.same(list((t.room / "left").iterdir()), [], "digests that are left")
 
 
 @test(seconds=6)
