@@ -75,8 +75,9 @@ def listed(t, file, word):
 
 
 def report(t, *words, status=0):
-    """Runs the script, which must end with this status and uses no proxy; returns its output."""
-    ran = t.tried("python3", EXAMPLES / "audit-report.py", *words, env=dict(program.environment(more=authority.NO_PROXY), DESK=program.program()))
+    """Runs the script, which must end with this status, and uses no proxy and no local time; returns its output."""
+    env = program.environment(more={**authority.NO_PROXY, "TZ": "America/New_York", "DESK": program.program()})
+    ran = t.tried("python3", EXAMPLES / "audit-report.py", *words, env=env)
     t.same(ran.returncode, status, f"status; it printed {ran.stdout + ran.stderr!r}")
     return (ran.stdout + ran.stderr).decode()
 

@@ -2,6 +2,7 @@
 index, its CRL with that of `openssl ca -gencrl`, and its OCSP answers with those of `openssl ocsp -index`."""
 
 import hashlib
+import os
 import random
 import re
 import sys
@@ -119,7 +120,7 @@ def make_ca(t, index=""):
 
 
 def moved(t, *words, status=0):
-    ran = t.tried(*MOVE, *words)
+    ran = t.tried(*MOVE, *words, env={**os.environ, "TZ": "America/New_York"})
     t.same(ran.returncode, status, f"status of from-openssl-index.py, which told {ran.stderr[-500:]!r}")
     return ran.stdout.decode(), ran.stderr.decode().splitlines()
 

@@ -199,8 +199,8 @@ def a_revocation_is_in_the_next_answer_of_an_open_desk(t):
 
 
 def play(t, *words, where=None, more=None, status=0):
-    """Runs a script of examples/ with the tested program as its `desk`."""
-    env = dict(os.environ, DESK=program.program(), **(more or {}))
+    """Runs a script of examples/ with the tested program as its `desk`, where the local time is not UTC."""
+    env = dict(os.environ, DESK=program.program(), TZ="America/New_York", **(more or {}))
     ran = t.tried(*words, env=env) if where is None else t.tried("env", "-C", where, *words, env=env)
     t.same(ran.returncode, status, f"status of {words[0]}, which printed {(ran.stdout + ran.stderr)[-2000:]!r}")
     return ran
