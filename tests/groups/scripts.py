@@ -604,6 +604,23 @@ def a_copy_of_an_open_register_by_its_control_socket(t):
 
 
 @test(seconds=2)
+def a_copy_of_an_open_register_in_another_folder(t):
+    """The script runs in another folder than the desk. All paths have a blank, and are relative to its folder. The copy has the moment in UTC."""
+    for name in ("the register", "the script", "all copies"):
+        (t.room / name).mkdir()
+    t.register("the register/my ca.db")
+    t.open("the register/my ca.db", "--control", "my control")
+    begun = authority.now()
+    words = ("env", "-C", "the script", EXAMPLES / "backup.sh", "../the register/my ca.db", "../all copies", "../my control")
+    ran = t.tried(*words, env={**os.environ, "DESK": program.program(), "TZ": "America/New_York"})
+    t.same((ran.returncode, ran.stderr), (0, b""), f"its status and standard error; it printed {ran.stdout!r}")
+    [copy] = (t.room / "all copies").iterdir()
+    t.same(names(copy), ["my ca.db"])
+    name = lambda moment: time.strftime("my ca.db-%Y%m%dT%H%M%SZ", time.gmtime(moment))
+    t.true(name(begun) <= copy.name <= name(authority.now()), f"{copy.name} was made at another moment")
+
+
+@test(seconds=2)
 def seven_are_kept(t):
     copies = register_and_copies(t, *(f"ca.db-2026010{day}T000000Z" for day in range(1, 9)), "other.db-20250101T000000Z")
     # What a run left that was killed.
