@@ -415,6 +415,16 @@ def refused_certificates_are_reported_and_the_others_registered(t):
 
 
 @test(seconds=2)
+def a_certificate_and_a_control_socket_at_paths_with_a_blank(t):
+    it = Authority(t)
+    it.register()
+    t.open("ca.db", "--control", "my control")
+    issued(t, it, "a certificate", "05")
+    wanted = "a certificate.pem: serial number 05 registered, order 1 of subscriber 1\n"
+    t.same(register_pem(t, "-c", "my control", "-a", "ca.pem", "a certificate.pem"), (0, wanted, []))
+
+
+@test(seconds=2)
 def a_certificate_of_a_ca_below_another_one(t):
     """The other CA signed the certificate that is given."""
     it, _ = unsigned_desk(t)
