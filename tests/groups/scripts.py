@@ -241,6 +241,15 @@ def a_register_that_was_set_back(t):
     t.same(publish(t, desk)[1], "crl 3 published in www\n", "a greater number is taken again")
 
 
+@test(seconds=2)
+def a_crl_is_published_at_a_path_with_a_blank(t):
+    _, desk = open_desk(t, "crl")
+    (t.room / "www").rename(t.room / "the www")
+    (t.room / "ca.pem").rename(t.room / "the ca.pem")
+    for told in ("crl 1 published in the www\n", ""):
+        t.same(publish(t, desk, folder="the www", ca="the ca.pem"), (0, told, []))
+
+
 @test(seconds=3)
 def a_crl_is_published_once_another_run_has_ended(t):
     _, desk = open_desk(t, "crl")
