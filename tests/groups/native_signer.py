@@ -941,6 +941,9 @@ def another_user(t):
         t.same(Path(f"/proc/{number}/mem").stat().st_uid, 0, "the owner of /proc/NUMBER/mem, which is root if dumps are forbidden (proc(5))")
         t.true(int(status["VmLck"].split()[0]) > 0, "its memory is locked")
     t.same(status_of(process.pid)["Uid"].split()[0], str(nobody))
+    others = native.children(process)
+    process.kill()
+    authority.until(lambda: not any(map(native.is_there, others)), "the end of the others, where the first is killed")
     ran = t.tried(native.signer(), "--user", "no-such-user", it.key, "other.sign")
     t.same((ran.returncode, ran.stderr, (t.room / "other.sign").exists()), (1, b"desk-signer: no user no-such-user\n", False), "a name that no user has")
 
