@@ -114,8 +114,12 @@ def examples_signer_py_signs_under_each_algorithm(t, algorithm):
     authority.started(t, ["python3", authority.EXAMPLES / "signer.py", it.key, "ca.sign"], t.room / "ca.sign")
     # With P-256 it draws eight nonces ahead: more than those.
     t.same(tried(t, ["crl"] * 12, it.signing()), [f"crl {number} entries 0" for number in range(1, 13)])
+    crls = [t.done("crl", "ca.db", "--number", number).encode("latin-1") for number in range(1, 13)]
     for number in (1, 8, 12):
-        it.verifies(t.done("crl", "ca.db", "--number", number).encode("latin-1"), f"CRL {number}")
+        it.verifies(crls[number - 1], f"CRL {number}")
+    # Two signatures with one r would give the key away (FIPS 186-5 6.4.1).
+    if algorithm.startswith("ecdsa"):
+        t.same(len({authority.inside(authority.signed_part(crl)[2], 0)[1] for crl in crls}), 12, "different r")
 
 
 @test(seconds=4)
