@@ -256,6 +256,15 @@ def a_register_with_nothing_in_it(t):
         t.same(table(t, "audit-2026-01-01-2026-02-01", word), [], word)
 
 
+@test(seconds=2)
+def an_issuer_with_signs_of_html_in_its_name(t):
+    """The Name has one common name (RFC 5280 4.1.2.4), of twelve octets."""
+    t.register(lines="2026-01-01T00:00:00Z crl\n", name=f"30173115301306035504030C0C{b'A & B <b>CA>'.hex()}")
+    report(t, "--register", "ca.db", "--folder", "it", "2026-01-01", "2026-02-01")
+    page = (t.room / "it/report.html").read_text(encoding="utf-8")
+    t.same((page.count("A &amp; B &lt;b&gt;CA&gt;"), "<b>" in page), (2, False), "how often it is in the page")
+
+
 @test(seconds=3)
 def a_time_with_no_crl_and_one_that_ended(t):
     """No CRL is in the time; the one before it ended in it, and none came."""
