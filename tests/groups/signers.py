@@ -707,6 +707,30 @@ def a_signer_that_still_hangs_is_tried_once_in_ten_seconds(t):
     at_once(t, lambda: is_signed(control), False, "a line behind that")
 
 
+@test(seconds=4)
+def a_back_off_begins_though_the_line_began_a_little_later_than_its_ten_seconds(t):
+    """A line of another client is answered first, and each reading of the elapsed time is a millisecond later than the one before."""
+    t.register(key=P256_KEY)
+    t.clock(MOMENT)
+    signer, passed = Hanging(t), t.room / "passed"
+    passed.write_bytes(bytes(8))
+    desk = t.open("ca.db", *P256, faults=faults.environment(passed=passed, tick=1))
+    control, other = t.control(), t.control()
+    t.same([it.ask("counts") for it in (control, other)], ["good 0 revoked 0 expired 0"] * 2)
+    desk.process.send_signal(signal.SIGSTOP)
+    control.peer.sendall(f"ocsp {OCSP.hex()}\n".encode())
+    other.peer.sendall(b"counts\n")
+    desk.process.send_signal(signal.SIGCONT)
+    t.same(other.file.readline(), b"good 0 revoked 0 expired 0\n")
+    authority.until(lambda: signer.asked, "that the signer is asked")
+    # It is shared with the desk, so it is never empty. The event loop reads the time for the last milliseconds, four times a second.
+    with open(passed, "r+b") as it:
+        it.write((9_985).to_bytes(8, "little"))
+    t.same(control.file.readline(), f"ocsp {INTERNAL.hex()}\n".encode(), "the line that waited")
+    at_once(t, lambda: is_signed(control), False, "a line behind it")
+    t.same(signer.asked, 1, "how often the signer was asked")
+
+
 @test(seconds=3)
 def a_crl_asks_a_signer_during_its_back_off(t):
     """While it hangs the CRL waits for its own ten seconds; once it answers the CRL is issued at once, and OCSP is signed again."""
