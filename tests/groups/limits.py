@@ -10,6 +10,7 @@ import re
 import resource
 import select
 import shutil
+import signal
 import socket
 import sqlite3
 import subprocess
@@ -516,6 +517,22 @@ def a_signed_answer_has_a_second_to_be_read_if_its_client_sends_on(t):
     authority.until(lambda: desk.files == desk.before, "that its connection is closed", seconds=10)
 
 
+@test(seconds=2)
+def a_client_that_sends_more_during_a_long_answer_gets_all_of_it(t):
+    t.register(lines=f"{DAY} crl\n{DAY} crl\n")
+    t.sql("ca.db", "UPDATE crl SET der = zeroblob(12000000) WHERE number = 1")
+    desk = t.open()
+    with desk.connect() as client:
+        client.sendall(b"GET /crl/1 HTTP/1.1\r\n\r\n")
+        got = len(client.recv(1))
+        client.sendall(COUNTS)
+        got += len(client.recv(8_000_000, socket.MSG_WAITALL))
+        # Time in which the desk sends the rest, which the sockets hold.
+        time.sleep(0.3)
+        got += len(read_all(client))
+    t.true(got > 12_000_000, f"{got} bytes of more than 12,000,000")
+
+
 @test
 def who_did_not_take_an_answer_is_lost_at_the_end(t):
     """`desk serve` has answered its last request, and waits for a client of a long answer."""
@@ -768,6 +785,24 @@ def late_and_evicted_connections_are_counted(t):
     t.tool("prlimit", "--pid", desk.desk.process.pid, f"--nofile={desk.before + 1}:{desk.before + 1}")
     desk.comes(COUNTS[:9])
     authority.until(lambda: lost_by(desk.desk) == {"broken": 0, "late": 1, "crowded": 1, "memory": 0}, "the one that was evicted in the metrics")
+
+
+@test
+def a_client_whose_answer_makes_room_is_not_lost(t):
+    """There is a descriptor for one connection. Its request is whole when another client comes."""
+    t.register()
+    desk = Passing(t)
+    t.tool("prlimit", "--pid", desk.desk.process.pid, f"--nofile={desk.before + 1}:{desk.before + 1}")
+    with desk.desk.connect() as first:
+        first.sendall(COUNTS[:9])
+        authority.until(lambda: program.is_read(first), "that it is read")
+        desk.desk.process.send_signal(signal.SIGSTOP)
+        first.sendall(COUNTS[9:])
+        with desk.desk.connect() as second:
+            second.sendall(COUNTS)
+            desk.desk.process.send_signal(signal.SIGCONT)
+            t.same([parted(read_all(it))[0] for it in (first, second)], [200, 200])
+    desk.loses()
 
 
 @test

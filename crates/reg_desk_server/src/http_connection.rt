@@ -223,7 +223,11 @@ impl<S: Link, H: Handler> HttpConnection<S, H> {
             Stage::Sending(unsent, closes_after) => match unsent.send_on(&mut self.link) {
                 Sent::All if *closes_after => Some(Next::Close),
                 Sent::All => None,
-                Sent::Blocked | Sent::More => Some(Next::Poll(Interest::WRITABLE)),
+                Sent::Blocked | Sent::More => {
+                    // Until all is sent, the client may send more.
+                    *closes_after = false;
+                    Some(Next::Poll(Interest::WRITABLE))
+                }
                 Sent::Broken => Some(Next::Close),
             },
             Stage::Receiving(_) => Some(Next::Close),

@@ -144,12 +144,15 @@ impl<H: Handler> HttpConnections<H> {
     }
 
     /// Evicts one connection: the oldest that has an answer, or else the oldest of all. If its request is incomplete, that is answered first as it
-    /// is; if its answer is to be signed, it is closed without one.
+    /// is; if its answer is to be signed, it is closed without one. A connection that is due is answered in this iteration, and not evicted.
     pub(crate) fn evict(&mut self, shared: &mut Shared) {
         let answered = self.oldest(Selection::Answered);
         let Some(slot) = answered.or(self.oldest(Selection::Unanswered)) else {
             return;
         };
+        if self.due.contains(&slot) {
+            return;
+        }
         if let Some(mut connection) = self.slots.take(slot) {
             if connection.is_receiving() {
                 connection.fault = Some(ConnectionFault::Evicted);
