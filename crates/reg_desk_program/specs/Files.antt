@@ -72,12 +72,11 @@ module _ {C : Type 0} (g : Ghosts C) (connection : Held C) where
     pub leaves : IsWhole → (records : Records) → ShowsKept g connection records
         → LeavesThese g register records
 
-  -- In a register that was created over it these records stand, and a stop leaves them, or these after one more change. The database had no table,
-  -- index or view.
+  -- In a register that was created over it these records stand, and a stop leaves them. The database had no table, index or view.
   pub record MakesOver (signs : Signs) (register : Held C) (signatory : Identity)
       (records : Records) : Type 0 where
     pub stands : Stands g signs register signatory records
-    pub leaves : IsWhole → LeavesReported g signs register signatory records
+    pub leaves : IsWhole → LeavesReported g signs register signatory records None
     pub empty : connection.schema ≡ no_schema
     pub clean : doubt (state g connection).is_clean ≤ doubt (state g register).is_clean
 

@@ -26,13 +26,14 @@ pub fn without_a_key_only_digests_are_made<D: Device>()
     ensures { IsDigestSigner (SignsByKeyOrDigest D.answers) digest }
 {}
 
-/// A stop at any moment of a job leaves the records that its replies reported, or these after one more change.
+/// A stop at any moment of a job leaves the records that its replies reported, or those after the call that it interrupted.
 ///
 /// Between its opening and its closing by a job, [`perform`](crate::perform) changes the records that stand in a register only as the replies report
 /// (`UsesRegister` of reg_desk_jobs). A register of this program's version that is opened has the sound records that its file showed (`begins`).
-/// After a stop at any moment (`leaves`), a register that is opened again from what the disk kept has the records that stood, or these after one
-/// more change, for which no acceptance was replied. So no accepted command is lost. For commands run one after another,
-/// [`reg_office::laws::a_register_opened_after_a_stop_stands_after_a_prefix`] states which change that is.
+/// The machine may stop in any later call, or after it. A register that is then opened again from what the disk kept has the records that stood, or
+/// those after the interrupted call (`leaves`). That is the call which was executed (`call`); or an earlier one, if the disk's failure closed
+/// the connection in it: then each later one failed (`calls`). No acceptance of the interrupted call was replied. So no accepted command is lost,
+/// and at most one other was carried out.
 ///
 /// The model of a stop is a disk that refuses each call from that moment on, and a client that receives no later reply. A reply is written
 /// only after its call.

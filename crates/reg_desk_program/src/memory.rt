@@ -46,7 +46,7 @@ pub(crate) fn script_in_memory<R: Read, W: Write>(
 fn office_in_memory(alloc: Global) -> Result<MemoryOffice, Failure>
     ensures ok { IfOk result (λ office. Stands over_memory digests office.store digest sample_records) }
     ensures leaves { IfOk result (λ office.
-        LeavesReported over_memory digests office.store digest sample_records) }
+        LeavesReported over_memory digests office.store digest sample_records None) }
     ensures alone { IfOk result (λ office. office.responder ≡ ByIssuer None) }
     ensures err { IfErr result IsCreateFailure }
 {

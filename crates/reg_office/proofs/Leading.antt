@@ -1,5 +1,5 @@
 -- The calls of an office over a store, as steps of its records.
-use Rattle.std.proofs.Common.{◌≡◌, ℕ, List, refl, sym, ◌∙◌, subst}
+use Rattle.std.proofs.Common.{◌≡◌, ℕ, List, Option, refl, sym, ◌∙◌, subst}
 use Rattle.std.specs.Prelude.{Result, Ok, Err, Vec, IfOk, IfErr, IsErrAnd, IsErrOf}
 use Rattle.sqlite.specs.Held.{Held, state}
 use Rattle.sqlite.specs.State.{HasCleanDisk}
@@ -12,9 +12,8 @@ use Rattle.reg_core.specs.declared.command.Reply.{Reply}
 use Rattle.reg_core.specs.declared.memory.Memory.{Memory}
 use Rattle.reg_core.specs.declared.refusal.Fault.{Fault}
 use Rattle.reg_core.specs.declared.refusal.Fault.TheVariants.{Signer as SignerFailed}
-use Rattle.reg_crl.specs.Signing.{Identity, signed_by}
+use Rattle.reg_crl.specs.Signing.{Identity}
 use Rattle.reg_crl.specs.declared.signer.Signer.{Ghosts as Signer}
-use Rattle.reg_core_laws.specs.Run.{Happens}
 use Rattle.reg_office_api.specs.Signatories.{Signatory}
 use Rattle.reg_office_api.specs.CallSteps.{CommandStep, Signs, Runs, AnswersOcsp}
 use Rattle.reg_office_api.specs.Drafts.{Begins, Drafts, IsDraft}
@@ -23,11 +22,11 @@ use Rattle.reg_office_api.specs.declared.response.OcspResponse.{OcspResponse}
 use Rattle.reg_ocsp.specs.Drafts.{Drafted}
 use Rattle.reg_io.specs.declared.begun.ReadyOrUnsigned.{ReadyOrUnsigned}
 use Rattle.reg_io.specs.declared.begun.ReadyOrUnsigned.TheVariants.{Ready, Unsigned}
-use Rattle.reg_store_tables.specs.Stays.{Changed, LeavesNothing, Looked}
+use Rattle.reg_store_tables.specs.Stays.{Changed, Looked}
 use Rattle.reg_store_tables.proofs.PublicLaws.{was_clean, ok_then}
 use Rattle.reg_office.proofs.Beginning.{draft_replied}
-use Rattle.reg_office.specs.AfterStoppedCommand.{Does, LeavesReported}
-use Rattle.reg_office.specs.Calls.{LeadsOver, OfficeLeads, OfficeLooks, RanIn, StandsFor, seen}
+use Rattle.reg_office.specs.AfterStoppedCommand.{ChangingCall, Does, command_call}
+use Rattle.reg_office.specs.Calls.{LeadsOver, OfficeLeads, OfficeLooks, OfficeStops, RanIn, StandsWith, StopsOver, seen}
 use Rattle.reg_office.specs.Beginning.{IsBegun, IsSignedBy}
 use Rattle.reg_office.specs.Faults.{IsTableFault}
 use Rattle.reg_store_tables.specs.LookUps.{LooksUp}
@@ -47,72 +46,78 @@ same_signatory identity crls crls' responder responder' same still = λ i. signa
 
 -- The calls of an office: its store and who signs, before and after.
 module _ {C : Type 0} (g : Ghosts C) (signs : Signs) (old new : Held C) (signatory signatory' : Signatory) (same : signatory' ≡ signatory) where
-  -- what stood for who signs stood for those
-  stood_for : (those : Signatory) (before : Records) → StandsFor g signs (old, signatory) those before → Stands g signs old signatory.crls before
-  stood_for those before (is, stands, leaves) =
-      let P : Signatory → Type 0 = λ v. Stands g signs old v.crls before in
-      subst P (sym is) stands
-
   -- a command
-  command_leads : (now : ℕ) (command : Command) (outcome : Result Reply Fault) → Settles g
+  command_stops : (now : ℕ) (command : Command) (outcome : Result Reply Fault) → Settles g
       → Changed g old new (Does g signs old signatory.crls now command) outcome
       → ((records : Records) → Stands g signs old signatory.crls records → HasCleanDisk (state g new) → HasOutcome g signs new signatory'.crls records now command outcome)
-      → LeadsOver g signs (λ those before after. Runs signs those before now command outcome after) (old, signatory) (new, signatory')
-  command_leads now command outcome settles changed step = (
+      → StopsOver g signs (command_call now command) outcome (λ those before after. Runs signs those before now command outcome after) (old, signatory) (new, signatory')
+  command_stops now command outcome settles changed step = (
     was_clean (state g old) (state g new) changed.survives.clean,
-    (λ those before stood is_clean.
-        let came = step before (stood_for those before stood) is_clean in
-        let is : signatory' ≡ those = same ∙ stood.0 in
-        let P : Signatory → Type 0 = λ v. Happens (signed_by signs v.crls) before now command outcome came.after in
-        let Q : Signatory → Type 0 = λ v. Stands g signs new v.crls came.after in
-        let R : Signatory → Type 0 = λ v. Changed g old new (Does g signs old v.crls now command) outcome in
-        let happens = subst P is came.happens in
-        let stands = subst Q is came.stands in
-        let leaves = leaves_done g signs those.crls old new before came.after now command outcome settles (subst R stood.0 changed) stood.1 happens stands stood.2 in
-        (came.after, happens, (is, stands, leaves))),
+    (λ those before first stood clean.
+        let (is, stands, left) = stood in
+        let are : signatory' ≡ those = same ∙ is in
+        let Did : Signatory → Type 0 = λ v. Changed g old new (Does g signs old v.crls now command) outcome in
+        let Came : Signatory → Records → Type 0 = λ v records. HasOutcome g signs new v.crls records now command outcome in
+        let Steps : Signatory → Type 0 = λ v. (records : Records) → Stands g signs old v.crls records → HasCleanDisk (state g new) → Came those records in
+        let steps : Steps those = subst Steps is (λ records standing whole. subst (λ (v : Signatory). Came v records) are (step records standing whole)) in
+        let came = steps before stands clean in
+        let (last, leaves, may) = leaves_done g signs those.crls old new before came.after now command settles stands came.stands clean first outcome (subst Did is changed) steps came.happens left in
+        (came.after, last, came.happens, (are, came.stands, leaves), may)),
   )
 
--- A call that commits nothing: its store and who signs, before and after.
-module _ {C : Type 0} (g : Ghosts C) (signs : Signs) (old new : Held C) (signatory signatory' : Signatory)
-    (survives : LeavesNothing (state g old) (state g new)) (same : signatory' ≡ signatory) where
-  -- what a stop leaves stays
-  left_by : (those : Signatory) (before : Records) → StandsFor g signs (old, signatory) those before → LeavesReported g signs new those.crls before
-  left_by those before stood = leaves_looked g signs those.crls old new before survives stood.2
+-- a call that may change the records is a step of them
+pub stops_lead : {C T : Type 0} (g : Ghosts C) (signs : Signs) (it : ChangingCall) (result : Result T Fault) (step : Signatory → Records → Records → Type 0)
+    (old new : Held C × Signatory) → StopsOver g signs it result step old new → LeadsOver g signs step old new
+stops_lead g signs it result step old new stops = (
+  stops.0,
+  (λ those before stood clean.
+      let (first, stands) = stood in
+      let (after, last, made, stands_now, may) = stops.1 those before first stands clean in
+      (after, made, (last, stands_now))),
+)
 
-  stood_by : (those : Signatory) (before : Records) → StandsFor g signs (old, signatory) those before → Stands g signs old signatory.crls before
-  stood_by = stood_for g signs old new signatory signatory' same
+-- what stands after a look-up, and what a stop leaves then
+pub looked_stands : {C : Type 0} (g : Ghosts C) (signs : Signs) (old new : Held C × Signatory) (signatory : Signatory) (records : Records)
+    (interrupted : Option ChangingCall) → Looked g old.0 new.0 → new.1 ≡ old.1
+    → StandsWith g signs old signatory records interrupted → StandsWith g signs new signatory records interrupted
+looked_stands g signs old new signatory records interrupted looked same (is, stands, left) =
+    (same ∙ is, stands_looked looked stands, leaves_looked g signs signatory.crls old.0 new.0 records interrupted looked left)
 
-  -- a call that leaves the records: what holds of those who signed holds of those who sign
-  leads_on : (Did : Signatory → Records → Records → Type 0)
-      → ((records : Records) → Stands g signs old signatory.crls records → HasCleanDisk (state g new) → Did signatory records records)
-      → ((records : Records) → Stands g signs old signatory.crls records → HasCleanDisk (state g new) → Stands g signs new signatory'.crls records)
-      → LeadsOver g signs Did (old, signatory) (new, signatory')
-  leads_on Did did stays = (
-    was_clean (state g old) (state g new) survives.clean,
-    (λ those before stood is_clean.
-        let stands = stood_by those before stood in
-        let is : signatory' ≡ those = same ∙ stood.0 in
-        let Q : Signatory → Type 0 = λ v. Stands g signs new v.crls before in
-        (before, subst (λ (v : Signatory). Did v before before) stood.0 (did before stands is_clean), (is, subst Q is (stays before stands is_clean), left_by those before stood))),
-  )
+-- a look-up: what holds of those who signed holds of those who sign
+leads_on : {C : Type 0} (g : Ghosts C) (signs : Signs) (old new : Held C × Signatory) → Looked g old.0 new.0 → new.1 ≡ old.1
+    → (Did : Signatory → Records → Records → Type 0)
+    → ((records : Records) → Stands g signs old.0 old.1.crls records → HasCleanDisk (state g new.0) → Did old.1 records records)
+    → LeadsOver g signs Did old new
+leads_on g signs old new looked same Did did = (
+  was_clean (state g old.0) (state g new.0) looked.survives.clean,
+  (λ those before stood clean.
+      let (interrupted, stands_with) = stood in
+      let (is, stands, left) = stands_with in
+      let P : Signatory → Type 0 = λ v. Stands g signs old.0 v.crls before in
+      let told = subst (λ (v : Signatory). Did v before before) is (did before (subst P (sym is) stands) clean) in
+      (before, told, (interrupted, looked_stands g signs old new those before interrupted looked same stands_with))),
+)
 
 -- An office before a look-up and after it.
 module _ {C S : Type 0} (g : Ghosts C) (signer : Signer S) (old new : Office C S) where
   -- a command that was run
+  pub ran_stops : (now : ℕ) (command : Command) (outcome : Result Reply Fault) → Settles g → RanIn g signer now command outcome old new
+      → new.responder ≡ old.responder → OfficeStops g signer (command_call now command) outcome (CommandStep signer.signs now command outcome) old new
+  ran_stops now command outcome settles ran same =
+      command_stops g signer.signs _ _ _ _ (same_signatory signer.identity _ _ _ _ ran.same_identity same) now command outcome settles ran.changed ran.step
+
   pub ran_leads : (now : ℕ) (command : Command) (outcome : Result Reply Fault) → Settles g → RanIn g signer now command outcome old new
       → new.responder ≡ old.responder → OfficeLeads g signer (CommandStep signer.signs now command outcome) old new
   ran_leads now command outcome settles ran same =
-      command_leads g signer.signs _ _ _ _ (same_signatory signer.identity _ _ _ _ ran.same_identity same) now command outcome settles ran.changed ran.step
+      stops_lead g signer.signs (command_call now command) outcome (CommandStep signer.signs now command outcome) (seen signer old) (seen signer new)
+      (ran_stops now command outcome settles ran same)
 
   -- what holds of the records is a step of them that leaves them
   pub office_leads : (Holds : Records → Type 0) (Did : Signatory → Records → Records → Type 0) → OfficeLooks g signer Holds old new
       → ((records : Records) → Holds records → Did (seen signer old).1 records records) → OfficeLeads g signer Did old new
   office_leads Holds Did looks did =
-      leads_on g signer.signs old.store new.store (seen signer old).1 (seen signer new).1 looks.looked.survives looks.same Did
+      leads_on g signer.signs (seen signer old) (seen signer new) looks.looked looks.same Did
       (λ records stands is_clean. did records (looks.found records stands is_clean))
-      (λ records stands is_clean.
-      let P : Signatory → Type 0 = λ v. Stands g signer.signs new.store v.crls records in
-      subst P (sym looks.same) (stands_looked looks.looked stands))
 
   -- a look-up of the store is one of the office, where those who sign are the same
   pub office_looks : (Tells Holds : Records → Type 0) → LooksUp g old.store new.store Tells → (seen signer new).1 ≡ (seen signer old).1

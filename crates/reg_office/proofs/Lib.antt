@@ -7,6 +7,7 @@ pub mod Deciding
 pub mod Facts
 pub mod Following
 pub mod Identified
+pub mod Interrupting
 pub mod Issuing
 pub mod Leading
 pub mod Leaving

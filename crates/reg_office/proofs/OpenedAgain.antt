@@ -1,5 +1,6 @@
 -- What a stop may leave stands in a register that is opened again.
-use Rattle.std.proofs.Common.{◌≡◌, ◌⊎◌, ℕ, List, [], ◌∷◌, Result, inl, inr, subst}
+use Rattle.std.specs.Prelude.{IsSomeAnd}
+use Rattle.std.proofs.Common.{◌≡◌, ◌⊎◌, ℕ, List, [], ◌∷◌, Option, Some, None, Result, inl, inr, subst}
 use Rattle.std.proofs.Math.Logic.{∥∥₁_map}
 use Rattle.sqlite_trees.specs.declared.store.Store.{Ghosts}
 use Rattle.sqlite.specs.Held.{Held, state}
@@ -16,8 +17,8 @@ use Rattle.sqlite_schema.specs.declared.schema.Schema.{Schema}
 use Rattle.reg_store.proofs.PublicLaws.{shows_again}
 use Rattle.reg_store_tables.specs.Schema.{register_schema}
 use Rattle.reg_store_tables.specs.AfterStop.{AreARegisters, ShowsDerivedAfterStop}
-use Rattle.reg_office.specs.AfterStoppedCommand.{IsDone, IsNext, IsOneMore, ShowsPrefix, LeavesReported}
-use Rattle.reg_office.specs.OpenedAgain.{OpensReported, ShowsAccepted, StandsOneMore, StandsPartlyRun}
+use Rattle.reg_office.specs.AfterStoppedCommand.{ChangingCall, IsCallDone, IsDone, IsNext, ShowsPrefix, LeavesReported, command_call, schedule_call, identifier_call}
+use Rattle.reg_office.specs.OpenedAgain.{OpensReported, ShowsAccepted, ShowsCallDone, StandsPartlyRun}
 use Rattle.reg_office.specs.Stands.{SoundFor, Stands}
 
 module _ {C : Type 0} (g : Ghosts C) (signs : Identity → List ℕ → List ℕ → Type 0) (again : Held C) (identity : Identity) (opens : Opens (state g again)) (live : IsLive (state g again)) where
@@ -56,16 +57,18 @@ module _ {C : Type 0} (g : Ghosts C) (signs : Identity → List ℕ → List ℕ
     ];
   }
 
-  stands_one_more : (records : Records) → IsOneMore signs identity records (state g again).committed.trees → StandsOneMore g signs again identity records
-  stands_one_more records (inl (now, command, it)) = inl (now, command, stands_done records now command it)
-  stands_one_more records (inr (inl (steps, rests))) = inr (inl (steps, shows_again g again opens live (with_schedule records steps) rests))
-  stands_one_more records (inr (inr (octets, rests))) = inr (inr (octets, shows_again g again opens live (with_key_identifier records octets) rests))
+  shows_call : (records : Records) (call : ChangingCall) → IsCallDone signs identity records call (state g again).committed.trees → ShowsCallDone g signs again identity records call
+  shows_call records (command_call now command) it = stands_done records now command it
+  shows_call records (schedule_call steps) rests = shows_again g again opens live (with_schedule records steps) rests
+  shows_call records (identifier_call octets) rests = shows_again g again opens live (with_key_identifier records octets) rests
 
-  pub stands_told : (records : Records) → SoundFor signs identity records
-      → ShowsDerivedAfterStop records (state g again).committed.trees ⊎ IsOneMore signs identity records (state g again).committed.trees
-      → Stands g signs again identity records ⊎ StandsOneMore g signs again identity records
-  stands_told records sound (inl rests) = inl (record { shown = shows_again g again opens live records rests; sound = sound })
-  stands_told records sound (inr more) = inr (stands_one_more records more)
+  pub stands_told : (records : Records) (interrupted : Option ChangingCall) → SoundFor signs identity records
+      → ShowsDerivedAfterStop records (state g again).committed.trees
+      ⊎ IsSomeAnd interrupted (λ call. IsCallDone signs identity records call (state g again).committed.trees)
+      → Stands g signs again identity records ⊎ IsSomeAnd interrupted (λ call. ShowsCallDone g signs again identity records call)
+  stands_told records interrupted sound (inl rests) = inl (record { shown = shows_again g again opens live records rests; sound = sound })
+  stands_told records (Some call) sound (inr done) = inr (shows_call records call done)
+  stands_told records None sound (inr done) = absurd done
 
   -- a register's tables obey its schema
   pub registers_again : (state g again).committed.schema ≡ register_schema → AreARegisters (state g again).committed.trees
@@ -73,9 +76,10 @@ module _ {C : Type 0} (g : Ghosts C) (signs : Identity → List ℕ → List ℕ
 
 -- what a stop leaves stands
 pub opens_told : {C : Type 0} (g : Ghosts C) (signs : Identity → List ℕ → List ℕ → Type 0) (held : Held C) (identity : Identity) (records : Records)
-    → SoundFor signs identity records → LeavesReported g signs held identity records → OpensReported g signs held identity records
-opens_told g signs held identity records sound leaves again opened same = ∥∥₁_map opened.found (λ may.
-    let told : Stands g signs again identity records ⊎ StandsOneMore g signs again identity records =
-    stands_told g signs again identity opened.opens opened.live records sound
-    (leaves opened.honest (state g again).committed.trees may (registers_again g signs again identity opened.opens opened.live same)) in
+    (interrupted : Option ChangingCall)
+    → SoundFor signs identity records → LeavesReported g signs held identity records interrupted → OpensReported g signs held identity records interrupted
+opens_told g signs held identity records interrupted sound left again opened same = ∥∥₁_map opened.found (λ may.
+    let told : Stands g signs again identity records ⊎ IsSomeAnd interrupted (λ call. ShowsCallDone g signs again identity records call) =
+    stands_told g signs again identity opened.opens opened.live records interrupted sound
+    (left.leaves opened.honest (state g again).committed.trees may (registers_again g signs again identity opened.opens opened.live same)) in
     told)

@@ -1,5 +1,5 @@
 -- The rows that a stop (a crash or a power failure) may leave during a command.
-use Rattle.std.specs.Prelude.{◌≡◌, ◌⊎◌, ℕ, List, [], ◌∷◌, ◌++◌, Result, Ok, Err, OnOk, IsTrue}
+use Rattle.std.specs.Prelude.{◌≡◌, ◌⊎◌, ℕ, List, [], ◌∷◌, ◌++◌, Option, IfSome, IsSomeAnd, Result, Ok, Err, OnOk, IsFalse, IsTrue}
 use Rattle.sqlite_trees.specs.Tree.{Trees}
 use Rattle.sqlite_trees.specs.declared.store.Store.{Ghosts}
 use Rattle.sqlite.specs.Held.{Held, state}
@@ -102,15 +102,27 @@ LeavesThese g held records =
     HasCleanDisk (state g held) → (trees : Trees) → (state g held).may_leave trees
     → ShowsDerivedAfterStop records trees
 
--- the rows show the records after one more change, which was not reported as accepted: a command, or another schedule or key identifier
-abbrev pub IsOneMore : Signs → Identity → Records → Trees → Type 0
-IsOneMore signs identity records trees =
-    ((now : ℕ) × (command : Command) × IsDone signs identity records now command trees)
-    ⊎ (((steps : List (ℕ × ℕ)) × ShowsDerivedAfterStop (with_schedule records steps) trees)
-    ⊎ ((octets : List ℕ) × ShowsDerivedAfterStop (with_key_identifier records octets) trees))
+-- a call that may change the records: a command at a moment, or the setting of a schedule or of a key identifier
+pub data ChangingCall : Type 0 where
+  command_call : ℕ → Command → ChangingCall
+  schedule_call : List (ℕ × ℕ) → ChangingCall
+  identifier_call : List ℕ → ChangingCall
 
--- if a stop after a call, or in the middle of it, leaves a register's tables, they show `records`, or the records after one more change
-abbrev pub LeavesReported : {C : Type 0} → Ghosts C → Signs → Held C → Identity → Records → Type 0
-LeavesReported g signs held identity records =
-    HasCleanDisk (state g held) → (trees : Trees) → (state g held).may_leave trees → AreARegisters trees
-    → ShowsDerivedAfterStop records trees ⊎ IsOneMore signs identity records trees
+-- the rows show the records after the call, which was not reported as accepted
+abbrev pub IsCallDone : Signs → Identity → Records → ChangingCall → Trees → Type 0
+IsCallDone signs identity records (command_call now command) trees =
+    IsDone signs identity records now command trees
+IsCallDone signs identity records (schedule_call steps) trees =
+    ShowsDerivedAfterStop (with_schedule records steps) trees
+IsCallDone signs identity records (identifier_call octets) trees =
+    ShowsDerivedAfterStop (with_key_identifier records octets) trees
+
+-- If a stop after a call, or in the middle of it, leaves a register's tables, they show `records`, or those after the interrupted call. A call
+-- is interrupted only if the disk's failure closes the connection in it, as a stop does.
+pub record LeavesReported {C : Type 0} (g : Ghosts C) (signs : Signs) (held : Held C) (identity : Identity)
+    (records : Records) (interrupted : Option ChangingCall) : Type 0 where
+  pub closed : HasCleanDisk (state g held) → IfSome interrupted (λ call. IsFalse (state g held).is_open)
+  pub leaves : HasCleanDisk (state g held) → (trees : Trees) → (state g held).may_leave trees
+      → AreARegisters trees
+      → ShowsDerivedAfterStop records trees
+      ⊎ IsSomeAnd interrupted (λ call. IsCallDone signs identity records call trees)

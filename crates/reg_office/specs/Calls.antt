@@ -1,5 +1,5 @@
 -- The calls of an office over a store, as steps of its records.
-use Rattle.std.specs.Prelude.{◌≡◌, ℕ, Result}
+use Rattle.std.specs.Prelude.{◌≡◌, ◌⊎◌, ℕ, Option, None, Some, Result, Ok, Err, IsErr}
 use Rattle.sqlite.specs.Held.{Held, state}
 use Rattle.sqlite.specs.State.{HasCleanDisk}
 use Rattle.sqlite_trees.specs.declared.store.Store.{Ghosts}
@@ -10,19 +10,26 @@ use Rattle.reg_core.specs.Records.{Records}
 use Rattle.reg_core.specs.declared.command.Command.{Command}
 use Rattle.reg_core.specs.declared.command.Reply.{Reply}
 use Rattle.reg_core.specs.declared.refusal.Fault.{Fault}
+use Rattle.reg_core.specs.declared.refusal.Fault.TheVariants.{Refused}
 use Rattle.reg_crl.specs.declared.signer.Signer.{Ghosts as Signer}
 use Rattle.reg_store_tables.specs.Stays.{Looked}
-use Rattle.reg_office.specs.AfterStoppedCommand.{LeavesReported}
+use Rattle.reg_office.specs.AfterStoppedCommand.{ChangingCall, LeavesReported}
 use Rattle.reg_office.specs.Answering.{failures_of, signatory_of}
 use Rattle.reg_office.specs.Commands.{RunsCommand}
 use Rattle.reg_office.specs.Stands.{Stands}
 use Rattle.reg_office.specs.declared.office.Office.{Office}
 
--- the store shows the records, which are sound for the signers; a stop leaves them, or those after one more change
+-- the store shows the records, which are sound for the signers; a stop leaves them, or those after the interrupted call
+abbrev pub StandsWith
+    : {C : Type 0} → Ghosts C → Signs → Held C × Signatory → Signatory → Records → Option ChangingCall → Type 0
+StandsWith g signs office signatory records interrupted =
+    (office.1 ≡ signatory) × Stands g signs office.0 signatory.crls records
+    × LeavesReported g signs office.0 signatory.crls records interrupted
+
+-- the same, for some interrupted call or none
 abbrev pub StandsFor : {C : Type 0} → Ghosts C → Signs → Held C × Signatory → Signatory → Records → Type 0
 StandsFor g signs office signatory records =
-    (office.1 ≡ signatory) × Stands g signs office.0 signatory.crls records
-    × LeavesReported g signs office.0 signatory.crls records
+    (interrupted : Option ChangingCall) × StandsWith g signs office signatory records interrupted
 
 -- a call of an office, given by its store and its signers before and after, is this step of the records
 abbrev pub LeadsOver : {C : Type 0} → Ghosts C → Signs → (Signatory → Records → Records → Type 0)
@@ -40,6 +47,39 @@ seen signer office =
 abbrev pub OfficeLeads : {C S : Type 0} → Ghosts C → Signer S → (Signatory → Records → Records → Type 0)
     → Office C S → Office C S → Type 0
 OfficeLeads g signer step old new = LeadsOver g signer.signs step (seen signer old) (seen signer new)
+
+-- the result of a call of an office tells this of its records, which do not change
+abbrev pub OfficeTells
+    : {C S : Type 0} → Ghosts C → Signer S → (Records → Type 0) → Office C S → Office C S → Type 0
+OfficeTells g signer Tells old new =
+    OfficeLeads g signer (λ signatory before after. Tells before × (after ≡ before)) old new
+
+-- The interrupted call before a call `it` with this result (`first`), and after it (`last`). If there is a first one, `it` fails, and the first one
+-- stays. Else there is none after a success or a refusal, and none or `it` after a fault.
+abbrev pub MayInterrupt
+    : {T : Type 0} → Option ChangingCall → ChangingCall → Result T Fault → Option ChangingCall → Type 0
+MayInterrupt (Some first) it result last = IsErr result × (last ≡ Some first)
+MayInterrupt None it (Ok done) last = last ≡ None
+MayInterrupt None it (Err (Refused why)) last = last ≡ None
+MayInterrupt None it (Err fault) last = (last ≡ None) ⊎ (last ≡ Some it)
+
+-- A call `it` as a step of the records, as `Leads`, with the interrupted call before and after it. So `StandsWith` says what a stop in the call leaves.
+abbrev pub StopsOver
+    : {C T : Type 0} → Ghosts C → Signs → ChangingCall → Result T Fault
+    → (Signatory → Records → Records → Type 0) → Held C × Signatory → Held C × Signatory → Type 0
+StopsOver g signs it result step old new =
+    (HasCleanDisk (state g new.0) → HasCleanDisk (state g old.0))
+    × ((signatory : Signatory) (before : Records) (first : Option ChangingCall)
+    → StandsWith g signs old signatory before first → HasCleanDisk (state g new.0)
+    → (after : Records) × (last : Option ChangingCall) × step signatory before after
+    × StandsWith g signs new signatory after last × MayInterrupt first it result last)
+
+-- `StopsOver`, of an office
+abbrev pub OfficeStops
+    : {C S T : Type 0} → Ghosts C → Signer S → ChangingCall → Result T Fault
+    → (Signatory → Records → Records → Type 0) → Office C S → Office C S → Type 0
+OfficeStops g signer it result step old new =
+    StopsOver g signer.signs it result step (seen signer old) (seen signer new)
 
 -- an office's store shows the records, which are sound for the signer of its CRLs
 abbrev pub StandsIn : {C S : Type 0} → Ghosts C → Signer S → Office C S → Records → Type 0

@@ -5,6 +5,7 @@ pub mod Beginning
 pub mod Commands
 pub mod Faults
 pub mod Following
+pub mod InterruptedCalls
 pub mod Issuing
 pub mod Looking
 pub mod OpenedAgain

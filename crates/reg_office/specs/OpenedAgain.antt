@@ -1,5 +1,5 @@
 -- The records of an office that is opened again after a stop.
-use Rattle.std.specs.Prelude.{◌≡◌, ◌⊎◌, ℕ, List, Result, Ok, IsTrue}
+use Rattle.std.specs.Prelude.{◌≡◌, ◌⊎◌, ℕ, List, Option, IsSomeAnd, Result, Ok, IsTrue}
 use Rattle.sqlite_trees.specs.declared.store.Store.{Ghosts}
 use Rattle.sqlite.specs.Held.{Held, state}
 use Rattle.sqlite.specs.State.{IsLive, Survives}
@@ -14,7 +14,7 @@ use Rattle.reg_der.specs.Issuers.{with_key_identifier}
 use Rattle.reg_store.specs.OpenedAgain.{IsOpenedAgain}
 use Rattle.reg_store_tables.specs.Kept.{ShowsKept}
 use Rattle.reg_store_tables.specs.Schema.{register_schema}
-use Rattle.reg_office.specs.AfterStoppedCommand.{AreRunByOne, Does, PartlyRun}
+use Rattle.reg_office.specs.AfterStoppedCommand.{AreRunByOne, ChangingCall, Does, PartlyRun, command_call, schedule_call, identifier_call}
 use Rattle.reg_office.specs.Stands.{Stands, HasOutcome}
 
 -- the command was accepted over the records, and the store shows those after it
@@ -53,15 +53,19 @@ OpensAfterAPrefix {C = C} g signs =
 
 -- ---- over any calls
 
--- the store shows the records after one more change, which was not reported as accepted: a command, or another schedule or key identifier
-abbrev pub StandsOneMore : {C : Type 0} → Ghosts C → Signs → Held C → Identity → Records → Type 0
-StandsOneMore g signs held identity records =
-    ((now : ℕ) × (command : Command) × ShowsAccepted g signs held identity records now command)
-    ⊎ (((steps : List (ℕ × ℕ)) × ShowsKept g held (with_schedule records steps))
-    ⊎ ((octets : List ℕ) × ShowsKept g held (with_key_identifier records octets)))
+-- the store shows the records after the call, which was not reported as accepted
+abbrev pub ShowsCallDone : {C : Type 0} → Ghosts C → Signs → Held C → Identity → Records → ChangingCall → Type 0
+ShowsCallDone g signs held identity records (command_call now command) =
+    ShowsAccepted g signs held identity records now command
+ShowsCallDone g signs held identity records (schedule_call steps) =
+    ShowsKept g held (with_schedule records steps)
+ShowsCallDone g signs held identity records (identifier_call octets) =
+    ShowsKept g held (with_key_identifier records octets)
 
--- if the machine stops, and a register is opened again from what the disk left, it shows these records, or those after one more change
-abbrev pub OpensReported : {C : Type 0} → Ghosts C → Signs → Held C → Identity → Records → Type 0
-OpensReported {C = C} g signs held identity records =
+-- if the machine stops, and a register is opened again from what the disk left, it shows these records, or those after the interrupted call
+abbrev pub OpensReported
+    : {C : Type 0} → Ghosts C → Signs → Held C → Identity → Records → Option ChangingCall → Type 0
+OpensReported {C = C} g signs held identity records interrupted =
     (again : Held C) → IsOpenedAgain g held again → (state g again).committed.schema ≡ register_schema
-    → ∥ Stands g signs again identity records ⊎ StandsOneMore g signs again identity records ∥₁
+    → ∥ Stands g signs again identity records
+    ⊎ IsSomeAnd interrupted (λ call. ShowsCallDone g signs again identity records call) ∥₁

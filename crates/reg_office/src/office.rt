@@ -73,7 +73,7 @@ impl<C: Alter, S: Signer> Office<C, S> {
 }
 
 impl<C: Alter, S: Signer> reg_office_api::Office for Office<C, S> {
-    ghost use Rattle.std.specs.Prelude.{◌≤◌, ◌<◌, ◌↔◌, Err, IsErrOf, OnOk, OnErr, IfOk, IfErr};
+    ghost use Rattle.std.specs.Prelude.{◌≤◌, ◌<◌, ◌↔◌, ◌^◌, Err, IsErrOf, OnOk, OnErr, IfOk, IfErr};
     ghost use Rattle.sqlite.specs.Held.{state};
     ghost use Rattle.sqlite.specs.State.{HasCleanDisk};
     ghost use Rattle.reg_core.specs.Calendar.{clock_end};
@@ -88,16 +88,16 @@ impl<C: Alter, S: Signer> reg_office_api::Office for Office<C, S> {
     ghost use Rattle.reg_office_api.specs.CallSteps.{CommandStep, QueryStep, OcspStep, CrlStep};
     ghost use Rattle.reg_office_api.specs.Drafts.{BeginStep, IsSignerFailure};
     ghost use Rattle.reg_office_api.specs.Items.{items_of};
-    ghost use Rattle.reg_office_api.specs.LookUps.{IsOfStore, PageStep};
+    ghost use Rattle.reg_office_api.specs.LookUps.{HasLongest, HasOpen, HasRequestLoad, HasSummary, IsOfStore, PageStep};
     ghost use Rattle.reg_office_api.specs.Ocsp.{HasNoReading, IsOcspReply};
     ghost use Rattle.reg_office_api.specs.Settings.{SetsKeyIdentifier, ReplacesSchedule};
     ghost use Rattle.reg_store_changes.specs.AfterStoppedChange.{IsScheduled};
     ghost use Rattle.reg_der.specs.Issuers.{with_key_identifier};
     ghost use Rattle.reg_store_tables.specs.Stays.{Changed, Stays};
-    ghost use Rattle.reg_office.specs.AfterStoppedCommand.{IsIdentified};
+    ghost use Rattle.reg_office.specs.AfterStoppedCommand.{IsIdentified, command_call, identifier_call, schedule_call};
     ghost use Rattle.reg_office.specs.Answering.{SignerHasFailed};
     ghost use Rattle.reg_office.specs.Beginning.{IsBegun, RefusesRequest};
-    ghost use Rattle.reg_office.specs.Calls.{OfficeLeads, OfficeLooks, RanIn, SignsNothing, StandsFor, StandsIn, answer_failures_in, seen};
+    ghost use Rattle.reg_office.specs.Calls.{OfficeLeads, OfficeLooks, OfficeStops, OfficeTells, RanIn, SignsNothing, StandsFor, StandsIn, answer_failures_in, seen};
     ghost use Rattle.reg_office.specs.Faults.{IsTableFault};
 
     ghost is_clean = { λ office. HasCleanDisk (state C.Store office.store) };
@@ -111,13 +111,15 @@ impl<C: Alter, S: Signer> reg_office_api::Office for Office<C, S> {
     ghost answer_failures = { λ office. answer_failures_in S.Signer office };
 
     /// If the disk fails in the commit and the failure closes the connection, a register that is opened again has all of the change or none of
-    /// it (clause `ran`, in its `changed`).
+    /// it (clause `ran`, in its `changed`). Until then no later call changes the records (`stops`).
     fn run_one(&mut self, alloc: Global, now: Moment, command: &Command) -> Outcome
         ensures runs { OfficeLeads C.Store S.Signer
             (CommandStep S.signs now command.now result) self.old self.new }
         ensures counts { IsErrOf result SignerFailed
             → SignerHasFailed S.Signer self.old.signer self.new.signer }
         ensures ran { RanIn C.Store S.Signer now command.now result self.old self.new }
+        ensures stops { OfficeStops C.Store S.Signer (command_call now command.now) result
+            (CommandStep S.signs now command.now result) self.old self.new }
         ensures ended { clock_end ≤ now → (result ≡ Err (Refused ClockEnd)) × (self.new ≡ self.old) }
         ensures same_responder { self.new.responder ≡ self.old.responder }
     {
@@ -240,30 +242,47 @@ impl<C: Alter, S: Signer> reg_office_api::Office for Office<C, S> {
         page(&mut self.store, alloc, now, from, most)
     }
 
-    fn summary(&mut self) -> Result<RegisterSummary, Fault> {
+    fn summary(&mut self) -> Result<RegisterSummary, Fault>
+        ensures looks { OfficeTells C.Store S.Signer (λ records. HasSummary records result) self.old self.new }
+        ensures looked { OfficeLooks C.Store S.Signer (λ records. HasSummary records result) self.old self.new }
+        ensures faults { IfErr result IsOfStore }
+    {
         standing_in(&mut self.store)
     }
 
-    fn open_count(&mut self, now: Moment) -> Result<u64, Fault> {
+    fn open_count(&mut self, now: Moment) -> Result<u64, Fault>
+        ensures looks { OfficeTells C.Store S.Signer (λ records. HasOpen records now result) self.old self.new }
+        ensures looked { OfficeLooks C.Store S.Signer (λ records. HasOpen records now result) self.old self.new }
+        ensures faults { IfErr result IsOfStore }
+    {
         open_count_in(&mut self.store, now)
     }
 
-    fn request_load(
-        &mut self,
-        now: Moment,
-        serial: Serial,
-        most: u64,
-    ) -> Result<RequestLoad, Fault> {
+    fn request_load(&mut self, now: Moment, serial: Serial, most: u64) -> Result<RequestLoad, Fault>
+        requires { most < 2 ^ 63 }
+        ensures looks { OfficeTells C.Store S.Signer
+            (λ records. HasRequestLoad records now serial most result) self.old self.new }
+        ensures looked { OfficeLooks C.Store S.Signer
+            (λ records. HasRequestLoad records now serial most result) self.old self.new }
+        ensures faults { IfErr result IsOfStore }
+    {
         request_load_in(&mut self.store, now, serial, most)
     }
 
-    fn longest(&mut self, order: u64, not_before: Moment) -> Result<Option<u64>, Fault> {
+    fn longest(&mut self, order: u64, not_before: Moment) -> Result<Option<u64>, Fault>
+        ensures looks { OfficeTells C.Store S.Signer
+            (λ records. HasLongest records order not_before result) self.old self.new }
+        ensures looked { OfficeLooks C.Store S.Signer
+            (λ records. HasLongest records order not_before result) self.old self.new }
+    {
         longest_in(&mut self.store, order, not_before)
     }
 
     fn set_schedule(&mut self, alloc: Global, schedule: Schedule) -> Result<(), Fault>
         ensures sets { OfficeLeads C.Store S.Signer (λ signatory. ReplacesSchedule schedule result)
             self.old self.new }
+        ensures stops { OfficeStops C.Store S.Signer (schedule_call schedule) result
+            (λ signatory. ReplacesSchedule schedule result) self.old self.new }
         ensures faults { IfErr result IsOfStore }
         ensures ok { (records : Records) → StandsIn C.Store S.Signer self.old records
             → OnOk result (StandsIn C.Store S.Signer self.new (with_schedule records schedule)) }
@@ -283,6 +302,8 @@ impl<C: Alter, S: Signer> reg_office_api::Office for Office<C, S> {
     fn set_key_identifier(&mut self, alloc: Global, octets: Label) -> Result<(), Fault>
         ensures sets { OfficeLeads C.Store S.Signer (λ signatory. SetsKeyIdentifier octets result)
             self.old self.new }
+        ensures stops { OfficeStops C.Store S.Signer (identifier_call octets) result
+            (λ signatory. SetsKeyIdentifier octets result) self.old self.new }
         ensures faults { IfErr result IsOfStore }
         ensures ok { (records : Records) → StandsIn C.Store S.Signer self.old records
             → HasCleanDisk (state C.Store self.new.store)

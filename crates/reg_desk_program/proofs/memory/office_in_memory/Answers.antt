@@ -1,4 +1,4 @@
-use Rattle.std.proofs.Common.{rules, subst}
+use Rattle.std.proofs.Common.{None, rules, subst}
 use Rattle.sqlite.specs.Steps.{over_memory}
 use Rattle.reg_core.specs.Records.{Records}
 use Rattle.reg_crl_signer.specs.KeyOrDigestSignatures.{digest}
@@ -15,6 +15,6 @@ returns-in-Ok-create_over-clause-ok c =
 
 pub returns-in-Ok-create_over-clause-leaves : goal.returns-in-Ok-create_over-clause-leaves
 returns-in-Ok-create_over-clause-leaves c =
-    subst (λ (records : Records). LeavesReported over_memory digests c.in-Ok-create_over.office.store digest records)
+    subst (λ (records : Records). LeavesReported over_memory digests c.in-Ok-create_over.office.store digest records None)
     (sample_made c.in-Ok.issuer c.usual.result (search rules) (search rules) c.usual.ensures)
     (c.in-Ok-create_over.ensures.made.leaves (λ clean. let empty = c.in-Ok-open_in_memory.ensures.empty in (empty.0, empty.1)))

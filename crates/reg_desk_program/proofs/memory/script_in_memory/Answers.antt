@@ -1,4 +1,4 @@
-use Rattle.std.proofs.Common.{ap, inr}
+use Rattle.std.proofs.Common.{None, ap, inr}
 use Rattle.reg_desk_jobs.specs.Digest.{digest_alone}
 use Rattle.reg_desk_jobs.specs.Sample.{sample_records}
 use Rattle.reg_crl_signer.specs.KeyOrDigestSignatures.{digest}
@@ -11,5 +11,5 @@ returns g c =
     let fresh = c.in_ok-fresh.ensures in
     let clean = always_clean c.run_script.new.office.store in
     let alone = ap (signatory_of (λ seal. digest) digest) fresh.alone in
-    let (after, ran, stands) = c.run_script.ensures.ends.1 digest_alone sample_records (alone, fresh.ok, fresh.leaves) clean in
+    let (after, ran, stands) = c.run_script.ensures.ends.1 digest_alone sample_records (None, (alone, fresh.ok, fresh.leaves)) clean in
     inr (c.run_script.result, c.ended.ensures, (after, ran))

@@ -1,4 +1,4 @@
-use Rattle.std.proofs.Common.{refl}
+use Rattle.std.proofs.Common.{None, refl}
 use Rattle.reg_desk_program.proofs.host.HostMachine.create_in.Goals as goal
 
 pub returns-in-Ok-clause-made : goal.returns-in-Ok-clause-made
@@ -9,7 +9,7 @@ returns-in-Ok-clause-made c =
 pub returns-in-Ok-clause-stands : goal.returns-in-Ok-clause-stands
 returns-in-Ok-clause-stands c =
     let made = c.in-Ok.ensures.made in
-    (_, (refl, made.stands, made.leaves c.requires.1.whole))
+    (_, (None, (refl, made.stands, made.leaves c.requires.1.whole)))
 
 pub returns-in-Err-clause-faults : goal.returns-in-Err-clause-faults
 returns-in-Err-clause-faults c = c.in-Err.ensures.err

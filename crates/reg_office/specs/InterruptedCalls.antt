@@ -1,0 +1,96 @@
+-- The calls that an office gets one after another, and the call that a stop interrupted.
+use Rattle.std.specs.Prelude.{◌≡◌, ◌⊎◌, ℕ, List, [], ◌∷◌, Option, None, Some, IfSome, IsTrue, Result, IsErr}
+use Rattle.std.specs.List.{AllByRecursion}
+use Rattle.sqlite.specs.Held.{Held, state}
+use Rattle.sqlite.specs.State.{HasCleanDisk}
+use Rattle.sqlite_trees.specs.declared.store.Store.{Ghosts}
+use Rattle.reg_core.specs.Records.{Records}
+use Rattle.reg_core.specs.declared.command.Command.{Command}
+use Rattle.reg_core.specs.declared.command.Reply.{Reply}
+use Rattle.reg_core.specs.declared.refusal.Fault.{Fault}
+use Rattle.reg_office_api.specs.CallSteps.{CommandStep, Signs}
+use Rattle.reg_office_api.specs.Settings.{ReplacesSchedule, SetsKeyIdentifier}
+use Rattle.reg_office_api.specs.Signatories.{Signatory}
+use Rattle.reg_store_tables.specs.Stays.{Looked}
+use Rattle.reg_office.specs.AfterStoppedCommand.{ChangingCall, command_call, identifier_call, schedule_call}
+use Rattle.reg_office.specs.Calls.{StandsWith, StopsOver}
+
+-- a call of an office and its result: a command, a schedule or a key identifier that is set, or a look-up
+pub data OfficeCall : Type 0 where
+  command_ran : ℕ → Command → Result Reply Fault → OfficeCall
+  schedule_set : List (ℕ × ℕ) → Result (Unit {0}) Fault → OfficeCall
+  identifier_set : List ℕ → Result (Unit {0}) Fault → OfficeCall
+  looked_up : OfficeCall
+
+-- the call as a step of the records
+abbrev pub CallStep : Signs → OfficeCall → Signatory → Records → Records → Type 0
+CallStep signs (command_ran now command outcome) = CommandStep signs now command outcome
+CallStep signs (schedule_set steps result) = λ signatory. ReplacesSchedule steps result
+CallStep signs (identifier_set octets result) = λ signatory. SetsKeyIdentifier octets result
+CallStep signs looked_up = λ signatory before after. after ≡ before
+
+-- the clauses of the call, of the office before it and after it: its store, and its signers
+abbrev pub IsCall : {C : Type 0} → Ghosts C → Signs → Held C × Signatory → OfficeCall → Held C × Signatory → Type 0
+IsCall g signs old (command_ran now command outcome) new =
+    StopsOver g signs (command_call now command) outcome (CommandStep signs now command outcome) old new
+IsCall g signs old (schedule_set steps result) new =
+    StopsOver g signs (schedule_call steps) result (λ signatory. ReplacesSchedule steps result) old new
+IsCall g signs old (identifier_set octets result) new =
+    StopsOver g signs (identifier_call octets) result (λ signatory. SetsKeyIdentifier octets result) old new
+IsCall g signs old looked_up new = Looked g old.0 new.0 × (new.1 ≡ old.1)
+
+-- calls one after another
+abbrev pub AreCalls
+    : {C : Type 0} → Ghosts C → Signs → Held C × Signatory → List OfficeCall → Held C × Signatory → Type 0
+AreCalls g signs first [] last = last ≡ first
+AreCalls {C = C} g signs first (call ∷ calls) last =
+    (next : Held C × Signatory) × IsCall g signs first call next × AreCalls g signs next calls last
+
+-- the same as steps of the records
+abbrev pub AreCallSteps : Signs → Signatory → Records → List OfficeCall → Records → Type 0
+AreCallSteps signs signatory before [] after = after ≡ before
+AreCallSteps signs signatory before (call ∷ calls) after =
+    (middle : Records) × CallStep signs call signatory before middle × AreCallSteps signs signatory middle calls after
+
+-- the call, if it may change the records
+abbrev pub changing : OfficeCall → Option ChangingCall
+changing (command_ran now command outcome) = Some (command_call now command)
+changing (schedule_set steps result) = Some (schedule_call steps)
+changing (identifier_set octets result) = Some (identifier_call octets)
+changing looked_up = None
+
+-- the call did not succeed in a change
+abbrev pub HasNotChanged : OfficeCall → Type 0
+HasNotChanged (command_ran now command outcome) = IsErr outcome
+HasNotChanged (schedule_set steps result) = IsErr result
+HasNotChanged (identifier_set octets result) = IsErr result
+HasNotChanged looked_up = Unit {0}
+
+-- one of the calls is `it`, which failed, and so did each later one that may change the records
+abbrev pub FailsFrom : ChangingCall → List OfficeCall → Type 0
+FailsFrom it [] = ⊥
+FailsFrom it (call ∷ calls) =
+    ((changing call ≡ Some it) × AllByRecursion HasNotChanged (call ∷ calls)) ⊎ FailsFrom it calls
+
+-- An office gets a call over an open connection, and the machine may stop in it, or after it. The call leads to the records `after`. A stop leaves
+-- these; or, if the call failed, those that it would have led to.
+abbrev pub InterruptsOnlyItself : {C : Type 0} → Ghosts C → Signs → Type 0
+InterruptsOnlyItself {C = C} g signs =
+    (old new : Held C × Signatory) (signatory : Signatory) (before : Records) (first : Option ChangingCall)
+    (call : OfficeCall)
+    → StandsWith g signs old signatory before first → IsTrue (state g old.0).is_open
+    → IsCall g signs old call new → HasCleanDisk (state g new.0)
+    → (after : Records) × (last : Option ChangingCall) × CallStep signs call signatory before after
+    × StandsWith g signs new signatory after last
+    × IfSome last (λ it. (changing call ≡ Some it) × HasNotChanged call)
+
+-- An office gets these calls, before which none was interrupted; the machine may stop in the last of them, or after it. The calls lead to the
+-- records `after`. A stop leaves these, or those after the interrupted call, which is one of the calls: it failed, and so did each later one.
+abbrev pub InterruptsOneOfThem : {C : Type 0} → Ghosts C → Signs → Type 0
+InterruptsOneOfThem {C = C} g signs =
+    (first last : Held C × Signatory) (signatory : Signatory) (before : Records) (calls : List OfficeCall)
+    → StandsWith g signs first signatory before None → AreCalls g signs first calls last
+    → HasCleanDisk (state g last.0)
+    → (after : Records) × (interrupted : Option ChangingCall) × AreCallSteps signs signatory before calls after
+    × StandsWith g signs last signatory after interrupted
+    × IfSome interrupted (λ it. FailsFrom it calls)
