@@ -24,7 +24,7 @@ use reg_audit_rows::Audited;
 use sqlite::{Alter, Connection};
 use std::alloc::Global;
 
-/// The statements that read all tables, in the order in which they run.
+/// The statements that read each table except that of the schedule, in the order in which they run.
 const TABLE_QUERIES: [AuditQuery; 10] = [
     AuditQuery::Office,
     AuditQuery::Subscribers,
@@ -38,11 +38,11 @@ const TABLE_QUERIES: [AuditQuery; 10] = [
     AuditQuery::Listings,
 ];
 
-/// Reads all rows of a register's tables, and checks that they show sound records, and that the status letters, counts and
-/// CRL entries are those that follow from the records ([`reg_audit_rows::check`]). Then it reads each CRL in turn, and checks
-/// that its bytes encode the entries that the records have for it (RFC 5280 5.1), with the algorithm that the CRL names and
-/// any signature ([`reg_audit_rows::check_crl`]). Last, it reads the rowids, `office` and the schedule. It verifies no
-/// signature, does not check the schema, changes nothing, and reports its progress to the observer.
+/// Reads the rows of a register's tables, and checks that they show sound records, and that `standing` (the state of each
+/// certificate), `kept` (the counts of each state) and `listed` (CRL entries) follow from these ([`reg_audit_rows::check`]). Then it
+/// reads each CRL in turn, and checks that its bytes encode the entries that the records have for it (RFC 5280 5.1), with the algorithm
+/// that the CRL names and any signature ([`reg_audit_rows::check_crl`]). Last, it checks the rowids, `office` and the schedule. It
+/// verifies no signature, does not check the schema, changes nothing, and reports its progress to the observer.
 ///
 /// A row with a value that the register's types can't hold is reported as broken. `IsDisproved` says what a broken row disproves.
 /// If the tables have a register's schema (`AreTables`) and the audit succeeds, they show sound records (`ShowsSound`).

@@ -118,7 +118,7 @@ pub(crate) fn moments_never_decrease<T: Dated>(
     Ok(())
 }
 
-/// Checks that the numbers of the first CRLs do not fall from one revocation to a later one.
+/// Checks that no revocation has a lower number as its first CRL than an earlier revocation.
 pub(crate) fn firsts_never_decrease(revocations: &[RevocationRow]) -> Result<(), CheckFault>
     ensures ok { OnOk result (NeverDecreases (λ row. row.first) revocations.now) }
     ensures broken { NotBrokenIf (NeverDecreases (λ row. row.first) revocations.now) result }

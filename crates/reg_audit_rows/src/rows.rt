@@ -28,7 +28,7 @@ use reg_core::{
 use std::alloc::Global;
 use std::collections::BTreeMap;
 
-/// The rows of each table that is not derived, in the order of its rowids, the policy's cap and the last accepted moment. The CRLs are without
+/// The policy's cap, the last accepted moment, and the rows of each table that is not derived, in the order of its rowids. The CRLs are without
 /// their bytes.
 #[derive(Clone, Copy)]
 pub struct Rows<'a> {

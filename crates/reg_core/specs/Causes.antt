@@ -1,4 +1,4 @@
--- The line of each cause.
+-- The cause of a failed system call, of a signer that does not fit a register, or of a policy out of range: the line of each.
 use Rattle.std.specs.Prelude.{ℕ, Bool, ◌||◌, nat_lt, List, codes, if◌then◌else◌, Some, None}
 use Rattle.std.specs.declared.option.Option.{Option}
 use Rattle.reg_core.specs.declared.cause.Cause.{Cause}

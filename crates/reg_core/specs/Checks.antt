@@ -13,7 +13,7 @@ use Rattle.reg_core.specs.declared.rows.CertRow.{CertRow}
 use Rattle.reg_core.specs.declared.rows.RequestRow.{RequestRow}
 use Rattle.reg_core.specs.declared.rows.RevocationRow.{RevocationRow}
 use Rattle.reg_core.specs.declared.refusal.Refusal.{Refusal}
-use Rattle.reg_core.specs.declared.refusal.Refusal.TheVariants.{ClockBack, ClockEnd, Full, BadName, NameTaken, NoSubscriber, BadDays, NoOrder, OrderFilled, SerialTaken, BadValidity, TooLong, Ended, UnknownSerial, NoRequest, DeclinedBefore, RevokedBefore, Expired}
+use Rattle.reg_core.specs.declared.refusal.Refusal.TheVariants.{ClockBack, ClockEnd, Full, BadName, NameTaken, NoSubscriber, BadDays, NoOrder, OrderFilled, SerialTaken, BadValidity, TooLong, Ended, UnknownSerial, NoRequest, DeclinedBefore, RevokedBefore, Expired as ExpiredBefore}
 
 -- the refusal, if the test holds
 abbrev pub refused_if : Bool → Refusal → Option Refusal
@@ -92,7 +92,7 @@ refused_if_no_ground (Err refusal) = Some refusal
 abbrev pub live_checks : ℕ → Option CertRow → Option RevocationRow → List (Option Refusal)
 live_checks now certificate revocation =
     refused_if_some revocation (λ row. true) (λ row. RevokedBefore row.at)
-    ∷ refused_if_some certificate (λ row. nat_lt row.not_after now) (λ row. Expired)
+    ∷ refused_if_some certificate (λ row. nat_lt row.not_after now) (λ row. ExpiredBefore)
     ∷ []
 
 -- a request for a registered certificate, neither revoked nor expired, on a ground that exists

@@ -15,7 +15,7 @@ use Rattle.reg_core.specs.declared.rows.RevocationRow.{RevocationRow}
 use Rattle.reg_core.specs.declared.rows.CrlRow.{CrlRow}
 use Rattle.reg_core.specs.declared.refusal.Refusal.{Refusal}
 
--- the head of the records at a moment, for a table with `held` rows
+-- the head: what a decision needs besides the looked-up rows. `held` is the number of rows of the table to which it would add one.
 abbrev pub head_of : Records → ℕ → ℕ → Head
 head_of records now held = record { now = now; last = records.last; policy = records.policy; held = held }
 

@@ -10,7 +10,7 @@ use Rattle.reg_core.specs.Serial.{IsSerial, IsSerialText, serial_bytes, serial_o
 
 -- ---- octets
 
--- the first octet counts 256 to the power of the number of octets after it
+-- before n octets, an octet counts its own number times 256^n
 abbrev pub OctetsAreDigits : Type 0
 OctetsAreDigits =
     (octet : ℕ) (octets : List ℕ) → value (octet ∷ octets) ≡ octet * 256 ^ length octets + value octets

@@ -2,7 +2,7 @@
 use Rattle.std.specs.Prelude.{ℕ, List, ◌++◌, codes, decimal}
 use Rattle.reg_core.specs.Calendar.{moment_text}
 use Rattle.reg_core.specs.declared.refusal.Refusal.{Refusal}
-use Rattle.reg_core.specs.declared.refusal.Refusal.TheVariants.{ClockBack, ClockEnd, Full, BadName, NameTaken, NoSubscriber, BadDays, NoOrder, OrderFilled, SerialTaken, BadValidity, TooLong, Ended, UnknownSerial, NoHold, BadGround, NoRequest, DeclinedBefore, RevokedBefore, Expired, NoCrl, Syntax}
+use Rattle.reg_core.specs.declared.refusal.Refusal.TheVariants.{ClockBack, ClockEnd, Full, BadName, NameTaken, NoSubscriber, BadDays, NoOrder, OrderFilled, SerialTaken, BadValidity, TooLong, Ended, UnknownSerial, NoHold, BadGround, NoRequest, DeclinedBefore, RevokedBefore, Expired as ExpiredBefore, NoCrl, Syntax}
 use Rattle.reg_core.specs.declared.refusal.Fault.{Fault}
 use Rattle.reg_core.specs.declared.refusal.Fault.TheVariants.{Refused, Memory, Store, Signer, Read, Write}
 
@@ -27,7 +27,7 @@ refusal_line BadGround = codes "E16 bad-ground"
 refusal_line NoRequest = codes "E17 no-request"
 refusal_line DeclinedBefore = codes "E18 declined-before"
 refusal_line (RevokedBefore at) = codes "E19 revoked-before " ++ moment_text at
-refusal_line Expired = codes "E20 expired"
+refusal_line ExpiredBefore = codes "E20 expired"
 refusal_line NoCrl = codes "E21 no-crl"
 refusal_line Syntax = codes "E22 syntax"
 

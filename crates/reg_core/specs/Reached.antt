@@ -1,4 +1,4 @@
--- Reached records: sound records with more that every command keeps. `desk audit` checks this.
+-- Reached records: sound records with more properties, which every command keeps. `desk audit` checks them.
 use Rattle.std.specs.Prelude.{◌≡◌, ◌⊎◌, ℕ, ◌*◌, ◌<◌, ◌≤◌, ◌==◌, false, List, [], IfSome, IsSomeAnd, IsTrue}
 use Rattle.std.specs.List.{AllByRecursion, list_any}
 use Rattle.reg_core.specs.Checks.{clock_end, validity_seconds}

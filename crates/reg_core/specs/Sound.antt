@@ -55,7 +55,7 @@ pub record SoundRequests (cap last : ℕ) (certificates : List CertRow)
   pub within_cap : length requests ≤ cap
 
 -- A revocation is of a registered certificate that was not expired, by a request for it, at the last accepted moment or earlier.
--- CRLs with numbers below its `first` were issued at its moment or earlier, the others at its moment or later.
+-- CRLs with numbers below its `first` (the first CRL that can list it) were issued at its moment or earlier, the others at its moment or later.
 pub record SoundRevocation (last : ℕ) (certificates : List CertRow) (requests : List RequestRow)
     (crls : List Crl) (revocation : RevocationRow) : Type 0 where
   pub within_validity : IsSomeAnd (certificate_in certificates revocation.serial)

@@ -15,7 +15,7 @@ use Rattle.reg_core.specs.declared.rows.RevocationRow.{RevocationRow}
 use Rattle.reg_core.specs.declared.command.Command.{Command}
 use Rattle.reg_core.specs.declared.command.Command.TheVariants.{Subscriber, Order, Register, Request, Decline, Revoke, Crl as IssueCrl}
 use Rattle.reg_core.specs.declared.command.Reply.{Reply}
-use Rattle.reg_core.specs.declared.command.Reply.TheVariants.{Subscriber as SubscriberEntered, Order as OrderEntered, Registered, Same, Request as RequestEntered, Declined, Revoked, Crl as CrlIssued}
+use Rattle.reg_core.specs.declared.command.Reply.TheVariants.{Subscriber as SubscriberEntered, Order as OrderEntered, Registered, Same, Request as RequestEntered, Declined, Revoked as RevokedNow, Crl as CrlIssued}
 use Rattle.reg_core.specs.declared.refusal.Refusal.{Refusal}
 use Rattle.reg_core.specs.declared.refusal.Fault.{Fault}
 use Rattle.reg_core.specs.declared.refusal.Fault.TheVariants.{Refused}
@@ -131,11 +131,12 @@ reply records now (Register order serial not_before not_after) =
 reply records now (Request serial word) =
     RequestEntered (length records.requests + 1) (now + limit_of (ground Asked word))
 reply records now (Decline id) = Declined
-reply records now (Revoke id) = Revoked (is_late records now id)
+reply records now (Revoke id) = RevokedNow (is_late records now id)
 reply records now IssueCrl =
     CrlIssued (next_number records.crls) (length (content records (next_number records.crls)))
 
--- the records after an accepted command; `bytes` is the DER of the CRL, if the command issues one
+-- the records after an accepted command; `bytes` is the DER of the CRL, if the command issues one. The case `revoked None` never applies: a
+-- command to revoke by a request that does not exist is refused.
 abbrev pub changed : Records → ℕ → Command → List ℕ → Records
 changed records now (Subscriber name) bytes =
     changed_by records now (change.Subscriber (record { id = length records.subscribers + 1; name = name }))

@@ -106,7 +106,7 @@ pub fn decide_register(
     Ok(Some(wanted))
 }
 
-/// The row of the new request, on the ground with the name `word`. `certificate` and `revocation` are those of the serial number.
+/// The row of the new request, on the ground with the name `word`. `certificate` and `revocation` are those of the command's serial number.
 /// Refusals: those of [`clock`]; then `UnknownSerial`, `NoHold`, `BadGround`, `RevokedBefore`, `Expired`, `Full`.
 pub fn decide_request(
     head: &Head,
@@ -243,7 +243,7 @@ fn check_validity(head: &Head, wanted: &CertRow, order: &OrderRow) -> Result<(),
     Ok(())
 }
 
-/// Checks that the certificate is neither revoked nor past notAfter. Without a certificate or a revocation, that check passes.
+/// Checks that the certificate is not revoked, and not past notAfter. The first check passes without a revocation, the second without a certificate.
 fn check_live(
     now: Moment,
     certificate: Option<CertRow>,

@@ -24,7 +24,7 @@ use Rattle.reg_core.specs.declared.rows.CrlRow.{CrlRow}
 use Rattle.reg_core.specs.declared.command.Command.{Command}
 use Rattle.reg_core.specs.declared.command.Command.TheVariants.{Subscriber, Order, Request, Decline, Revoke, Crl as IssueCrl}
 use Rattle.reg_core.specs.declared.command.Reply.{Reply}
-use Rattle.reg_core.specs.declared.command.Reply.TheVariants.{Subscriber as SubscriberEntered, Order as OrderEntered, Registered, Same, Request as RequestEntered, Declined, Revoked, Crl as CrlIssued}
+use Rattle.reg_core.specs.declared.command.Reply.TheVariants.{Subscriber as SubscriberEntered, Order as OrderEntered, Registered, Same, Request as RequestEntered, Declined, Revoked as RevokedNow, Crl as CrlIssued}
 use Rattle.reg_core.specs.declared.refusal.Refusal.{Refusal}
 use Rattle.reg_core.specs.declared.refusal.Fault.TheVariants.{Refused}
 use Rattle.reg_core_laws.specs.Import.{register}
@@ -242,7 +242,7 @@ pub record AcceptsRevocation (signed : CertList → List ℕ → Type 0) (record
   pub request_is : request_in records.requests id ≡ Some request
   pub row_is : answer.0 ≡ revocation_row records now request
   pub late_is : answer.1 ≡ is_late records now id
-  pub accepts : Accepts signed records now (Revoke id) (Revoked answer.1) (with_revocation records now answer.0)
+  pub accepts : Accepts signed records now (Revoke id) (RevokedNow answer.1) (with_revocation records now answer.0)
 
 abbrev pub RevokeSays : (CertList → List ℕ → Type 0) → Records → ℕ → ℕ → Result (RevocationRow × Bool) Refusal → Type 0
 RevokeSays signed records now id result = Told signed records now (Revoke id) (AcceptsRevocation signed records now id) result
@@ -268,7 +268,7 @@ revoke_decided signed records now head held id request certificate revocation ne
       request_is = found.1;
       row_is = ap (λ a. a.0) both;
       late_is = late;
-      accepts = accepts_as signed records now (Revoke id) refl none (sym (ap Revoked late)) (rw found.1 (sym (ap (λ a. with_revocation records now a.0) both)));
+      accepts = accepts_as signed records now (Revoke id) refl none (sym (ap RevokedNow late)) (rw found.1 (sym (ap (λ a. with_revocation records now a.0) both)));
     })
 
 -- CRLS

@@ -9,7 +9,7 @@ use Rattle.reg_core.specs.Step.{reply, changed}
 use Rattle.reg_core.specs.declared.rows.CertRow.{CertRow}
 use Rattle.reg_core.specs.declared.rows.RevocationRow.{RevocationRow}
 use Rattle.reg_core.specs.declared.command.Command.{Command}
-use Rattle.reg_core.specs.declared.command.Reply.TheVariants.{Revoked}
+use Rattle.reg_core.specs.declared.command.Reply.TheVariants.{Revoked as RevokedNow}
 use Rattle.reg_core_laws.specs.Headline.{lists, NonePastBetween, ListedByCrls, ListsRevoked}
 use Rattle.reg_core_laws.specs.History.{HistoryIsKept}
 use Rattle.reg_core_laws.proofs.Contents.{next_is, content_kept, cert_list_kept}
@@ -83,8 +83,8 @@ told_by_crls before after revocation more later sound_before sound first_is ente
     numbered_later : NumberedFrom (λ crl. crl.number) (1 + length before.crls) later
     numbered_later = numbered_back (λ crl. crl.number) 1 before.crls later (subst (NumberedFrom (λ crl. crl.number) 1) issued sound.crls.numbered)
 
--- a command that is answered `Revoked` issues no CRL
-no_crl_by : (records : Records) (now : ℕ) (command : Command) (bytes : List ℕ) (late : Bool) → reply records now command ≡ Revoked late
+-- a command that is answered `RevokedNow` issues no CRL
+no_crl_by : (records : Records) (now : ℕ) (command : Command) (bytes : List ℕ) (late : Bool) → reply records now command ≡ RevokedNow late
     → (changed records now command bytes).crls ≡ records.crls
 no_crl_by records now command bytes late answered = grind arith
 
@@ -93,13 +93,13 @@ no_crl_by records now command bytes late answered = grind arith
 pub lists_revoked : (signed : CertList → List ℕ → Type 0) → ListsRevoked signed
 lists_revoked signed records before next after front rest early late now command is_late sound run happens more_run =
     let sound_before = keeps_sound signed records before front early sound run in
-    let sound_next = step_keeps_sound signed before now command (Ok (Revoked is_late)) next sound_before happens in
+    let sound_next = step_keeps_sound signed before now command (Ok (RevokedNow is_late)) next sound_before happens in
     let sound_after = keeps_sound signed next after rest late sound_next more_run in
     let grows = run_grows signed next after rest late sound_next more_run in
-    let brought = revocations_move_exactly signed records before next front early now command (Ok (Revoked is_late)) sound run happens in
+    let brought = revocations_move_exactly signed records before next front early now command (Ok (RevokedNow is_late)) sound run happens in
     let no_crl =
-    by_outcome signed before now command (λ told then. told ≡ Ok (Revoked is_late) → then.crls ≡ before.crls) (λ fault is. refl)
-    (λ bytes none over is. no_crl_by before now command bytes is_late (cc is)) (Ok (Revoked is_late)) next happens refl in
+    by_outcome signed before now command (λ told then. told ≡ Ok (RevokedNow is_late) → then.crls ≡ before.crls) (λ fault is. refl)
+    (λ bytes none over is. no_crl_by before now command bytes is_late (cc is)) (Ok (RevokedNow is_late)) next happens refl in
     let told =
     told_by_crls before after brought.0 grows.more_revocations grows.more_crls sound_before.rows sound_after.rows brought.2.from_next
     (grows.revocations ∙ ap (λ rows. rows ++ grows.more_revocations) brought.1) (grows.crls ∙ ap (λ rows. rows ++ grows.more_crls) no_crl) in

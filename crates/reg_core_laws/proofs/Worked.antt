@@ -4,7 +4,7 @@ use Rattle.reg_core.specs.Policy.{Terms}
 use Rattle.reg_core.specs.Records.{Records}
 use Rattle.reg_core.specs.Step.{IsSigned, refusal, reply, changed}
 use Rattle.reg_core.specs.declared.command.Command.{Command}
-use Rattle.reg_core.specs.declared.command.Command.TheVariants.{Crl}
+use Rattle.reg_core.specs.declared.command.Command.TheVariants.{Crl as IssueCrl}
 use Rattle.reg_core.specs.declared.command.Reply.{Reply}
 use Rattle.reg_core.specs.declared.refusal.Refusal.{Refusal}
 use Rattle.reg_core.specs.declared.refusal.Fault.{Fault}
@@ -19,7 +19,7 @@ outcomes_over records (timed ∷ rest) =
 
 -- the empty signature is one of each command
 signed_so : (records : Records) (now : ℕ) (command : Command) → IsSigned no_bytes records now command []
-signed_so records now Crl = refl
+signed_so records now IssueCrl = refl
 signed_so records now command = refl
 
 -- one command happens so

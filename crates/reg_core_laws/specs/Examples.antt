@@ -8,14 +8,14 @@ use Rattle.reg_core.specs.Schedule.{one_step}
 use Rattle.reg_core.specs.Step.{refusal, reply, changed}
 use Rattle.reg_core.specs.declared.rows.Entry.{Entry}
 use Rattle.reg_core.specs.declared.command.Command.{Command}
-use Rattle.reg_core.specs.declared.command.Command.TheVariants.{Subscriber, Order, Register, Request, Decline, Revoke, Crl}
+use Rattle.reg_core.specs.declared.command.Command.TheVariants.{Subscriber, Order, Register, Request, Decline, Revoke, Crl as IssueCrl}
 use Rattle.reg_core.specs.declared.command.Query.{Query}
 use Rattle.reg_core.specs.declared.command.Query.TheVariants.{Status, Counts, Listing, Overdue, NextCrl}
 use Rattle.reg_core.specs.declared.command.Reply.{Reply}
-use Rattle.reg_core.specs.declared.command.Reply.TheVariants.{Subscriber as SubscriberIs, Order as OrderIs, Registered, Same, Request as RequestIs, Declined, Revoked, Crl as CrlIs, Status as StatusIs, Counts as CountsAre, Listing as ListingIs, Overdue as OverdueAre, NextCrl as NextCrlIs}
-use Rattle.reg_core.specs.declared.command.Status.TheVariants.{Unknown, Good, Expired, Revoked as RevokedAt}
+use Rattle.reg_core.specs.declared.command.Reply.TheVariants.{Subscriber as SubscriberIs, Order as OrderIs, Registered, Same, Request as RequestIs, Declined, Revoked as RevokedNow, Crl as CrlIs, Status as StatusIs, Counts as CountsAre, Listing as ListingIs, Overdue as OverdueAre, NextCrl as NextCrlIs}
+use Rattle.reg_core.specs.declared.command.Status.TheVariants.{Unknown, Good, Expired, Revoked}
 use Rattle.reg_core.specs.declared.refusal.Refusal.{Refusal}
-use Rattle.reg_core.specs.declared.refusal.Refusal.TheVariants.{ClockBack, ClockEnd, Full, BadName, NameTaken, NoSubscriber, BadDays, NoOrder, OrderFilled, SerialTaken, BadValidity, TooLong, Ended, UnknownSerial, NoHold, BadGround, NoRequest, DeclinedBefore, RevokedBefore, Expired as PastEnd}
+use Rattle.reg_core.specs.declared.refusal.Refusal.TheVariants.{ClockBack, ClockEnd, Full, BadName, NameTaken, NoSubscriber, BadDays, NoOrder, OrderFilled, SerialTaken, BadValidity, TooLong, Ended, UnknownSerial, NoHold, BadGround, NoRequest, DeclinedBefore, RevokedBefore, Expired as ExpiredBefore}
 use Rattle.reg_core.specs.declared.refusal.Fault.{Fault}
 use Rattle.reg_core.specs.declared.refusal.Fault.TheVariants.{Refused}
 use Rattle.reg_core_laws.specs.Run.{Run}
@@ -199,7 +199,7 @@ TheDeadlineIsInTime =
     Then
     (decided (january 2) (Request 5 (codes "key-compromise")) (RequestIs 1 (january 3))
     ∷ queried (january 3) Overdue (OverdueAre None)
-    ∷ decided (january 3) (Revoke 1) (Revoked false)
+    ∷ decided (january 3) (Revoke 1) (RevokedNow false)
     ∷ [])
 
 -- a request is late a second after its deadline
@@ -208,8 +208,8 @@ ASecondLaterIsLate =
     Then
     (decided (january 2) (Request 5 (codes "key-compromise")) (RequestIs 1 (january 3))
     ∷ queried (january 3 + 1) Overdue (OverdueAre (Some (record { count = 1; first = 1 })))
-    ∷ decided (january 3 + 1) (Revoke 1) (Revoked true)
-    ∷ queried (january 3 + 1) (Status 5) (StatusIs (RevokedAt (january 3 + 1) 1))
+    ∷ decided (january 3 + 1) (Revoke 1) (RevokedNow true)
+    ∷ queried (january 3 + 1) (Status 5) (StatusIs (Revoked (january 3 + 1) 1))
     ∷ [])
 
 -- each CRL lists a revocation while its certificate is not past notAfter
@@ -217,10 +217,10 @@ abbrev pub EachCrlListsARevocation : Type 0
 EachCrlListsARevocation =
     Then
     (decided (january 2) (Request 5 (codes "superseded")) (RequestIs 1 (january 3))
-    ∷ decided (january 2) Crl (CrlIs 1 0)
-    ∷ decided (january 2 + 60) (Revoke 1) (Revoked false)
-    ∷ decided (january 2 + 60) Crl (CrlIs 2 1)
-    ∷ decided (january 3) Crl (CrlIs 3 1)
+    ∷ decided (january 2) IssueCrl (CrlIs 1 0)
+    ∷ decided (january 2 + 60) (Revoke 1) (RevokedNow false)
+    ∷ decided (january 2 + 60) IssueCrl (CrlIs 2 1)
+    ∷ decided (january 3) IssueCrl (CrlIs 3 1)
     ∷ crl_has 1 []
     ∷ crl_has 2 (entry 5 (january 2 + 60) 4 ∷ [])
     ∷ crl_has 3 (entry 5 (january 2 + 60) 4 ∷ [])
@@ -232,14 +232,14 @@ abbrev pub TheLastListingIsPastTheEnd : Type 0
 TheLastListingIsPastTheEnd =
     Then
     (decided (january 2) (Request 5 (codes "superseded")) (RequestIs 1 (january 3))
-    ∷ decided (january 2) (Revoke 1) (Revoked false)
-    ∷ decided (january 10) Crl (CrlIs 1 1)
-    ∷ decided (january 10 + 1) Crl (CrlIs 2 1)
-    ∷ decided (january 10 + 1) Crl (CrlIs 3 0)
+    ∷ decided (january 2) (Revoke 1) (RevokedNow false)
+    ∷ decided (january 10) IssueCrl (CrlIs 1 1)
+    ∷ decided (january 10 + 1) IssueCrl (CrlIs 2 1)
+    ∷ decided (january 10 + 1) IssueCrl (CrlIs 3 0)
     ∷ crl_has 2 (entry 5 (january 2) 4 ∷ [])
     ∷ crl_has 3 []
     ∷ queried (january 10 + 1) (Listing 5) (ListingIs (Some (record { first = 1; last = Some 2 })))
-    ∷ queried (january 10 + 1) (Status 5) (StatusIs (RevokedAt (january 2) 4))
+    ∷ queried (january 10 + 1) (Status 5) (StatusIs (Revoked (january 2) 4))
     ∷ [])
 
 -- a revocation is listed once if the first CRL after it is issued long after notAfter
@@ -247,9 +247,9 @@ abbrev pub ALateCrlListsOnce : Type 0
 ALateCrlListsOnce =
     Then
     (decided (january 10 - 3600) (Request 5 (codes "cessation")) (RequestIs 1 (january 11 - 3600))
-    ∷ decided (january 10 - 3600) (Revoke 1) (Revoked false)
-    ∷ decided (january 40 - 90000) Crl (CrlIs 1 1)
-    ∷ decided (january 40 - 90000) Crl (CrlIs 2 0)
+    ∷ decided (january 10 - 3600) (Revoke 1) (RevokedNow false)
+    ∷ decided (january 40 - 90000) IssueCrl (CrlIs 1 1)
+    ∷ decided (january 40 - 90000) IssueCrl (CrlIs 2 0)
     ∷ crl_has 1 (entry 5 (january 10 - 3600) 5 ∷ [])
     ∷ crl_has 2 []
     ∷ queried (january 40 - 90000) (Listing 5) (ListingIs (Some (record { first = 1; last = Some 1 })))
@@ -263,7 +263,7 @@ OneRevocationOfASerialNumber =
     ∷ refuse (january 2) (Request 5 (codes "lost")) BadGround
     ∷ decided (january 2) (Request 5 (codes "asked")) (RequestIs 1 (january 3))
     ∷ decided (january 2) (Request 5 (codes "asked")) (RequestIs 2 (january 3))
-    ∷ decided (january 2) (Revoke 1) (Revoked false)
+    ∷ decided (january 2) (Revoke 1) (RevokedNow false)
     ∷ refuse (january 2) (Revoke 2) (RevokedBefore (january 2))
     ∷ queried (january 5) Overdue (OverdueAre None)
     ∷ [])
@@ -272,12 +272,12 @@ OneRevocationOfASerialNumber =
 abbrev pub TheNextCrlIsDue : Type 0
 TheNextCrlIsDue =
     Then
-    (decided (january 2) Crl (CrlIs 1 0)
+    (decided (january 2) IssueCrl (CrlIs 1 0)
     ∷ queried (january 2) NextCrl (NextCrlIs (Some (january 9)))
     ∷ decided (january 3) (Request 5 (codes "asked")) (RequestIs 1 (january 4))
-    ∷ decided (january 3) (Revoke 1) (Revoked false)
+    ∷ decided (january 3) (Revoke 1) (RevokedNow false)
     ∷ queried (january 3) NextCrl (NextCrlIs (Some (january 4)))
-    ∷ decided (january 3 + 3600) Crl (CrlIs 2 1)
+    ∷ decided (january 3 + 3600) IssueCrl (CrlIs 2 1)
     ∷ queried (january 3 + 3600) NextCrl (NextCrlIs (Some (january 10 + 3600)))
     ∷ [])
 
@@ -286,7 +286,7 @@ abbrev pub TheNextCrlIsDueByNextUpdate : Type 0
 TheNextCrlIsDueByNextUpdate =
     DayUnder
     (record usual { crl_life = 172800 })
-    (decided (january 2) Crl (CrlIs 1 0)
+    (decided (january 2) IssueCrl (CrlIs 1 0)
     ∷ queried (january 2) NextCrl (NextCrlIs (Some (january 4)))
     ∷ queried (january 6) NextCrl (NextCrlIs (Some (january 4)))
     ∷ [])
@@ -313,13 +313,13 @@ EachGroundHasItsLimitAndReason =
     ∷ decided (january 2) (Request 6 (codes "name-not-permitted")) (RequestIs 4 (january 7))
     ∷ decided (january 2) (Request 11 (codes "nonconforming")) (RequestIs 5 (january 7))
     ∷ decided (january 2) (Request 7 (codes "inaccurate")) (RequestIs 6 (january 7))
-    ∷ decided (january 3 + 1) (Revoke 1) (Revoked true)
-    ∷ decided (january 3 + 2) (Revoke 2) (Revoked true)
-    ∷ decided (january 3 + 3) (Revoke 3) (Revoked true)
-    ∷ decided (january 3 + 4) (Revoke 4) (Revoked false)
-    ∷ decided (january 3 + 5) (Revoke 5) (Revoked false)
-    ∷ decided (january 3 + 6) (Revoke 6) (Revoked false)
-    ∷ decided (january 4) Crl (CrlIs 1 6)
+    ∷ decided (january 3 + 1) (Revoke 1) (RevokedNow true)
+    ∷ decided (january 3 + 2) (Revoke 2) (RevokedNow true)
+    ∷ decided (january 3 + 3) (Revoke 3) (RevokedNow true)
+    ∷ decided (january 3 + 4) (Revoke 4) (RevokedNow false)
+    ∷ decided (january 3 + 5) (Revoke 5) (RevokedNow false)
+    ∷ decided (january 3 + 6) (Revoke 6) (RevokedNow false)
+    ∷ decided (january 4) IssueCrl (CrlIs 1 6)
     ∷ crl_has
     1
     (entry 6 (january 3 + 4) 5
@@ -329,7 +329,7 @@ EachGroundHasItsLimitAndReason =
     ∷ entry 10 (january 3 + 3) 3
     ∷ entry 11 (january 3 + 5) 4
     ∷ [])
-    ∷ queried (january 4) (Status 6) (StatusIs (RevokedAt (january 3 + 4) 5))
+    ∷ queried (january 4) (Status 6) (StatusIs (Revoked (january 3 + 4) 5))
     ∷ queried (january 4) Counts (counted 1 6 0)
     ∷ [])
 
@@ -356,7 +356,7 @@ ADeclinedRequestStaysSo =
     ∷ refuse (january 2) (Revoke 1) DeclinedBefore
     ∷ [])
 
--- the refusals that no other example has, and an order of 0 days
+-- the refusals of commands and queries that no other example has, and an order of 0 days
 abbrev pub EachRefusalHasItsCase : Type 0
 EachRefusalHasItsCase =
     Then
@@ -368,7 +368,7 @@ EachRefusalHasItsCase =
     ∷ refuse (january 1) (Register 2 6 (january 2) (january 1)) BadValidity
     ∷ refuse (january 5) (Register 2 6 (january 1) (january 4)) Ended
     ∷ refuse (january 5) (Request 6 (codes "asked")) UnknownSerial
-    ∷ refuse (january 10 + 1) (Request 5 (codes "asked")) PastEnd
+    ∷ refuse (january 10 + 1) (Request 5 (codes "asked")) ExpiredBefore
     ∷ refuse (january 10 + 1) (Revoke 1) NoRequest
     ∷ queried (january 10 + 1) (Listing 5) (ListingIs None)
     ∷ deny (january 10 + 1) (Listing 6) UnknownSerial
@@ -380,7 +380,7 @@ TheClockEnds =
     Then
     (queried 253401436799 Counts (counted 0 0 1)
     ∷ deny 253401436800 Counts ClockEnd
-    ∷ refuse 253401436800 Crl ClockEnd
+    ∷ refuse 253401436800 IssueCrl ClockEnd
     ∷ [])
 
 -- the longest validity is that of the last step not after notBefore: 398 days, and 200 from 2026-03-15 on

@@ -1,7 +1,7 @@
--- The main law. For every list of commands: at any moment from the last accepted one on, each registered serial number has exactly one
--- of the statuses good, revoked and expired. Only accepted commands and the passing of time change the three counts. Every CRL after a
--- revocation lists it, up to and including the first one issued past its certificate's notAfter, and lists nothing else. A command
--- that is refused, or ends in a fault, changes nothing.
+-- The main law. For every list of commands: at any moment from the last accepted one on, before the clock's end, each registered serial
+-- number has exactly one of the statuses good, revoked and expired. Only accepted commands and the passing of time change the three
+-- counts. Every CRL after a revocation lists it, up to and including the first one issued past its certificate's notAfter, and lists
+-- nothing else. A command that is refused, or ends in a fault, changes nothing.
 use Rattle.std.specs.Prelude.{◌≡◌, ℕ, Bool, ◌&&◌, ◌⊎◌, ◌↔◌, ◌==◌, ◌+◌, ◌<◌, ◌≤◌, nat_le, nat_lt, List, [], ◌∷◌, ◌++◌, length, filter, Some, Result, Ok, Err, IsTrue, IsFalse}
 use Rattle.std.specs.List.{AllByRecursion, list_any}
 use Rattle.reg_core.specs.Checks.{clock_end}
@@ -17,7 +17,7 @@ use Rattle.reg_core.specs.declared.rows.Entry.{Entry}
 use Rattle.reg_core.specs.declared.command.Command.{Command}
 use Rattle.reg_core.specs.declared.command.Counts.{Counts}
 use Rattle.reg_core.specs.declared.command.Reply.{Reply}
-use Rattle.reg_core.specs.declared.command.Reply.TheVariants.{Registered, Revoked}
+use Rattle.reg_core.specs.declared.command.Reply.TheVariants.{Registered, Revoked as RevokedNow}
 use Rattle.reg_core.specs.declared.refusal.Fault.{Fault}
 use Rattle.reg_core.specs.declared.command.Status.TheVariants.{Good, Expired}
 use Rattle.reg_core_laws.specs.Revocations.{IsRevocationBy}
@@ -71,7 +71,7 @@ pub record PartitionedByStatus (records : Records) (moment : ℕ) : Type 0 where
       ((counts records moment).good + (counts records moment).revoked) + (counts records moment).expired
       ≡ length records.certificates
 
--- registered serial numbers stay, and each is exactly one of the three at any moment from the last accepted one on
+-- registered serial numbers stay, and each is exactly one of the three at any moment from the last accepted one on, before the clock's end
 abbrev pub HasExactlyOneStatus : (CertList → List ℕ → Type 0) → Type 0
 HasExactlyOneStatus signed =
     (records after : Records)
@@ -87,7 +87,7 @@ HasExactlyOneStatus signed =
 abbrev pub CountsMove : Counts → Result Reply Fault → Counts → Type 0
 CountsMove before (Ok Registered) after =
     (after.good ≡ before.good + 1) × (after.revoked ≡ before.revoked) × (after.expired ≡ before.expired)
-CountsMove before (Ok (Revoked late)) after =
+CountsMove before (Ok (RevokedNow late)) after =
     (after.good + 1 ≡ before.good) × (after.revoked ≡ before.revoked + 1) × (after.expired ≡ before.expired)
 CountsMove before outcome after = after ≡ before
 
@@ -181,7 +181,7 @@ ListsRevoked signed =
     (is_late : Bool)
     → Sound signed records
     → Run signed records prefix early before
-    → Happens signed before now command (Ok (Revoked is_late)) next
+    → Happens signed before now command (Ok (RevokedNow is_late)) next
     → Run signed next rest late after
     → ((certificate : CertRow)
     × (revocation : RevocationRow)

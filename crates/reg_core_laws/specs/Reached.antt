@@ -1,4 +1,5 @@
--- Reached records, which `desk audit` checks: those of a new register with a valid policy are, and every run and valid schedule keeps them so.
+-- Reached records, which `desk audit` checks. The records of a new register with a valid policy are reached, and every run and every valid
+-- new schedule keeps them so.
 use Rattle.std.specs.Prelude.{ℕ, List, Result}
 use Rattle.reg_core.specs.Changes.{with_schedule}
 use Rattle.reg_core.specs.Crls.{CertList}

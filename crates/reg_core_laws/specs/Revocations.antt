@@ -9,7 +9,7 @@ use Rattle.reg_core.specs.declared.rows.RevocationRow.{RevocationRow}
 use Rattle.reg_core.specs.declared.command.Command.{Command}
 use Rattle.reg_core.specs.declared.command.Command.TheVariants.{Revoke}
 use Rattle.reg_core.specs.declared.command.Reply.{Reply}
-use Rattle.reg_core.specs.declared.command.Reply.TheVariants.{Revoked}
+use Rattle.reg_core.specs.declared.command.Reply.TheVariants.{Revoked as RevokedNow}
 use Rattle.reg_core.specs.declared.refusal.Fault.{Fault}
 use Rattle.reg_core_laws.specs.Run.{Happens, Run}
 
@@ -26,9 +26,9 @@ pub record IsRevocationBy (before : Records) (now : ℕ) (command : Command)
   pub with_reason : revocation.reason ≡ reason_of request.ground
   pub from_next : revocation.first ≡ next_number before.crls
 
--- the revocations after a command: with the reply `Revoked` there is one more, by this command; else they stay the same
+-- the revocations after a command: with the reply `RevokedNow` there is one more, by this command; else they stay the same
 abbrev pub RevocationsMove : Records → ℕ → Command → Result Reply Fault → Records → Type 0
-RevocationsMove before now command (Ok (Revoked late)) after =
+RevocationsMove before now command (Ok (RevokedNow late)) after =
     (revocation : RevocationRow)
     × (after.revocations ≡ before.revocations ++ revocation ∷ [])
     × IsRevocationBy before now command revocation

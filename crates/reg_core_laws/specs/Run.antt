@@ -5,13 +5,14 @@ use Rattle.reg_core.specs.Crls.{CertList}
 use Rattle.reg_core.specs.Records.{Records}
 use Rattle.reg_core.specs.Step.{Step, refusal}
 use Rattle.reg_core.specs.declared.command.Command.{Command}
-use Rattle.reg_core.specs.declared.command.Command.TheVariants.{Crl}
+use Rattle.reg_core.specs.declared.command.Command.TheVariants.{Crl as IssueCrl}
 use Rattle.reg_core.specs.declared.command.Reply.{Reply}
 use Rattle.reg_core.specs.declared.refusal.Fault.{Fault}
 use Rattle.reg_core.specs.declared.refusal.Fault.TheVariants.{Refused, Memory, Store, Signer, Read, Write}
 
--- the outcome of a command: that of its step; or, before the clock's end, a fault of memory or of the store; or, if the
--- command issues a CRL and is not refused, a fault of the signer. A fault leaves the records as they are.
+-- the outcome of a command: that of its step; or a fault of memory or of the store; or, if the command issues a CRL and is not refused, a
+-- fault of the signer. A fault leaves the records as they are. From the clock's end on (`clock_end`), a command is refused before memory or
+-- the store is used, so neither fails then.
 abbrev pub Happens : (CertList → List ℕ → Type 0) → Records → ℕ → Command
     → Result Reply Fault → Records → Type 0
 Happens signed records now command (Ok reply) after = Step signed records now command (Ok reply) after
@@ -20,7 +21,7 @@ Happens signed records now command (Err (Refused refused)) after =
 Happens signed records now command (Err Memory) after = (now < clock_end) × (after ≡ records)
 Happens signed records now command (Err Store) after = (now < clock_end) × (after ≡ records)
 Happens signed records now command (Err Signer) after =
-    (command ≡ Crl) × (refusal records now command ≡ None) × (after ≡ records)
+    (command ≡ IssueCrl) × (refusal records now command ≡ None) × (after ≡ records)
 Happens signed records now command (Err Read) after = ⊥
 Happens signed records now command (Err Write) after = ⊥
 

@@ -8,10 +8,10 @@ ghost use Rattle.reg_core_laws.specs.Revocations.{RevocationsMoveExactly};
 
 use reg_core::SignsCrls;
 
-/// For every list of commands, from a new register or from sound records: at any moment from the last accepted one on, each registered serial
-/// number has exactly one of the statuses good, revoked and expired. Only accepted commands and the passing of time change the three counts.
-/// Every CRL after a revocation lists it, up to and including the first one issued past its certificate's notAfter (RFC 5280 3.3), and lists
-/// nothing else. A command that is refused, or ends in a fault, changes nothing.
+/// For every list of commands, from a new register or from sound records: at any moment from the last accepted one on, before the clock's end,
+/// each registered serial number has exactly one of the statuses good, revoked and expired. Only accepted commands and the passing of time change
+/// the three counts. Every CRL after a revocation lists it, up to and including the first one issued past its certificate's notAfter (RFC 5280
+/// 3.3), and lists nothing else. A command that is refused, or ends in a fault, changes nothing.
 pub fn headline<S: SignsCrls>()
     ensures created { (signer : S) → CreatedSound (S.signed signer) }
     ensures sound { (signer : S) → KeepsSound (S.signed signer) }

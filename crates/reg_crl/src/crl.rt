@@ -98,7 +98,8 @@ fn put_revoked_certificates(
 ) -> Result<(), Memory>
     requires { length entries.now ≤ 1000000 }
     ensures ok { AppendsOnOk out.old out.new result (revoked_certificates entries.now) }
-    ensures longer { OnOk result (length out.new.items ≤ length out.old.items + 59 * length entries.now + 6) }
+    ensures length_at_most { OnOk result
+        (length out.new.items ≤ length out.old.items + 59 * length entries.now + 6) }
 {
     if entries.is_empty() {
         return Ok(());
@@ -128,7 +129,7 @@ fn put_revoked_certificate(
     entry: Entry,
 ) -> Result<(), Memory>
     ensures ok { AppendsOnOk out.old out.new result (revoked_certificate entry) }
-    ensures longer { OnOk result (length out.new.items ≤ length out.old.items + 59) }
+    ensures length_at_most { OnOk result (length out.new.items ≤ length out.old.items + 59) }
 {
     buffer.clear();
     put_serial(buffer, entry.serial)?;
@@ -141,7 +142,7 @@ fn put_revoked_certificate(
 #[tactic(auto, unfolding(crate::specs::Crl::crl_entry_extensions, crate::specs::Crl::reason_code, crate::specs::Crl::extension, reg_der::specs::Der::tlv, reg_der::specs::Der::length_octets))]
 fn put_crl_entry_extensions(out: &mut Vec<u8>, reason: u8) -> Result<(), Memory>
     ensures ok { AppendsOnOk out.old out.new result (crl_entry_extensions reason) }
-    ensures longer { OnOk result (length out.new.items ≤ length out.old.items + 14) }
+    ensures length_at_most { OnOk result (length out.new.items ≤ length out.old.items + 14) }
 {
     if reason == UNSPECIFIED {
         return Ok(());
@@ -176,7 +177,7 @@ fn put_crl_extensions(
     number: u64,
 ) -> Result<(), Memory>
     ensures ok { AppendsOnOk out.old out.new result (crl_extensions issuer.now number) }
-    ensures longer { OnOk result (length out.new.items ≤ length out.old.items + 200) }
+    ensures length_at_most { OnOk result (length out.new.items ≤ length out.old.items + 200) }
 {
     let mut extensions = Vec::new(alloc);
     put_authority_key_identifier(&mut extensions, alloc, issuer, number)?;
@@ -194,7 +195,7 @@ fn put_authority_key_identifier(
 ) -> Result<(), Memory>
     ensures ok { OnOk result (
         out.new.items ≡ out.old.items ++ authority_key_identifier (key_identifier issuer.now number)) }
-    ensures longer { OnOk result (length out.new.items ≤ length out.old.items + 100) }
+    ensures length_at_most { OnOk result (length out.new.items ≤ length out.old.items + 100) }
 {
     match issuer.key_identifier(number) {
         Some(identifier) => put_identifier(out, alloc, identifier.as_bytes()),
@@ -207,7 +208,7 @@ fn put_authority_key_identifier(
 fn put_identifier(out: &mut Vec<u8>, alloc: Global, identifier: &[u8]) -> Result<(), Memory>
     requires { length identifier.now ≤ 64 }
     ensures ok { AppendsOnOk out.old out.new result (authority_key_identifier identifier.now) }
-    ensures longer { OnOk result (length out.new.items ≤ length out.old.items + 100) }
+    ensures length_at_most { OnOk result (length out.new.items ≤ length out.old.items + 100) }
 {
     let mut key_identifier = Vec::new(alloc);
     put(&mut key_identifier, PRIMITIVE_0, identifier)?;
@@ -219,7 +220,7 @@ fn put_identifier(out: &mut Vec<u8>, alloc: Global, identifier: &[u8]) -> Result
 #[tactic(auto, unfolding(crate::specs::Crl::crl_number))]
 fn put_crl_number(out: &mut Vec<u8>, alloc: Global, number: u64) -> Result<(), Memory>
     ensures ok { AppendsOnOk out.old out.new result (crl_number number) }
-    ensures longer { OnOk result (length out.new.items ≤ length out.old.items + 40) }
+    ensures length_at_most { OnOk result (length out.new.items ≤ length out.old.items + 40) }
 {
     let mut value = Vec::new(alloc);
     put_number(&mut value, number)?;
@@ -236,7 +237,8 @@ fn put_extension(
 ) -> Result<(), Memory>
     requires { length value.now ≤ 1000 }
     ensures ok { AppendsOnOk out.old out.new result (extension identifier value.now) }
-    ensures longer { OnOk result (length out.new.items ≤ length out.old.items + length value.now + 21) }
+    ensures length_at_most { OnOk result
+        (length out.new.items ≤ length out.old.items + length value.now + 21) }
 {
     let mut contents = Vec::new(alloc);
     put(&mut contents, OBJECT_IDENTIFIER, &identifier)?;

@@ -47,7 +47,7 @@ module _ {D : Type 0} (g : Ghosts D) where
     pub device_answered : old.preset_signature ≡ None
         → IfOk result (λ signature. g.device_answered (g.device_path old.device) message signature.items)
     pub given : ¬ (old.preset_signature ≡ None) → IfOk result
-        (λ signature. ∥ g.signer_answered (g.device_path old.device) message signature.items ∥₁)
+        (λ signature. ∥ g.answered_another_caller (g.device_path old.device) message signature.items ∥₁)
     pub within : IfOk result (λ signature. length signature.items ≤ 4096)
     pub why : old.preset_signature ≡ None → IsErrOf result Device → FailsToSign old message new
     pub same_path : g.device_path new.device ≡ g.device_path old.device

@@ -24,7 +24,7 @@ impl Backoff {
         Backoff { since: None }
     }
 
-    /// The back-off after a failed exchange: it begins at `ended` if the exchange elapsed at least the timeout; else there is none.
+    /// The back-off after a failed exchange: it begins at `ended` if the exchange took at least the timeout; else there is none.
     pub fn after_failure(began: Duration, ended: Duration, timeout: Duration) -> Backoff
         ensures { MatchOption result.since (as_nanos ended - as_nanos began < as_nanos timeout)
             (λ since. (since ≡ ended) × (as_nanos timeout ≤ as_nanos ended - as_nanos began)) }
@@ -47,7 +47,7 @@ impl Backoff {
     }
 }
 
-/// A device with a back-off. After an exchange that fails before the timeout, the next exchange asks the device.
+/// A device, which has a signer's key, with a back-off. After an exchange that fails before the timeout, the next exchange asks the device again.
 #[derive(Drop)]
 pub struct BackoffDevice<D: Device, C: Clock> {
     device: D,
@@ -58,7 +58,7 @@ pub struct BackoffDevice<D: Device, C: Clock> {
 impl<D: Device, C: Clock> BackoffDevice<D, C> {
     pub fn new(device: D, clock: C) -> BackoffDevice<D, C>
         ensures device { result.device ≡ device }
-        ensures device_answered { result.backoff.since ≡ None }
+        ensures no_backoff { result.backoff.since ≡ None }
     {
         BackoffDevice {
             device,
@@ -76,7 +76,7 @@ impl<D: Device, C: Clock> BackoffDevice<D, C> {
         requires { length room.old ≤ 4097 }
         ensures exchanged { ExchangesUnlessBackedOff D.Device self.old self.new message.now room.new result }
         ensures refused { IsBackedOff self.old.backoff.since began → OnOk result ⊥ × (self.new ≡ self.old) }
-        ensures device_answered { ¬ IsBackedOff self.old.backoff.since began
+        ensures device_failed { ¬ IsBackedOff self.old.backoff.since began
             → OnErr result (D.fails self.old.device message.now self.new.device) }
         ensures late { ¬ IsBackedOff self.old.backoff.since began
             → IfSome self.new.backoff.since (λ since. 10000000000 ≤ as_nanos since - as_nanos began) }
@@ -109,9 +109,9 @@ impl<D: Device, C: Clock> Device for BackoffDevice<D, C> {
 
     ghost answers = { D.answers };
 
-    ghost signer_answered = { D.signer_answered };
+    ghost answered_another_caller = { D.answered_another_caller };
 
-    ghost answer_counts_as_given = { D.answer_counts_as_given };
+    ghost others_answers_count = { D.others_answers_count };
 
     ghost fails = { FailsOrIsBackedOff D.Device };
 

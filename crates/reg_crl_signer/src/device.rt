@@ -23,11 +23,11 @@ pub trait Device {
     ghost answers: { List ℕ → List ℕ → List ℕ → Type 0 };
 
     // The device at this path gave this message this answer, for another caller.
-    ghost signer_answered: { List ℕ → List ℕ → List ℕ → Type 0 };
+    ghost answered_another_caller: { List ℕ → List ℕ → List ℕ → Type 0 };
 
     // An answer that another caller got counts as an answer, for any key.
-    ghost answer_counts_as_given: { (key device_path message answer : List ℕ)
-        → ∥ signer_answered device_path message answer ∥₁ → answers key message answer };
+    ghost others_answers_count: { (key device_path message answer : List ℕ)
+        → ∥ answered_another_caller device_path message answer ∥₁ → answers key message answer };
 
     // The device before, a message that it failed to answer, and the device after.
     ghost fails: { Self → List ℕ → Self → Type 0 };

@@ -23,7 +23,7 @@ pub trait DeviceConnection: Read + Write {
     ghost finished: { Self → Self → Type 0 };
 
     // The listener at the path gave this message this answer, over a connection of another type.
-    ghost signer_answered: { List ℕ → List ℕ → List ℕ → Type 0 };
+    ghost answered_another_caller: { List ℕ → List ℕ → List ℕ → Type 0 };
 
     fn connect(rt: &HostRuntime, path: &str) -> io::Result<Self>
         ensures ok { IfOk result (connected path.now) }
@@ -74,11 +74,11 @@ impl<L: DeviceConnection + Drop> Device for SocketDevice<L> {
     ghost answers = { λ key message answer.
         ((path : List ℕ)
         × ExchangesAtPath L.Read.remaining L.Write.contents L.finished L.connected path message answer)
-        ⊎ ((path : List ℕ) × ∥ L.signer_answered path message answer ∥₁) };
+        ⊎ ((path : List ℕ) × ∥ L.answered_another_caller path message answer ∥₁) };
 
-    ghost signer_answered = { L.signer_answered };
+    ghost answered_another_caller = { L.answered_another_caller };
 
-    ghost answer_counts_as_given = { λ key device_path message answer given. inr (device_path, given) };
+    ghost others_answers_count = { λ key device_path message answer given. inr (device_path, given) };
 
     // No connection could be made, or one was made and gave no answer.
     ghost fails = { λ it message after. L.unconnected (string_bytes it.path)

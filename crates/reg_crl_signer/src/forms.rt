@@ -7,16 +7,16 @@ ghost use Rattle.reg_crl_signer.specs.Forms.{HasForm, IsEcdsaValue, HasKeyForm, 
 use crate::algorithm::Algorithm;
 use crate::numbers::octets_of_pair;
 
-/// The octets of a coordinate of a point of P-256 (RFC 5480 2.1.1.1), and the most octets of r and s of a signature.
+/// How many octets a coordinate of a point of P-256 has (SEC 1 2.3.5), and r and s of a signature have at most.
 const P256_OCTETS: usize = 32;
 
-/// The octets of a coordinate of a point of P-384, and the most octets of r and s of a signature.
+/// How many octets a coordinate of a point of P-384 has, and r and s of a signature have at most.
 const P384_OCTETS: usize = 48;
 
-/// The octets of a public key of Ed25519 (RFC 8032 5.1.5).
+/// How many octets a public key of Ed25519 has (RFC 8032 5.1.5).
 const ED25519_KEY: usize = 32;
 
-/// The octets of a signature of Ed25519 (RFC 8032 5.1.6).
+/// How many octets a signature of Ed25519 has (RFC 8032 5.1.6).
 const ED25519_SIGNATURE: usize = 64;
 
 impl Algorithm {
@@ -45,8 +45,8 @@ impl Algorithm {
     }
 }
 
-/// Whether `signature` has the form of a signature under the key, of the algorithm with this AlgorithmIdentifier. `false` if that is none
-/// of [`Algorithm`].
+/// Whether `signature` has the form of a signature under `key` by the algorithm with this AlgorithmIdentifier. `false` if no variant of [`Algorithm`]
+/// has this identifier.
 pub fn has_form(identifier: &[u8], key: &[u8], signature: &[u8]) -> bool
     ensures { OnTrue result
         (HasForm (record { algorithm = identifier.now; public_key = key.now }) signature.now) }

@@ -1,8 +1,8 @@
-//! A preset signature, which saves the signer a request to the device.
+//! A preset signature: a `DeviceSigner` takes it for the next `sign`, and doesn't ask its device, such as the process at a signer's socket.
 
 ghost use Rattle.std.specs.Prelude.{◌≡◌, Some, IfSome};
 
-/// The answer that another caller got from the device for `message`, before the signer needs it; `None` if the device gave none.
+/// The device's answer for `message`, which another caller than the `DeviceSigner` requested before; `None` if there was no answer.
 #[derive(Drop)]
 pub struct PresetSignature {
     pub message: Vec<u8>,

@@ -40,7 +40,7 @@ impl<D: Device + Drop> RegisterSigner<D> {
     /// Presets the key's next signature, as [`DeviceSigner::set_preset`] does. Without a key, nothing changes.
     pub fn set_preset(&mut self, preset_signature: Option<PresetSignature>)
         requires { ForSome (key_of D.Device self.old)
-            (λ signer. IsPreset (D.signer_answered (D.device_path signer.device)) preset_signature) }
+            (λ signer. IsPreset (D.answered_another_caller (D.device_path signer.device)) preset_signature) }
         ensures { SignsAsBefore D.Device self.old self.new }
     {
         match self {

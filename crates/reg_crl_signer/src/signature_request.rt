@@ -104,7 +104,7 @@ impl DeviceConnection for SignatureRequest {
 
     ghost finished = { λ it after. after ≡ it };
 
-    ghost signer_answered = { λ path message answer. Unit {0} };
+    ghost answered_another_caller = { λ path message answer. Unit {0} };
 
     /// Connects without waiting: `WouldBlock` if the socket's backlog is full.
     fn connect(rt: &HostRuntime, path: &str) -> io::Result<SignatureRequest>

@@ -27,7 +27,7 @@ pub struct DeviceSigner<D: Device> {
     algorithm: Algorithm,
     failures: u64,
     preset_signature: Option<PresetSignature>,
-    ghost came: { IsPreset (D.signer_answered (D.device_path device)) preset_signature },
+    ghost came: { IsPreset (D.answered_another_caller (D.device_path device)) preset_signature },
 }
 
 impl<D: Device + Drop> DeviceSigner<D> {
@@ -52,7 +52,7 @@ impl<D: Device + Drop> DeviceSigner<D> {
     /// Presets the next signature: the answer that another caller got from the device at the same path for a message, or that there was none. The
     /// next `sign` then doesn't ask the device, and fails for any other message. `None` removes the preset.
     pub fn set_preset(&mut self, preset_signature: Option<PresetSignature>)
-        requires { IsPreset (D.signer_answered (D.device_path self.old.device)) preset_signature }
+        requires { IsPreset (D.answered_another_caller (D.device_path self.old.device)) preset_signature }
         ensures preset_signature { self.new.preset_signature ≡ preset_signature }
         ensures same_device { self.new.device ≡ self.old.device }
         ensures same_algorithm { self.new.algorithm ≡ self.old.algorithm }
@@ -101,10 +101,11 @@ impl<D: Device + Drop> DeviceSigner<D> {
         preset_signature: PresetSignature,
         message: &[u8],
     ) -> Result<Vec<u8>, SignFault>
-        requires { IsPreset (D.signer_answered (D.device_path self.old.device)) (Some preset_signature) }
+        requires { IsPreset (D.answered_another_caller (D.device_path self.old.device))
+            (Some preset_signature) }
         ensures signing { SigningByDevice D.Device self.old self.new message.now result }
         ensures given { IfOk result (λ signature.
-            ∥ D.signer_answered (D.device_path self.old.device) message.now signature.items ∥₁) }
+            ∥ D.answered_another_caller (D.device_path self.old.device) message.now signature.items ∥₁) }
         ensures within { IfOk result (λ signature. length signature.items ≤ 4096) }
         ensures same_device { self.new.device ≡ self.old.device }
     {

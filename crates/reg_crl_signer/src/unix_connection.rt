@@ -71,7 +71,7 @@ impl DeviceConnection for UnixConnection {
 
     ghost finished = { λ link after. Unit {0} };
 
-    ghost signer_answered = { λ path message answer. Unit {0} };
+    ghost answered_another_caller = { λ path message answer. Unit {0} };
 
     /// If the socket's backlog is full, it tries again until the ten seconds are over: then `TimedOut`.
     fn connect(rt: &HostRuntime, path: &str) -> io::Result<UnixConnection>

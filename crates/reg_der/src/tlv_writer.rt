@@ -27,7 +27,8 @@ pub fn put(out: &mut Vec<u8>, tag: u8, contents: &[u8]) -> Result<(), Memory>
     requires short { length contents.now < 2 ^ 32 }
     ensures ok { AppendsOnOk out.old out.new result (tlv tag contents.now) }
     ensures value { IsTlv (tlv tag contents.now) tag contents.now }
-    ensures longer { OnOk result (length out.new.items ≤ length out.old.items + length contents.now + 6) }
+    ensures length_at_most { OnOk result
+        (length out.new.items ≤ length out.old.items + length contents.now + 6) }
     ensures short_form { length contents.now < 128
         → OnOk result (length out.new.items ≡ length out.old.items + length contents.now + 2) }
     ensures err { OnErr result (out.new.items ≡ out.old.items) }
@@ -42,7 +43,7 @@ pub fn put(out: &mut Vec<u8>, tag: u8, contents: &[u8]) -> Result<(), Memory>
 /// Appends bytes as they are; `Memory` leaves `out` unchanged.
 pub fn put_raw(out: &mut Vec<u8>, bytes: &[u8]) -> Result<(), Memory>
     ensures ok { AppendsOnOk out.old out.new result bytes.now }
-    ensures longer { OnOk result (length out.new.items ≡ length out.old.items + length bytes.now) }
+    ensures length_is { OnOk result (length out.new.items ≡ length out.old.items + length bytes.now) }
 {
     out.extend_from_slice(bytes).map_err(|_| Memory)
 }
@@ -58,7 +59,7 @@ pub fn put_number(out: &mut Vec<u8>, number: u64) -> Result<(), Memory>
     ensures ok { AppendsOnOk out.old out.new result (integer_value number) }
     ensures value { IsTlv (integer_value number) 2 (integer number) }
     ensures integer { IsInteger (integer number) number }
-    ensures longer { OnOk result (length out.new.items ≤ length out.old.items + 11) }
+    ensures length_at_most { OnOk result (length out.new.items ≤ length out.old.items + 11) }
     ensures err { OnErr result (out.new.items ≡ out.old.items) }
     ensures full { LacksCapacityFor out.old result (integer_value number) }
     ensures room { vec_capacity out.old ≤ vec_capacity out.new }
@@ -71,7 +72,7 @@ pub fn put_serial(out: &mut Vec<u8>, serial: Serial) -> Result<(), Memory>
     ensures ok { AppendsOnOk out.old out.new result (integer_value serial) }
     ensures value { IsTlv (integer_value serial) 2 (integer serial) }
     ensures integer { IsInteger (integer serial) serial }
-    ensures longer { OnOk result (length out.new.items ≤ length out.old.items + 22) }
+    ensures length_at_most { OnOk result (length out.new.items ≤ length out.old.items + 22) }
     ensures err { OnErr result (out.new.items ≡ out.old.items) }
     ensures full { LacksCapacityFor out.old result (integer_value serial) }
     ensures room { vec_capacity out.old ≤ vec_capacity out.new }
@@ -84,7 +85,8 @@ pub fn put_bits(out: &mut Vec<u8>, bytes: &[u8]) -> Result<(), Memory>
     requires { length bytes.now + 1 < 2 ^ 32 }
     ensures ok { AppendsOnOk out.old out.new result (bits_value bytes.now) }
     ensures value { IsTlv (bits_value bytes.now) 3 (0 ∷ bytes.now) }
-    ensures longer { OnOk result (length out.new.items ≤ length out.old.items + length bytes.now + 7) }
+    ensures length_at_most { OnOk result
+        (length out.new.items ≤ length out.old.items + length bytes.now + 7) }
     ensures err { OnErr result (out.new.items ≡ out.old.items) }
     ensures full { LacksCapacityFor out.old result (bits_value bytes.now) }
     ensures room { vec_capacity out.old ≤ vec_capacity out.new }
@@ -98,7 +100,7 @@ pub fn put_bits(out: &mut Vec<u8>, bytes: &[u8]) -> Result<(), Memory>
 pub fn put_utc_or_general(out: &mut Vec<u8>, moment: Moment) -> Result<(), Memory>
     ensures ok { AppendsOnOk out.old out.new result (time_value moment) }
     ensures value { (tag : ℕ) × (contents : List ℕ) × IsTlv (time_value moment) tag contents }
-    ensures longer { OnOk result (length out.new.items ≤ length out.old.items + 17) }
+    ensures length_at_most { OnOk result (length out.new.items ≤ length out.old.items + 17) }
     ensures err { OnErr result (out.new.items ≡ out.old.items) }
     ensures full { LacksCapacityFor out.old result (time_value moment) }
     ensures room { vec_capacity out.old ≤ vec_capacity out.new }
@@ -116,7 +118,7 @@ pub fn put_utc_or_general(out: &mut Vec<u8>, moment: Moment) -> Result<(), Memor
 pub fn put_general(out: &mut Vec<u8>, moment: Moment) -> Result<(), Memory>
     ensures ok { AppendsOnOk out.old out.new result (general_value moment) }
     ensures value { IsTlv (general_value moment) 24 (calendar.general_text moment) }
-    ensures longer { OnOk result (length out.new.items ≤ length out.old.items + 17) }
+    ensures length_at_most { OnOk result (length out.new.items ≤ length out.old.items + 17) }
     ensures err { OnErr result (out.new.items ≡ out.old.items) }
     ensures full { LacksCapacityFor out.old result (general_value moment) }
     ensures room { vec_capacity out.old ≤ vec_capacity out.new }
@@ -127,7 +129,8 @@ pub fn put_general(out: &mut Vec<u8>, moment: Moment) -> Result<(), Memory>
 fn put_integer(out: &mut Vec<u8>, octets: &[u8]) -> Result<(), Memory>
     requires { length octets.now ≤ 20 }
     ensures ok { AppendsOnOk out.old out.new result (tlv 2 (with_clear_bit (without_zeros octets.now))) }
-    ensures longer { OnOk result (length out.new.items ≤ length out.old.items + length octets.now + 3) }
+    ensures length_at_most { OnOk result
+        (length out.new.items ≤ length out.old.items + length octets.now + 3) }
     ensures size { OnOk result
         (length out.new.items
         ≡ length out.old.items + length (with_clear_bit (without_zeros octets.now)) + 2) }
@@ -148,7 +151,8 @@ fn put_integer(out: &mut Vec<u8>, octets: &[u8]) -> Result<(), Memory>
 fn put_with_leading_zero(out: &mut Vec<u8>, tag: u8, bytes: &[u8]) -> Result<(), Memory>
     requires { length bytes.now + 1 < 2 ^ 32 }
     ensures ok { AppendsOnOk out.old out.new result (tlv tag (0 ∷ bytes.now)) }
-    ensures longer { OnOk result (length out.new.items ≤ length out.old.items + length bytes.now + 7) }
+    ensures length_at_most { OnOk result
+        (length out.new.items ≤ length out.old.items + length bytes.now + 7) }
     ensures short_form { length bytes.now < 127
         → OnOk result (length out.new.items ≡ length out.old.items + length bytes.now + 3) }
     ensures err { OnErr result (out.new.items ≡ out.old.items) }
@@ -167,7 +171,7 @@ fn start_value(out: &mut Vec<u8>, tag: u8, size: usize) -> Result<(), Memory>
     requires { size < 2 ^ 32 }
     ensures ok { AppendsOnOk out.old out.new result (tag ∷ length_octets size) }
     ensures contents { OnOk result (length out.new.items + size ≤ vec_capacity out.new) }
-    ensures longer { OnOk result (length out.new.items ≤ length out.old.items + 6) }
+    ensures length_at_most { OnOk result (length out.new.items ≤ length out.old.items + 6) }
     ensures short_form { size < 128 → OnOk result (length out.new.items ≡ length out.old.items + 2) }
     ensures err { OnErr result (out.new.items ≡ out.old.items) }
     ensures full { OnErr result

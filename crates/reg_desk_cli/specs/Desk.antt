@@ -99,14 +99,14 @@ open_app = with_rules (new_app (codes "open"))
 -- `at SOCKET [--import FILE [--orders SUBSCRIBER DAYS] | --revoke FILE] [--why]`
 abbrev pub at_app : App
 at_app = with_rules (new_app (codes "at"))
-    (must (codes "counter") ∷ takes_value (codes "import") ∷ takes_several (codes "orders") 2
+    (must (codes "control") ∷ takes_value (codes "import") ∷ takes_several (codes "orders") 2
     ∷ takes_value (codes "revoke") ∷ flag (codes "why") ∷ [])
 
 -- `replay SOCKET LOG [--why]`
 abbrev pub replay_app : App
 replay_app =
     with_rules (new_app (codes "replay"))
-    (must (codes "counter") ∷ must (codes "log") ∷ flag (codes "why") ∷ [])
+    (must (codes "control") ∷ must (codes "log") ∷ flag (codes "why") ∷ [])
 
 -- `schedule FILE MOMENT=DAYS .. [--why]`
 abbrev pub schedule_app : App

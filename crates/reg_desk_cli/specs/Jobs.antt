@@ -247,13 +247,13 @@ at_by control_path (Some imported) (Some rows) orders = None
 
 unfoldable pub at_of : List Row → Option Job
 at_of rows = do
-  control_path ← first_of (codes "counter") rows
+  control_path ← first_of (codes "control") rows
   orders ← order_terms_given rows
   at_by control_path (first_of (codes "import") rows) (first_of (codes "revoke") rows) orders
 
 unfoldable pub replay_of : List Row → Option Job
 replay_of rows = do
-  control_path ← first_of (codes "counter") rows
+  control_path ← first_of (codes "control") rows
   log ← first_of (codes "log") rows
   Some (Replay control_path log)
 

@@ -238,7 +238,7 @@ fn read_open<'a>(given: &ArgMatches<'a>) -> Option<Job<'a>>
 fn read_at<'a>(given: &ArgMatches<'a>) -> Option<Job<'a>>
     ensures { result ≡ at_of (rows_of (found_of given.now)) }
 {
-    let control_path = word_of(given, "counter")?;
+    let control_path = word_of(given, "control")?;
     let orders = order_terms_option(given)?;
     at_job(
         control_path,
@@ -274,7 +274,7 @@ fn read_replay<'a>(given: &ArgMatches<'a>) -> Option<Job<'a>>
     ensures { result ≡ replay_of (rows_of (found_of given.now)) }
 {
     Some(Job::Replay {
-        control_path: word_of(given, "counter")?,
+        control_path: word_of(given, "control")?,
         log: word_of(given, "log")?,
     })
 }
@@ -321,7 +321,7 @@ fn read_list<'a>(given: &ArgMatches<'a>) -> Option<Job<'a>>
     }))
 }
 
-/// The filter of a list; `None` if the rows of the list lack a field that an option selects by.
+/// The filter of a list; `None` if the value of an option can't be read, or if the rows of the list lack a field that an option selects by.
 #[tactic(auto, unfolding(crate::specs::Jobs::filter_for))]
 fn filter_for(given: &ArgMatches<'_>, list: &Cursor) -> Option<Filter>
     ensures { result ≡ filter_for list.now (rows_of (found_of given.now)) }

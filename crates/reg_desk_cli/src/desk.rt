@@ -6,7 +6,7 @@ ghost use Rattle.clap.specs.declared.builder.command.Command.TheViews.{out-Comma
 ghost use Rattle.reg_desk_cli.specs.Desk.{may, needs, bare_app, begun_app, desk_app, other_command_apps, first_command_apps, with_commands, with_rules};
 ghost use Rattle.reg_desk_cli.specs.Table.{AreLocal, app_of_entry, rule_of_part, with_made};
 
-use crate::table::{BEFORE, CommandEntry, FIRST_COMMANDS, OTHER_COMMANDS, Part};
+use crate::table::{CommandEntry, FIRST_COMMANDS, GLOBAL_OPTIONS, OTHER_COMMANDS, Part};
 use clap::{Arg, ArgAction, Command};
 use std::alloc::{AllocError, Global};
 
@@ -69,7 +69,7 @@ fn begun<'a>(alloc: Global) -> Result<Command<'a>, AllocError>
     ensures app { IfOk result (λ made. app_of made ≡ begun_app) }
     ensures local { IfOk result (λ made. (fields_of made).has_globals ≡ false) }
 {
-    with_parts(alloc, bare(alloc), BEFORE)
+    with_parts(alloc, bare(alloc), GLOBAL_OPTIONS)
 }
 
 fn bare<'a>(alloc: Global) -> Command<'a>

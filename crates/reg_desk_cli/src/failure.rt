@@ -24,7 +24,7 @@ pub enum Failure {
     BadPolicy,
     /// The clock is more than 30 days past the last accepted moment.
     BadClock,
-    /// The latest CRL has another algorithm, the issuer's key does not fit the algorithm, or the register is in memory and a signer is given.
+    /// No CRL with the algorithm may follow the latest one, the issuer's key does not fit the algorithm, or a signer is given for a register in memory.
     BadSigner,
     /// A certificate for OCSP responses can't be read, or its key is not the issuer's (`--embed`) or not of the given algorithm (`--responder`).
     BadResponder,

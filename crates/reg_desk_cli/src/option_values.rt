@@ -93,7 +93,7 @@ pub(crate) fn moment_option(matches: &ArgMatches<'_>, id: &str) -> Option<Option
     }
 }
 
-/// The address of `--listen`, or 127.0.0.1 if it is not given; `None` if it is no address of the loopback interface.
+/// The address of `--listen`, or 127.0.0.1 if it is not given; `None` for any text but `127.0.0.1` and `[::1]`.
 pub(crate) fn loopback(matches: &ArgMatches<'_>) -> Option<Loopback>
     ensures { result ≡ loopback_in (rows_of (found_of matches.now)) }
 {
@@ -138,7 +138,7 @@ pub(crate) fn label_option(matches: &ArgMatches<'_>, id: &str) -> Option<Option<
     }
 }
 
-/// The hexadecimal digits of an option, if it is given; `None` if it is not 1 to 40 of them.
+/// The hexadecimal digits of an option, if it is given; `None` if its value is not 1 to 40 such digits.
 pub(crate) fn prefix_option(matches: &ArgMatches<'_>, id: &str) -> Option<Option<Label>>
     ensures { result ≡ prefix_given id.now (rows_of (found_of matches.now)) }
 {
@@ -155,8 +155,8 @@ pub(crate) fn signer_option<'a>(matches: &ArgMatches<'a>) -> Option<Option<Signe
     signer_by(matches, "signer", "algorithm")
 }
 
-/// The responder to OCSP requests; `None` if an option of a responder is given without the others, if no algorithm has the name, or if
-/// `--embed` is given too.
+/// The responder to OCSP requests: a delegate if the three `--responder` options are given, or the issuer if none is. `None` if only some are
+/// given, if no algorithm has the name, or if a delegate is given with `--embed`.
 #[tactic(auto, unfolding(crate::specs::Jobs::responder_in))]
 pub(crate) fn responder<'a>(matches: &ArgMatches<'a>) -> Option<ResponderChoice<'a>>
     ensures { result ≡ responder_in (rows_of (found_of matches.now)) }
@@ -208,7 +208,7 @@ fn signer_by<'a>(
     }
 }
 
-/// The signer of CRLs for a job that must choose one: a signer, or `--unsigned`, or neither with a responder; `None` for any other choice.
+/// The signer of CRLs for `open`, if one is given. `None` as for [`signer_option`], if `--unsigned` is given with a signer or a delegate, or if none of the three is.
 pub(crate) fn signer_or_unsigned<'a>(
     matches: &ArgMatches<'a>,
     responder: &ResponderChoice<'_>,
@@ -264,7 +264,7 @@ pub(crate) fn is_set(matches: &ArgMatches<'_>, id: &str) -> bool
     }
 }
 
-/// The terms of `--orders`, if it is given; `None` if they are not two numbers.
+/// The subscriber and the days of `--orders`, if it is given; `None` if these are not two numbers.
 pub(crate) fn order_terms_option(matches: &ArgMatches<'_>) -> Option<Option<OrderTerms>>
     ensures { result ≡ order_terms_given (rows_of (found_of matches.now)) }
 {

@@ -166,7 +166,7 @@ const CAUSE_ANYWHERE: &str =
     "Print the cause of a failure in a second line, if it is known; also after a command";
 
 /// The options before a command.
-pub(crate) const BEFORE: &[Part] = &[Part::Flag("why", CAUSE_ANYWHERE)];
+pub(crate) const GLOBAL_OPTIONS: &[Part] = &[Part::Flag("why", CAUSE_ANYWHERE)];
 
 /// The commands that make, run and serve a register, in the order in which help lists them. Only one small function uses this constant, because a
 /// long constant costs the prover seconds in each step. For the same reason the other commands are in `OTHER_COMMANDS`.
@@ -276,7 +276,7 @@ pub(crate) const OTHER_COMMANDS: &[CommandEntry] = &[
         about: "Send the lines of standard input to an open desk, and write one reply line for each; a line has no moment.",
         example: "Examples:\n  echo counts | desk at ca.control\n  desk at ca.control --import certificates.csv\n  desk at ca.control --import new.csv --orders 1 398\n  desk at ca.control --revoke revocations.csv\n\nExit status 3 if a reply is a refusal or a fault, or if the last line has no end: that line does not run.",
         parts: &[
-            Part::RequiredArgument("counter", "SOCKET", AT_CONTROL),
+            Part::RequiredArgument("control", "SOCKET", AT_CONTROL),
             Part::OptionalOption("import", "FILE", AT_IMPORT),
             Part::Several("orders", &["SUBSCRIBER", "DAYS"], AT_ORDERS),
             Part::OptionalOption("revoke", "FILE", AT_REVOKE),
@@ -288,7 +288,7 @@ pub(crate) const OTHER_COMMANDS: &[CommandEntry] = &[
         about: "Send the accepted commands of a log to an open desk once more, and write one reply line for each; a request is named by its serial number.",
         example: "Example:\n  desk replay ca.control ca.log\n\nExit status 3 at the first reply that differs from the one in the log: that reply and its line are printed, and no further command is sent.",
         parts: &[
-            Part::RequiredArgument("counter", "SOCKET", AT_CONTROL),
+            Part::RequiredArgument("control", "SOCKET", AT_CONTROL),
             Part::RequiredArgument("log", "LOG", REPLAY),
             Part::Flag("why", CAUSE),
         ],

@@ -29,9 +29,9 @@ const MOST_PAGES: usize = 131_072;
 
 const OWNER_ONLY: u32 = 0o600;
 
-/// Opens the file at a path as a database, with SQLite's checks for damage, or creates it. `start` is what contracts suppose of the file and its log. The page
-/// cache has room for twice the pages of the file (2,000 to 131,072), so that a look-up in a large register seldom waits for the operating system, and a
-/// page that changes often is written to the log once. Errors: `Memory`; `Store` if the file can't be opened or is no database, with its cause.
+/// Opens the database at a path, or creates it. The crate `sqlite` checks each page and row. `start` is what contracts suppose of the file and its log.
+/// The page cache has room for twice the pages of the file (2,000 to 131,072), so a look-up in a large register seldom waits for the system, and a
+/// transaction writes each page to the log once. Errors: `Memory`; `Store`, with its cause, if the file can't be opened or is no database.
 pub fn open_file<S: Start>(
     rt: &HostRuntime,
     path: &str,
@@ -124,8 +124,8 @@ fn claim_fault_of(kind: ErrorKind) -> ClaimFault
     }
 }
 
-/// Removes a database's file and its log, if no other program has the file open: it locks the file meanwhile. It writes nothing to the file first, so
-/// that a failing disk does not prevent the removal.
+/// Removes a database's file and its log, unless another program holds one of SQLite's locks on the file: it locks the file meanwhile. It writes
+/// nothing to the file first, so that a failing disk does not prevent the removal.
 pub fn remove_file(rt: &HostRuntime, path: &str) {
     let Some(held) = lock_exclusively(rt, path) else {
         return;

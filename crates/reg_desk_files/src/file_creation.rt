@@ -19,8 +19,8 @@ const OWNER_ONLY: u32 = 0o600;
 /// The suffix of a copy's name while it is written.
 const PARTIAL_SUFFIX: &str = ".part";
 
-/// Writes all pages to a new file at a path that has no file, and none beside it that SQLite would take for its log or journal. The file is written
-/// under another name and synced. Only then it gets its name, in one step that replaces nothing. If that fails, the file is removed.
+/// Writes all pages to a new file, and returns how many bytes it has. Fails if there is a file at its path, or at the path of its log or journal. The file
+/// is written under another name and synced; then it gets its name, in one step that replaces nothing. If writing or naming fails, the new file is removed.
 pub(crate) fn write_copy<D: Disk>(
     rt: &HostRuntime,
     pager: &mut Pager<D>,
@@ -89,7 +89,7 @@ fn fill_and_name<D: Disk>(
     Ok(bytes)
 }
 
-/// Gives a complete file its name, if the name is free, and removes its former one. If that fails, it removes the new name again.
+/// Gives a complete file its name, if that is free; then removes its former name and syncs the folder. If the latter fails, removes the new name too.
 fn name(rt: &HostRuntime, part_path: &str, to: &str) -> Result<(), FileFault>
     ensures { IfErr result IsFileFault }
 {

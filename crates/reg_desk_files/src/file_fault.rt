@@ -1,4 +1,4 @@
-//! Why a file can't be opened or created.
+//! Why a file can't be opened, created, read or written.
 
 ghost use Rattle.std.specs.Prelude.{◌≡◌};
 ghost use Rattle.reg_desk_files.specs.Reading.{IsFileFault};
@@ -10,7 +10,7 @@ use std::alloc::AllocError;
 use std::io;
 use std::io::ErrorKind;
 
-/// Why a file can't be opened or created: the fault, and its cause if it is known.
+/// Why a file can't be opened, created, read or written: the fault, and its cause if it is known.
 #[derive(Clone, Copy, PartialEq, Eq)]
 pub struct FileFault {
     /// `Memory` or `Store`.

@@ -1,4 +1,4 @@
-//! Locks files, so that no other program opens them meanwhile, and finds the files beside them.
+//! Locks a database's file by the bytes that SQLite locks, and makes the paths of the files beside it.
 
 ghost use Rattle.std.specs.Prelude.{◌≡◌, ◌++◌, codes, string_bytes, IfErr, IfOk};
 ghost use Rattle.reg_desk_files.specs.Reading.{IsFileFault};
@@ -17,7 +17,7 @@ const LOCKS: u64 = 1_073_741_824;
 
 const LOCKS_LENGTH: u64 = 512;
 
-/// Locks a database's file as SQLite does. The lock ends when the file is closed.
+/// Locks the bytes that SQLite locks, without waiting: the fault's cause is `InUse` if another lock prevents it. The lock ends when the file is closed.
 pub(crate) fn lock(file: &fs::File, kind: RangeLock) -> Result<(), FileFault>
     ensures { IfErr result IsFileFault }
 {
@@ -31,8 +31,8 @@ pub(crate) fn lock(file: &fs::File, kind: RangeLock) -> Result<(), FileFault>
     }
 }
 
-/// Checks that a database's file is locked for writing, as this program locks a file that it has open. If it is not, the file at the path
-/// is no longer the one that this program opened.
+/// Checks that a lock for writing is held on `file`, which the caller found at the path of a database that this program has open. If none is,
+/// another file has that path now.
 pub(crate) fn check_locked(file: &fs::File) -> Result<(), FileFault>
     ensures { IfErr result IsFileFault }
 {

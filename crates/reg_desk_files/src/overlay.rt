@@ -21,7 +21,7 @@ pub struct Overlay<F: Source> {
     kept: Vec<u8>,
     /// The key of the digests by which a page that is read again is checked.
     key: u64,
-    /// How many calls failed; in `caught`, those that read bytes with another digest.
+    /// How many calls failed, and how many of these read bytes with another digest (`caught`).
     faults: u64,
     caught: u64,
 }

@@ -37,7 +37,7 @@ impl Source for ReadFile {
 /// Which program has the database open while its files are read.
 #[derive(Clone, Copy)]
 pub(crate) enum OpenedBy {
-    /// No program that writes: a shared lock keeps writers out until the files are closed.
+    /// None, by its locks: a shared lock keeps `desk` and SQLite's rollback mode from writing, but not SQLite's WAL mode, which takes that lock too.
     NoWriter,
     /// This program, which does not write meanwhile.
     ThisProgram,
@@ -49,9 +49,9 @@ pub(crate) struct LockedFiles {
     pub(crate) db: ReadFile,
 }
 
-/// Opens the files of a database read-only, also through a symbolic link. With `NoWriter`, the database's file is locked until it is dropped. Errors:
-/// `Memory`; `Store`, also if a program has the file open for writing and `opened_by` is `NoWriter`, if none has and `opened_by` is `ThisProgram`, or if SQLite left
-/// a rollback journal beside it, which only SQLite can play back.
+/// Opens the files of a database read-only, also through a symbolic link. With `NoWriter`, the database's file is locked until the result is dropped.
+/// Errors: `Memory`; `Store`. It is `Store` too if SQLite left a rollback journal beside the file, which only SQLite can play back; with `NoWriter`, if
+/// a program holds a lock for writing; and with `ThisProgram`, if none does.
 pub(crate) fn lock_files(
     rt: &HostRuntime,
     path: &str,
@@ -88,7 +88,7 @@ fn open_log(rt: &HostRuntime, path: &str) -> Result<Option<ReadFile>, FileFault>
     }
 }
 
-/// Whether the path has a rollback journal that SQLite has to play back: it is not empty, and does not begin with a zero. Anything but a regular file counts as one.
+/// Whether SQLite has to play back a rollback journal at the path: a file that has bytes, the first not zero; or anything but a regular file with one name.
 fn has_hot_journal(rt: &HostRuntime, path: &str) -> io::Result<bool> {
     match open_regular(rt, path) {
         Ok(journal) => is_hot(&journal),
@@ -107,7 +107,7 @@ fn is_hot(journal: &ReadFile) -> io::Result<bool> {
     Ok(first[0] != 0)
 }
 
-/// Opens a regular file read-only. It must be no symbolic link, and have no second name (hard link), beside which another log could be.
+/// Opens a regular file read-only. It must be no symbolic link, and have no second name (hard link): SQLite may have another `-wal` beside that one.
 fn open_regular(rt: &HostRuntime, path: &str) -> io::Result<ReadFile> {
     // A pipe is not opened: that would wait for a writer.
     if !fs::symlink_metadata(rt, path)?.is_file() {

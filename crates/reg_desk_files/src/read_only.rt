@@ -56,14 +56,14 @@ pub struct Sources<F: Source> {
 }
 
 /// Opens the files at a path read-only, also through a symbolic link. It creates no file, and copies the log into memory. Until the result is dropped,
-/// no program can open them for writing. Errors: `Memory`; `Store` if the files can't be opened, with the cause.
+/// `desk` can't open them for writing; SQLite in WAL mode can. Errors: `Memory`; `Store` if the files can't be opened, with the cause.
 pub fn read_at(rt: &HostRuntime, path: &str) -> Result<Sources<ReadFile>, FileFault>
     ensures { IfErr result IsFileFault }
 {
     sources_at(rt, path, OpenedBy::NoWriter)
 }
 
-/// As [`read_at`], for files that `opened_by` has open for writing.
+/// As [`read_at`]; `opened_by` says which program has the files open for writing, if one does.
 pub(crate) fn sources_at(
     rt: &HostRuntime,
     path: &str,

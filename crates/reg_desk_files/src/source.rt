@@ -17,7 +17,7 @@ pub trait Source {
     fn size(&self) -> io::Result<usize>
         ensures { IfOk result (λ size. IsTrue (is_honest self.now) → size ≡ length (bytes self.now)) };
 
-    /// Fills a buffer with the bytes from an offset on. Errors: the file ends before that, or the call of the system failed.
+    /// Fills a buffer with the bytes from an offset on. Errors: the file ends before the buffer is full, or the call of the system failed.
     fn fill(&self, at: usize, buf: &mut [u8]) -> io::Result<()>
         ensures { OnOk result
             (IsTrue (is_honest self.now) → 0 < length buf.old → Holds (bytes self.now) at buf.new) };

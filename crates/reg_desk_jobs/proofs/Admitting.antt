@@ -2,7 +2,7 @@
 use Rattle.std.proofs.Common.{◌≡◌, ℕ, Some, None, Ok, Err, inl, inr, refl, subst, sym}
 use Rattle.std.specs.Prelude.{Option, Result, IfOk, OnErr}
 use Rattle.reg_core.specs.Records.{Records}
-use Rattle.reg_core.specs.declared.memory.Memory.{Memory}
+use Rattle.reg_core.specs.declared.memory.Memory.{Memory as NoMemory}
 use Rattle.reg_office_api.specs.CallSteps.{Signs, Runs, Asks, GivesCrl}
 use Rattle.reg_office_api.specs.Drafts.{Drafts}
 use Rattle.reg_office_api.specs.Leads.{Leads, Looks}
@@ -22,7 +22,7 @@ use Rattle.reg_desk_jobs.specs.Admission.{BeginsAdmitted, CountsRequest, IsWithi
 use Rattle.reg_desk_jobs.specs.declared.admission.Admission.{Admission}
 
 -- a request that was counted, with memory or without
-pub was_counted : {A : Type 0} (result : Result A Memory) (counted admission admission' : Admission) → admission' ≡ counted
+pub was_counted : {A : Type 0} (result : Result A NoMemory) (counted admission admission' : Admission) → admission' ≡ counted
     → CountsRequest result counted admission admission'
 was_counted (Ok begun) counted admission admission' is = is
 was_counted (Err memory) counted admission admission' is = inr is
@@ -33,7 +33,7 @@ module _ {S : Type 0} (is_clean : S → Type 0) (stands : Signatory → S → Re
   Begins begun signatory before after =
       BeginsTo (Runs signs signatory) Asks (Replies signs signatory) GivesCrl (Drafts signatory) now before what begun after × AddsARequestAtMost now before after
 
-  abbrev pub Admits : Result (ReadyOrUnsigned Answered Drafted) Memory → Signatory → Records → Records → Type 0
+  abbrev pub Admits : Result (ReadyOrUnsigned Answered Drafted) NoMemory → Signatory → Records → Records → Type 0
   Admits result signatory before after = BeginsAdmitted admission signs now signatory before what result after
 
   begun_within : (begun : ReadyOrUnsigned Answered Drafted) (signatory : Signatory) (before after : Records) → IsWithin admission before now (requested_serial what)
@@ -42,7 +42,7 @@ module _ {S : Type 0} (is_clean : S → Type 0) (stands : Signatory → S → Re
   begun_within (Unsigned draft) signatory before after within (begins, adds) = begins
 
   -- the register is asked after a look at the limits
-  pub admitted : (result : Result (ReadyOrUnsigned Answered Drafted) Memory) (s m t : S)
+  pub admitted : (result : Result (ReadyOrUnsigned Answered Drafted) NoMemory) (s m t : S)
       → Looks is_clean stands (λ records. IsWithin admission records now (requested_serial what)) s m
       → IfOk result (λ begun. Leads is_clean stands (Begins begun) m t) → OnErr result (t ≡ m) → Leads is_clean stands (Admits result) s t
   admitted (Ok begun) s m t look begins same =
@@ -65,7 +65,7 @@ module _ {S : Type 0} (is_clean : S → Type 0) (stands : Signatory → S → Re
       (let P : S → Type 0 = λ v. Looks is_clean stands (λ records. IsWithin admission records now (requested_serial what)) s v in subst P (sym same) look)
 
   -- no limit is looked at for any other request
-  pub unlimited : (result : Result (ReadyOrUnsigned Answered Drafted) Memory) (s t : S) → None ≡ requested_serial what
+  pub unlimited : (result : Result (ReadyOrUnsigned Answered Drafted) NoMemory) (s t : S) → None ≡ requested_serial what
       → IfOk result (λ begun. Leads is_clean stands (Begins begun) s t) → OnErr result (t ≡ s) → Leads is_clean stands (Admits result) s t
   unlimited result s t none begins same =
       admitted result s s t
@@ -107,6 +107,6 @@ module _ {S : Type 0} (is_clean : S → Type 0) (stands : Signatory → S → Re
       look
 
   -- without memory for a refusal
-  pub unanswered : (seen : Records → Type 0) (memory : Memory) (s t : S) → Looks is_clean stands seen s t → Leads is_clean stands (Admits (Err memory)) s t
+  pub unanswered : (seen : Records → Type 0) (memory : NoMemory) (s t : S) → Looks is_clean stands seen s t → Leads is_clean stands (Admits (Err memory)) s t
   unanswered seen memory s t look =
       follows is_clean stands (λ signatory before after. seen before × (after ≡ before)) (Admits (Err memory)) (λ signatory before after looked. looked.1) s t look

@@ -7,7 +7,7 @@ use Rattle.reg_office_api.specs.Leads.{Leads}
 use Rattle.reg_office_api.specs.Signatories.{Signatory}
 use Rattle.reg_office_api.proofs.PublicLaws.{follows, stays}
 use Rattle.reg_core.specs.Records.{Records}
-use Rattle.reg_core.specs.declared.memory.Memory.{Memory}
+use Rattle.reg_core.specs.declared.memory.Memory.{Memory as NoMemory}
 use Rattle.reg_crl.specs.Signing.{Identity}
 use Rattle.reg_http_head.specs.Collected.{HoldsRequest}
 use Rattle.reg_http_head.specs.Frame.{asked, refused}
@@ -40,7 +40,7 @@ use Rattle.reg_desk_jobs.proofs.Finishing.{left_exchange}
 
 -- what is begun behind the limits of an open desk is begun there
 pub limited_begins : (admission : Admission) (is_open : Bool) (signs : Signs) (now : ℕ) (signatory : Signatory) (before : Records) (method target body : List ℕ)
-    (begun : Result (ReadyOrUnsigned Answered Drafted) Memory) (after : Records) → dispatch is_open (route_at (path_of target)) ≡ ToLimits
+    (begun : Result (ReadyOrUnsigned Answered Drafted) NoMemory) (after : Records) → dispatch is_open (route_at (path_of target)) ≡ ToLimits
     → BeginsAdmitted admission signs now signatory before (asks_for method target body) begun after
     → BeginsAt is_open signs now admission signatory before method target body begun after
 limited_begins admission is_open signs now signatory before method target body (Ok (Ready answered)) after to (says, adds) =
@@ -50,7 +50,7 @@ limited_begins admission is_open signs now signatory before method target body (
 limited_begins admission is_open signs now signatory before method target body (Err memory) after to same = same
 
 -- the limits after a request at its route
-pub counted_at : {A : Type 0} (result : Result A Memory) (is_open : Bool) (now : ℕ) (method target body : List ℕ) (admission admission' : Admission) (by : Dispatch)
+pub counted_at : {A : Type 0} (result : Result A NoMemory) (is_open : Bool) (now : ℕ) (method target body : List ℕ) (admission admission' : Admission) (by : Dispatch)
     → dispatch is_open (route_at (path_of target)) ≡ by
     → CountsRequest result (admission_by by now (asks_for method target body) admission) admission admission'
     → CountsRequest result (admission_after is_open now (asked method target body) admission) admission admission'
@@ -77,7 +77,7 @@ module _ {S : Type 0} (is_clean : S → Type 0) (stands : Signatory → S → Re
     Answer begun signatory before after = AnswersBegun signer_answered is_open signs now admission admission' signatory before line_outcome begun after
 
     -- a request that asks something
-    pub asked_answers : (method target body : List ℕ) (route : Route) (begun : Result (ReadyOrUnsigned Answered Drafted) Memory) (made : ReadyOrUnsigned Exchange UnsignedResponse)
+    pub asked_answers : (method target body : List ℕ) (route : Route) (begun : Result (ReadyOrUnsigned Answered Drafted) NoMemory) (made : ReadyOrUnsigned Exchange UnsignedResponse)
         → ∥ HoldsRequest line_outcome (asked method target body) ∥₁ → BeginsExchange now route begun made
         → CountsRequest begun (admission_after is_open now (asked method target body) admission) admission admission'
         → Leads is_clean stands (λ signatory before after. BeginsAt is_open signs now admission signatory before method target body begun after) s t
@@ -104,7 +104,7 @@ module _ {S : Type 0} (is_clean : S → Type 0) (stands : Signatory → S → Re
     asked_answers method target body route (Err memory) (Unsigned left) holds tells counted moved = absurd tells
 
     -- one that is refused before any route
-    pub refused_answers : (status : ℕ) (route : Route) (answered : Result Answered Memory) (made : ReadyOrUnsigned Exchange UnsignedResponse)
+    pub refused_answers : (status : ℕ) (route : Route) (answered : Result Answered NoMemory) (made : ReadyOrUnsigned Exchange UnsignedResponse)
         → ∥ HoldsRequest line_outcome (refused status) ∥₁ → IfOk answered (λ it. answer_effects it ≡ plain (http_refusal status)) → BeginsExchange now route (ready_of answered) made
         → admission' ≡ admission → t ≡ s → Leads is_clean stands (Answer made) s t
     refused_answers status route (Ok answered) (Ready exchange) holds is tells uncounted same =

@@ -2,7 +2,7 @@
 use Rattle.std.specs.Prelude.{◌≡◌, ◌⊎◌, ℕ, Bool, true, false, ◌&&◌, ◌||◌, ◌+◌, ◌-◌, ◌/◌, ◌%◌, nat_lt, nat_le, replicate, slice_set, slice_index_or, if◌then◌else◌, Some, None, Result, Ok, Err}
 use Rattle.std.specs.declared.option.Option.{Option}
 use Rattle.reg_core.specs.Records.{Records}
-use Rattle.reg_core.specs.declared.memory.Memory.{Memory}
+use Rattle.reg_core.specs.declared.memory.Memory.{Memory as NoMemory}
 use Rattle.reg_core.specs.declared.refusal.Fault.{Fault}
 use Rattle.reg_office_api.specs.CallSteps.{Signs, Runs, Asks, GivesCrl}
 use Rattle.reg_office_api.specs.Drafts.{Drafts}
@@ -108,7 +108,7 @@ AnswersAdmitted admission signs now signatory before what it after =
 -- the same when the answer is begun, and may be left to be signed
 abbrev pub BeginsAdmitted
     : Admission → Signs → ℕ → Signatory → Records → RoutedRequest
-    → Result (ReadyOrUnsigned Answered Drafted) Memory
+    → Result (ReadyOrUnsigned Answered Drafted) NoMemory
     → Records → Type 0
 BeginsAdmitted admission signs now signatory before what (Ok (Ready answered)) after =
     AnswersAdmitted admission signs now signatory before what (answer_effects answered) after
@@ -119,6 +119,6 @@ BeginsAdmitted admission signs now signatory before what (Ok (Unsigned draft)) a
 BeginsAdmitted admission signs now signatory before what (Err memory) after = after ≡ before
 
 -- the admission after a request, which is counted; if memory ran out, it is counted or not
-abbrev pub CountsRequest : {A : Type 0} → Result A Memory → Admission → Admission → Admission → Type 0
+abbrev pub CountsRequest : {A : Type 0} → Result A NoMemory → Admission → Admission → Admission → Type 0
 CountsRequest (Ok begun) counted admission admission' = admission' ≡ counted
 CountsRequest (Err memory) counted admission admission' = (admission' ≡ admission) ⊎ (admission' ≡ counted)

@@ -9,7 +9,7 @@ use Rattle.reg_office_api.specs.declared.effects.SignatureOutcome.TheVariants as
 use Rattle.reg_office_api.specs.declared.effects.StoreEffect.{StoreEffect}
 use Rattle.reg_office_api.specs.declared.effects.StoreEffect.TheVariants as effect
 use Rattle.reg_core.specs.Lines.{fault_line}
-use Rattle.reg_core.specs.declared.command.Command.TheVariants.{Crl}
+use Rattle.reg_core.specs.declared.command.Command.TheVariants.{Crl as IssueCrl}
 use Rattle.reg_core.specs.declared.refusal.Fault.{Fault}
 use Rattle.reg_core.specs.declared.refusal.Fault.TheVariants as fault
 use Rattle.reg_desk_cli.specs.ExitStatus.{failure_line}
@@ -80,8 +80,8 @@ failed_if signature_failed = cond signature_failed signature_outcome.Failed sign
 
 -- the signature of a CRL, by whether a signature failed during the line
 abbrev pub crl_outcome : Bool → LineOutcome → SignatureOutcome
-crl_outcome signature_failed (Completed (Command Crl) (Ok reply)) = signature_outcome.Made
-crl_outcome signature_failed (Completed (Command Crl) (Err why)) = failed_if signature_failed
+crl_outcome signature_failed (Completed (Command IssueCrl) (Ok reply)) = signature_outcome.Made
+crl_outcome signature_failed (Completed (Command IssueCrl) (Err why)) = failed_if signature_failed
 crl_outcome signature_failed other = signature_outcome.NotRequested
 
 -- the signature of an OCSP response

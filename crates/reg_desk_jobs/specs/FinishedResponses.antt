@@ -3,7 +3,7 @@ use Rattle.std.specs.Prelude.{◌≡◌, ℕ, List, Option, Some, None, Result, 
 use Rattle.reg_office_api.specs.declared.effects.SignatureOutcome.{SignatureOutcome}
 use Rattle.reg_office_api.specs.declared.effects.SignatureOutcome.TheVariants.{Made, Failed}
 use Rattle.reg_office_api.specs.declared.effects.StoreEffect.TheVariants.{Unwritten}
-use Rattle.reg_core.specs.declared.memory.Memory.{Memory}
+use Rattle.reg_core.specs.declared.memory.Memory.{Memory as NoMemory}
 use Rattle.reg_http.specs.Bodies.{ocsp_reply}
 use Rattle.reg_http.specs.Exchanges.{AnswersText}
 use Rattle.reg_http.specs.declared.exchange.Exchange.{Exchange}
@@ -27,7 +27,7 @@ outcome_of_signature None = Failed
 -- this exchange at a moment has the response with this signature, or internalError without one; or there was no memory for it
 pub record IsFinished (draft : Drafted) (moment : ℕ) (signature : Option (List ℕ))
     (exchange : Exchange) : Type 0 where
-  pub given : Result (List ℕ) Memory
+  pub given : Result (List ℕ) NoMemory
   pub made : IfOk given (λ bytes. bytes ≡ drafted_response draft signature)
   pub tells : AnswersText moment (ocsp_reply given) exchange
   pub signature_outcome : exchange.signature ≡ outcome_of_signature signature

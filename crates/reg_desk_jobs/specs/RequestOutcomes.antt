@@ -4,7 +4,7 @@ use Rattle.reg_office_api.specs.CallSteps.{Signs}
 use Rattle.reg_office_api.specs.Drafts.{Drafts}
 use Rattle.reg_office_api.specs.Signatories.{Signatory}
 use Rattle.reg_core.specs.Records.{Records}
-use Rattle.reg_core.specs.declared.memory.Memory.{Memory}
+use Rattle.reg_core.specs.declared.memory.Memory.{Memory as NoMemory}
 use Rattle.reg_http_head.specs.Frame.{asked}
 use Rattle.reg_http.specs.Added.{AddsARequestAtMost}
 use Rattle.reg_http.specs.RoutedRequests.{ocsp_of, path_of, asked as asks_for}
@@ -23,7 +23,7 @@ use Rattle.reg_desk_jobs.specs.declared.http_exchanges.Dispatch.{Dispatch}
 use Rattle.reg_desk_jobs.specs.declared.http_exchanges.Dispatch.TheVariants.{ToRegister, ToLimits}
 
 -- an answer that is ready, or out of memory
-abbrev pub ready_of : Result Answered Memory → Result (ReadyOrUnsigned Answered Drafted) Memory
+abbrev pub ready_of : Result Answered NoMemory → Result (ReadyOrUnsigned Answered Drafted) NoMemory
 ready_of (Ok answered) = Ok (Ready answered)
 ready_of (Err memory) = Err memory
 
@@ -36,7 +36,7 @@ MayNeedSignature other = ⊥
 -- the outcome of a request that was read: an answer; or, only by the register, a response to be signed; or out of memory
 abbrev pub BeginsAt
     : Bool → Signs → ℕ → Admission → Signatory → Records → List ℕ → List ℕ → List ℕ
-    → Result (ReadyOrUnsigned Answered Drafted) Memory → Records → Type 0
+    → Result (ReadyOrUnsigned Answered Drafted) NoMemory → Records → Type 0
 BeginsAt is_open signs now admission signatory before method target body (Ok (Ready answered)) after =
     Says signs now admission signatory before (answer_effects answered) after is_open
     (asked method target body)

@@ -25,7 +25,7 @@ const MOST_RECENT: usize = 100;
 
 const MINUTE: u64 = 60;
 
-/// When the last hundred requests for revocation came over HTTP that the rate limit let through, as a ring: the oldest is at `next`.
+/// The moments of the last hundred requests for revocation over HTTP within the rate limit, as a ring: the oldest is at `next`.
 #[derive(Clone, Copy)]
 pub(crate) struct RecentRequests {
     pub(crate) moments: [Option<Moment>; MOST_RECENT],

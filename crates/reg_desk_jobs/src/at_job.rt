@@ -85,14 +85,14 @@ fn exchange_lines_over<R: Read, W: Write>(
     let Ok(mut incoming) = BufReader::new(alloc, link) else {
         return Err(Failure::Fault(Fault::Memory));
     };
-    let mut sent = link;
+    let mut outgoing = link;
     match BufReader::new(alloc, reader) {
-        Ok(mut input) => exchange_lines(alloc, &mut input, writer, &mut incoming, &mut sent),
+        Ok(mut input) => exchange_lines(alloc, &mut input, writer, &mut incoming, &mut outgoing),
         Err(_) => Err(Failure::Fault(Fault::Memory)),
     }
 }
 
-/// Sends each line of the input to a control socket through `sent`, once the reply to the line before has come from `incoming`, and writes each
+/// Sends each line of the input to a control socket through `outgoing`, once the reply to the line before has come from `incoming`, and writes each
 /// reply to `writer`. A last line without its line end is not sent. Errors: after all lines were sent, `Refused` if a reply was a refusal or a
 /// fault, `NoLineEnd` if a last line without its line end is left, and `RefusedNoLineEnd` for both. `Read` if the input fails, or the connection
 /// fails or ends before the end of a reply; `Write` if a line can't be sent, or a reply can't be written; `Memory`.
@@ -101,15 +101,15 @@ pub fn exchange_lines<R: BufRead, W: Write, C: BufRead, S: Write>(
     input: &mut R,
     writer: &mut W,
     incoming: &mut C,
-    sent: &mut S,
+    outgoing: &mut S,
 ) -> Result<(), Failure>
-    ensures { ExchangesLines (S.contents sent.old) (S.contents sent.new)
+    ensures { ExchangesLines (S.contents outgoing.old) (S.contents outgoing.new)
         (C.remaining incoming.old) (C.remaining incoming.new)
         (W.contents writer.old) (W.contents writer.new) (R.remaining input.old) result }
 {
     let mut is_accepted = true;
     for _ in 0..u64::MAX {
-        let step = match exchange_next_line(alloc, input, writer, incoming, sent) {
+        let step = match exchange_next_line(alloc, input, writer, incoming, outgoing) {
             Ok(step) => step,
             Err(why) => return Err(why),
         };
@@ -157,9 +157,9 @@ fn exchange_next_line<R: BufRead, W: Write, C: BufRead, S: Write>(
     input: &mut R,
     writer: &mut W,
     incoming: &mut C,
-    sent: &mut S,
+    outgoing: &mut S,
 ) -> Result<Step, Failure>
-    ensures { ExchangesNextLine (S.contents sent.old) (S.contents sent.new)
+    ensures { ExchangesNextLine (S.contents outgoing.old) (S.contents outgoing.new)
         (C.remaining incoming.old) (C.remaining incoming.new)
         (W.contents writer.old) (W.contents writer.new) (R.remaining input.old) (R.remaining input.new)
         result }
@@ -170,7 +170,7 @@ fn exchange_next_line<R: BufRead, W: Write, C: BufRead, S: Write>(
         Next::Cut => return Ok(Step::Cut),
         Next::End => return Ok(Step::End),
     };
-    let reply = exchange(alloc, &line, writer, incoming, sent)?;
+    let reply = exchange(alloc, &line, writer, incoming, outgoing)?;
     Ok(Step::Replied(is_accepted(&reply)))
 }
 
@@ -180,15 +180,15 @@ pub(crate) fn exchange<W: Write, C: BufRead, S: Write>(
     line: &[u8],
     writer: &mut W,
     incoming: &mut C,
-    sent: &mut S,
+    outgoing: &mut S,
 ) -> Result<Vec<u8>, Failure>
     ensures ok { IfOk result (λ reply.
-        ExchangesLine (S.contents sent.old) (S.contents sent.new)
+        ExchangesLine (S.contents outgoing.old) (S.contents outgoing.new)
         (C.remaining incoming.old) (C.remaining incoming.new)
         (W.contents writer.old) (W.contents writer.new) line.now reply.items) }
     ensures err { IfErr result IsConversationFault }
 {
-    let reply = request_reply(alloc, line, incoming, sent)?;
+    let reply = request_reply(alloc, line, incoming, outgoing)?;
     print_text(writer, &reply)?;
     Ok(reply)
 }
@@ -198,14 +198,15 @@ pub(crate) fn request_reply<C: BufRead, S: Write>(
     alloc: Global,
     line: &[u8],
     incoming: &mut C,
-    sent: &mut S,
+    outgoing: &mut S,
 ) -> Result<Vec<u8>, Failure>
-    ensures sent { IfOk result (λ reply. Appends (S.contents sent.old) (S.contents sent.new) line.now) }
+    ensures sent { IfOk result (λ reply.
+        Appends (S.contents outgoing.old) (S.contents outgoing.new) line.now) }
     ensures incoming { IfOk result (λ reply.
         Consumes (C.remaining incoming.old) (C.remaining incoming.new) reply.items) }
     ensures err { IfErr result IsConversationFault }
 {
-    print_text(sent, line)?;
+    print_text(outgoing, line)?;
     next_reply(alloc, incoming)
 }
 

@@ -239,7 +239,7 @@ fn answer_command_line<M: Machine>(
     reply
 }
 
-/// Writes the reply to such a line, which has run; `room` is the empty buffer for it. If the line was refused, keeps the reason for `why`.
+/// Writes the reply to a command, query or OCSP request, which has run, into the empty buffer `room`. If it was refused, keeps the reason for `why`.
 pub(crate) fn answer_command<M: Machine>(
     alloc: Global,
     office: &mut M::Office,

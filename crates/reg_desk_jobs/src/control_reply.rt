@@ -14,7 +14,7 @@ use std::alloc::{AllocError, Global};
 /// The result of a line at the control socket.
 #[derive(Clone, Copy)]
 pub(crate) enum LineOutcome {
-    /// A command, a query, or an `ocsp` line without a response: its kind, and its outcome.
+    /// A command, a query, an `ocsp` line without a response, or a line that can't be read: its kind, and its outcome.
     Completed(LineKind, Outcome),
     /// An OCSP request that got a response; `true` if the response has only a status (RFC 6960 4.2.1).
     Response(bool),

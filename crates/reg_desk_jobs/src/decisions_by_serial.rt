@@ -23,7 +23,7 @@ use reg_lines::{
 use reg_office_api::Office;
 use std::alloc::Global;
 
-/// Revokes or declines a request. If it is for another serial number, it is refused as [`Refusal::NoRequest`].
+/// Revokes or declines a request. If the request is for another serial number, the line is refused as [`Refusal::NoRequest`].
 pub(crate) fn answer_serial_decision<M: Machine>(
     alloc: Global,
     office: &mut M::Office,
@@ -68,7 +68,7 @@ fn answer_run<M: Machine>(
     answer_command::<M>(alloc, office, answered, room, last_reason)
 }
 
-/// Refuses a request for another serial number, and keeps that serial number for `why`.
+/// Refuses a line whose request is for another serial number, and keeps that serial number for `why`.
 fn answer_other(alloc: Global, request: RequestRow, last_reason: &mut Vec<u8>) -> ControlReply
     ensures told { ReportsFault (Fault.Refused Refusal.NoRequest) result.text.items }
     ensures line_outcome { ReportsLineOutcome result.line_outcome result.text.items }
@@ -148,7 +148,7 @@ fn decided_by(line: &[u8]) -> Option<u64>
     }
 }
 
-/// The request that a line entered or decided, as the log names it. `looked_up` is from before a decision.
+/// The request that a line entered or decided, as the log names it. `looked_up` is the one that was found before a decision ran.
 pub(crate) fn logged_request(
     line_outcome: &LineOutcome,
     looked_up: Option<LoggedRequest>,

@@ -49,7 +49,7 @@ pub(crate) struct LineSignature {
     pub(crate) preset_signature: PresetSignature,
 }
 
-/// How many milliseconds after the desk began a line its signer counts as timed out: under ten seconds, because these begin a little earlier.
+/// How many milliseconds after the desk began a line its signer counts as timed out. The event loop's ten seconds begin a little before the line does.
 const TIMEOUT: u64 = 9_500;
 
 fn signature_kind_by(command_line: &ParsedLine<'_>) -> Option<SignatureKind> {
@@ -130,7 +130,7 @@ fn crl_signer_socket<'w>(signer: &Option<SignerAddress<'w>>) -> Option<&'w str>
 
 /// The signature for a line, and the moment at which the line is to run. With a connection to the signer, that is the moment of the message. Without
 /// one, there is no signature, and the moment is the clock's, or [`EventLoopFault`] if the clock can't be read. `None` if a later command was accepted
-/// meanwhile, so that the message would be another one, or if the clock is now behind the moment of the message.
+/// meanwhile, so that the message would be another one, or if the clock is now behind the moment of the message or, with a connection, can't be read.
 pub(crate) fn line_signature_of<M: Machine>(
     alloc: Global,
     office: &mut M::Office,
@@ -167,7 +167,7 @@ pub(crate) fn line_signature_of<M: Machine>(
     ))
 }
 
-/// The signer's answer, with the moment for which the message was made; `None` if a later command was accepted, or the clock is now behind it.
+/// The signer's answer, with the moment for which the message was made; `None` if a later command was accepted, or the clock is behind that moment.
 fn signature_if_current<M: Machine>(
     alloc: Global,
     office: &mut M::Office,
@@ -266,7 +266,7 @@ impl<'a, 'w, M: Machine> Desk<'a, 'w, M> {
         }
     }
 
-    /// The back-off of the OCSP signer after this line: cleared if it answered or failed at once, set if it timed out, unchanged if it was not asked.
+    /// The OCSP signer's back-off after this line: cleared if it answered or failed before the timeout, set if it timed out, kept if it was not asked.
     pub(crate) fn backoff_after(&self, ticket: LineTicket, has_arrived: bool) -> Backoff {
         let ocsp_socket = socket_of(self.signer, self.responder, SignatureKind::Answer);
         let asked_socket = socket_of(self.signer, self.responder, ticket.wanted);

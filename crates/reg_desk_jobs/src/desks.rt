@@ -41,8 +41,8 @@ pub(crate) struct Desk<'a, 'w, M: Machine> {
     pub(crate) responder: &'a ResponderChoice<'w>,
     /// The back-off of the OCSP signer, for `ocsp` lines at the control socket.
     pub(crate) backoff: Backoff,
-    /// The counts since the register was opened. No contract of the desk mentions them. They are in a `Cell`, because `finish` takes `&self` and counts
-    /// a response when its signature arrives.
+    /// The counts since the register was opened. No clause of `Desk` mentions them. They are in a `Cell`, because `finish` takes `&self` and counts
+    /// the response that it finishes.
     pub(crate) tally: &'a Cell<Tally>,
     pub(crate) connection_totals: &'a Cell<ConnectionTotals>,
     pub(crate) admission: Admission,

@@ -23,7 +23,7 @@ pub enum Location {
     Output,
 }
 
-/// The cause of a failed call, and its place if that is known and the cause does not name it.
+/// The cause of a failed call, and the location that its line shows in parentheses, if it shows one.
 #[derive(Clone, Copy, PartialEq, Eq)]
 pub struct FailureCause {
     pub cause: Cause,

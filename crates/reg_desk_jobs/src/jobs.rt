@@ -95,7 +95,7 @@ fn make_at<M: Machine, W: Write>(
     print_text(writer, b"created\n")
 }
 
-/// Runs the script of standard input over the register at a path. If its first CRL gets a placeholder digest, it warns on standard error.
+/// Runs the script of standard input over the register at a path. If the register's CRL 1 gets a placeholder digest, it warns on standard error.
 pub fn script<M: Machine, R: Read, W: Write>(
     alloc: Global,
     machine: &mut M,
@@ -117,7 +117,7 @@ pub fn script<M: Machine, R: Read, W: Write>(
 
 /// Imports standard input into the register at a path, at one moment: the given one, or that of the clock at the start. The clock's moment is
 /// refused if it is too far ahead, unless the operator accepts that. A strict import ends at the first refusal or fault, and runs no last row
-/// without its line end. If its last row was refused, the reason is kept.
+/// without its line end. If it ends at E08, E09 or E12, the reason is kept.
 pub fn import_rows<M: Machine, R: Read, W: Write>(
     alloc: Global,
     machine: &mut M,

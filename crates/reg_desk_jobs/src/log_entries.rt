@@ -17,7 +17,7 @@ pub(crate) struct ExchangeText<'a> {
     pub(crate) client: &'a [u8],
     pub(crate) asked: &'a [u8],
     pub(crate) answered: &'a [u8],
-    /// The fields after the answer: size, time, and perhaps `request ..` or `signer`.
+    /// A space, and the fields after the answer: size, time, and perhaps `request ..` or `signer`. So their first field is empty.
     pub(crate) behind: &'a [u8],
 }
 

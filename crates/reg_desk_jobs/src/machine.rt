@@ -20,11 +20,11 @@ use std::net::SocketAddr;
 use std::os::unix::net::UnixStream;
 use std::time::Duration;
 
-/// The machine that a job runs on. A job reaches the system only by these methods. So a clause that relates the machine before a job
-/// to that after it, by the methods that were called, excludes that another file was touched. Each method is one action of the system. Its relation,
-/// such as `claimed`, states that the action was performed; no proof covers what the system does. A function that takes several actions is written
-/// over any machine ([`registers`](crate::registers), [`control_socket`](crate::control_socket)). If the comment of a method names no errors, they
-/// are the system's.
+/// The machine that a job runs on. A job reaches a register's files only by these methods, and by the office that they open. The methods that create,
+/// open for writing or remove such files take `&mut self`, except `copy_open`. So a clause that relates the machine before a job to that after it
+/// excludes such a call at another path. Each method is one action of the system. Its relation, such as `claimed`, states that the action was
+/// performed; no proof covers what the system does. A function that takes several actions is written over any machine
+/// ([`registers`](crate::registers), [`control_socket`](crate::control_socket)). If the comment of a method names no errors, they are the system's.
 pub trait Machine {
     ghost use Rattle.std.specs.Prelude.{◌≡◌, ◌≤◌, ◌+◌, ◌⊎◌, ℕ, List, [], IsTrue, IsFalse, MatchBool, OnOk, OnErr, IfOk, IfErr, IfSome, length};
     ghost use Rattle.reg_office_api.specs.Calls.{KeepsIn};
@@ -54,7 +54,7 @@ pub trait Machine {
     /// A register's files that are open for reading alone.
     type Sources: Drop;
 
-    /// The responder to OCSP requests, with the certificate that its answers contain.
+    /// The responder to OCSP requests, with the certificate that its answers contain, if any.
     type Responder: Drop;
 
     // ---- files; a relation over two machines relates the one before the action to the one after it
@@ -170,9 +170,9 @@ pub trait Machine {
         ensures told { OnErr result (HasCertificate responder.now) }
         ensures faults { IfErr result IsOpenFailure };
 
-    /// Opens the register of a database, which is closed if that fails: `NotARegister` and `NewVersion` for other tables; `BadSigner` if the
-    /// latest CRL's algorithm can't be followed by this signer's, or the issuer's key isn't of the signer's algorithm; `BadResponder` if the
-    /// embedded certificate has another key than the issuer.
+    /// Opens the register of a database, which is closed if that fails: `NotARegister` if it has none; `NewVersion` if a newer program wrote it;
+    /// `BadSigner` if the latest CRL's algorithm is neither this signer's nor the placeholder digest's, or the issuer's key isn't of the signer's
+    /// algorithm; `BadResponder` if the certificate that the issuer's OCSP responses embed (`--embed`) has another key than the issuer.
     fn open_in(
         &self,
         database: Self::Database,
@@ -207,7 +207,7 @@ pub trait Machine {
         ensures faults { IfErr result (λ why.
             (why ≡ Failure.Fault Fault.Memory) ⊎ (why ≡ Failure.Fault Fault.Store)) };
 
-    /// Audits the register in files, without migrating an older version; `NotARegister` and `NewVersion` for other tables.
+    /// Audits the register in files, without migrating an older version; `NotARegister` if there is none; `NewVersion` if a newer program wrote it.
     fn audit_in(&self, sources: Self::Sources) -> Result<AuditResult, Failure>
         ensures audited { IfOk result (audited sources) }
         ensures faults { IfErr result IsOpenFailure };

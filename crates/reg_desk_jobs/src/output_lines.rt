@@ -22,7 +22,7 @@ pub(crate) fn print_text<W: Write>(writer: &mut W, text: &[u8]) -> Result<(), Fa
     }
 }
 
-/// Writes a line; `Memory` if there was none for it, `Write` as [`print_text`].
+/// Writes a line. `Memory` if there was no memory for the line; else errors are those of [`print_text`].
 pub(crate) fn print_line<W: Write>(
     writer: &mut W,
     line: Result<Vec<u8>, AllocError>,
@@ -36,8 +36,8 @@ pub(crate) fn print_line<W: Write>(
     }
 }
 
-/// Reports on standard error why a job failed: one line, or two for `RefusedNoLineEnd`. If `is_asked` and it is known, one more line has the cause
-/// (exit status 1), or why the registration that ended the job was refused (status 3). A failed write is ignored.
+/// Reports on standard error why a job failed: one line, or two for `RefusedNoLineEnd`. With `--why` (`is_asked`), one more line has the cause (exit
+/// status 1), or why the registration that ended the job was refused (status 3), if that is known. A failed write is ignored.
 pub fn report_exit<W: Write>(
     alloc: Global,
     errors: &mut W,
@@ -79,7 +79,7 @@ fn put<W: Write>(errors: &mut W, text: &[u8])
     }
 }
 
-/// Writes one line if `is_asked` and it is known: for exit status 1 the cause, for 3 why a registration was refused.
+/// With `--why` (`is_asked`), writes a line: for exit status 1 the cause, for 3 why a registration was refused, if that is known.
 fn explain<W: Write>(
     alloc: Global,
     errors: &mut W,

@@ -20,7 +20,7 @@ use std::io::{ErrorKind, Read, Write};
 
 /// Compares the published CRL in a reader with the register, and writes a line for each item that the register lacks: the CRL number, if it is above
 /// that of the register's latest CRL, and each listed serial number that is not revoked. No record changes. Errors: `LacksPublished` if lines were
-/// written; `NotACrl` if the bytes are no CRL with a number and entries; those of a query, of reading and of writing.
+/// written; `NotACrl` if the bytes are no CRL with a number, or it has an invalid entry; those of a query, of reading and of writing.
 pub(crate) fn check_published<O: Office, R: Read, W: Write>(
     alloc: Global,
     office: &mut O,

@@ -1,4 +1,4 @@
-//! Why a line was refused: the text of `why` at the control socket, and of `--why` for a strict script or import.
+//! The reasons that `why` replies at the control socket, and those that `--why` prints if a strict script or import ends at a refusal.
 
 ghost use Rattle.std.specs.Prelude.{◌≡◌, ◌++◌, ◌∷◌, [], IfOk, IfSome};
 ghost use Rattle.reg_office_api.specs.Calls.{KeepsIn};
@@ -16,7 +16,7 @@ use std::cell::Cell;
 
 const DAY: u64 = 86_400;
 
-/// Why a command was refused, in more detail than the refusal.
+/// Why a line was refused, in more detail than its reply; `Unsigned` is why the next CRL is due at once.
 #[derive(Clone, Copy, PartialEq, Eq)]
 pub enum Reason {
     /// There is no order with this number.

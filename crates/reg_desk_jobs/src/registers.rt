@@ -24,8 +24,8 @@ pub(crate) fn open_unsigned<M: Machine>(machine: &mut M, path: &str) -> Result<M
     open_by(machine, path, &CrlSigner::NoSigner, &issuer_signs)
 }
 
-/// Opens the register at a path with the signer of its CRLs, or else a placeholder digest, and with its OCSP responder. If the responder has a key
-/// of its own and there is no signer with the issuer's key, no CRL is signed.
+/// Opens the register at a path with the given signer of its CRLs, and with its OCSP responder. Without a signer, each CRL gets a placeholder
+/// digest, or fails with a fault of the signer if the responder has a key of its own.
 pub(crate) fn open_signed<M: Machine>(
     machine: &mut M,
     path: &str,
@@ -73,8 +73,8 @@ pub(crate) fn create_register<M: Machine>(
     ensures err { IfErr result (λ why. NotCreated M.Machine machine.old path.now why machine.new) }
     ensures faults { IfErr result IsCreateFailure }
 {
-    // A path that was not claimed and has no file can't become a register: a dangling symbolic link, or a log without its register. `claim` kept
-    // the cause.
+    // The job has called `Machine::claim`. It failed if there still is no file: the path is a dangling symbolic link, it has a log without a register,
+    // or no file can be created there. The machine kept the cause, if it is known.
     if !machine.is_there(path) {
         return Err(Failure::Fault(Fault::Store));
     }

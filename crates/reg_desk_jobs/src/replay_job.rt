@@ -26,9 +26,9 @@ struct Renumbered {
 }
 
 /// Sends each accepted command of a log to the control socket at a path, in the log's order, and writes the replies. A request is revoked or
-/// declined by its serial number and by the number that it has now. Errors: `Refused` at the first reply that differs, or at a command of which
-/// the log has only a part: then that line of the log is written last; `NoLineEnd` at a last line without its line end; else those of
-/// [`at`](crate::at).
+/// declined by its serial number and by the number that it has now. Errors: `Refused` at the first reply that does not agree ([`agrees`]), or at
+/// a command of which the log has only a part: then that line of the log is written last; `NoLineEnd` at a last line without its line end; else
+/// those of [`at`](crate::at).
 pub fn replay<M: Machine, R: Read, W: Write>(
     alloc: Global,
     machine: &M,
@@ -56,7 +56,7 @@ fn replay_over<R: Read, W: Write>(
     let Ok(mut incoming) = BufReader::new(alloc, link) else {
         return Err(Failure::Fault(Fault::Memory));
     };
-    let mut sent = link;
+    let mut outgoing = link;
     let mut numbers = Vec::new(alloc);
     match BufReader::new(alloc, reader) {
         Ok(mut log) => {
@@ -66,7 +66,7 @@ fn replay_over<R: Read, W: Write>(
                 &mut numbers,
                 writer,
                 &mut incoming,
-                &mut sent,
+                &mut outgoing,
             )
         }
         Err(_) => Err(Failure::Fault(Fault::Memory)),
@@ -79,16 +79,20 @@ fn replay_log<R: BufRead, W: Write, C: BufRead, S: Write>(
     numbers: &mut Vec<Renumbered>,
     writer: &mut W,
     incoming: &mut C,
-    sent: &mut S,
+    outgoing: &mut S,
 ) -> Result<(), Failure>
     ensures { ReplaysLog (R.remaining log.old)
-        (state_of (S.contents sent.old) (C.remaining incoming.old) (W.contents writer.old) numbers.old.items)
-        (state_of (S.contents sent.new) (C.remaining incoming.new) (W.contents writer.new) numbers.new.items)
+        (state_of (S.contents outgoing.old) (C.remaining incoming.old) (W.contents writer.old)
+        numbers.old.items)
+        (state_of (S.contents outgoing.new) (C.remaining incoming.new) (W.contents writer.new)
+        numbers.new.items)
         result }
 {
     for _ in 0..u64::MAX {
         match next_line(alloc, log)? {
-            Next::Line(line) => match replay_line(alloc, &line, numbers, writer, incoming, sent) {
+            Next::Line(line) => match replay_line(
+                alloc, &line, numbers, writer, incoming, outgoing,
+            ) {
                 Ok(()) => {}
                 Err(why) => return Err(why),
             },
@@ -105,11 +109,12 @@ fn replay_line<W: Write, C: BufRead, S: Write>(
     numbers: &mut Vec<Renumbered>,
     writer: &mut W,
     incoming: &mut C,
-    sent: &mut S,
+    outgoing: &mut S,
 ) -> Result<(), Failure>
-    ensures { LineEnds (state_of (S.contents sent.old) (C.remaining incoming.old) (W.contents writer.old)
+    ensures { LineEnds (state_of (S.contents outgoing.old) (C.remaining incoming.old) (W.contents writer.old)
         numbers.old.items) line.now
-        (state_of (S.contents sent.new) (C.remaining incoming.new) (W.contents writer.new) numbers.new.items)
+        (state_of (S.contents outgoing.new) (C.remaining incoming.new) (W.contents writer.new)
+        numbers.new.items)
         result }
 {
     let text = without_end(line);
@@ -126,7 +131,7 @@ fn replay_line<W: Write, C: BufRead, S: Write>(
                     numbers,
                     writer,
                     incoming,
-                    sent,
+                    outgoing,
                 )
             }
         },
@@ -144,18 +149,19 @@ fn replay_entry<W: Write, C: BufRead, S: Write>(
     numbers: &mut Vec<Renumbered>,
     writer: &mut W,
     incoming: &mut C,
-    sent: &mut S,
+    outgoing: &mut S,
 ) -> Result<(), Failure>
-    ensures { EntryEnds (state_of (S.contents sent.old) (C.remaining incoming.old) (W.contents writer.old)
+    ensures { EntryEnds (state_of (S.contents outgoing.old) (C.remaining incoming.old) (W.contents writer.old)
         numbers.old.items)
         (exchange_of logged_exchange.now) entry.now line.now
-        (state_of (S.contents sent.new) (C.remaining incoming.new) (W.contents writer.new) numbers.new.items)
+        (state_of (S.contents outgoing.new) (C.remaining incoming.new) (W.contents writer.new)
+        numbers.new.items)
         result }
 {
     let Ok(command) = line_to_send(alloc, numbers, logged_exchange, entry) else {
         return Err(Failure::Fault(Fault::Memory));
     };
-    let reply = exchange(alloc, &command, writer, incoming, sent)?;
+    let reply = exchange(alloc, &command, writer, incoming, outgoing)?;
     let text = without_end(&reply);
     if !agrees(logged_exchange, entry, text) {
         return stop(writer, line);
@@ -228,7 +234,7 @@ fn number_now(numbers: &[Renumbered], logged: u64) -> u64
     number
 }
 
-/// Whether a reply agrees with that of the log.
+/// Whether a reply agrees with that of the log: in its first two words; for a decision in the first; for a request, it must say that it was entered.
 fn agrees(logged_exchange: &ExchangeText<'_>, entry: &Entry, reply: &[u8]) -> bool
     ensures { result ≡ agrees (exchange_of logged_exchange.now) entry.now reply.now }
 {

@@ -65,9 +65,9 @@ fn send_over<R: Read, W: Write>(
     let Ok(mut incoming) = BufReader::new(alloc, link) else {
         return Err(Failure::Fault(Fault::Memory));
     };
-    let mut sent = link;
+    let mut outgoing = link;
     match BufReader::new(alloc, reader) {
-        Ok(mut rows) => send_each(alloc, task, &mut rows, writer, &mut incoming, &mut sent),
+        Ok(mut rows) => send_each(alloc, task, &mut rows, writer, &mut incoming, &mut outgoing),
         Err(_) => Err(Failure::Fault(Fault::Memory)),
     }
 }
@@ -78,16 +78,17 @@ fn send_each<R: BufRead, W: Write, C: BufRead, S: Write>(
     rows: &mut R,
     writer: &mut W,
     incoming: &mut C,
-    sent: &mut S,
+    outgoing: &mut S,
 ) -> Result<(), Failure>
-    ensures { SendsRows task (R.remaining rows.old) (link_of (S.contents sent.old) (C.remaining incoming.old))
-        (link_of (S.contents sent.new) (C.remaining incoming.new))
+    ensures { SendsRows task (R.remaining rows.old)
+        (link_of (S.contents outgoing.old) (C.remaining incoming.old))
+        (link_of (S.contents outgoing.new) (C.remaining incoming.new))
         (W.contents writer.old) (W.contents writer.new) result }
 {
     let mut is_done = true;
     for _ in 0..u64::MAX {
         match next_line(alloc, rows)? {
-            Next::Line(line) => match send_line(alloc, task, &line, writer, incoming, sent) {
+            Next::Line(line) => match send_line(alloc, task, &line, writer, incoming, outgoing) {
                 Ok(line_is_done) => is_done = both(is_done, line_is_done),
                 Err(why) => return Err(why),
             },
@@ -105,10 +106,10 @@ fn send_line<W: Write, C: BufRead, S: Write>(
     line: &[u8],
     writer: &mut W,
     incoming: &mut C,
-    sent: &mut S,
+    outgoing: &mut S,
 ) -> Result<bool, Failure>
-    ensures ok { IfOk result (LineReplied task (link_of (S.contents sent.old) (C.remaining incoming.old))
-        (link_of (S.contents sent.new) (C.remaining incoming.new))
+    ensures ok { IfOk result (LineReplied task (link_of (S.contents outgoing.old) (C.remaining incoming.old))
+        (link_of (S.contents outgoing.new) (C.remaining incoming.new))
         (W.contents writer.old) (W.contents writer.new) line.now) }
     ensures err { IfErr result IsConversationFault }
 {
@@ -116,7 +117,7 @@ fn send_line<W: Write, C: BufRead, S: Write>(
     if is_skipped(task, text) {
         return Ok(true);
     }
-    let reply = answer_row(alloc, task, text, incoming, sent)?;
+    let reply = answer_row(alloc, task, text, incoming, outgoing)?;
     print_text(writer, &reply)?;
     Ok(is_done(&reply))
 }
@@ -126,11 +127,11 @@ fn answer_row<C: BufRead, S: Write>(
     task: RowTask,
     text: &[u8],
     incoming: &mut C,
-    sent: &mut S,
+    outgoing: &mut S,
 ) -> Result<Vec<u8>, Failure>
     ensures ok { IfOk result (λ reply.
-        AnswersRow task text.now (link_of (S.contents sent.old) (C.remaining incoming.old))
-        (link_of (S.contents sent.new) (C.remaining incoming.new)) reply.items) }
+        AnswersRow task text.now (link_of (S.contents outgoing.old) (C.remaining incoming.old))
+        (link_of (S.contents outgoing.new) (C.remaining incoming.new)) reply.items) }
     ensures err { IfErr result IsConversationFault }
 {
     match task {
@@ -139,9 +140,9 @@ fn answer_row<C: BufRead, S: Write>(
             terms,
             registration_row_in(text),
             incoming,
-            sent,
+            outgoing,
         ),
-        RowTask::Revoke => revoke_row(alloc, revocation_row_in(text), incoming, sent),
+        RowTask::Revoke => revoke_row(alloc, revocation_row_in(text), incoming, outgoing),
     }
 }
 
@@ -151,25 +152,25 @@ fn register_row<C: BufRead, S: Write>(
     terms: OrderTerms,
     row: Option<RegistrationRow>,
     incoming: &mut C,
-    sent: &mut S,
+    outgoing: &mut S,
 ) -> Result<Vec<u8>, Failure>
     ensures ok { IfOk result (λ reply.
-        RegistersRow terms row (link_of (S.contents sent.old) (C.remaining incoming.old))
-        (link_of (S.contents sent.new) (C.remaining incoming.new)) reply.items) }
+        RegistersRow terms row (link_of (S.contents outgoing.old) (C.remaining incoming.old))
+        (link_of (S.contents outgoing.new) (C.remaining incoming.new)) reply.items) }
     ensures err { IfErr result IsConversationFault }
 {
     let Some(row) = row else {
         // The desk replies `E22 syntax`.
-        return request_reply(alloc, b"register\n", incoming, sent);
+        return request_reply(alloc, b"register\n", incoming, outgoing);
     };
     let Ok(query) = status_line(alloc, &row) else {
         return Err(Failure::Fault(Fault::Memory));
     };
-    let status = request_reply(alloc, &query, incoming, sent)?;
+    let status = request_reply(alloc, &query, incoming, outgoing)?;
     if !has_first_word(&status, b"unknown") {
         return Ok(status);
     }
-    order_row(alloc, terms, &row, incoming, sent)
+    order_row(alloc, terms, &row, incoming, outgoing)
 }
 
 /// Enters an order, and registers the certificate of a row under it if the reply gives the order's number. Returns the last reply.
@@ -178,24 +179,24 @@ fn order_row<C: BufRead, S: Write>(
     terms: OrderTerms,
     row: &RegistrationRow,
     incoming: &mut C,
-    sent: &mut S,
+    outgoing: &mut S,
 ) -> Result<Vec<u8>, Failure>
     ensures ok { IfOk result (λ reply.
-        OrdersRow terms row.now (link_of (S.contents sent.old) (C.remaining incoming.old))
-        (link_of (S.contents sent.new) (C.remaining incoming.new)) reply.items) }
+        OrdersRow terms row.now (link_of (S.contents outgoing.old) (C.remaining incoming.old))
+        (link_of (S.contents outgoing.new) (C.remaining incoming.new)) reply.items) }
     ensures err { IfErr result IsConversationFault }
 {
     let Ok(order) = order_line(alloc, terms) else {
         return Err(Failure::Fault(Fault::Memory));
     };
-    let ordered = request_reply(alloc, &order, incoming, sent)?;
+    let ordered = request_reply(alloc, &order, incoming, outgoing)?;
     if !has_first_word(&ordered, b"order") {
         return Ok(ordered);
     }
     let Ok(registration) = registration_line(alloc, row, &ordered) else {
         return Err(Failure::Fault(Fault::Memory));
     };
-    request_reply(alloc, &registration, incoming, sent)
+    request_reply(alloc, &registration, incoming, outgoing)
 }
 
 /// Requests that a certificate be revoked, and revokes it if the reply gives the request's number. Returns the last reply.
@@ -203,28 +204,28 @@ fn revoke_row<C: BufRead, S: Write>(
     alloc: Global,
     row: Option<RevocationRow>,
     incoming: &mut C,
-    sent: &mut S,
+    outgoing: &mut S,
 ) -> Result<Vec<u8>, Failure>
     ensures ok { IfOk result (λ reply.
-        RevokesRow row (link_of (S.contents sent.old) (C.remaining incoming.old))
-        (link_of (S.contents sent.new) (C.remaining incoming.new)) reply.items) }
+        RevokesRow row (link_of (S.contents outgoing.old) (C.remaining incoming.old))
+        (link_of (S.contents outgoing.new) (C.remaining incoming.new)) reply.items) }
     ensures err { IfErr result IsConversationFault }
 {
     let Some(row) = row else {
         // The desk replies `E22 syntax`.
-        return request_reply(alloc, b"request\n", incoming, sent);
+        return request_reply(alloc, b"request\n", incoming, outgoing);
     };
     let Ok(request) = request_line(alloc, &row) else {
         return Err(Failure::Fault(Fault::Memory));
     };
-    let entered = request_reply(alloc, &request, incoming, sent)?;
+    let entered = request_reply(alloc, &request, incoming, outgoing)?;
     if !has_first_word(&entered, b"request") {
         return Ok(entered);
     }
     let Ok(revocation) = revocation_line(alloc, &row, &entered) else {
         return Err(Failure::Fault(Fault::Memory));
     };
-    request_reply(alloc, &revocation, incoming, sent)
+    request_reply(alloc, &revocation, incoming, outgoing)
 }
 
 fn is_skipped(task: RowTask, text: &[u8]) -> bool

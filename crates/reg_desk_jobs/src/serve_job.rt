@@ -232,10 +232,10 @@ fn run_event_loop<H: Handler, W: Write>(
         Ok(()) => {}
         Err(why) => return Err(why),
     }
-    let mut made = 0;
+    let mut answered = 0;
     // It stops early if the clock or the sockets fail.
-    let _ = event_loop.serve_all(handler, &mut made, requests);
-    if made != requests {
+    let _ = event_loop.serve_all(handler, &mut answered, requests);
+    if answered != requests {
         return Err(Failure::Fault(Fault::Read));
     }
     // Connections whose clients don't read their answers in time are closed.

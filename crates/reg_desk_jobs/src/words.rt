@@ -16,7 +16,7 @@ use std::alloc::{AllocError, Global};
 pub(crate) enum ControlWord<'a> {
     /// `help`: it lists the words.
     Help,
-    /// `why`: its reply is the reason of the connection's last refused line.
+    /// `why`: its reply is the reason that was kept last on the connection, mostly for a refused line.
     Why,
     /// `copy`: it copies the register to this path; `None` if that is not UTF-8.
     Copy(Option<&'a str>),

@@ -68,7 +68,7 @@ health_of now found tally accepted = record {
   crl_signer = tally.crls.failing_since;
   ocsp_signer = tally.ocsp.failing_since;
   rows = rows_since now found;
-  store = store_since_at now found tally.store_since;
+  store = store_since_at now found tally.store_failing_since;
 }
 
 -- all is well: the clock is neither behind nor too far ahead, no CRL is due at once or late, signers and the store don't fail, and each table has room

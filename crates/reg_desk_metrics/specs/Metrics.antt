@@ -145,7 +145,7 @@ unfoldable pub signers_text : Tally → List ℕ
 signers_text tally =
     sample CRL_FAILING.now (moment_or_none tally.crls.failing_since)
     ++ sample OCSP_FAILING.now (moment_or_none tally.ocsp.failing_since)
-    ++ sample STORE_FAILING.now (moment_or_none tally.store_since)
+    ++ sample STORE_FAILING.now (moment_or_none tally.store_failing_since)
 
 -- the connections: open and accepted ones; then lost ones, by cause
 unfoldable pub connections_text : ConnectionTotals → List ℕ

@@ -111,7 +111,7 @@ is_new signing ends tally =
     × (tally.buckets ≡ replicate 12 0)
     × (tally.micros ≡ 0) × (tally.route_counts ≡ replicate 11 0) × (tally.route_micros ≡ replicate 11 0)
     × (tally.ocsp_signer_failures ≡ 0) × (tally.ocsp_store_failures ≡ 0)
-    × (tally.crls ≡ nothing_signed) × (tally.ocsp ≡ nothing_signed) × (tally.store_since ≡ None)
+    × (tally.crls ≡ nothing_signed) × (tally.ocsp ≡ nothing_signed) × (tally.store_failing_since ≡ None)
     × (tally.requests ≡ None)
     × (tally.crl_signing ≡ signing) × (tally.responder_ends ≡ ends) × (tally.read ≡ None)
 
@@ -171,7 +171,7 @@ abbrev pub outcomes_counted : ℕ → SignatureOutcome → SignatureOutcome → 
 outcomes_counted now crl ocsp effect tally = record tally {
   crls = signing_after (counted_crl_outcome tally.crl_signing crl) now tally.crls;
   ocsp = signing_after ocsp now tally.ocsp;
-  store_since = store_after effect now tally.store_since;
+  store_failing_since = store_after effect now tally.store_failing_since;
 }
 
 -- one more answer of a route with a status

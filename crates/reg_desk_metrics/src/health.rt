@@ -41,7 +41,7 @@ impl Health {
             crl_signer: tally.crls.failing_since,
             ocsp_signer: tally.ocsp.failing_since,
             rows: rows_failing_since(now, found),
-            store: store_failing_since(now, found, tally.store_since),
+            store: store_failing_since(now, found, tally.store_failing_since),
         }
     }
 

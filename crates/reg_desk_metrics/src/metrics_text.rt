@@ -1,7 +1,7 @@
 //! The metrics of an open register, in the text form of Prometheus, version 0.0.4.
 
 ghost use Rattle.std.specs.Prelude.{◌≡◌, ◌++◌, IfOk, OnOk};
-ghost use Rattle.reg_desk_metrics.specs.Metrics.{answer_text, answers_text, seconds_behind as behind_spec, bucket_name as bucket_named, bucket_text, buckets_text, certificates_text, clock_text, code_name as code_named, connections_text, crl_text as crl_since_spec, issued_text, last_text, lines_text, lost_text, metrics_text, numbers_text, register_text, requests_text, rows_text, route_name as route_named, route_text, routes_text, build_text, failures_text, responder_text, seconds_text, signers_text, signed_text, sum_of};
+ghost use Rattle.reg_desk_metrics.specs.Metrics.{answer_text, answers_text, seconds_behind as behind_spec, bucket_name as bucket_named, bucket_text, buckets_text, certificates_text, clock_text, code_name as code_named, connections_text, crl_text as crl_text_spec, issued_text, last_text, lines_text, lost_text, metrics_text, numbers_text, register_text, requests_text, rows_text, route_name as route_named, route_text, routes_text, build_text, failures_text, responder_text, seconds_text, signers_text, signed_text, sum_of};
 
 use crate::numbers::{ConnectionTotals, Numbers, NumbersResult, Requests};
 use crate::samples::{put_moment, put_sample, put_seconds};
@@ -49,7 +49,7 @@ pub fn metrics(
     put_lines(&mut text, tally)?;
     put_signed(&mut text, tally.crls, tally.ocsp)?;
     put_last(&mut text, tally.crls, tally.ocsp)?;
-    put_signers(&mut text, tally)?;
+    put_failing_since(&mut text, tally)?;
     put_connections(&mut text, connection_totals)?;
     put_lost(&mut text, connection_totals)?;
     put_times(&mut text, tally)?;
@@ -136,7 +136,7 @@ fn put_crl(
     latest: Option<CrlRow>,
     life: u64,
 ) -> Result<(), AllocError>
-    ensures { OnOk result (text.new.items ≡ text.old.items ++ crl_since_spec now latest life) }
+    ensures { OnOk result (text.new.items ≡ text.old.items ++ crl_text_spec now latest life) }
 {
     match latest {
         Some(crl) => put_issued(text, now, crl, life),
@@ -261,12 +261,12 @@ fn put_last(text: &mut Vec<u8>, crls: Signing, ocsp: Signing) -> Result<(), Allo
 }
 
 #[tactic(auto, unfolding(crate::specs::Metrics::signers_text))]
-fn put_signers(text: &mut Vec<u8>, tally: &Tally) -> Result<(), AllocError>
+fn put_failing_since(text: &mut Vec<u8>, tally: &Tally) -> Result<(), AllocError>
     ensures { OnOk result (text.new.items ≡ text.old.items ++ signers_text tally.now) }
 {
     put_moment(text, CRL_FAILING, tally.crls.failing_since)?;
     put_moment(text, OCSP_FAILING, tally.ocsp.failing_since)?;
-    put_moment(text, STORE_FAILING, tally.store_since)
+    put_moment(text, STORE_FAILING, tally.store_failing_since)
 }
 
 #[tactic(auto, unfolding(crate::specs::Metrics::connections_text))]

@@ -6,7 +6,7 @@ ghost use Rattle.reg_desk_metrics.specs.Tallies.{nothing_signed, signing_after, 
 use reg_core::Moment;
 use reg_office_api::{SignatureOutcome, StoreEffect};
 
-/// How many signatures of one kind were received, how many failed, and when.
+/// How many signatures of one kind were received, how many failed, and when. A placeholder digest counts as a signature.
 #[derive(Clone, Copy, PartialEq, Eq)]
 pub(crate) struct Signing {
     pub(crate) received: u64,

@@ -39,7 +39,7 @@ pub struct Tally {
     pub(crate) ocsp_store_failures: u64,
     pub(crate) crls: Signing,
     pub(crate) ocsp: Signing,
-    pub(crate) store_since: Option<Moment>,
+    pub(crate) store_failing_since: Option<Moment>,
     /// The requests for revocation, when they were counted last.
     pub(crate) requests: Option<Requests>,
     pub(crate) crl_signing: CrlSigning,
@@ -176,7 +176,7 @@ impl Tally {
             ocsp_store_failures: 0,
             crls: Signing::nothing(),
             ocsp: Signing::nothing(),
-            store_since: None,
+            store_failing_since: None,
             requests: None,
             crl_signing,
             responder_ends,
@@ -311,6 +311,6 @@ impl Tally {
     {
         self.crls = self.crls.after(crl_outcome_at(self.crl_signing, crl), now);
         self.ocsp = self.ocsp.after(ocsp, now);
-        self.store_since = store_after(self.store_since, store, now);
+        self.store_failing_since = store_after(self.store_failing_since, store, now);
     }
 }

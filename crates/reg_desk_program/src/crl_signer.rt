@@ -33,13 +33,13 @@ use reg_office::Responder;
 use reg_store::{DatabaseFault, Tables};
 use sqlite::Alter;
 
-/// The signer of CRLs for the register in these tables. With `NoSigner`, it has the algorithm of the latest CRL and asks no process, so the next
-/// CRL fails with a fault of the signer.
+/// The signer of CRLs for the register in these tables. With `NoSigner`, it asks no process, so the next CRL fails with a fault of the signer; it has
+/// the algorithm of the latest CRL, or the digest's if there is none.
 ///
 /// # Errors
 ///
-/// `BadResponder` if the embedded certificate has another key than the issuer; else `BadSigner`, with its cause kept in the host, if the issuer's key does not fit
-/// the algorithm, or the latest CRL has another algorithm or one that is unknown here; `Memory`, `Store`.
+/// `BadResponder` if the embedded certificate has another key than the issuer; else `BadSigner`, with its cause kept in the host, if the issuer's key
+/// does not fit the algorithm, or if no CRL with that algorithm may follow the latest one; `Memory`, `Store`.
 #[tactic(auto, using(crate::proofs::Missing::opens_faulty))]
 pub(crate) fn signer_for<C: Alter>(
     host: &Host<'_>,
@@ -63,7 +63,7 @@ pub(crate) fn signer_for<C: Alter>(
     }
 }
 
-/// A signer with the algorithm of the latest CRL that asks no process.
+/// A signer that asks no process, with the algorithm of the latest CRL, if there is one.
 fn signer_without_process<C: Alter>(
     host: &Host<'_>,
     tables: &mut Tables<C>,

@@ -12,10 +12,10 @@ use reg_desk_jobs::{
 use std::cell::Cell;
 use std::io::{Read, Write};
 
-/// Does a job on a machine, over standard input and output, and returns its exit status: 0 if it is done; 3 if a reply at the control socket, or in
-/// a strict script or import, was a refusal or a fault, a replay stopped, or their last line has no line end; else 1. Reports a failure on standard
-/// error. If `is_explained` and it is known, one more line has the cause (status 1), or why the registration that ended a strict script or import
-/// was refused (status 3).
+/// Does a job on a machine, over standard input and output, and returns its exit status: 0 if it is done; 3 if a reply at the control socket, or in a
+/// strict script or import, was a refusal or a fault, a replay stopped at a line of the log, or their last line has no line end; else 1. Reports a
+/// failure on standard error. If `is_explained` and it is known, one more line has the cause (status 1), or why the registration that ended a strict
+/// script or import was refused (status 3).
 pub fn perform<M: Machine, R: Read, W: Write, E: Write>(
     rt: &HostRuntime,
     machine: &mut M,

@@ -17,7 +17,7 @@ pub type FileDevice = BackoffDevice<SocketDevice<UnixConnection>, HostRuntime>;
 /// The signer of a register in a file: a process behind a socket, or the placeholder digest.
 pub type FileSigner = RegisterSigner<FileDevice>;
 
-/// An office over a database file, which is checked for damage.
+/// An office over a database file. A page that is read again must have the digest that it had before.
 pub(crate) type OfficeInFile = Office<FileStore<FileFrom<Unknown>>, FileSigner>;
 
 /// The office of a register in a file. Each method calls that of [`reg_office::Office`]. The type has no parameters, so that the prover compares it

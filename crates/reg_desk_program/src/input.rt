@@ -13,7 +13,7 @@ pub(crate) enum Input {
 }
 
 impl Input {
-    /// Opens the file at a path; standard input if there is none.
+    /// Opens the file at the path; without a path, standard input.
     pub(crate) fn of(rt: &HostRuntime, path: Option<&str>) -> io::Result<Input> {
         match path {
             Some(path) => Ok(Input::File(File::open(rt, path)?)),

@@ -11,17 +11,17 @@ use sqlite_disk::Disk;
 
 /// A register that an audit found sound has sound records, and an office that opens its file has them.
 ///
-/// If [`Machine::audit_in`](reg_desk_jobs::Machine::audit_in) of the [`Host`](crate::Host) returned `Sound`, the file's tables show sound records,
-/// and the derived tables agree with them. If an office then opens the file with these tables, the records stand in it (`Stands`), so the clauses
-/// and laws of [`reg_office`] hold for them. The law assumes (`IsPresumed`) what no audit can check: that each row of `listed` stores its last column
-/// (a row without it reads as if it had NULL there), and that no call left the connection's transaction broken, which the crate `sqlite` does not
+/// If [`Machine::audit_in`](reg_desk_jobs::Machine::audit_in) of the [`Host`](crate::Host) returned `Sound`, the file's tables show sound records, and
+/// the derived tables (states, counts, CRL entries) agree with them. If an office then opens the file with these tables, the records stand in it
+/// (`Stands`), so the clauses and laws of [`reg_office`] hold for them. The law assumes (`IsPresumed`) what no audit can check: each row of the table
+/// `listed` stores its last column (else it reads as NULL), and no call left the connection's transaction broken, which the crate `sqlite` does not
 /// state. It also assumes the signatures of the stored CRLs, which an audit does not verify, and a disk that returned what was written.
 pub fn a_register_that_was_found_sound_stands<A: Disk, D: Disk, S: Signer>()
     ensures { (found : FoundSound A.Disk) → StandsOnceAudited D.Disk S.signs found }
 {}
 
-/// The signer of a register in a file that is opened without a key makes the placeholder digest, and nothing else. So the register may switch from
-/// it to a key, by [`reg_office::laws::a_key_follows_the_digest`].
+/// If the signer of a register in a file is the placeholder digest, it makes that digest, and nothing else. So the register may switch from it to a
+/// key, by [`reg_office::laws::a_key_follows_the_digest`].
 pub fn without_a_key_only_digests_are_made<D: Device>()
     ensures { IsDigestSigner (SignsByKeyOrDigest D.answers) digest }
 {}

@@ -20,7 +20,7 @@ use reg_office::Responder;
 use std::fs;
 use std::io::ErrorKind;
 
-/// A responder that signs with the signer of CRLs, and embeds the certificate in the file at a path, if one is given.
+/// A responder that signs with the signer of CRLs. If the path of a certificate is given, each response embeds that certificate.
 pub(crate) fn issuer_responder(
     host: &Host<'_>,
     path: &Option<Argument<'_>>,
@@ -88,7 +88,7 @@ fn certificate_at(host: &Host<'_>, location: Location, path: &str) -> Result<Cer
     }
 }
 
-/// Whether the certificate that OCSP answers of the issuer embed, if any, has the issuer's key.
+/// Whether the certificate that the issuer's responses embed has this key; true if they embed none, or a delegate responds.
 pub(crate) fn embedded_key_fits(responder: &Responder<FileSigner>, key: &[u8]) -> bool
     ensures { IsTrue result → (crls : Identity)
         → EmbeddedKeyFits key.now (answers_by ⟦<FileSigner as Signer>⟧.identity crls responder.now) }

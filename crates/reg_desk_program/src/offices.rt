@@ -22,7 +22,7 @@ use reg_store::Store;
 use sqlite::{Alter, Connection, FileFrom, FileStore};
 use sqlite_disk::{Disk, Unknown};
 
-/// A connection to a database file, which is checked for damage.
+/// A connection to a database file. A page that is read again must have the digest that it had before.
 pub type FileConnection = Connection<FileStore<FileFrom<Unknown>>>;
 
 /// Creates a register in a database, and returns its office; if that fails, the failure and the connection.

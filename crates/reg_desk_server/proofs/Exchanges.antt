@@ -17,19 +17,19 @@ asked_in_append (line bytes ∷ first) rest = asked_in_append first rest
 
 -- nothing was exchanged
 pub exchanged_none : {S T : Type 0} (answers : S → List ℕ → Outcome T → S → Type 0) (answers_line : S → List ℕ → List ℕ → S → Type 0)
-    (defers : S → List ℕ → S → Type 0) (s t : S) (made made' : ℕ) → t ≡ s → made' ≡ made → Exchanged answers answers_line defers s t made made'
-exchanged_none answers answers_line defers s t made made' same count =
+    (defers : S → List ℕ → S → Type 0) (s t : S) (answered answered' : ℕ) → t ≡ s → answered' ≡ answered → Exchanged answers answers_line defers s t answered answered'
+exchanged_none answers answers_line defers s t answered answered' same count =
     record { inputs = []; outcomes = []; run = same; counted = omega (arith, count) }
 
 module _ {S T L : Type 0} (g : Ghosts S T L) where
   -- nothing was exchanged
-  pub handled_none : (s t : S) (made made' : ℕ) → t ≡ s → made' ≡ made → Handled g s t made made'
+  pub handled_none : (s t : S) (answered answered' : ℕ) → t ≡ s → answered' ≡ answered → Handled g s t answered answered'
   handled_none = exchanged_none g.answers g.answers_line g.defers
 
   -- a request was answered
-  pub handled_request : (s t : S) (made made' : ℕ) (bytes : List ℕ) (outcome : Outcome T) → g.answers s bytes outcome t → made' ≡ made + 1
-      → Handled g s t made made'
-  handled_request s t made made' bytes outcome step count = record {
+  pub handled_request : (s t : S) (answered answered' : ℕ) (bytes : List ℕ) (outcome : Outcome T) → g.answers s bytes outcome t → answered' ≡ answered + 1
+      → Handled g s t answered answered'
+  handled_request s t answered answered' bytes outcome step count = record {
     inputs = request bytes ∷ [];
     outcomes = outcome ∷ [];
     run = (t, step, refl);
@@ -37,8 +37,8 @@ module _ {S T L : Type 0} (g : Ghosts S T L) where
   }
 
   -- a line was answered
-  pub handled_line : (s t : S) (made : ℕ) (bytes text : List ℕ) → g.answers_line s bytes text t → Handled g s t made made
-  handled_line s t made bytes text step = record {
+  pub handled_line : (s t : S) (answered : ℕ) (bytes text : List ℕ) → g.answers_line s bytes text t → Handled g s t answered answered
+  handled_line s t answered bytes text step = record {
     inputs = line bytes ∷ [];
     outcomes = said text ∷ [];
     run = (t, step, refl);
@@ -46,9 +46,9 @@ module _ {S T L : Type 0} (g : Ghosts S T L) where
   }
 
   -- some were exchanged, and then others
-  pub handled_then : (s m t : S) (made made' made'' : ℕ) → Handled g s m made made' → Handled g m t made' made''
-      → Handled g s t made made''
-  handled_then s m t made made' made'' first rest = record {
+  pub handled_then : (s m t : S) (answered answered' answered'' : ℕ) → Handled g s m answered answered' → Handled g m t answered' answered''
+      → Handled g s t answered answered''
+  handled_then s m t answered answered' answered'' first rest = record {
     inputs = first.inputs ++ rest.inputs;
     outcomes = first.outcomes ++ rest.outcomes;
     run = answered_append (Handles g.answers g.answers_line g.defers) s m t first.inputs first.outcomes rest.inputs rest.outcomes first.run rest.run;
@@ -56,29 +56,29 @@ module _ {S T L : Type 0} (g : Ghosts S T L) where
   }
 
   -- a line was answered, or none was there
-  pub handled_telling : {P : Type 0} (s t : S) (made : ℕ) (old new : ControlConnection P) → AnswersFirstLine g.answers_line s t old new → Handled g s t made made
-  handled_telling s t made old new (inl told) = handled_line s t made (take told.0 old.arrived.items) (unsent_of new.unsent) told.3
-  handled_telling s t made old new (inr silent) = handled_none s t made made silent.1 refl
+  pub handled_telling : {P : Type 0} (s t : S) (answered : ℕ) (old new : ControlConnection P) → AnswersFirstLine g.answers_line s t old new → Handled g s t answered answered
+  handled_telling s t answered old new (inl told) = handled_line s t answered (take told.0 old.arrived.items) (unsent_of new.unsent) told.3
+  handled_telling s t answered old new (inr silent) = handled_none s t answered answered silent.1 refl
 
   -- or it stopped before
-  pub handled_told : {P U E : Type 0} (Q : Type 0) (r : Result U E) (s t : S) (made : ℕ) (old new : ControlConnection P)
-      → OnOk r (AnswersFirstLine g.answers_line s t old new) → OnErr r (Q × (t ≡ s)) → Handled g s t made made
-  handled_told Q (Ok u) s t made old new told stopped = handled_telling s t made old new told
-  handled_told Q (Err e) s t made old new told stopped = handled_none s t made made stopped.1 refl
+  pub handled_told : {P U E : Type 0} (Q : Type 0) (r : Result U E) (s t : S) (answered : ℕ) (old new : ControlConnection P)
+      → OnOk r (AnswersFirstLine g.answers_line s t old new) → OnErr r (Q × (t ≡ s)) → Handled g s t answered answered
+  handled_told Q (Ok u) s t answered old new told stopped = handled_telling s t answered old new told
+  handled_told Q (Err e) s t answered old new told stopped = handled_none s t answered answered stopped.1 refl
 
   -- a line was looked at, or none was
-  pub handled_deferring : {P : Type 0} (s t : S) (made : ℕ) (old : ControlConnection P) → DefersFirstLine g.defers s t old → Handled g s t made made
-  handled_deferring s t made old (inl looked) = record {
+  pub handled_deferring : {P : Type 0} (s t : S) (answered : ℕ) (old : ControlConnection P) → DefersFirstLine g.defers s t old → Handled g s t answered answered
+  handled_deferring s t answered old (inl looked) = record {
     inputs = line (take looked.0 old.arrived.items) ∷ [];
     outcomes = later ∷ [];
     run = (t, looked.2, refl);
     counted = omega arith;
   }
-  handled_deferring s t made old (inr same) = handled_none s t made made same refl
+  handled_deferring s t answered old (inr same) = handled_none s t answered answered same refl
 
   -- a line that was looked at was answered then, or looked at again; or it stopped before
-  pub handled_told_later : {P U E : Type 0} (Q : Type 0) (r : Result U E) (s t : S) (made : ℕ) (old new : ControlConnection P)
-      → OnOk r (AnswersDeferred g.answers_line g.defers s t old new) → OnErr r (Q × (t ≡ s)) → Handled g s t made made
-  handled_told_later Q (Ok u) s t made old new (inl told) stopped = handled_telling s t made old new told
-  handled_told_later Q (Ok u) s t made old new (inr looked) stopped = handled_deferring s t made old looked.0
-  handled_told_later Q (Err e) s t made old new told stopped = handled_none s t made made stopped.1 refl
+  pub handled_told_later : {P U E : Type 0} (Q : Type 0) (r : Result U E) (s t : S) (answered : ℕ) (old new : ControlConnection P)
+      → OnOk r (AnswersDeferred g.answers_line g.defers s t old new) → OnErr r (Q × (t ≡ s)) → Handled g s t answered answered
+  handled_told_later Q (Ok u) s t answered old new (inl told) stopped = handled_telling s t answered old new told
+  handled_told_later Q (Ok u) s t answered old new (inr looked) stopped = handled_deferring s t answered old looked.0
+  handled_told_later Q (Err e) s t answered old new told stopped = handled_none s t answered answered stopped.1 refl

@@ -31,8 +31,8 @@ module _ {S T : Type 0} (answers : S → List ℕ → Outcome T → S → Type 0
 
   -- s became t by these exchanges and nothing else, and their requests were counted; an answer that is left to be signed is listed where its
   -- request was
-  pub record Exchanged (s t : S) (made made' : ℕ) : Type 0 where
+  pub record Exchanged (s t : S) (answered answered' : ℕ) : Type 0 where
     pub inputs : List Input
     pub outcomes : List (Outcome T)
     pub run : Answered Handles s inputs outcomes t
-    pub counted : made' ≡ made + requests_in inputs
+    pub counted : answered' ≡ answered + requests_in inputs

@@ -9,4 +9,4 @@ Handled g = Exchanged g.answers g.answers_line g.defers
 
 -- the same with lines only, which are not counted
 abbrev pub AnsweredLines : {H T L : Type 0} → Ghosts H T L → H → H → Type 0
-AnsweredLines g s t = (made : ℕ) → Handled g s t made made
+AnsweredLines g s t = (answered : ℕ) → Handled g s t answered answered

@@ -27,7 +27,7 @@ pub(crate) struct Acceptor {
     /// Whether one is assumed to wait: the listener was ready, with none accepted since.
     has_more: bool,
     /// Whether there was no descriptor for a waiting connection, and no HTTP connection whose descriptor could be freed for it.
-    pub(crate) is_short: bool,
+    pub(crate) lacks_descriptors: bool,
     pub(crate) accepted: u64,
 }
 
@@ -41,7 +41,7 @@ impl Acceptor {
             next: None,
             may_have_more: true,
             has_more: false,
-            is_short: false,
+            lacks_descriptors: false,
             accepted: 0,
         })
     }
@@ -53,38 +53,38 @@ impl Acceptor {
         self.has_more = true;
     }
 
-    /// Whether a connection has no slot yet, or one may be accepted, up to `most` in all.
-    pub(crate) fn is_ready(&self, most: u64) -> bool {
-        self.next.is_some() || (self.may_have_more && self.accepted < most)
+    /// Whether a connection has no slot yet, or one may be accepted, up to `limit` in all.
+    pub(crate) fn is_ready(&self, limit: u64) -> bool {
+        self.next.is_some() || (self.may_have_more && self.accepted < limit)
     }
 
-    /// Accepts waiting connections: at most [`MOST_AT_ONCE`] in a call, and `most` in all. If a waiting connection can't be accepted, or there is no slot for it, evicts
+    /// Accepts waiting connections: at most [`MOST_AT_ONCE`] in a call, and `limit` in all. If a waiting connection can't be accepted, or there is no slot for it, evicts
     /// an HTTP connection. If there is none to evict, the next call tries again if descriptors ran out; any other error is an [`EventLoopFault`].
     pub(crate) fn accept_all<H: Handler>(
         &mut self,
-        most: u64,
+        limit: u64,
         connections: &mut HttpConnections<H>,
         shared: &mut Shared,
         handler: &H,
         now: u64,
     ) -> Result<(), EventLoopFault>
-        ensures within { self.old.accepted ≤ most → self.new.accepted ≤ most }
+        ensures within { self.old.accepted ≤ limit → self.new.accepted ≤ limit }
         ensures fails { OnErr result H.failed }
     {
-        self.clear_short();
+        self.retry_after_shortage();
         for _ in 0..MOST_AT_ONCE {
-            if !self.accept(most, connections, shared, handler, now)? {
+            if !self.accept(limit, connections, shared, handler, now)? {
                 return Ok(());
             }
         }
         Ok(())
     }
 
-    fn clear_short(&mut self)
+    fn retry_after_shortage(&mut self)
         ensures { self.new.accepted ≡ self.old.accepted }
     {
-        if self.is_short {
-            self.is_short = false;
+        if self.lacks_descriptors {
+            self.lacks_descriptors = false;
             self.may_have_more = true;
         }
     }
@@ -92,16 +92,16 @@ impl Acceptor {
     /// Accepts the next connection and gives it a slot. Returns whether it got one.
     fn accept<H: Handler>(
         &mut self,
-        most: u64,
+        limit: u64,
         connections: &mut HttpConnections<H>,
         shared: &mut Shared,
         handler: &H,
         now: u64,
     ) -> Result<bool, EventLoopFault>
-        ensures within { self.old.accepted ≤ most → self.new.accepted ≤ most }
+        ensures within { self.old.accepted ≤ limit → self.new.accepted ≤ limit }
         ensures fails { OnErr result H.failed }
     {
-        self.accept_next(most, connections, shared, handler)?;
+        self.accept_next(limit, connections, shared, handler)?;
         if self.next.is_some() && !connections.slots.has_free() {
             connections.evict(shared);
             return Ok(false);
@@ -126,16 +126,16 @@ impl Acceptor {
 
     fn accept_next<H: Handler>(
         &mut self,
-        most: u64,
+        limit: u64,
         connections: &mut HttpConnections<H>,
         shared: &mut Shared,
         handler: &H,
     ) -> Result<(), EventLoopFault>
-        ensures within { self.old.accepted ≤ most → self.new.accepted ≤ most }
+        ensures within { self.old.accepted ≤ limit → self.new.accepted ≤ limit }
         ensures kept { self.old.has_more ≡ false → connections.new ≡ connections.old }
         ensures fails { OnErr result H.failed }
     {
-        if self.next.is_some() || !self.may_have_more || self.accepted >= most {
+        if self.next.is_some() || !self.may_have_more || self.accepted >= limit {
             return Ok(());
         }
         match handler.accept(&self.listener) {
@@ -178,7 +178,7 @@ impl Acceptor {
             // Control connections and signature requests have all descriptors.
             _ if is_out_of_descriptors(error) => {
                 self.may_have_more = false;
-                self.is_short = true;
+                self.lacks_descriptors = true;
                 Ok(())
             }
             _ => Err(EventLoopFault),

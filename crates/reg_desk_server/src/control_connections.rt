@@ -29,7 +29,7 @@ pub(crate) struct ControlConnections<H: Handler> {
     pub(crate) waiting: Option<WaitingLine<H>>,
     pub(crate) may_accept: bool,
     /// Whether there was no descriptor for a connection that may be waiting.
-    pub(crate) is_short: bool,
+    pub(crate) lacks_descriptors: bool,
     /// Whether a connection may have a line without a reply.
     has_lines: bool,
 }
@@ -49,7 +49,7 @@ impl<H: Handler> ControlConnections<H> {
             slots,
             waiting: None,
             may_accept: true,
-            is_short: false,
+            lacks_descriptors: false,
             has_lines: false,
         })
     }
@@ -78,8 +78,8 @@ impl<H: Handler> ControlConnections<H> {
 
     /// Accepts connections while slots are free; others wait in the kernel's backlog. If there is no descriptor, the next call tries again.
     pub(crate) fn accept_all(&mut self, shared: &mut Shared) {
-        if self.is_short {
-            self.is_short = false;
+        if self.lacks_descriptors {
+            self.lacks_descriptors = false;
             self.may_accept = true;
         }
         for _ in 0..MOST_CONTROL_CONNECTIONS {
@@ -103,7 +103,7 @@ impl<H: Handler> ControlConnections<H> {
             Ok((link, _)) => Some(ControlConnection::new(alloc, link)),
             Err(error) => {
                 self.may_accept = error.kind() == ErrorKind::Interrupted;
-                self.is_short = is_out_of_descriptors(&error);
+                self.lacks_descriptors = is_out_of_descriptors(&error);
                 None
             }
         }

@@ -58,7 +58,7 @@ impl<H: Handler> EventLoop<H> {
         })
     }
 
-    /// Answers HTTP requests until `made` is `most`, and control lines meanwhile. Each accepted HTTP connection counts as one request, and
+    /// Answers HTTP requests until `answered` is `limit`, and control lines meanwhile. Each accepted HTTP connection counts as one request, and
     /// is answered once: when its request is whole, when nothing more of it comes, when its time is over, or when it is evicted. If an
     /// answer needs a signature, the loop requests it, and only that client waits. [`EventLoop::finish`] finishes the answers that still
     /// wait at the end. The loop ends early only because the system failed, or after 2^64 - 1 iterations.
@@ -69,27 +69,27 @@ impl<H: Handler> EventLoop<H> {
     pub fn serve_all(
         &mut self,
         handler: &mut H,
-        made: &mut u64,
-        most: u64,
+        answered: &mut u64,
+        limit: u64,
     ) -> Result<(), EventLoopFault>
-        requires { made.old ≤ most }
-        ensures exchanged { Handled H.Handler handler.old handler.new made.old made.new }
-        ensures all { OnOk result (made.new ≡ most) }
+        requires { answered.old ≤ limit }
+        ensures exchanged { Handled H.Handler handler.old handler.new answered.old answered.new }
+        ensures all { OnOk result (answered.new ≡ limit) }
         ensures early { OnErr result (EndsEarly H.failed H.waited) }
     {
         for _ in 0..u64::MAX {
-            if *made == most {
+            if *answered == limit {
                 return Ok(());
             }
-            let now = self.poll(handler, most)?;
+            let now = self.poll(handler, limit)?;
             self.shared.lost.report(handler);
             handler.keep_counts(self.connections());
             self.finish_all(handler, now);
             self.control
                 .answer_all_lines(&mut self.shared, handler, now)?;
-            let answered = self.answer_all(handler, made, most, now);
+            let outcome = self.answer_all(handler, answered, limit, now);
             self.request_all(handler, now);
-            answered?;
+            outcome?;
         }
         Err(EventLoopFault)
     }
@@ -97,14 +97,14 @@ impl<H: Handler> EventLoop<H> {
     /// Closes the HTTP connections: sends the answers that are made, and finishes those that wait for a signature, until no connection is
     /// left. Reports lost connections to the handler.
     pub fn finish(&mut self, handler: &H) -> Result<(), EventLoopFault> {
-        let most = self.acceptor.accepted;
+        let limit = self.acceptor.accepted;
         self.http.close_all(&mut self.shared);
         for _ in 0..u64::MAX {
             self.shared.lost.report(handler);
             if self.http.slots.reserved() == 0 {
                 return Ok(());
             }
-            let now = self.poll(handler, most)?;
+            let now = self.poll(handler, limit)?;
             self.finish_all(handler, now);
             self.request_all(handler, now);
             self.http.close_due(&mut self.shared);
@@ -122,11 +122,11 @@ impl<H: Handler> EventLoop<H> {
     }
 
     /// Waits for events, then reads, writes and accepts, and finds the connections whose time is over. Returns the milliseconds of the clock.
-    fn poll(&mut self, handler: &H, most: u64) -> Result<u64, EventLoopFault>
+    fn poll(&mut self, handler: &H, limit: u64) -> Result<u64, EventLoopFault>
         ensures ok { OnOk result ((count : ℕ) → H.waited count → H.waited (count + 1)) }
         ensures fails { OnErr result H.failed }
     {
-        let longest = self.longest_wait(most);
+        let longest = self.longest_wait(limit);
         self.shared.poller.poll(handler, longest)?;
         let now = handler.millis()?;
         for index in 0..self.shared.poller.tokens.len() {
@@ -136,22 +136,22 @@ impl<H: Handler> EventLoop<H> {
         }
         self.control.accept_all(&mut self.shared);
         self.acceptor
-            .accept_all(most, &mut self.http, &mut self.shared, handler, now)?;
+            .accept_all(limit, &mut self.http, &mut self.shared, handler, now)?;
         self.http.sweep(&mut self.shared, now);
         Ok(now)
     }
 
-    fn longest_wait(&mut self, most: u64) -> Duration {
+    fn longest_wait(&mut self, limit: u64) -> Duration {
         let for_signatures = self
             .signatures
             .longest_wait()
             .min(self.control.longest_wait());
         let has_work = !self.http.due.is_empty() || !self.shared.lost.unreported.is_empty();
-        if self.acceptor.is_ready(most) || self.control.is_ready() || has_work {
+        if self.acceptor.is_ready(limit) || self.control.is_ready() || has_work {
             return Duration::ZERO;
         }
-        let is_short = self.acceptor.is_short || self.control.is_short;
-        let idle = if self.http.slots.reserved() == 0 && !is_short {
+        let lacks_descriptors = self.acceptor.lacks_descriptors || self.control.lacks_descriptors;
+        let idle = if self.http.slots.reserved() == 0 && !lacks_descriptors {
             Duration::from_secs(IDLE_SECS)
         } else {
             Duration::from_millis(SWEEP_MILLIS)
@@ -192,20 +192,20 @@ impl<H: Handler> EventLoop<H> {
     fn answer_all(
         &mut self,
         handler: &mut H,
-        made: &mut u64,
-        most: u64,
+        answered: &mut u64,
+        limit: u64,
         now: u64,
     ) -> Result<(), EventLoopFault>
-        requires { made.old ≤ most }
-        ensures exchanged { Handled H.Handler handler.old handler.new made.old made.new }
-        ensures within { made.new ≤ most }
+        requires { answered.old ≤ limit }
+        ensures exchanged { Handled H.Handler handler.old handler.new answered.old answered.new }
+        ensures within { answered.new ≤ limit }
         ensures fails { OnErr result H.failed }
     {
         for index in 0..self.http.due.len() {
-            if *made == most {
+            if *answered == limit {
                 return Ok(());
             }
-            self.answer_due(index, handler, made, now)?;
+            self.answer_due(index, handler, answered, now)?;
         }
         self.http.due.clear();
         Ok(())
@@ -218,12 +218,12 @@ impl<H: Handler> EventLoop<H> {
         &mut self,
         index: usize,
         handler: &mut H,
-        made: &mut u64,
+        answered: &mut u64,
         now: u64,
     ) -> Result<(), EventLoopFault>
-        requires { made.old < 18446744073709551615 }
-        ensures exchanged { Handled H.Handler handler.old handler.new made.old made.new }
-        ensures one { made.new ≤ made.old + 1 }
+        requires { answered.old < 18446744073709551615 }
+        ensures exchanged { Handled H.Handler handler.old handler.new answered.old answered.new }
+        ensures one { answered.new ≤ answered.old + 1 }
         ensures fails { OnErr result H.failed }
     {
         let Some(slot) = self.http.due.get(index).copied() else {
@@ -237,7 +237,7 @@ impl<H: Handler> EventLoop<H> {
             let client = Some(connection.client);
             self.shared.lost.add_lost(LostConnection { client, why });
         }
-        match connection.answer(handler, made, now) {
+        match connection.answer(handler, answered, now) {
             Ok(true) => {
                 self.wait_for_signature(slot, connection, handler, now);
                 Ok(())

@@ -18,9 +18,9 @@ pub struct EventLoopFault;
 pub enum ConnectionFault {
     /// The client broke the connection off, or it can't be polled.
     Broken,
-    /// Its time was up: its request was incomplete, or the client had not received its whole answer.
+    /// Its time was up: its request was not answered yet, or the client had not received its whole answer.
     TimedOut,
-    /// It was evicted for another one: its request was incomplete, or the client had not received its whole answer.
+    /// It was evicted, for another one or for the limit of unsent bytes, before the client had received its whole answer.
     Evicted,
     /// There was no memory for the bytes that came on it.
     Memory,
@@ -98,7 +98,7 @@ pub trait Handler {
         ensures ok { OnOk result ((count : ℕ) → waited count → waited (count + 1)) }
         ensures err { OnErr result failed };
 
-    /// Accepts a connection. Errors are those of accept(2): no connection waits, a signal came, the client is gone, or the system failed.
+    /// Accepts a connection. Errors of accept(2): no connection waits, a signal came, the client is gone, no descriptor is left, or the system failed.
     fn accept(&self, listener: &TcpListener) -> io::Result<(TcpStream, SocketAddr)>
         ensures { IfErr result (AcceptFails failed) };
 
@@ -158,6 +158,6 @@ pub trait Handler {
     /// Reports that the connection from an address was lost; a control connection has no address.
     fn report_lost(&self, client: Option<SocketAddr>, why: ConnectionFault);
 
-    /// Receives the numbers of connections, in each iteration of `serve_all` before anything is answered.
+    /// Receives how many connections there are, in each iteration of `serve_all` before anything is answered.
     fn keep_counts(&self, connection_counts: ConnectionCounts);
 }

@@ -30,14 +30,14 @@ const MOST_DROPPED: usize = 32;
 #[derive(Drop)]
 pub(crate) enum Stage<T> {
     Receiving(Collected),
-    /// The answer is to be signed: its ticket, the connection on which the signature was requested, and whether to close once the answer is sent.
+    /// The answer is to be signed: its ticket, the connection on which the signature was requested, and whether nothing came after the request.
     Signing(T, Option<SignatureRequest>, bool),
-    /// The answer is being sent; whether to close at once then.
+    /// The answer is being sent; whether the connection is closed after its last byte, without `Draining`.
     Sending(Unsent, bool),
     Draining,
 }
 
-/// What is to be done with a connection next: answer it, poll it, keep it unpolled, or close it.
+/// What is to be done with a connection next: answer it, register it with the poller, keep it without registering it, or close it.
 #[derive(Clone, Copy)]
 pub enum Next {
     Due,
@@ -128,7 +128,7 @@ impl<S: Link, H: Handler> HttpConnection<S, H> {
         self.deadline <= now
     }
 
-    /// Keeps and returns the fault, if there is one now, because of which the connection is to be answered before its request is whole.
+    /// Keeps and returns the fault for which the connection is answered now, if there is one: its time is up, or no more of its request is received.
     pub fn record_fault(&mut self, now: u64) -> Option<ConnectionFault>
         ensures same_link { self.new.link ≡ self.old.link }
         ensures same_stage { self.new.stage ≡ self.old.stage }
@@ -151,7 +151,7 @@ impl<S: Link, H: Handler> HttpConnection<S, H> {
         }
     }
 
-    /// Advances the connection as far as it goes without blocking.
+    /// Advances the connection without blocking, by a limited number of reads or writes.
     pub fn advance(&mut self, read_buffer: &mut [u8], now: u64) -> Next
         ensures receives { ReceivesMore S.Read.remaining self.old self.new }
         ensures sends { Sends S.Write.contents self.old self.new }
@@ -205,7 +205,7 @@ impl<S: Link, H: Handler> HttpConnection<S, H> {
         Next::Park
     }
 
-    /// Sends more of the answer. After the last byte, the sending side is shut down.
+    /// Sends more of the answer. After the last byte the connection is to be closed, or its sending side is shut down.
     fn send_on(&mut self, now: u64) -> Next
         ensures { Sends S.Write.contents self.old self.new }
     {
@@ -265,24 +265,24 @@ impl<S: Link, H: Handler> HttpConnection<S, H> {
     pub fn answer(
         &mut self,
         handler: &mut H,
-        made: &mut u64,
+        answered: &mut u64,
         now: u64,
     ) -> Result<bool, EventLoopFault>
-        ensures exchanged { Handled H.Handler handler.old handler.new made.old made.new }
-        ensures one { made.new ≤ made.old + 1 }
+        ensures exchanged { Handled H.Handler handler.old handler.new answered.old answered.new }
+        ensures one { answered.new ≤ answered.old + 1 }
         ensures answered { OnOk result (
             Answering H.answers handler.old handler.new self.old.stage self.new.stage) }
         ensures kept { SameLinkAndFault self.old self.new }
         ensures err { OnErr result ((self.new ≡ self.old) × (handler.new ≡ handler.old)) }
-        ensures fails { OnErr result (H.failed ⊎ (made.old ≡ 18446744073709551615)) }
+        ensures fails { OnErr result (H.failed ⊎ (answered.old ≡ 18446744073709551615)) }
     {
         let (begun, is_exact) = match &self.stage {
             Stage::Receiving(collected) => {
-                let Some(count) = made.checked_add(1) else {
+                let Some(count) = answered.checked_add(1) else {
                     return Err(EventLoopFault);
                 };
                 let begun = handler.answer(self.client, collected)?;
-                *made = count;
+                *answered = count;
                 (begun, collected.is_exact())
             }
             Stage::Signing(..) => return Ok(false),

@@ -102,7 +102,7 @@ impl<H: Handler> HttpConnections<H> {
                 {
                     self.slots.put(slot, connection);
                 } else if connection.is_receiving() {
-                    // A connection that was accepted counts as a request once it is answered.
+                    // It is answered, not closed: `serve_all` ends once it has answered as many connections as it accepts.
                     connection.fault = Some(ConnectionFault::Broken);
                     self.put_due(slot, connection);
                 } else {

@@ -12,9 +12,9 @@ use crate::link::Link;
 
 /// On a control connection each line is answered once and in order, and each reply is sent once and in order.
 ///
-/// Over any steps since the connection was accepted, the bytes that came are the answered lines and then the bytes that are kept. The bytes that
-/// were sent, followed by the unsent ones, are the replies to these lines (`HasAnsweredLines`). `ControlConnection::advance` answers no line;
-/// `answer_line` and `answer_deferred` answer at most one. The law is about the bytes of a `Link`; no clause states what bytes a socket carries.
+/// Over any steps since it was accepted, the bytes that came are the answered lines, the kept bytes, and last those for which there was no memory;
+/// after these it has ended. The sent bytes and then the unsent ones are the replies to these lines (`HasAnsweredLines`). `ControlConnection::advance`
+/// answers no line, `answer_line` and `answer_deferred` at most one. The law is about a `Link`; no clause states what bytes a socket carries.
 pub fn each_line_is_answered_once_in_order<S: Link, H: Handler>()
     ensures begins { (client : ControlConnection S) → IsFresh client
         → HasAnsweredLines S.Write.contents S.Read.remaining H.answers_line client.link client [] [] }
@@ -25,12 +25,12 @@ pub fn each_line_is_answered_once_in_order<S: Link, H: Handler>()
         (AnswersDeferred H.answers_line H.defers) (DefersFirstLine H.defers) }
 {}
 
-/// A request is answered once.
+/// A request is answered at most once.
 ///
-/// Over any steps since an HTTP connection was accepted, the bytes that came are kept until it is answered, and nothing is sent. From then on the
-/// bytes that were sent, followed by the unsent ones, are the answer to a prefix of what came, which is passed to the handler once; the bytes
-/// after that are dropped (`HasServed`). `HttpConnection::advance`, `answer` and `complete` preserve this, also while a signature is requested, and
-/// if no more of the request is received.
+/// Over any steps since an HTTP connection was accepted, the bytes that came are kept until it is answered, except last bytes for which there was no
+/// memory, and nothing is sent. From then on the bytes that were sent, followed by the unsent ones, are the answer to a prefix of what came, which is
+/// passed to the handler once; the bytes after that are dropped (`HasServed`). `HttpConnection::advance`, `answer` and `complete` preserve this, also
+/// while a signature is requested, and if no more of the request is received.
 pub fn each_request_is_answered_once<S: Link, H: Handler>()
     ensures begins { (client : HttpConnection S H H.Ticket H.ControlTicket) → HasReceived client.stage []
         → HasServed S.Write.contents S.Read.remaining H.Handler client.link client }

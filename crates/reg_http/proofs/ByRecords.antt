@@ -12,7 +12,7 @@ use Rattle.reg_office_api.specs.declared.response.OcspResponse.{OcspResponse}
 use Rattle.reg_office_api.specs.declared.response.ResponseKind.{ResponseKind}
 use Rattle.reg_office_api.proofs.PublicLaws.{stays, follows}
 use Rattle.reg_core.specs.Records.{Records}
-use Rattle.reg_core.specs.declared.memory.Memory.{Memory}
+use Rattle.reg_core.specs.declared.memory.Memory.{Memory as NoMemory}
 use Rattle.reg_http_head.specs.Response.{Response}
 use Rattle.reg_http.specs.Added.{AddsARequestAtMost}
 use Rattle.reg_http.specs.Answers.{Answers, BeginsIn, BeginsTo, RespondsIn, RespondsTo, BeginsOcsp, of_any_kind}
@@ -27,10 +27,10 @@ use Rattle.reg_io.specs.declared.begun.ReadyOrUnsigned.TheVariants.{Ready, Unsig
 
 module _ {O : Type 0} (office : Office O) (now : ℕ) (s t : O) where
   -- What OCSP responses are, over the records, and that they change nothing.
-  module _ (replies : Signatory → Records → ℕ → List ℕ → Result (ResponseKind × List ℕ) Memory → Records → Type 0)
-      (stay : (signatory : Signatory) (before : Records) (now : ℕ) (request : List ℕ) (given : Result (ResponseKind × List ℕ) Memory) (after : Records)
+  module _ (replies : Signatory → Records → ℕ → List ℕ → Result (ResponseKind × List ℕ) NoMemory → Records → Type 0)
+      (stay : (signatory : Signatory) (before : Records) (now : ℕ) (request : List ℕ) (given : Result (ResponseKind × List ℕ) NoMemory) (after : Records)
       → replies signatory before now request given after → after ≡ before) where
-    abbrev RepliesBy : O → ℕ → List ℕ → Result (ResponseKind × List ℕ) Memory → O → Type 0
+    abbrev RepliesBy : O → ℕ → List ℕ → Result (ResponseKind × List ℕ) NoMemory → O → Type 0
     RepliesBy s now request given t = Leads office.is_clean office.stands (λ signatory before after. replies signatory before now request given after) s t
 
     -- what is told, over the records, which gain one request for revocation at most
@@ -94,7 +94,7 @@ module _ {O : Type 0} (office : Office O) (now : ℕ) (s t : O) where
       follows office.is_clean office.stands _ _ (λ signatory before after made. ((request, is, made), nothing_added now before after made.1)) s t drafted
 
   -- an OCSP request, as the office begins its response
-  pub begins_ocsp : (request : List ℕ) (given : Result (ReadyOrUnsigned OcspResponse Drafted) Memory) (begun : ReadyOrUnsigned Answered Drafted)
+  pub begins_ocsp : (request : List ℕ) (given : Result (ReadyOrUnsigned OcspResponse Drafted) NoMemory) (begun : ReadyOrUnsigned Answered Drafted)
       → Leads office.is_clean office.stands (λ signatory before after. Begins (Replies office.signs signatory) (Drafts signatory) before now request given after) s t
       → BeginsOcsp given begun → BeginsIn office now s (ocsp_of request) begun t
   begins_ocsp request (Ok (Ready response)) (Ready answered) came it = (Ok (response.kind, response.bytes.items), came, it)

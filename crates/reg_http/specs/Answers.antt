@@ -9,7 +9,7 @@ use Rattle.reg_core.specs.declared.command.Command.TheVariants.{Request}
 use Rattle.reg_core.specs.declared.command.Query.{Query}
 use Rattle.reg_core.specs.declared.command.Query.TheVariants.{Status, Counts}
 use Rattle.reg_core.specs.declared.command.Reply.{Reply}
-use Rattle.reg_core.specs.declared.memory.Memory.{Memory}
+use Rattle.reg_core.specs.declared.memory.Memory.{Memory as NoMemory}
 use Rattle.reg_core.specs.declared.refusal.Fault.{Fault}
 use Rattle.reg_core.specs.declared.refusal.Fault.TheVariants.{Refused}
 use Rattle.reg_core.specs.declared.refusal.Refusal.TheVariants.{Syntax}
@@ -26,7 +26,7 @@ use Rattle.reg_io.specs.declared.begun.ReadyOrUnsigned.TheVariants.{Ready, Unsig
 -- The office's relations: a command, a query, an OCSP request and a CRL; `s` is the office before, `t` after.
 module _ {S : Type 0} (runs : S → ℕ → Command → Result Reply Fault → S → Type 0)
     (asks : S → ℕ → Query → Result Reply Fault → S → Type 0)
-    (replies : S → ℕ → List ℕ → Result (ResponseKind × List ℕ) Memory → S → Type 0)
+    (replies : S → ℕ → List ℕ → Result (ResponseKind × List ℕ) NoMemory → S → Type 0)
     (gives_crl : S → Option ℕ → Result (List ℕ) Fault → S → Type 0) where
   -- the answer to a request; only a request for revocation runs a command
   abbrev pub Answers : ℕ → S → RoutedRequest → AnswerEffects → S → Type 0
@@ -36,7 +36,7 @@ module _ {S : Type 0} (runs : S → ℕ → Command → Result Reply Fault → S
   Answers now s malformed it t =
       (t ≡ s) × (it ≡ plain (der (codes "application/ocsp-response") malformed_text))
   Answers now s (ocsp_of request) it t =
-      (given : Result (ResponseKind × List ℕ) Memory) × replies s now request given t
+      (given : Result (ResponseKind × List ℕ) NoMemory) × replies s now request given t
       × (it ≡ ocsp_effects given)
   Answers now s (crl_of number) it t =
       (given : Result (List ℕ) Fault) × gives_crl s number given t × (it ≡ crl_effects given)
@@ -58,7 +58,7 @@ module _ {S : Type 0} (runs : S → ℕ → Command → Result Reply Fault → S
 
 -- an OCSP response is the answer, or is to be signed, as the office begins it
 abbrev pub BeginsOcsp
-    : Result (ReadyOrUnsigned OcspResponse Drafted) Memory → ReadyOrUnsigned Answered Drafted → Type 0
+    : Result (ReadyOrUnsigned OcspResponse Drafted) NoMemory → ReadyOrUnsigned Answered Drafted → Type 0
 BeginsOcsp (Ok (Ready response)) (Ready answered) =
     answer_effects answered ≡ ocsp_effects (Ok (response.kind, response.bytes.items))
 BeginsOcsp (Ok (Ready response)) (Unsigned draft) = ⊥
@@ -68,20 +68,20 @@ BeginsOcsp (Err memory) (Ready answered) = answer_effects answered ≡ ocsp_effe
 BeginsOcsp (Err memory) (Unsigned draft) = ⊥
 
 -- an OCSP response without its kind
-abbrev pub bytes_in : Result (ResponseKind × List ℕ) Memory → Result (List ℕ) Memory
+abbrev pub bytes_in : Result (ResponseKind × List ℕ) NoMemory → Result (List ℕ) NoMemory
 bytes_in (Ok given) = Ok given.1
 bytes_in (Err memory) = Err memory
 
 -- if the office reports no kind: a response of any kind
-abbrev pub of_any_kind : {S : Type 0} → (S → ℕ → List ℕ → Result (List ℕ) Memory → S → Type 0)
-    → S → ℕ → List ℕ → Result (ResponseKind × List ℕ) Memory → S → Type 0
+abbrev pub of_any_kind : {S : Type 0} → (S → ℕ → List ℕ → Result (List ℕ) NoMemory → S → Type 0)
+    → S → ℕ → List ℕ → Result (ResponseKind × List ℕ) NoMemory → S → Type 0
 of_any_kind answers_ocsp s now request given t = answers_ocsp s now request (bytes_in given) t
 
 -- the response to a request, if OCSP responses are bytes without a kind
 abbrev pub RespondsTo
     : {S : Type 0} → (S → ℕ → Command → Result Reply Fault → S → Type 0)
     → (S → ℕ → Query → Result Reply Fault → S → Type 0)
-    → (S → ℕ → List ℕ → Result (List ℕ) Memory → S → Type 0)
+    → (S → ℕ → List ℕ → Result (List ℕ) NoMemory → S → Type 0)
     → (S → Option ℕ → Result (List ℕ) Fault → S → Type 0)
     → ℕ → S → RoutedRequest → Response → S → Type 0
 RespondsTo runs asks answers_ocsp gives_crl now s what response t =

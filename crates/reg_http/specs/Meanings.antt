@@ -4,7 +4,7 @@ use Rattle.reg_http.specs.RoutedRequests.{RoutedRequest, refused, method_not_all
 use Rattle.reg_http.specs.declared.meaning.Call.{Call}
 use Rattle.reg_http.specs.declared.meaning.Call.TheVariants.{Refused, OnlyGet, OnlyPost, Unreadable, Malformed, Crl, Status, Counts, Request}
 use Rattle.reg_http.specs.declared.meaning.Meaning.{Meaning}
-use Rattle.reg_http.specs.declared.meaning.Meaning.TheVariants.{Posted, Decoded, Other}
+use Rattle.reg_http.specs.declared.meaning.Meaning.TheVariants.{OcspByPost, OcspByGet, Other}
 
 -- the meaning of any request but an OCSP request
 abbrev pub request_of_call : Call → RoutedRequest
@@ -20,6 +20,6 @@ request_of_call (Request serial word) = request_of serial word
 
 -- the meaning of any request, with its body
 abbrev pub request_of_meaning : List ℕ → Meaning → RoutedRequest
-request_of_meaning body Posted = ocsp_of body
-request_of_meaning body (Decoded request) = ocsp_of request.items
+request_of_meaning body OcspByPost = ocsp_of body
+request_of_meaning body (OcspByGet request) = ocsp_of request.items
 request_of_meaning body (Other call) = request_of_call call

@@ -103,7 +103,7 @@ impl Exchange {
         }
     }
 
-    /// An exchange with the OCSP response that was begun at `now`, or with status 500 if that is `Memory`. Its text is empty if there is no memory for it.
+    /// An exchange with the OCSP response begun at `now`, or with status 500 if that is `Memory`. Out of memory, its text is the constant one, or empty.
     pub fn finished(
         alloc: Global,
         route: Route,

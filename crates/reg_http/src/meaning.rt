@@ -25,9 +25,9 @@ use std::str;
 #[derive(Drop)]
 pub(crate) enum Meaning {
     /// An OCSP request in the body.
-    Posted,
+    OcspByPost,
     /// An OCSP request that was decoded from the path.
-    Decoded(Vec<u8>),
+    OcspByGet(Vec<u8>),
     Other(Call),
 }
 
@@ -68,7 +68,7 @@ fn decoded(alloc: Global, text: &[u8]) -> Result<Meaning, Memory>
         return Err(Memory);
     }
     match STANDARD.decode(alloc, plain.as_slice()) {
-        Ok(request) => Ok(Meaning::Decoded(request)),
+        Ok(request) => Ok(Meaning::OcspByGet(request)),
         Err(DecodeAllocError::DecodeError(_)) => Ok(Meaning::Other(Call::Malformed)),
         Err(DecodeAllocError::OutOfMemory) => Err(Memory),
     }
@@ -163,7 +163,7 @@ fn meaning_at(
         Route::List | Route::Health | Route::Metrics | Route::Other => {
             Ok(Meaning::Other(Call::Refused(status::NOT_FOUND)))
         }
-        Route::Ocsp if is_post => Ok(Meaning::Posted),
+        Route::Ocsp if is_post => Ok(Meaning::OcspByPost),
         Route::Requests if is_post => request_part(alloc, body),
         Route::Ocsp | Route::Requests => Ok(Meaning::Other(Call::OnlyPost)),
         _ if !is_get => Ok(Meaning::Other(Call::OnlyGet)),

@@ -52,8 +52,8 @@ pub fn answer<O: Office>(
 {
     let buffer = json_buffer(alloc)?;
     match meaning_of(alloc, method, target, body)? {
-        Meaning::Posted => Ok(ocsp_answer(buffer, office.ocsp(alloc, now, body))),
-        Meaning::Decoded(request) => Ok(ocsp_answer(buffer, office.ocsp(alloc, now, &request))),
+        Meaning::OcspByPost => Ok(ocsp_answer(buffer, office.ocsp(alloc, now, body))),
+        Meaning::OcspByGet(request) => Ok(ocsp_answer(buffer, office.ocsp(alloc, now, &request))),
         Meaning::Other(call) => Ok(respond(alloc, buffer, call, now, office).answer),
     }
 }
@@ -81,8 +81,8 @@ pub fn begin<O: Office>(
 {
     let buffer = json_buffer(alloc)?;
     match meaning_of(alloc, method, target, body)? {
-        Meaning::Posted => Ok(begun_answer(buffer, office.begin_ocsp(alloc, now, body))),
-        Meaning::Decoded(request) => Ok(begun_answer(
+        Meaning::OcspByPost => Ok(begun_answer(buffer, office.begin_ocsp(alloc, now, body))),
+        Meaning::OcspByGet(request) => Ok(begun_answer(
             buffer,
             office.begin_ocsp(alloc, now, &request),
         )),
@@ -129,7 +129,7 @@ pub fn report_fault(alloc: Global, fault: Fault) -> Result<Answered, Memory>
     Ok(answer_of_fault(json_buffer(alloc)?, fault))
 }
 
-/// The answer to a request that is refused with this status before the office is called.
+/// The answer to a request that is refused with this status, and not given to the office.
 /// [`Memory`] if out of memory.
 pub fn refuse(alloc: Global, status: u16) -> Result<Answered, Memory>
     ensures { IfOk result (λ answered. answer_effects answered ≡ plain (http_refusal status)) }

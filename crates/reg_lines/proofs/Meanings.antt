@@ -8,7 +8,7 @@ use Rattle.reg_core.specs.Number.{IsNumberText, number_of}
 use Rattle.reg_core.specs.Serial.{IsSerialText, serial_of}
 use Rattle.reg_core.proofs.PublicLaws.{label_of-is, label_of-some, numbers_are_read, serials_are_read, moment_of-some, moment_of-text}
 use Rattle.reg_core.specs.declared.command.Command.{Command}
-use Rattle.reg_core.specs.declared.command.Command.TheVariants.{Subscriber, Order, Register, Request, Decline, Revoke, Crl}
+use Rattle.reg_core.specs.declared.command.Command.TheVariants.{Subscriber, Order, Register, Request, Decline, Revoke, Crl as IssueCrl}
 use Rattle.reg_core.specs.declared.command.Query.{Query}
 use Rattle.reg_core.specs.declared.command.Query.TheVariants.{Status, Counts, Listing, Overdue, NextCrl}
 use Rattle.reg_lines.specs.Fields.{fields_of}
@@ -198,7 +198,7 @@ revoking_spelled word fields v =
     word_or means_command word (codes "request") fields (request_of fields) _ v (λ c e. request_spelled fields c e)
     (word_or means_command word (codes "decline") fields (option_map Decline (number_alone fields)) _ v (λ c e. decline_spelled fields c e)
     (word_or means_command word (codes "revoke") fields (option_map Revoke (number_alone fields)) _ v (λ c e. revoke_spelled fields c e)
-    (word_or means_command word (codes "crl") fields (alone Crl fields) (query_by word fields) v (λ c e. lone SpellsCommand (codes "crl") Crl fields refl c e) (asked_spelled word fields v))))
+    (word_or means_command word (codes "crl") fields (alone IssueCrl fields) (query_by word fields) v (λ c e. lone SpellsCommand (codes "crl") IssueCrl fields refl c e) (asked_spelled word fields v))))
 
 said_spelled : (word : List ℕ) (fields : List (List ℕ)) (v : Meaning) → meaning_by word fields ≡ Some v → Says (word ∷ fields) v
 unfolding meaning_by
@@ -231,7 +231,7 @@ command_read (Register order serial not_before not_after) fields (rest, is, spel
 command_read (Request serial named) fields (a, is, first, second) = rw (is, serial_of-some a serial first, label_of-is named second) refl
 command_read (Decline request) fields (a, is, first) = rw (is, number_of-some a request first) refl
 command_read (Revoke request) fields (a, is, first) = rw (is, number_of-some a request first) refl
-command_read Crl fields is = rw is refl
+command_read IssueCrl fields is = rw is refl
 
 query_read : (q : Query) (fields : List (List ℕ)) → SpellsQuery q fields → meaning_in_fields fields ≡ Some (means_query q)
 unfolding meaning_in_fields meaning_by revoking_by query_by serial_alone

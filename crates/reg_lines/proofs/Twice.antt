@@ -12,7 +12,7 @@ use Rattle.reg_core.specs.Records.{Records}
 use Rattle.reg_core.specs.Sound.{Sound}
 use Rattle.reg_core.specs.Step.{is_repeat}
 use Rattle.reg_core.specs.declared.command.Command.{Command}
-use Rattle.reg_core.specs.declared.command.Command.TheVariants.{Subscriber, Order, Register, Request, Decline, Revoke, Crl}
+use Rattle.reg_core.specs.declared.command.Command.TheVariants.{Subscriber, Order, Register, Request, Decline, Revoke, Crl as IssueCrl}
 use Rattle.reg_core.specs.declared.command.Reply.{Reply}
 use Rattle.reg_core.specs.declared.command.Reply.TheVariants.{Registered, Same}
 use Rattle.reg_core.specs.declared.refusal.Fault.{Fault}
@@ -62,7 +62,7 @@ certificate_of (Order subscriber days) = None
 certificate_of (Request serial ground) = None
 certificate_of (Decline request) = None
 certificate_of (Revoke request) = None
-certificate_of Crl = None
+certificate_of IssueCrl = None
 
 -- the certificate that a row of a text spells
 spelled : Row → Option CertRow
@@ -90,7 +90,7 @@ means_spells row (Order subscriber days) (a, b, is, first, second) = absurd (cc)
 means_spells row (Request serial ground) (a, is, first, second) = absurd (cc)
 means_spells row (Decline request) (a, is, first) = absurd (cc)
 means_spells row (Revoke request) (a, is, first) = absurd (cc)
-means_spells row Crl is = absurd (cc)
+means_spells row IssueCrl is = absurd (cc)
 
 -- a row that means no command spells no certificate
 unread_spells : (row : Row) → ((command : Command) → ¬ RowMeans row command) → spelled row ≡ None

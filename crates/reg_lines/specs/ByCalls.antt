@@ -8,7 +8,7 @@ use Rattle.reg_core.specs.Records.{Records}
 use Rattle.reg_core.specs.declared.command.Command.{Command}
 use Rattle.reg_core.specs.declared.command.Query.{Query}
 use Rattle.reg_core.specs.declared.command.Reply.{Reply}
-use Rattle.reg_core.specs.declared.memory.Memory.{Memory}
+use Rattle.reg_core.specs.declared.memory.Memory.{Memory as NoMemory}
 use Rattle.reg_core.specs.declared.refusal.Fault.{Fault}
 use Rattle.reg_core.specs.declared.refusal.Fault.TheVariants.{Signer}
 
@@ -16,7 +16,7 @@ use Rattle.reg_core.specs.declared.refusal.Fault.TheVariants.{Signer}
 pub data Call : Type 0 where
   ran : Command → Result Reply Fault → Call
   asked : Query → Result Reply Fault → Call
-  responded : List ℕ → Result (List ℕ) Memory → Call
+  responded : List ℕ → Result (List ℕ) NoMemory → Call
 
 -- the result of each call for a line, over the records at a moment
 abbrev pub Lines : Signs → Signatory → Records → ℕ → Call → Records → Type 0

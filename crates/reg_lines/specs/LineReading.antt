@@ -8,7 +8,7 @@ use Rattle.reg_core.specs.Number.{number_of}
 use Rattle.reg_core.specs.Sequence.{◌>>=◌}
 use Rattle.reg_core.specs.Serial.{serial_of}
 use Rattle.reg_core.specs.declared.command.Command.{Command}
-use Rattle.reg_core.specs.declared.command.Command.TheVariants.{Subscriber, Order, Register, Request, Decline, Revoke, Crl}
+use Rattle.reg_core.specs.declared.command.Command.TheVariants.{Subscriber, Order, Register, Request, Decline, Revoke, Crl as IssueCrl}
 use Rattle.reg_core.specs.declared.command.Query.TheVariants.{Status, Counts, Listing, Overdue, NextCrl}
 use Rattle.reg_lines.specs.Meaning.{Meaning, means_command, means_query, is_ocsp_line}
 
@@ -121,7 +121,7 @@ revoking_by word fields =
     then option_map means_command (option_map Decline (number_alone fields))
     else if bytes_eq word (codes "revoke")
     then option_map means_command (option_map Revoke (number_alone fields))
-    else if bytes_eq word (codes "crl") then option_map means_command (alone Crl fields)
+    else if bytes_eq word (codes "crl") then option_map means_command (alone IssueCrl fields)
     else query_by word fields
 
 -- the meaning of a word and the fields after it: `subscriber`, `order`, `register`, or one of those above

@@ -7,7 +7,7 @@ use Rattle.reg_core.specs.Label.{IsLabel}
 use Rattle.reg_core.specs.Number.{IsNumberText}
 use Rattle.reg_core.specs.Serial.{IsSerialText}
 use Rattle.reg_core.specs.declared.command.Command.{Command}
-use Rattle.reg_core.specs.declared.command.Command.TheVariants.{Subscriber, Order, Register, Request, Decline, Revoke, Crl}
+use Rattle.reg_core.specs.declared.command.Command.TheVariants.{Subscriber, Order, Register, Request, Decline, Revoke, Crl as IssueCrl}
 use Rattle.reg_core.specs.declared.command.Query.{Query}
 use Rattle.reg_core.specs.declared.command.Query.TheVariants.{Status, Counts, Listing, Overdue, NextCrl}
 use Rattle.reg_lines.specs.Fields.{fields_of}
@@ -40,7 +40,7 @@ SpellsCommand (Decline request) fields =
     (a : List ℕ) × (fields ≡ codes "decline" ∷ a ∷ []) × IsNumberText a request
 SpellsCommand (Revoke request) fields =
     (a : List ℕ) × (fields ≡ codes "revoke" ∷ a ∷ []) × IsNumberText a request
-SpellsCommand Crl fields = fields ≡ codes "crl" ∷ []
+SpellsCommand IssueCrl fields = fields ≡ codes "crl" ∷ []
 
 -- the fields spell a query
 abbrev pub SpellsQuery : Query → List (List ℕ) → Type 0

@@ -9,7 +9,7 @@ use reg_core::{Command, Fault, Outcome, Query, Refusal};
 use reg_io::{WriteFault, write_whole};
 use std::io::Write;
 
-/// The kind of a line, by its request to the office.
+/// What a line asks of the office.
 #[derive(Clone, Copy)]
 pub enum LineKind {
     /// Nothing: it can't be read.
@@ -87,7 +87,7 @@ impl Answered {
         }
     }
 
-    /// The reply. `room`, which is empty and has the capacity, receives the line of an outcome without an allocation.
+    /// The reply. The line of an outcome is written into `room`, which is empty and has the capacity for it, so nothing is allocated.
     pub fn into_reply(self, mut room: Vec<u8>) -> Vec<u8>
         requires empty { room.items ≡ [] }
         requires room { 84 ≤ vec_capacity room }

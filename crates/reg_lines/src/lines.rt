@@ -53,7 +53,7 @@ pub fn run_lines<R: Read, W: Write, O: Office, H: Host>(
         (λ signatory before after. LinesEnd (Lines O.signs signatory) R.remaining W.contents before after
         reader.old reader.new writer.old writer.new H.clock_reached (H.clocked host.now) is_strict result)
         office.old office.new }
-    ensures device { LinesEnd (LineCalls O.Office) R.remaining W.contents office.old office.new
+    ensures by_calls { LinesEnd (LineCalls O.Office) R.remaining W.contents office.old office.new
         reader.old reader.new writer.old writer.new H.clock_reached (H.clocked host.now) is_strict result }
 {
     let room = buffer_size(host.is_clocked());

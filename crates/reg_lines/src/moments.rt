@@ -1,4 +1,4 @@
-//! The moment at the start of a line of a script, and the end of a line.
+//! The moment at the start of a line of a script, the command line (the rest of that line), and the end of a line.
 
 ghost use Rattle.std.specs.Prelude.{◌≡◌, IfNone, IfSome, MatchOption};
 ghost use Rattle.std.specs.Io.BufRead.{strip_last};
@@ -24,7 +24,7 @@ pub fn take_moment(line: &[u8]) -> Option<(Moment, &[u8])>
     Some((now, &line[MOMENT + 1..]))
 }
 
-/// The command line of a line that runs at the moment of a clock, without its line end. `None` if it has too many bytes.
+/// A line that runs at the moment of a clock, without its line end: a command line. `None` if it has too many bytes.
 pub fn command_in(line: &[u8]) -> Option<&[u8]>
     ensures { MatchOption result (¬ IsShortCommand line.now)
         (λ command. (command.now ≡ line_of line.now) × IsShortCommand line.now) }

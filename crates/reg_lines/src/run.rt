@@ -1,4 +1,4 @@
-//! One command line, run by an office.
+//! Runs one command line (a line without its moment) in an office.
 
 ghost use Rattle.std.specs.Prelude.{◌≡◌, ◌++◌, Err, IfOk, Ok, codes};
 ghost use Rattle.hex.specs.Hex.{encode_lower};
@@ -14,7 +14,7 @@ use reg_core::{Fault, Moment, Refusal};
 use reg_office_api::Office;
 use std::alloc::{AllocError, Global};
 
-/// The bytes of an OCSP response that has only a status (RFC 6960 4.2.1).
+/// The length of an OCSP response that has only a status (RFC 6960 4.2.1).
 const STATUS_ONLY_LENGTH: usize = 5;
 
 /// Runs a line, given without its line end, at a moment.
@@ -22,7 +22,7 @@ pub fn run_line<O: Office>(alloc: Global, office: &mut O, now: Moment, line: &[u
     ensures leads { LeadsIn O.Office
         (λ signatory before after. ComesTo (Lines O.signs signatory) now before line.now result after)
         office.old office.new }
-    ensures device { ComesTo (LineCalls O.Office) now office.old line.now result office.new }
+    ensures by_calls { ComesTo (LineCalls O.Office) now office.old line.now result office.new }
 {
     match read_line(line) {
         Some(ParsedLine::Command(command)) => {

@@ -36,7 +36,8 @@ impl Host for NoHost {
 
 /// Runs each line of a script, in order, and writes each reply before it runs the next line. The input may come in pieces
 /// of any size. Memory is allocated once, before the first line, and later only by the calls of the office and for `ocsp`
-/// lines. If a later allocation fails, the reply is `F1 memory`. `F3 signer` is the reply only to a line at which the signer counted a failure.
+/// lines. If a later allocation fails, the reply is `F1 memory`. `F3 signer` is the reply only if the office's count of
+/// signer failures rose at that line.
 ///
 /// # Errors
 ///
@@ -53,7 +54,7 @@ pub fn run_script<R: Read, W: Write, O: Office>(
         (λ signatory before after. ScriptEnds (Lines O.signs signatory) R.remaining W.contents before after
         reader.old reader.new writer.old writer.new result)
         office.old office.new }
-    ensures device { ScriptEnds (LineCalls O.Office) R.remaining W.contents office.old office.new
+    ensures by_calls { ScriptEnds (LineCalls O.Office) R.remaining W.contents office.old office.new
         reader.old reader.new writer.old writer.new result }
 {
     run_script_for(alloc, reader, writer, office, &NoHost)
@@ -73,7 +74,7 @@ pub fn run_script_for<R: Read, W: Write, O: Office, H: Host>(
         (λ signatory before after. ScriptEnds (Lines O.signs signatory) R.remaining W.contents before after
         reader.old reader.new writer.old writer.new result)
         office.old office.new }
-    ensures device { ScriptEnds (LineCalls O.Office) R.remaining W.contents office.old office.new
+    ensures by_calls { ScriptEnds (LineCalls O.Office) R.remaining W.contents office.old office.new
         reader.old reader.new writer.old writer.new result }
 {
     done(run_lines(alloc, reader, writer, office, host, false))

@@ -103,9 +103,9 @@ pub struct SubjectPublicKey<'a> {
     pub key: &'a [u8],
 }
 
-/// The public key of a certificate, whose DER is all of the bytes, at most 65,536. Of the fields, only the tags and the public
-/// key are checked: not the issuer, the validity, the subject, the extensions or the signature. `None` exactly for other bytes,
-/// and for a key that has unused bits, is empty, or is longer than 2,048 bytes.
+/// The public key of a certificate, whose DER is all of the bytes, at most 65,536. Of the other fields, only the tags and lengths are
+/// checked, and of those after subjectPublicKeyInfo in the TBSCertificate, such as the extensions, nothing. `None` exactly for other
+/// bytes, and for a key that has unused bits, is empty, or is longer than 2,048 bytes.
 pub fn subject_public_key(certificate: &[u8]) -> Option<SubjectPublicKey<'_>>
     ensures found { IfSome result (λ it. IsCertificateOf certificate.now it.algorithm.now it.key.now) }
     ensures only { (algorithm key : List ℕ) → IsCertificateOf certificate.now algorithm key

@@ -23,13 +23,13 @@ const LONGEST_REQUEST: usize = 65_536;
 /// The INTEGER 0, which means version 1 (RFC 6960 4.1.1).
 const VERSION_1: [u8; 3] = [0x02, 0x01, 0x00];
 
-/// A nonce of 128 octets in its OCTET STRING (RFC 9654 2.1).
+/// The most bytes in the nonce's extnValue: an OCTET STRING of 128 octets, with its header of three (RFC 9654 2.1).
 const LONGEST_NONCE: usize = 131;
 
 /// Reads an OCSP request. `Malformed` exactly if the bytes are not one OCSPRequest in DER of at most 65,536 bytes, with at
-/// least one CertID and no critical extension but the nonce. The defaults (version v1, `critical` FALSE) may be encoded. The
-/// contents of requestorName and of optionalSignature are not checked. Bytes have at most one reading
-/// (`laws::one_reading`). `Memory` if out of memory for the CertIDs.
+/// least one CertID and no critical extension but the nonce. The defaults (version v1, `critical` FALSE) may be encoded, and Extensions may be empty.
+/// The contents of requestorName, optionalSignature, extnValue, OIDs (not empty) and parameters (with a tag of one octet) are not checked. Bytes have at
+/// most one reading (`laws::one_reading`). `Memory` if out of memory for the CertIDs.
 pub fn read_request(alloc: Global, bytes: &[u8]) -> Result<Asked<'_>, RequestFault>
     ensures found { IfOk result
         (λ a. IsOcspRequest bytes.now (ids_model a.ids.items) (option_copied a.nonce)) }
@@ -107,7 +107,7 @@ fn after_version(bytes: &[u8]) -> Option<&[u8]>
     }
 }
 
-/// The nonce, if it has 1 to 131 bytes: then the response repeats it.
+/// The contents of the nonce's extnValue if they have 1 to 131 bytes: then the response repeats them.
 fn echoed_nonce(nonce: Option<&[u8]>) -> Option<&[u8]>
     ensures { option_copied result ≡ grammar.echoed_nonce (option_copied nonce.entry) }
 {
@@ -134,7 +134,7 @@ fn ids(alloc: Global, bytes: &[u8]) -> Result<Vec<CertId<'_>>, RequestFault>
     Ok(ids)
 }
 
-/// The CertID of the first Request, and the bytes after that Request.
+/// The CertID of the first Request, and the bytes after that Request. Its extensions are only checked: no nonce in them is repeated.
 #[tactic(auto, unfolding(crate::specs::RequestReading::single_at))]
 fn single(bytes: &[u8]) -> Option<(CertId<'_>, &[u8])>
     ensures exact { AgreesWith (λ x. (id_model x.0, x.1.now)) result (single_at bytes.now) }

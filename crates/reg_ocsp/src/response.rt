@@ -104,7 +104,7 @@ fn put_data_fields(
     requires short_nonce { IfSome (option_copied nonce) (λ value. length value ≤ 131) }
     ensures ok { AppendsOnOk out.old out.new result
         (data_fields key.now now next (answers_model answers.now) (option_copied nonce.entry)) }
-    ensures longer { OnOk result
+    ensures length_at_most { OnOk result
         (length out.new.items
         ≤ length out.old.items + 100 * length answers.now + sum_by answered_length answers.now + 255) }
 {
@@ -126,7 +126,7 @@ pub fn basic(
     requires short_algorithm { length algorithm.now ≤ 1024 }
     requires short_signature { length signature.now ≤ 65536 }
     ensures response { ItemsOnOk result (ocsp_response signed.now algorithm.now signature.now None) }
-    ensures longer { IfOk result
+    ensures length_at_most { IfOk result
         (λ v. length v.items ≤ length signed.now + length algorithm.now + length signature.now + 64) }
 {
     basic_with(alloc, signed, algorithm, signature, None)
@@ -147,7 +147,7 @@ pub fn basic_with(
     requires short_certificate { IfSome (option_copied certificate) (λ bytes. length bytes ≤ 65536) }
     ensures response { ItemsOnOk result
         (ocsp_response signed.now algorithm.now signature.now (option_copied certificate.entry)) }
-    ensures longer { IfOk result (λ v. length v.items
+    ensures length_at_most { IfOk result (λ v. length v.items
         ≤ length signed.now + length algorithm.now + length signature.now
         + certs_room (option_copied certificate.entry) + 64) }
 {
@@ -159,7 +159,7 @@ pub fn basic_with(
 fn successful_value(alloc: Global, bytes: &[u8]) -> Result<Vec<u8>, Memory>
     requires { length bytes.now ≤ 2 ^ 28 }
     ensures value { ItemsOnOk result (successful_response bytes.now) }
-    ensures longer { IfOk result (λ v. length v.items ≤ length bytes.now + 19) }
+    ensures length_at_most { IfOk result (λ v. length v.items ≤ length bytes.now + 19) }
 {
     let mut fields = Vec::new(alloc);
     put(&mut fields, ENUMERATED, &[0])?;
@@ -170,7 +170,7 @@ fn successful_value(alloc: Global, bytes: &[u8]) -> Result<Vec<u8>, Memory>
 fn response_bytes(alloc: Global, basic: &[u8]) -> Result<Vec<u8>, Memory>
     requires { length basic.now < 2 ^ 28 }
     ensures value { ItemsOnOk result (spec.response_bytes basic.now) }
-    ensures longer { IfOk result (λ v. length v.items ≤ length basic.now + 27) }
+    ensures length_at_most { IfOk result (λ v. length v.items ≤ length basic.now + 27) }
 {
     let mut fields = Vec::new(alloc);
     put(&mut fields, OBJECT_IDENTIFIER, &BASIC)?;
@@ -192,7 +192,7 @@ fn basic_value(
     requires short_certificate { IfSome (option_copied certificate) (λ bytes. length bytes ≤ 65536) }
     ensures value { ItemsOnOk result
         (basic_response signed.now algorithm.now signature.now (option_copied certificate.entry)) }
-    ensures longer { IfOk result (λ v. length v.items
+    ensures length_at_most { IfOk result (λ v. length v.items
         ≤ length signed.now + length algorithm.now + length signature.now
         + certs_room (option_copied certificate.entry) + 13) }
     ensures bounded { IfOk result (λ v. length v.items ≤ 2 ^ 27 + 2 ^ 18) }
@@ -221,7 +221,7 @@ fn put_basic_fields(
     requires short_certificate { IfSome (option_copied certificate) (λ bytes. length bytes ≤ 65536) }
     ensures ok { AppendsOnOk out.old out.new result
         (basic_fields signed.now algorithm.now signature.now (option_copied certificate.entry)) }
-    ensures longer { OnOk result (length out.new.items
+    ensures length_at_most { OnOk result (length out.new.items
         ≤ length out.old.items + length signed.now + length algorithm.now + length signature.now
         + certs_room (option_copied certificate.entry) + 7) }
     ensures bounded { OnOk result
@@ -242,7 +242,7 @@ fn put_certificate(
 ) -> Result<(), Memory>
     requires { IfSome (option_copied certificate) (λ bytes. length bytes ≤ 65536) }
     ensures ok { AppendsOnOk out.old out.new result (certs_part (option_copied certificate.entry)) }
-    ensures longer { OnOk result
+    ensures length_at_most { OnOk result
         (length out.new.items ≤ length out.old.items + certs_room (option_copied certificate.entry)) }
     ensures bounded { OnOk result (length out.new.items ≤ length out.old.items + 65548) }
 {
@@ -256,7 +256,7 @@ fn put_certificate(
 /// Appends the ResponderID byKey: the SHA-1 of the key.
 fn put_responder(alloc: Global, out: &mut Vec<u8>, key: &[u8]) -> Result<(), Memory>
     ensures ok { AppendsOnOk out.old out.new result (spec.responder key.now) }
-    ensures longer { OnOk result (length out.new.items ≤ length out.old.items + 32) }
+    ensures length_at_most { OnOk result (length out.new.items ≤ length out.old.items + 32) }
 {
     let hash = enclosed(alloc, OCTET_STRING, &Sha1::digest(key))?;
     put(out, TAGGED_2, &hash)
@@ -274,7 +274,7 @@ fn put_answers(
     requires short { sum_by answered_length answers.now ≤ 65536 }
     ensures ok { AppendsOnOk out.old out.new result
         (tlv 0x30 (flat_map (single_response now next) (answers_model answers.now))) }
-    ensures longer { OnOk result
+    ensures length_at_most { OnOk result
         (length out.new.items
         ≤ length out.old.items + 100 * length answers.now + sum_by answered_length answers.now + 6) }
 {
@@ -295,7 +295,7 @@ fn put_single(
 ) -> Result<(), Memory>
     requires { answered_length answer.now ≤ 65536 }
     ensures ok { AppendsOnOk out.old out.new result (single_response now next (answer_model answer.now)) }
-    ensures longer { OnOk result
+    ensures length_at_most { OnOk result
         (length out.new.items ≤ length out.old.items + answered_length answer.now + 100) }
 {
     let mut fields = Vec::new(alloc);
@@ -311,7 +311,7 @@ fn put_single_fields(
     answer: &(CertId<'_>, Status),
 ) -> Result<(), Memory>
     ensures ok { AppendsOnOk out.old out.new result (single_fields now next (answer_model answer.now)) }
-    ensures longer { OnOk result
+    ensures length_at_most { OnOk result
         (length out.new.items ≤ length out.old.items + answered_length answer.now + 76) }
 {
     let (id, status) = answer;
@@ -323,7 +323,7 @@ fn put_single_fields(
 
 fn put_next_update(alloc: Global, out: &mut Vec<u8>, next: Moment) -> Result<(), Memory>
     ensures ok { AppendsOnOk out.old out.new result (next_update next) }
-    ensures longer { OnOk result (length out.new.items ≤ length out.old.items + 23) }
+    ensures length_at_most { OnOk result (length out.new.items ≤ length out.old.items + 23) }
 {
     let mut update = Vec::new(alloc);
     put_general(&mut update, next)?;
@@ -332,7 +332,7 @@ fn put_next_update(alloc: Global, out: &mut Vec<u8>, next: Moment) -> Result<(),
 
 fn put_status(alloc: Global, out: &mut Vec<u8>, status: Status) -> Result<(), Memory>
     ensures ok { AppendsOnOk out.old out.new result (cert_status status) }
-    ensures longer { OnOk result (length out.new.items ≤ length out.old.items + 36) }
+    ensures length_at_most { OnOk result (length out.new.items ≤ length out.old.items + 36) }
 {
     match status {
         Status::Good | Status::Expired => put(out, PRIMITIVE_0, &[]),
@@ -343,7 +343,7 @@ fn put_status(alloc: Global, out: &mut Vec<u8>, status: Status) -> Result<(), Me
 
 fn put_revoked(alloc: Global, out: &mut Vec<u8>, at: Moment, reason: u8) -> Result<(), Memory>
     ensures ok { AppendsOnOk out.old out.new result (cert_status (Revoked at reason)) }
-    ensures longer { OnOk result (length out.new.items ≤ length out.old.items + 36) }
+    ensures length_at_most { OnOk result (length out.new.items ≤ length out.old.items + 36) }
 {
     let mut info = Vec::new(alloc);
     put_general(&mut info, at)?;
@@ -354,7 +354,7 @@ fn put_revoked(alloc: Global, out: &mut Vec<u8>, at: Moment, reason: u8) -> Resu
 /// Appends the reason of a revocation, unless it is unspecified (RFC 5280 5.3.1).
 fn put_reason(alloc: Global, out: &mut Vec<u8>, reason: u8) -> Result<(), Memory>
     ensures ok { AppendsOnOk out.old out.new result (reason_part reason) }
-    ensures longer { OnOk result (length out.new.items ≤ length out.old.items + 13) }
+    ensures length_at_most { OnOk result (length out.new.items ≤ length out.old.items + 13) }
 {
     if reason == 0 {
         return Ok(());
@@ -366,7 +366,7 @@ fn put_reason(alloc: Global, out: &mut Vec<u8>, reason: u8) -> Result<(), Memory
 fn put_nonce(alloc: Global, out: &mut Vec<u8>, nonce: Option<&[u8]>) -> Result<(), Memory>
     requires { IfSome (option_copied nonce) (λ value. length value ≤ 131) }
     ensures ok { AppendsOnOk out.old out.new result (spec.nonce_part (option_copied nonce.entry)) }
-    ensures longer { OnOk result (length out.new.items ≤ length out.old.items + 200) }
+    ensures length_at_most { OnOk result (length out.new.items ≤ length out.old.items + 200) }
 {
     let Some(value) = nonce else {
         return Ok(());
@@ -379,7 +379,7 @@ fn put_nonce(alloc: Global, out: &mut Vec<u8>, nonce: Option<&[u8]>) -> Result<(
 fn nonce_extension(alloc: Global, nonce: &[u8]) -> Result<Vec<u8>, Memory>
     requires { length nonce.now ≤ 131 }
     ensures value { ItemsOnOk result (spec.nonce_extension nonce.now) }
-    ensures longer { IfOk result (λ v. length v.items ≤ length nonce.now + 27) }
+    ensures length_at_most { IfOk result (λ v. length v.items ≤ length nonce.now + 27) }
 {
     let mut fields = Vec::new(alloc);
     put(&mut fields, OBJECT_IDENTIFIER, &NONCE)?;
@@ -392,7 +392,7 @@ fn enclosed(alloc: Global, tag: u8, contents: &[u8]) -> Result<Vec<u8>, Memory>
     requires low_tag { tag % 32 < 31 }
     requires short { length contents.now < 2 ^ 32 }
     ensures value { ItemsOnOk result (tlv tag contents.now) }
-    ensures longer { IfOk result (λ v. length v.items ≤ length contents.now + 6) }
+    ensures length_at_most { IfOk result (λ v. length v.items ≤ length contents.now + 6) }
 {
     let mut out = Vec::new(alloc);
     put(&mut out, tag, contents)?;

@@ -5,7 +5,7 @@ use Rattle.std.specs.Prelude.{◌↔◌, Option, Some, None, IsSome, Result, Ok,
 use Rattle.reg_core.specs.Checks.{clock_checks, first_refusal}
 use Rattle.reg_core.specs.Issuer.{Issuer}
 use Rattle.reg_core.specs.Records.{Records}
-use Rattle.reg_core.specs.declared.memory.Memory.{Memory}
+use Rattle.reg_core.specs.declared.memory.Memory.{Memory as NoMemory}
 use Rattle.reg_core.specs.declared.refusal.Refusal.{Refusal}
 use Rattle.reg_crl.specs.Signing.{Identity}
 use Rattle.reg_ocsp.specs.Drafts.{Drafted, drafted_response}
@@ -42,7 +42,7 @@ late found refusal P bytes refused same =
 
 module _ (signs : Signs) (responder : Responder) (records : Records) (now : ℕ) (request : List ℕ) where
   -- a response that is ready is the response to the request
-  pub ready_begun : (kind : ResponseKind) (bytes : List ℕ) (result : Result (ReadyOrUnsigned OcspResponse Drafted) Memory)
+  pub ready_begun : (kind : ResponseKind) (bytes : List ℕ) (result : Result (ReadyOrUnsigned OcspResponse Drafted) NoMemory)
       → IsOcspResponse signs responder records now request kind bytes → IfOk result (IsReady kind bytes)
       → IfOk result (IsBegun signs responder records now request)
   ready_begun kind bytes (Ok (Ready response)) answers (kind_is, bytes_is) =
@@ -53,7 +53,7 @@ module _ (signs : Signs) (responder : Responder) (records : Records) (now : ℕ)
   ready_begun kind bytes (Err memory) answers ready = tt
 
   -- so is the ResponseData, signed or left to be signed; or internalError, where the signer failed
-  pub message_begun : (ids : List Id) (echo : Option (List ℕ)) (message : List ℕ) (result : Result (ReadyOrUnsigned OcspResponse Drafted) Memory)
+  pub message_begun : (ids : List Id) (echo : Option (List ℕ)) (message : List ℕ) (result : Result (ReadyOrUnsigned OcspResponse Drafted) NoMemory)
       → IsOcspRequest request ids echo → first_refusal (clock_checks now records.last) ≡ None
       → IsOcspData (responder_key responder records) records now ids echo message → IfOk result (IsResponseOver signs responder message)
       → IfOk result (IsBegun signs responder records now request)
@@ -107,7 +107,7 @@ signed_apart : ¬ (Signed ≡ SignerFailure)
 signed_apart same = cc same
 
 -- a response that is ready is malformedRequest exactly where these bytes are, and internalError at a failure of the signer
-pub ready_refuses : (request : List ℕ) (kind : ResponseKind) (bytes : List ℕ) (result : Result (ReadyOrUnsigned OcspResponse Drafted) Memory)
+pub ready_refuses : (request : List ℕ) (kind : ResponseKind) (bytes : List ℕ) (result : Result (ReadyOrUnsigned OcspResponse Drafted) NoMemory)
     → (bytes ≡ refusal_response status.Malformed) ↔ HasNoReading request → (kind ≡ SignerFailure → bytes ≡ refusal_response status.Internal)
     → IfOk result (IsReady kind bytes) → IfOk result (RefusesRequest request)
 ready_refuses request kind bytes (Ok (Ready response)) malformed internal (kind_is, bytes_is) = (
@@ -123,7 +123,7 @@ pub no_malformed : (request bytes : List ℕ) → ¬ (HasNoReading request) → 
 no_malformed request bytes read apart = ((λ same. absurd (apart same)), (λ unread. absurd (read unread)))
 
 -- the response over a ResponseData
-pub message_refuses : (signs : Signs) (responder : Responder) (request message : List ℕ) (result : Result (ReadyOrUnsigned OcspResponse Drafted) Memory)
+pub message_refuses : (signs : Signs) (responder : Responder) (request message : List ℕ) (result : Result (ReadyOrUnsigned OcspResponse Drafted) NoMemory)
     → ¬ (HasNoReading request) → IfOk result (IsResponseOver signs responder message) → IfOk result (RefusesRequest request)
 message_refuses signs responder request message (Ok (Ready response)) read (inl (kind_is, signed)) = (
   no_malformed request response.bytes.items read (λ same. whole_apart _ _ _ _ (sym signed.2 ∙ same)),
@@ -136,7 +136,7 @@ message_refuses signs responder request message (Ok (Unsigned draft)) read over 
 message_refuses signs responder request message (Err memory) read over = tt
 
 -- the count of failures stays over a response for which the signer was not asked
-pub unasked_counts : (kind : ResponseKind) (bytes : List ℕ) (result : Result (ReadyOrUnsigned OcspResponse Drafted) Memory) (count : ℕ)
+pub unasked_counts : (kind : ResponseKind) (bytes : List ℕ) (result : Result (ReadyOrUnsigned OcspResponse Drafted) NoMemory) (count : ℕ)
     → ¬ (kind ≡ SignerFailure) → IfOk result (IsReady kind bytes) → IfOk result (λ begun. IsSignerFailure begun ↔ (count < count))
 unasked_counts kind bytes (Ok (Ready response)) count other (kind_is, bytes_is) =
     ((λ failed. absurd (other (sym kind_is ∙ failed))), (λ rose. absurd (omega (arith, rose))))
@@ -144,14 +144,14 @@ unasked_counts kind bytes (Ok (Unsigned draft)) count other ready = absurd ready
 unasked_counts kind bytes (Err memory) count other ready = tt
 
 -- and it rose over internalError, where the signer failed
-pub failed_counts : (bytes : List ℕ) (result : Result (ReadyOrUnsigned OcspResponse Drafted) Memory) (old new : ℕ)
+pub failed_counts : (bytes : List ℕ) (result : Result (ReadyOrUnsigned OcspResponse Drafted) NoMemory) (old new : ℕ)
     → old < new → IfOk result (IsReady SignerFailure bytes) → IfOk result (λ begun. IsSignerFailure begun ↔ (old < new))
 failed_counts bytes (Ok (Ready response)) old new rose (kind_is, bytes_is) = ((λ failed. rose), (λ again. kind_is))
 failed_counts bytes (Ok (Unsigned draft)) old new rose ready = absurd ready
 failed_counts bytes (Err memory) old new rose ready = tt
 
 -- internalError is a response over any ResponseData
-pub failed_over : (signs : Signs) (responder : Responder) (message : List ℕ) (result : Result (ReadyOrUnsigned OcspResponse Drafted) Memory)
+pub failed_over : (signs : Signs) (responder : Responder) (message : List ℕ) (result : Result (ReadyOrUnsigned OcspResponse Drafted) NoMemory)
     → IfOk result (IsReady SignerFailure (refusal_response status.Internal)) → IfOk result (IsResponseOver signs responder message)
 failed_over signs responder message (Ok (Ready response)) ready = inr ready
 failed_over signs responder message (Ok (Unsigned draft)) ready = absurd ready

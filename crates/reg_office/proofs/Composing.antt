@@ -6,11 +6,11 @@ use Rattle.reg_core.specs.declared.refusal.Fault.{Fault}
 use Rattle.reg_core.specs.declared.refusal.Fault.TheVariants.{Memory, Store}
 use Rattle.reg_store_tables.specs.Faults.{fault_of}
 use Rattle.reg_store_tables.specs.declared.fault.DatabaseFault.{DatabaseFault}
-use Rattle.reg_store_tables.specs.declared.fault.DatabaseFault.TheVariants.{Memory as NoMemory, Store as Failed}
+use Rattle.reg_store_tables.specs.declared.fault.DatabaseFault.TheVariants.{Memory as OutOfMemory, Store as Failed}
 
 -- what holds of want of memory and of a failure of the store holds of each fault of the database
 pub of_failure : (P : Fault → Type 0) → P Memory → P Store → (failure : DatabaseFault) → P (fault_of failure)
-of_failure P lacked failed NoMemory = lacked
+of_failure P lacked failed OutOfMemory = lacked
 of_failure P lacked failed Failed = failed
 
 -- so a fault of the database is one of these

@@ -14,7 +14,7 @@ use Rattle.reg_core.specs.declared.change.Change.TheVariants as change
 use Rattle.reg_core.specs.declared.command.Command.{Command}
 use Rattle.reg_core.specs.declared.command.Command.TheVariants.{Subscriber, Order, Register, Request, Decline, Revoke}
 use Rattle.reg_core.specs.declared.command.Reply.{Reply}
-use Rattle.reg_core.specs.declared.command.Reply.TheVariants.{Subscriber as SubscriberEntered, Order as OrderEntered, Request as RequestEntered, Declined, Revoked}
+use Rattle.reg_core.specs.declared.command.Reply.TheVariants.{Subscriber as SubscriberEntered, Order as OrderEntered, Request as RequestEntered, Declined, Revoked as RevokedNow}
 use Rattle.reg_core.specs.declared.refusal.Refusal.{Refusal}
 use Rattle.reg_core.specs.declared.rows.Head.{Head}
 use Rattle.reg_core.specs.declared.rows.SubscriberRow.{SubscriberRow}
@@ -37,7 +37,7 @@ IsToDo records now command what (Ok answer) = IsAcceptance now command records (
 abbrev pub IsRevocationToDo : Records → ℕ → ℕ → Option CertRow → Result (RevocationRow × Bool) Refusal → Type 0
 IsRevocationToDo records now id certificate (Err refused) = refusal records now (Revoke id) ≡ Some refused
 IsRevocationToDo records now id certificate (Ok decided) =
-    (row : CertRow) → certificate ≡ Some row → IsAcceptance now (Revoke id) records (Revoked decided.1, change.Revocation decided.0 row.not_after)
+    (row : CertRow) → certificate ≡ Some row → IsAcceptance now (Revoke id) records (RevokedNow decided.1, change.Revocation decided.0 row.not_after)
 
 -- no bytes are signed here
 abbrev pub unsigned : CertList → List ℕ → Type 0
@@ -197,7 +197,7 @@ module _ (signed : CertList → List ℕ → Type 0) where
       go :
           (answer : Result (RevocationRow × Bool) Refusal)
           → RevokeSays signed records now id answer
-          → IsStepOf signed records now (Revoke id) (λ decided. Revoked decided.1) (λ decided. change.Revocation decided.0 not_after) answer
+          → IsStepOf signed records now (Revoke id) (λ decided. RevokedNow decided.1) (λ decided. change.Revocation decided.0 not_after) answer
       go (Err refused) said = said.step records refl
       go (Ok decided) said = said.accepts.step (changed_by records now (change.Revocation decided.0 not_after)) refl
 

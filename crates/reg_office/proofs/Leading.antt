@@ -9,7 +9,7 @@ use Rattle.reg_core.specs.Records.{Records}
 use Rattle.reg_core.specs.Sound.{SoundRows}
 use Rattle.reg_core.specs.declared.command.Command.{Command}
 use Rattle.reg_core.specs.declared.command.Reply.{Reply}
-use Rattle.reg_core.specs.declared.memory.Memory.{Memory}
+use Rattle.reg_core.specs.declared.memory.Memory.{Memory as NoMemory}
 use Rattle.reg_core.specs.declared.refusal.Fault.{Fault}
 use Rattle.reg_core.specs.declared.refusal.Fault.TheVariants.{Signer as SignerFailed}
 use Rattle.reg_crl.specs.Signing.{Identity}
@@ -129,7 +129,7 @@ module _ {C S : Type 0} (g : Ghosts C) (signer : Signer S) (old new : Office C S
   }
 
   -- an OCSP request that is answered
-  pub response_leads : {Z : Type 0} (now : ℕ) (request : List ℕ) (result : Result (Vec ℕ Z) Memory)
+  pub response_leads : {Z : Type 0} (now : ℕ) (request : List ℕ) (result : Result (Vec ℕ Z) NoMemory)
       → OfficeLooks g signer (λ records. IfOk result (λ answer. IsOcspReply signer.signs (seen signer old).1.answers records now request answer.items)) old new
       → OfficeLeads g signer (λ signatory before after. AnswersOcsp signer.signs signatory before now request (items_of result) after) old new
   response_leads now request (Ok bytes) looks =
@@ -138,7 +138,7 @@ module _ {C S : Type 0} (g : Ghosts C) (signer : Signer S) (old new : Office C S
       office_leads _ (λ signatory before after. AnswersOcsp signer.signs signatory before now request (Err memory) after) looks (λ records replied. refl)
 
   -- an OCSP request that is begun
-  pub beginning_leads : (now : ℕ) (request : List ℕ) (result : Result (ReadyOrUnsigned OcspResponse Drafted) Memory)
+  pub beginning_leads : (now : ℕ) (request : List ℕ) (result : Result (ReadyOrUnsigned OcspResponse Drafted) NoMemory)
       → OfficeLooks g signer (λ records. IfOk result (IsBegun signer.signs (seen signer old).1.answers records now request)) old new
       → OfficeLeads g signer (λ signatory before after. Begins (Replies signer.signs signatory) (Drafts signatory) before now request result after) old new
   beginning_leads now request (Ok (Ready response)) looks =
@@ -161,7 +161,7 @@ module _ {C S : Type 0} (g : Ghosts C) (signer : Signer S) (old new : Office C S
       }
 
   -- what was left to be signed, once it is signed
-  pub signed_looks : {Z : Type 0} {middle : Office C S} (now : ℕ) (request : List ℕ) (draft : Drafted) (result : Result (Vec ℕ Z) Memory)
+  pub signed_looks : {Z : Type 0} {middle : Office C S} (now : ℕ) (request : List ℕ) (draft : Drafted) (result : Result (Vec ℕ Z) NoMemory)
       → OfficeLooks g signer (λ records. IsDraft (seen signer old).1.answers records now request draft) old middle → new.store ≡ middle.store
       → (seen signer new).1 ≡ (seen signer middle).1 → IfOk result (λ bytes. IsSignedBy signer.signs (seen signer middle).1.answers draft bytes.items)
       → OfficeLooks g signer (λ records. IfOk result (λ answer. IsOcspReply signer.signs (seen signer old).1.answers records now request answer.items)) old new

@@ -10,7 +10,7 @@ use Rattle.reg_core.specs.Status.{status, status_by, is_revoked}
 use Rattle.reg_core.specs.declared.command.Command.{Command}
 use Rattle.reg_core.specs.declared.command.Command.TheVariants.{Revoke}
 use Rattle.reg_core.specs.declared.command.Reply.{Reply}
-use Rattle.reg_core.specs.declared.command.Reply.TheVariants.{Revoked as IsRevokedNow, Status as StatusIs}
+use Rattle.reg_core.specs.declared.command.Reply.TheVariants.{Revoked as RevokedNow, Status as StatusIs}
 use Rattle.reg_core.specs.declared.command.Status.{Status}
 use Rattle.reg_core.specs.declared.command.Status.TheVariants.{Unknown, Good, Expired, Revoked}
 use Rattle.reg_core.specs.declared.refusal.Refusal.{Refusal}
@@ -41,7 +41,7 @@ Moved before now command outcome after =
     (after.revocations ≡ before.revocations)
     ⊎ ((late : Bool)
     × (revocation : RevocationRow)
-    × (outcome ≡ Ok (IsRevokedNow late))
+    × (outcome ≡ Ok (RevokedNow late))
     × (after.revocations ≡ before.revocations ++ revocation ∷ [])
     × IsRevocationBy before now command revocation)
 
@@ -49,7 +49,7 @@ moved
     : (before : Records) (now : ℕ) (command : Command) (outcome : Result Reply Fault) (after : Records)
     → RevocationsMove before now command outcome after
     → Moved before now command outcome after
-moved before now command (Ok (IsRevokedNow late)) after move = inr (late, move.0, refl, move.1, move.2)
+moved before now command (Ok (RevokedNow late)) after move = inr (late, move.0, refl, move.1, move.2)
 moved before now command outcome after move = inl move
 
 -- a row that is found alone has the serial number
@@ -116,7 +116,7 @@ module _ (signs : Identity → List ℕ → List ℕ → Type 0) (identity : Ide
     )
 
     -- what it accepted as its first command
-    accepted_first : (late : Bool) (revocation : RevocationRow) → outcome ≡ Ok (IsRevokedNow late) → IsRevocationBy start timed.0 timed.1 revocation → Accepts whole revocation.serial
+    accepted_first : (late : Bool) (revocation : RevocationRow) → outcome ≡ Ok (RevokedNow late) → IsRevocationBy start timed.0 timed.1 revocation → Accepts whole revocation.serial
     accepted_first late revocation is by =
         let P : Result Reply Fault → Command → Type 0 = λ o command. Happens (signed_by signs identity) start timed.0 command o ran.0 in (
           record {

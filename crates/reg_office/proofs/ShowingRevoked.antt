@@ -9,7 +9,7 @@ use Rattle.reg_core.specs.Status.{status, status_by}
 use Rattle.reg_core.specs.declared.command.Command.TheVariants.{Revoke}
 use Rattle.reg_core.specs.declared.command.Query.TheVariants.{Status as AskStatus}
 use Rattle.reg_core.specs.declared.command.Reply.{Reply}
-use Rattle.reg_core.specs.declared.command.Reply.TheVariants.{Revoked as IsRevokedNow, Status as StatusIs}
+use Rattle.reg_core.specs.declared.command.Reply.TheVariants.{Revoked as RevokedNow, Status as StatusIs}
 use Rattle.reg_core.specs.declared.command.Status.{Status}
 use Rattle.reg_core.specs.declared.command.Status.TheVariants.{Revoked}
 use Rattle.reg_core.specs.declared.refusal.Refusal.{Refusal}
@@ -167,7 +167,7 @@ shown_everywhere signs identity lists_them agree run its =
     let since = run.sound.since in
     let sound = over_stored signs identity run.start run.sound in
     let before = after_since since signs identity run.start its.before its.front its.early sound run.sound.reached its.ran_before in
-    let next = step_since since signs identity its.before its.at (Revoke its.id) (Ok (IsRevokedNow its.is_late)) its.next before.0 before.1 its.accepted in
+    let next = step_since since signs identity its.before its.at (Revoke its.id) (Ok (RevokedNow its.is_late)) its.next before.0 before.1 its.accepted in
     let told =
     lists_them
     since
@@ -184,7 +184,7 @@ shown_everywhere signs identity lists_them agree run its =
     its.is_late
     sound
     (run_since since signs identity run.start its.before its.front its.early sound run.sound.reached its.ran_before)
-    (happens_since since signs identity its.before its.at (Revoke its.id) (Ok (IsRevokedNow its.is_late)) its.next before.1 its.accepted)
+    (happens_since since signs identity its.before its.at (Revoke its.id) (Ok (RevokedNow its.is_late)) its.next before.1 its.accepted)
     (run_since since signs identity its.next run.after its.rest its.late next.0 next.1 its.ran_after) in
     civil_of
     signs

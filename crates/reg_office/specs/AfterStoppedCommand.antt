@@ -1,4 +1,5 @@
--- The rows that a stop (a crash or a power failure) may leave during a command.
+-- The rows that a stop (a crash or a power failure) may leave during a command. The derived tables (`standing`, `kept`, `listed`) hold
+-- statuses, their counts and CRL entries, which follow from the records.
 use Rattle.std.specs.Prelude.{◌≡◌, ◌⊎◌, ℕ, List, [], ◌∷◌, ◌++◌, Option, IfSome, IsSomeAnd, Result, Ok, Err, OnOk, IsFalse, IsTrue}
 use Rattle.sqlite_trees.specs.Tree.{Trees}
 use Rattle.sqlite_trees.specs.declared.store.Store.{Ghosts}
@@ -27,7 +28,7 @@ pub record IsDone (signs : Signs) (identity : Identity) (records : Records) (now
   pub rests : ShowsDerivedAfterStop after trees
   pub sound : SoundFor signs identity after
 
--- the rows after a command of an office that was accepted over the records before it
+-- the rows after a command of an office, which was accepted over the records before it
 abbrev pub Does : {C : Type 0} → Ghosts C → Signs → Held C → Identity → ℕ → Command → Trees → Type 0
 Does g signs old identity now command trees =
     (records : Records) → Stands g signs old identity records

@@ -9,10 +9,10 @@ use Rattle.reg_office.specs.declared.responder.Responder.TheVariants.{Issuer, De
 
 -- the responder with this identity, and with the key and certificate of these fields
 abbrev pub responder_named : Identity → ResponderFields → Responder
-responder_named identity naming = record {
+responder_named identity responder_fields = record {
   identity = identity;
-  own_key = option_copied naming.own_key;
-  certificate = option_copied naming.certificate;
+  own_key = option_copied responder_fields.own_key;
+  certificate = option_copied responder_fields.certificate;
 }
 
 -- the responder, given the identity of the signer of CRLs: that signer, named by the issuer's key; or another one, named by its certificate's key

@@ -19,7 +19,7 @@ use Rattle.reg_office.specs.Commands.{RunsCommand}
 use Rattle.reg_office.specs.Stands.{Stands}
 use Rattle.reg_office.specs.declared.office.Office.{Office}
 
--- the store shows the records, which are sound for the signers; a stop leaves them, or those after the interrupted call
+-- the store shows the records, which are sound for the signer of CRLs; a stop leaves them, or those after the interrupted call
 abbrev pub StandsWith
     : {C : Type 0} → Ghosts C → Signs → Held C × Signatory → Signatory → Records → Option ChangingCall → Type 0
 StandsWith g signs office signatory records interrupted =

@@ -13,7 +13,7 @@ use Rattle.reg_core.specs.declared.change.Change.TheVariants as change
 use Rattle.reg_core.specs.declared.command.Command.{Command}
 use Rattle.reg_core.specs.declared.command.Command.TheVariants.{Subscriber, Order, Register, Request, Decline, Revoke, Crl as IssueCrl}
 use Rattle.reg_core.specs.declared.command.Reply.{Reply}
-use Rattle.reg_core.specs.declared.command.Reply.TheVariants.{Subscriber as SubscriberEntered, Order as OrderEntered, Registered, Same, Request as RequestEntered, Declined, Revoked, Crl as CrlIssued}
+use Rattle.reg_core.specs.declared.command.Reply.TheVariants.{Subscriber as SubscriberEntered, Order as OrderEntered, Registered, Same, Request as RequestEntered, Declined, Revoked as RevokedNow, Crl as CrlIssued}
 use Rattle.reg_core.specs.declared.refusal.Fault.TheVariants.{Refused}
 use Rattle.reg_core.specs.declared.refusal.Refusal.{Refusal}
 use Rattle.reg_core.specs.declared.rows.SubscriberRow.{SubscriberRow}
@@ -82,7 +82,7 @@ RequestsAreSteps signed =
     → IsStepOf signed records now (Request serial word) (λ row. RequestEntered row.id (deadline row))
     (λ row. change.Request row) result
 
--- on declining a request; no table grows
+-- on declining a request; no table grows, so any `held` will do
 abbrev pub DeclinesAreSteps : (CertList → List ℕ → Type 0) → Type 0
 DeclinesAreSteps signed =
     (records : Records) (now held id : ℕ) (result : Result RequestRow Refusal)
@@ -90,7 +90,8 @@ DeclinesAreSteps signed =
     (certificate_of_request records id) (revocation_of_request records id) result
     → IsStepOf signed records now (Decline id) (λ row. Declined) (λ row. change.Decline row.id) result
 
--- on revoking the certificate of a request: the revocation, and whether it is late
+-- on revoking the certificate of a request: the revocation, and whether it is late. Any `held` will do, since the table of revocations has
+-- no cap, and any `not_after`, which goes only into a derived table.
 abbrev pub RevocationsAreSteps : (CertList → List ℕ → Type 0) → Type 0
 RevocationsAreSteps signed =
     (records : Records) (now held id not_after : ℕ) (result : Result (RevocationRow × Bool) Refusal)
@@ -101,7 +102,7 @@ RevocationsAreSteps signed =
     (revocation_of_request records id)
     (option_map row_of (latest records.crls))
     result
-    → IsStepOf signed records now (Revoke id) (λ decided. Revoked decided.1)
+    → IsStepOf signed records now (Revoke id) (λ decided. RevokedNow decided.1)
     (λ decided. change.Revocation decided.0 not_after) result
 
 -- a refusal is replied, and the records don't change; otherwise a CRL is issued, with any bytes that are signed over its entries

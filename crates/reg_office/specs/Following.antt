@@ -23,7 +23,7 @@ abbrev pub SignedOrDigest : {S : Type 0} → Signer S → ((CertList → List �
 SignedOrDigest {S = S} signer Law =
     (it : S) (since : ℕ) → Law (signed_since since signer.signs (signer.identity it))
 
--- a run in which the signer signs each new CRL is also one over `signed_since`: CRLs below `since` have the digest, and were issued before it
+-- a run in which the signer signs each new CRL is also one over `signed_since`: CRLs below `since` have the digest, and were issued before the run
 abbrev pub RunsSince : Signs → Identity → Type 0
 RunsSince signs identity =
     (records after : Records) (commands : List (ℕ × Command)) (outcomes : List (Result Reply Fault))

@@ -14,7 +14,7 @@ use Rattle.reg_core.specs.declared.command.Command.{Command}
 use Rattle.reg_core.specs.declared.command.Command.TheVariants.{Revoke}
 use Rattle.reg_core.specs.declared.command.Query.TheVariants.{Status as AskStatus}
 use Rattle.reg_core.specs.declared.command.Reply.{Reply}
-use Rattle.reg_core.specs.declared.command.Reply.TheVariants.{Revoked as IsRevokedNow, Status as StatusIs}
+use Rattle.reg_core.specs.declared.command.Reply.TheVariants.{Revoked as RevokedNow, Status as StatusIs}
 use Rattle.reg_core.specs.declared.command.Status.{Status}
 use Rattle.reg_core.specs.declared.command.Status.TheVariants.{Revoked}
 use Rattle.reg_core.specs.declared.refusal.Fault.{Fault}
@@ -46,7 +46,7 @@ pub record SoundRun (signs : Signs) (identity : Identity) : Type 0 where
   pub ran : Run (signed_by signs identity) start commands outcomes after
 
 -- a revocation that a run accepted: one command of the run was to revoke by the request with this id, at this moment, and
--- its reply was `Revoked`
+-- its reply was `RevokedNow`
 pub record AcceptedRevocation {signs : Signs} {identity : Identity}
     (run : SoundRun signs identity) : Type 0 where
   pub id : ℕ
@@ -59,14 +59,14 @@ pub record AcceptedRevocation {signs : Signs} {identity : Identity}
   pub ran_before : Run (signed_by signs identity) run.start front early before
   -- the records after it
   pub next : Records
-  pub accepted : Happens (signed_by signs identity) before at (Revoke id) (Ok (IsRevokedNow is_late)) next
+  pub accepted : Happens (signed_by signs identity) before at (Revoke id) (Ok (RevokedNow is_late)) next
   -- the commands after it, and their outcomes
   pub rest : List (ℕ × Command)
   pub late : List (Result Reply Fault)
   pub ran_after : Run (signed_by signs identity) next rest late run.after
   -- together they are the run
   pub commands_are : run.commands ≡ front ++ (at, Revoke id) ∷ rest
-  pub outcomes_are : run.outcomes ≡ early ++ Ok (IsRevokedNow is_late) ∷ late
+  pub outcomes_are : run.outcomes ≡ early ++ Ok (RevokedNow is_late) ∷ late
 
 -- a moment after a run: at or after the last accepted moment, and before `clock_end`
 pub record IsReached (records : Records) (moment : ℕ) : Type 0 where

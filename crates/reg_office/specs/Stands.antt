@@ -1,4 +1,5 @@
--- The records of an office.
+-- The records of an office. The derived tables (`standing`, `kept`, `listed`) hold statuses, their counts and CRL entries, which follow
+-- from the records.
 use Rattle.std.specs.Prelude.{◌≡◌, ℕ, ◌≤◌, List, ◌++◌, Result, OnOk}
 use Rattle.sqlite_trees.specs.declared.store.Store.{Ghosts}
 use Rattle.sqlite.specs.Held.{Held}
@@ -14,7 +15,7 @@ use Rattle.reg_store_tables.specs.Kept.{ShowsKept}
 use Rattle.reg_core_laws.specs.Run.{Happens, Run}
 
 -- The records are sound, and each CRL is signed over its entries by the office's signer, from the number `since` on, which is at most that of
--- the next CRL. CRLs below it have the placeholder digest, from before the register had a key (none has it if `since` is 1).
+-- the next CRL. CRLs below it have the placeholder digest, from before the register had a key. Without a key the signer's signature is that digest.
 pub record SoundFor (signs : Signs) (identity : Identity) (records : Records) : Type 0 where
   pub since : ℕ
   pub reached : since ≤ next_number records.crls

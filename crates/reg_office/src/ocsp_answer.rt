@@ -75,18 +75,19 @@ pub(crate) fn sign_draft<S: Signer>(
     draft.response(alloc, slice_of(&signature))
 }
 
-/// [`begin_ocsp`] by one signer, with the key and certificate of `naming`.
+/// [`begin_ocsp`] by one signer. `responder_fields` is what the response says of the responder: its own key, if it has one, and its certificate.
 fn begin<C: Alter, S: Signer>(
     alloc: Global,
     tables: &mut Tables<C>,
     signer: &mut S,
-    naming: ResponderFields<'_>,
+    responder_fields: ResponderFields<'_>,
     now: Moment,
     request: &[u8],
 ) -> Result<ReadyOrUnsigned<OcspResponse, Draft>, Memory>
-    requires { IfSome (option_copied naming.certificate) (λ bytes. length bytes ≤ 65536) }
+    requires { IfSome (option_copied responder_fields.certificate) (λ bytes. length bytes ≤ 65536) }
     ensures looks { Learns C.Store tables.old tables.new result (λ records.
-        IsBegun S.signs (responder_named (S.identity signer.old) naming.entry) records now request.now) }
+        IsBegun S.signs (responder_named (S.identity signer.old) responder_fields.entry) records now
+        request.now) }
     ensures refuses { IfOk result (RefusesRequest request.now) }
     ensures same_identity { S.identity signer.new ≡ S.identity signer.old }
     ensures counts { IfOk result (λ begun.
@@ -100,8 +101,8 @@ fn begin<C: Alter, S: Signer>(
         }
         Err(RequestFault::Memory) => return Err(Memory),
     };
-    match ocsp_data(alloc, tables, naming.own_key, now, &asked) {
-        Ok(message) => respond(alloc, signer, naming, &message),
+    match ocsp_data(alloc, tables, responder_fields.own_key, now, &asked) {
+        Ok(message) => respond(alloc, signer, responder_fields, &message),
         Err(ResponseFault::Clock) => {
             refused(alloc, RefusalStatus::TryLater, ResponseKind::TryLater)
         }
@@ -168,26 +169,40 @@ fn issuer_and_next_update<C: Alter>(
 fn respond<S: Signer>(
     alloc: Global,
     signer: &mut S,
-    naming: ResponderFields<'_>,
+    responder_fields: ResponderFields<'_>,
     message: &[u8],
 ) -> Result<ReadyOrUnsigned<OcspResponse, Draft>, Memory>
     requires short { length message.now ≤ 2 ^ 27 }
-    requires short_certificate { IfSome (option_copied naming.certificate) (λ bytes. length bytes ≤ 65536) }
+    requires short_certificate { IfSome (option_copied responder_fields.certificate) (λ bytes.
+        length bytes ≤ 65536) }
     ensures responds { IfOk result
-        (IsResponseOver S.signs (responder_named (S.identity signer.old) naming.entry) message.now) }
+        (IsResponseOver S.signs (responder_named (S.identity signer.old) responder_fields.entry)
+        message.now) }
     ensures same_identity { S.identity signer.new ≡ S.identity signer.old }
     ensures counts { IfOk result (λ begun.
         IsSignerFailure begun ↔ SignerHasFailed S.Signer signer.old signer.new) }
     ensures never_falls { S.failure_count signer.old ≤ S.failure_count signer.new }
 {
     if let Some(key) = signer.public_key() {
-        let draft = Draft::of(alloc, message, signer.algorithm(), key, naming.certificate)?;
+        let draft = Draft::of(
+            alloc,
+            message,
+            signer.algorithm(),
+            key,
+            responder_fields.certificate,
+        )?;
         return Ok(ReadyOrUnsigned::Unsigned(draft));
     }
     match signature_by(alloc, signer, message)? {
         Some(signature) => {
             let algorithm = signer.algorithm();
-            let bytes = basic_with(alloc, message, algorithm, &signature, naming.certificate)?;
+            let bytes = basic_with(
+                alloc,
+                message,
+                algorithm,
+                &signature,
+                responder_fields.certificate,
+            )?;
             let kind = ResponseKind::Signed;
             Ok(ReadyOrUnsigned::Ready(OcspResponse { bytes, kind }))
         }

@@ -156,7 +156,7 @@ fn certificate_listed<C: Alter>(
     }
 }
 
-/// The serial number of the last of these certificates, if they are `most`; else `None`: there are no more pages.
+/// The serial number of the last of these certificates, if there are `most` of them; else `None`: there are no more pages.
 fn last_certificate(found: &[CertRow], most: u64) -> Option<Serial>
     ensures { result ≡ last_of_full (λ row. row.serial) most found.now }
 {

@@ -4,7 +4,7 @@ use Rattle.reg_core.specs.Crls.{CertList, cert_list, next_number}
 use Rattle.reg_core.specs.Records.{Records}
 use Rattle.reg_core.specs.Step.{IsSigned, StepBy, refusal}
 use Rattle.reg_core.specs.declared.command.Command.{Command}
-use Rattle.reg_core.specs.declared.command.Command.TheVariants.{Subscriber, Order, Register, Request, Decline, Revoke, Crl}
+use Rattle.reg_core.specs.declared.command.Command.TheVariants.{Subscriber, Order, Register, Request, Decline, Revoke, Crl as IssueCrl}
 use Rattle.reg_core.specs.declared.command.Reply.{Reply}
 use Rattle.reg_core.specs.declared.refusal.Refusal.{Refusal}
 use Rattle.reg_core.specs.declared.refusal.Fault.{Fault}
@@ -20,7 +20,7 @@ module _ (first second : CertList → List ℕ → Type 0) (records : Records) (
   bytes_by (Request serial word) bytes h = h
   bytes_by (Decline id) bytes h = h
   bytes_by (Revoke id) bytes h = h
-  bytes_by Crl bytes h = leads bytes h
+  bytes_by IssueCrl bytes h = leads bytes h
 
   step_by : (command : Command) (outcome : Result Reply Fault) (after : Records) (found : Option Refusal)
       → StepBy first found records now command outcome after → StepBy second found records now command outcome after

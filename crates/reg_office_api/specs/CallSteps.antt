@@ -4,7 +4,7 @@ use Rattle.reg_core.specs.Records.{Records}
 use Rattle.reg_core.specs.declared.command.Command.{Command}
 use Rattle.reg_core.specs.declared.command.Query.{Query}
 use Rattle.reg_core.specs.declared.command.Reply.{Reply}
-use Rattle.reg_core.specs.declared.memory.Memory.{Memory}
+use Rattle.reg_core.specs.declared.memory.Memory.{Memory as NoMemory}
 use Rattle.reg_core.specs.declared.refusal.Fault.{Fault}
 use Rattle.reg_crl.specs.Signing.{signed_by}
 use Rattle.reg_core_laws.specs.Run.{Happens}
@@ -22,7 +22,7 @@ abbrev pub Asks : Records → ℕ → Query → Result Reply Fault → Records �
 Asks before now query outcome after = IsAnswered before now query outcome × (after ≡ before)
 
 -- an OCSP request: its response (RFC 6960 4.2), or out of memory; the records stay
-abbrev pub AnswersOcsp : Signs → Signatory → Records → ℕ → List ℕ → Result (List ℕ) Memory → Records → Type 0
+abbrev pub AnswersOcsp : Signs → Signatory → Records → ℕ → List ℕ → Result (List ℕ) NoMemory → Records → Type 0
 AnswersOcsp signs signatory before now request (Ok response) after =
     IsOcspReply signs signatory.answers before now request response × (after ≡ before)
 AnswersOcsp signs signatory before now request (Err memory) after = after ≡ before
@@ -40,7 +40,7 @@ CommandStep signs now command outcome =
 abbrev pub QueryStep : ℕ → Query → Result Reply Fault → Signatory → Records → Records → Type 0
 QueryStep now query outcome = λ signatory before after. Asks before now query outcome after
 
-abbrev pub OcspStep : Signs → ℕ → List ℕ → Result (List ℕ) Memory → Signatory → Records → Records → Type 0
+abbrev pub OcspStep : Signs → ℕ → List ℕ → Result (List ℕ) NoMemory → Signatory → Records → Records → Type 0
 OcspStep signs now request given =
     λ signatory before after. AnswersOcsp signs signatory before now request given after
 

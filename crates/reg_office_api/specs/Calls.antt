@@ -4,7 +4,7 @@ use Rattle.reg_core.specs.Records.{Records}
 use Rattle.reg_core.specs.declared.command.Command.{Command}
 use Rattle.reg_core.specs.declared.command.Query.{Query}
 use Rattle.reg_core.specs.declared.command.Reply.{Reply}
-use Rattle.reg_core.specs.declared.memory.Memory.{Memory}
+use Rattle.reg_core.specs.declared.memory.Memory.{Memory as NoMemory}
 use Rattle.reg_core.specs.declared.refusal.Fault.{Fault}
 use Rattle.reg_ocsp.specs.Drafts.{Drafted}
 use Rattle.reg_office_api.specs.CallSteps.{CommandStep, QueryStep, OcspStep, CrlStep}
@@ -20,7 +20,7 @@ module _ {O : Type 0} (office : Office O) where
   abbrev pub LeadsIn : (Signatory → Records → Records → Type 0) → O → O → Type 0
   LeadsIn step s t = Leads office.is_clean office.stands step s t
 
-  -- a call whose result says `Tells` of the records, and which does not change them
+  -- a call that does not change the records, and for whose result `Tells` holds of them
   abbrev pub LooksIn : (Records → Type 0) → O → O → Type 0
   LooksIn Tells s t = Looks office.is_clean office.stands Tells s t
 
@@ -38,12 +38,12 @@ module _ {O : Type 0} (office : Office O) where
   AsksIn s now query outcome t = Leads office.is_clean office.stands (QueryStep now query outcome) s t
 
   -- an OCSP request, with the bytes of its response
-  abbrev pub AnswersOcspIn : O → ℕ → List ℕ → Result (List ℕ) Memory → O → Type 0
+  abbrev pub AnswersOcspIn : O → ℕ → List ℕ → Result (List ℕ) NoMemory → O → Type 0
   AnswersOcspIn s now request given t =
       Leads office.is_clean office.stands (OcspStep office.signs now request given) s t
 
   -- an OCSP request, with the kind and the bytes of its response
-  abbrev pub RepliesIn : O → ℕ → List ℕ → Result (ResponseKind × List ℕ) Memory → O → Type 0
+  abbrev pub RepliesIn : O → ℕ → List ℕ → Result (ResponseKind × List ℕ) NoMemory → O → Type 0
   RepliesIn s now request given t =
       Leads office.is_clean office.stands
       (λ signatory before after. Replies office.signs signatory before now request given after) s t

@@ -2,7 +2,7 @@
 use Rattle.std.specs.Prelude.{◌≡◌, ℕ, List, Option, None, Result, Ok, Err}
 use Rattle.reg_core.specs.Checks.{clock_checks, first_refusal}
 use Rattle.reg_core.specs.Records.{Records}
-use Rattle.reg_core.specs.declared.memory.Memory.{Memory}
+use Rattle.reg_core.specs.declared.memory.Memory.{Memory as NoMemory}
 use Rattle.reg_ocsp.specs.Drafts.{Drafted}
 use Rattle.reg_ocsp.specs.Request.{Id, IsOcspRequest}
 use Rattle.reg_office_api.specs.Ocsp.{IsOcspData}
@@ -41,16 +41,16 @@ Drafts signatory before now request draft after =
     IsDraft signatory.answers before now request draft × (after ≡ before)
 
 -- the outcome of `begin_ocsp`: a ready response or out of memory, of which `replies` holds, or a draft, of which `drafts` holds
-abbrev pub Begins : {S : Type 0} → (S → ℕ → List ℕ → Result (ResponseKind × List ℕ) Memory → S → Type 0)
+abbrev pub Begins : {S : Type 0} → (S → ℕ → List ℕ → Result (ResponseKind × List ℕ) NoMemory → S → Type 0)
     → (S → ℕ → List ℕ → Drafted → S → Type 0) → S → ℕ → List ℕ
-    → Result (ReadyOrUnsigned OcspResponse Drafted) Memory → S → Type 0
+    → Result (ReadyOrUnsigned OcspResponse Drafted) NoMemory → S → Type 0
 Begins replies drafts s now request (Ok (Ready response)) t =
     replies s now request (Ok (response.kind, response.bytes.items)) t
 Begins replies drafts s now request (Ok (Unsigned draft)) t = drafts s now request draft t
 Begins replies drafts s now request (Err memory) t = replies s now request (Err memory) t
 
 -- the outcome of `begin_ocsp` as a step of the records, given the signers
-abbrev pub BeginStep : Signs → ℕ → List ℕ → Result (ReadyOrUnsigned OcspResponse Drafted) Memory → Signatory
+abbrev pub BeginStep : Signs → ℕ → List ℕ → Result (ReadyOrUnsigned OcspResponse Drafted) NoMemory → Signatory
     → Records → Records → Type 0
 BeginStep signs now request begun =
     λ signatory before after.

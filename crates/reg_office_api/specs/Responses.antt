@@ -2,7 +2,7 @@
 use Rattle.std.specs.Prelude.{◌≡◌, ◌⊎◌, ℕ, List, Option, Some, None, Result, Ok, Err}
 use Rattle.reg_core.specs.Checks.{clock_checks, first_refusal}
 use Rattle.reg_core.specs.Records.{Records}
-use Rattle.reg_core.specs.declared.memory.Memory.{Memory}
+use Rattle.reg_core.specs.declared.memory.Memory.{Memory as NoMemory}
 use Rattle.reg_core.specs.declared.refusal.Fault.{Fault}
 use Rattle.reg_core.specs.declared.refusal.Fault.TheVariants as fault
 use Rattle.reg_core.specs.declared.refusal.Refusal.{Refusal}
@@ -45,7 +45,7 @@ IsOcspResponse signs responder records now request kind bytes =
 
 -- the response to a request, with its kind; or out of memory; the records stay
 abbrev pub Replies : Signs → Signatory → Records → ℕ → List ℕ
-    → Result (ResponseKind × List ℕ) Memory → Records → Type 0
+    → Result (ResponseKind × List ℕ) NoMemory → Records → Type 0
 Replies signs signatory before now request (Ok response) after =
     IsOcspResponse signs signatory.answers before now request response.0 response.1 × (after ≡ before)
 Replies signs signatory before now request (Err memory) after = after ≡ before

@@ -1,4 +1,4 @@
-//! The first rows of the tables that an older version lacks.
+//! Makes the tables of version 3 from those of an older version; `derived_tables` then fills the derived ones.
 
 ghost use Rattle.reg_store_tables.specs.Stays.{Stepped};
 ghost use Rattle.reg_store_tables.specs.Steps.{Makes, MakesRows};
@@ -29,7 +29,7 @@ pub fn put_counts<S: Alter>(tx: &mut Transaction<'_, S>) -> Result<(), DatabaseF
     Ok(())
 }
 
-/// Makes the tables those of the program's version. The derived tables are still empty, with counts of 0.
+/// Makes the tables those of version 3: the schedule has one step, `days` from 1970 on, and the derived tables have only counts of 0.
 pub(crate) fn begin<S: Alter>(
     tx: &mut Transaction<'_, S>,
     version: OlderVersion,

@@ -90,7 +90,7 @@ fn policy_in(row: &Row, schedule: Schedule) -> Option<Policy>
     Policy::with(schedule, crl_life, ocsp_life, cap)
 }
 
-/// The last accepted moment; `None` if it is not before the clock's end.
+/// The last accepted moment; `None` if the column has no moment before [`Moment::CLOCK_END`].
 fn last_in(row: &Row) -> Option<Moment>
     ensures { MatchOption result ((last : ℕ) → ¬ HasLast row.now last) (HasLast row.now) }
 {
@@ -127,7 +127,7 @@ fn check_office_row(alloc: Global, row: &Row, schedule: Schedule) -> Result<(), 
     }
 }
 
-/// Checks that the rows are those of the table `office` and of the schedule.
+/// Checks that the table `office` has one row, with values in their ranges, and that the steps make a schedule.
 pub(crate) fn check_office_rows(rows: &Vec<Row>, steps: &Vec<Row>) -> Result<(), StoreFault>
     ensures { MatchResult result (λ _. AreOfficeRows rows.now.items steps.now.items)
         (Refuses (¬ AreOfficeRows rows.now.items steps.now.items)) }
@@ -139,7 +139,7 @@ pub(crate) fn check_office_rows(rows: &Vec<Row>, steps: &Vec<Row>) -> Result<(),
     }
 }
 
-/// The column `days` in an older version, and the schedule with this one step.
+/// The longest validity in an older version (its column `days`), and the schedule of one step that allows these days from 1970 on.
 fn days_and_schedule(row: &Row) -> Option<(u64, Schedule)>
     ensures { MatchOption result ((days : ℕ) → IsSchedule (one_step days) → column row.now 6 ≢ number days)
         (λ found. (column row.now 6 ≡ number found.0) × (found.1 ≡ one_step found.0)) }

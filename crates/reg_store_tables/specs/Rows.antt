@@ -1,5 +1,5 @@
 -- How each record is stored in a row. A row is its rowid and then the columns. An INTEGER PRIMARY KEY is the rowid, and its
--- column is NULL.
+-- column is NULL. For a table whose key is a serial number, only the columns are given here: `counted_rows` puts the rowids before them.
 use Rattle.std.specs.Prelude.{ℕ, ◌+◌, ℤ, pos, cond, List, [], ◌∷◌}
 use Rattle.sqlite_value.specs.declared.value.Value.{Value}
 use Rattle.sqlite_value.specs.declared.value.Value.TheVariants.{Null, Int, Text, Blob}

@@ -24,7 +24,7 @@ fn put_schedule_step<S: Alter>(
     Ok(())
 }
 
-/// Inserts the steps into the table `longest`, which is empty before.
+/// Inserts ascending steps into the table `longest`, which must be empty.
 pub fn put_schedule_steps<S: Alter>(
     tx: &mut Transaction<'_, S>,
     steps: &[(Moment, u64)],

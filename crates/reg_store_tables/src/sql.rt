@@ -1,4 +1,4 @@
-//! The SQL of the statements. Those that read use a key or an index, unless their comment says that they scan a table.
+//! The SQL of the statements. Those that read use a key, an index or a table of one row, unless their comment says that they scan a table.
 
 pub(crate) const LAST: &str = "SELECT last_at FROM office";
 

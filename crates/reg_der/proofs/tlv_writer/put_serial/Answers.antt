@@ -16,8 +16,8 @@ pub returns-clause-value : goal.returns-clause-value
 returns-clause-value c =
     integer_is_value c.args.serial (let below = c.bytes20.ensures.in_range.1 in omega arith)
 
-pub returns-clause-longer : goal.returns-clause-longer
-returns-clause-longer c =
+pub returns-clause-length_at_most : goal.returns-clause-length_at_most
+returns-clause-length_at_most c =
     let same = ap length (integer_of_serial c.bytes20.result c.args.serial c.bytes20.ensures.bytes c.bytes20.ensures.in_range.1) in
     let few = length-integer_serial c.args.serial c.bytes20.ensures.in_range.1 in
     let short : length (with_clear_bit (without_zeros c.bytes20.result)) ≤ 20 = omega arith in

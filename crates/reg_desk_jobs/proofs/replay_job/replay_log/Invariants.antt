@@ -6,6 +6,6 @@ use Rattle.reg_desk_jobs.proofs.replay_job.replay_log.Given as goal
 abbrev pub invariant-loop : goal.invariant-loop
 invariant-loop g l =
     LogSoFar (g.R.Read.remaining l.initial.log)
-    (state_of (g.S.Write.contents l.initial.sent) (g.C.Read.remaining l.initial.incoming) (g.W.Write.contents l.initial.writer) l.initial.numbers.items)
+    (state_of (g.S.Write.contents l.initial.outgoing) (g.C.Read.remaining l.initial.incoming) (g.W.Write.contents l.initial.writer) l.initial.numbers.items)
     (g.R.Read.remaining l.log)
-    (state_of (g.S.Write.contents l.sent) (g.C.Read.remaining l.incoming) (g.W.Write.contents l.writer) l.numbers.items)
+    (state_of (g.S.Write.contents l.outgoing) (g.C.Read.remaining l.incoming) (g.W.Write.contents l.writer) l.numbers.items)

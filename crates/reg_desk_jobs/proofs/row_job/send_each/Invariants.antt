@@ -6,8 +6,8 @@ use Rattle.reg_desk_jobs.proofs.row_job.send_each.Given as goal
 abbrev pub invariant-loop : goal.invariant-loop
 invariant-loop g l =
     RowsSoFar l.task (g.R.Read.remaining l.initial.rows)
-    (link_of (g.S.Write.contents l.initial.sent) (g.C.Read.remaining l.initial.incoming))
+    (link_of (g.S.Write.contents l.initial.outgoing) (g.C.Read.remaining l.initial.incoming))
     (g.W.Write.contents l.initial.writer)
     (g.R.Read.remaining l.rows)
-    (link_of (g.S.Write.contents l.sent) (g.C.Read.remaining l.incoming))
+    (link_of (g.S.Write.contents l.outgoing) (g.C.Read.remaining l.incoming))
     (g.W.Write.contents l.writer) l.is_done

@@ -6,14 +6,14 @@ use Rattle.reg_desk_jobs.proofs.serve_job.run_event_loop.Goals as goal
 pub returns-in-Err : goal.returns-in-Err
 returns-in-Err g c = ([], [], refl, memory_answer c.args.port c.args.requests _ _ _ c.in-Err.why c.in-Err.ensures)
 
-pub returns-then-made-requests : goal.returns-then-made-requests
-returns-then-made-requests g c = (
+pub returns-then-answered-requests : goal.returns-then-answered-requests
+returns-then-answered-requests g c = (
   c.serve_all.ensures.exchanged.inputs,
   c.serve_all.ensures.exchanged.outcomes,
   c.serve_all.ensures.exchanged.run,
   (
-    λ same. c.if-made-requests.true (c.serve_all.ensures.exchanged.counted ∙ zero-add _ ∙ same),
-    ended_early c.serve_all.result c.serve_all.ensures.all c.serve_all.ensures.early c.if-made-requests.true,
+    λ same. c.if-answered-requests.true (c.serve_all.ensures.exchanged.counted ∙ zero-add _ ∙ same),
+    ended_early c.serve_all.result c.serve_all.ensures.all c.serve_all.ensures.early c.if-answered-requests.true,
     c.in-Ok.ensures,
   ),
 )

@@ -10,29 +10,29 @@ use Rattle.reg_http.proofs.ByRecords.{responds_leads, responds_to}
 use Rattle.reg_http.proofs.Replying.{call_answers, ocsp_responds}
 use Rattle.reg_http.proofs.routes.answer.Goals as goal
 
-pub returns-in-Posted-clause-calls : goal.returns-in-Posted-clause-calls
-returns-in-Posted-clause-calls g c =
-    responds_to g.O.Office c.args.now _ _ (ocsp_of c.args.body.now) _ (shown c.ocsp_answer.result) (rw c.in-Posted.is at c.in_ok-meaning_of.ensures)
+pub returns-in-OcspByPost-clause-calls : goal.returns-in-OcspByPost-clause-calls
+returns-in-OcspByPost-clause-calls g c =
+    responds_to g.O.Office c.args.now _ _ (ocsp_of c.args.body.now) _ (shown c.ocsp_answer.result) (rw c.in-OcspByPost.is at c.in_ok-meaning_of.ensures)
     (ocsp_responds (RunsIn g.O.Office) (AsksIn g.O.Office) (AnswersOcspIn g.O.Office) (GivesCrlIn g.O.Office) c.args.now _ _ c.args.body.now
     (items_of c.ocsp.result) (shown c.ocsp_answer.result) c.ocsp.ensures c.ocsp_answer.ensures)
 
-pub returns-in-Posted-clause-ok : goal.returns-in-Posted-clause-ok
-returns-in-Posted-clause-ok g c =
+pub returns-in-OcspByPost-clause-ok : goal.returns-in-OcspByPost-clause-ok
+returns-in-OcspByPost-clause-ok g c =
     responds_leads g.O.Office c.args.now _ _ (asked c.args.method.now c.args.target.now c.args.body.now) (shown c.ocsp_answer.result)
-    (returns-in-Posted-clause-calls g c)
+    (returns-in-OcspByPost-clause-calls g c)
 
-pub returns-in-Decoded-clause-calls : goal.returns-in-Decoded-clause-calls
-returns-in-Decoded-clause-calls g c =
-    responds_to g.O.Office c.args.now _ _ (ocsp_of c.in-Decoded.request.items) _ (shown c.ocsp_answer-in-Decoded.result)
-    (rw c.in-Decoded.is at c.in_ok-meaning_of.ensures)
-    (ocsp_responds (RunsIn g.O.Office) (AsksIn g.O.Office) (AnswersOcspIn g.O.Office) (GivesCrlIn g.O.Office) c.args.now _ _ c.in-Decoded.request.items
-    (items_of c.ocsp-in-Decoded.result) (shown c.ocsp_answer-in-Decoded.result) (rw c.deref.ensures.value at c.ocsp-in-Decoded.ensures)
-    c.ocsp_answer-in-Decoded.ensures)
+pub returns-in-OcspByGet-clause-calls : goal.returns-in-OcspByGet-clause-calls
+returns-in-OcspByGet-clause-calls g c =
+    responds_to g.O.Office c.args.now _ _ (ocsp_of c.in-OcspByGet.request.items) _ (shown c.ocsp_answer-in-OcspByGet.result)
+    (rw c.in-OcspByGet.is at c.in_ok-meaning_of.ensures)
+    (ocsp_responds (RunsIn g.O.Office) (AsksIn g.O.Office) (AnswersOcspIn g.O.Office) (GivesCrlIn g.O.Office) c.args.now _ _ c.in-OcspByGet.request.items
+    (items_of c.ocsp-in-OcspByGet.result) (shown c.ocsp_answer-in-OcspByGet.result) (rw c.deref.ensures.value at c.ocsp-in-OcspByGet.ensures)
+    c.ocsp_answer-in-OcspByGet.ensures)
 
-pub returns-in-Decoded-clause-ok : goal.returns-in-Decoded-clause-ok
-returns-in-Decoded-clause-ok g c =
-    responds_leads g.O.Office c.args.now _ _ (asked c.args.method.now c.args.target.now c.args.body.now) (shown c.ocsp_answer-in-Decoded.result)
-    (returns-in-Decoded-clause-calls g c)
+pub returns-in-OcspByGet-clause-ok : goal.returns-in-OcspByGet-clause-ok
+returns-in-OcspByGet-clause-ok g c =
+    responds_leads g.O.Office c.args.now _ _ (asked c.args.method.now c.args.target.now c.args.body.now) (shown c.ocsp_answer-in-OcspByGet.result)
+    (returns-in-OcspByGet-clause-calls g c)
 
 pub returns-in-Other-clause-calls : goal.returns-in-Other-clause-calls
 returns-in-Other-clause-calls g c =

@@ -1,5 +1,5 @@
 use Rattle.std.proofs.Common.{List, ℕ, Ok, Err, refl, subst, sym, ◌∙◌}
-use Rattle.reg_core.specs.declared.memory.Memory.{Memory}
+use Rattle.reg_core.specs.declared.memory.Memory.{Memory as NoMemory}
 use Rattle.reg_lines.specs.Answer.{OcspLineComesTo}
 use Rattle.reg_lines.specs.ByCalls.{LineCalls, responded}
 use Rattle.reg_lines.specs.Meaning.{decoded_bytes}
@@ -9,7 +9,7 @@ use Rattle.reg_lines.proofs.run.run_ocsp.Goals as goal
 
 pub returns-in_default : goal.returns-in_default
 returns-in_default g c =
-    let nothing : Memory = record {} in
+    let nothing : NoMemory = record {} in
     (Err nothing, unasked g.O.Office c.args.office.now c.args.now (decoded_bytes c.args.digits.now) nothing, rw c.no_memory.ensures (refl, refl))
 
 pub returns-in-Ok-ocsp : goal.returns-in-Ok-ocsp

@@ -6,5 +6,5 @@ returns-clause-ends g c =
     script_leads g.O.Office g.R.Read.remaining g.W.Write.contents _ _ _ _ _ _ g.H.Host.clock_reached c.run_lines.result _ c.done.ensures
     (rw c.requires at c.run_lines.ensures.ends)
 
-pub returns-clause-device : goal.returns-clause-device
-returns-clause-device g c = (c.run_lines.result, rw c.requires at c.run_lines.ensures.device, c.done.ensures)
+pub returns-clause-by_calls : goal.returns-clause-by_calls
+returns-clause-by_calls g c = (c.run_lines.result, rw c.requires at c.run_lines.ensures.by_calls, c.done.ensures)

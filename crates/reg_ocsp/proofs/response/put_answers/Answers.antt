@@ -14,5 +14,5 @@ loop-answer-preserved c =
       written = c.in_ok-put_single.ensures.ok
           ∙ ap (λ (r : List ℕ). r ++ single_response c.args.now c.args.next (answer_model answer)) it.written
           ∙ sym (written_more answers i answer c.loop-answer-test.true c.answer-item.is c.args.now c.args.next);
-      few = omega (arith, it.few, c.in_ok-put_single.ensures.longer, total_more answers i answer c.loop-answer-test.true c.answer-item.is);
+      few = omega (arith, it.few, c.in_ok-put_single.ensures.length_at_most, total_more answers i answer c.loop-answer-test.true c.answer-item.is);
     }

@@ -3,4 +3,4 @@ use Rattle.reg_desk_server.proofs.acceptor.Acceptor.accept_all.Given as goal
 
 -- no more were accepted than may be
 abbrev pub invariant-loop : goal.invariant-loop
-invariant-loop g l = l.initial.self.accepted ≤ l.most → l.self.accepted ≤ l.most
+invariant-loop g l = l.initial.self.accepted ≤ l.limit → l.self.accepted ≤ l.limit

@@ -4,4 +4,4 @@ use Rattle.reg_desk_server.proofs.control_connections.ControlConnections.answer_
 
 -- what was exchanged so far
 abbrev pub invariant-loop-slot : goal.invariant-loop-slot
-invariant-loop-slot g l = (made : ℕ) → Handled g.H.Handler l.initial.handler l.handler made made
+invariant-loop-slot g l = (answered : ℕ) → Handled g.H.Handler l.initial.handler l.handler answered answered

@@ -5,4 +5,4 @@ use Rattle.reg_desk_server.proofs.event_loop.EventLoop.answer_all.Given as goal
 -- what was exchanged so far
 abbrev pub invariant-loop-index : goal.invariant-loop-index
 invariant-loop-index g l =
-    Handled g.H.Handler l.initial.handler l.handler l.initial.made l.made × (l.made ≤ l.most)
+    Handled g.H.Handler l.initial.handler l.handler l.initial.answered l.answered × (l.answered ≤ l.limit)

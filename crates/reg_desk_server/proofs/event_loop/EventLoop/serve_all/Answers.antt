@@ -8,16 +8,16 @@ loop-init g c = (handled_none g.H.Handler _ _ _ _ refl refl, c.requires, g.H.Han
 pub returns-in_err-answer_all_lines-clause-exchanged : goal.returns-in_err-answer_all_lines-clause-exchanged
 returns-in_err-answer_all_lines-clause-exchanged g c = handled_then g.H.Handler _ _ _ _ _ _ c.loop.invariant.0 (c.answer_all_lines.ensures.lines _)
 
-pub returns-in_err-answered-clause-exchanged : goal.returns-in_err-answered-clause-exchanged
-returns-in_err-answered-clause-exchanged g c =
+pub returns-in_err-outcome-clause-exchanged : goal.returns-in_err-outcome-clause-exchanged
+returns-in_err-outcome-clause-exchanged g c =
     handled_then g.H.Handler _ _ _ _ _ _ c.loop.invariant.0
-    (handled_then g.H.Handler _ _ _ _ _ _ (c.answer_all_lines.ensures.lines _) c.answer_all-answered.ensures.exchanged)
+    (handled_then g.H.Handler _ _ _ _ _ _ (c.answer_all_lines.ensures.lines _) c.answer_all-outcome.ensures.exchanged)
 
 pub loop-preserved : goal.loop-preserved
 loop-preserved g c = (
   handled_then g.H.Handler _ _ _ _ _ _ c.loop.invariant.0
-      (handled_then g.H.Handler _ _ _ _ _ _ (c.answer_all_lines.ensures.lines _) c.answer_all-answered.ensures.exchanged),
-  c.answer_all-answered.ensures.within,
+      (handled_then g.H.Handler _ _ _ _ _ _ (c.answer_all_lines.ensures.lines _) c.answer_all-outcome.ensures.exchanged),
+  c.answer_all-outcome.ensures.within,
   c.in_ok-now.ensures.ok c.loop.counter c.loop.invariant.2,
 )
 

@@ -5,4 +5,4 @@ use Rattle.reg_desk_server.proofs.event_loop.EventLoop.serve_all.Given as goal
 -- what was exchanged so far
 abbrev pub invariant-loop : goal.invariant-loop
 invariant-loop g l =
-    Handled g.H.Handler l.initial.handler l.handler l.initial.made l.made × (l.made ≤ l.most) × g.H.Handler.waited l.counter
+    Handled g.H.Handler l.initial.handler l.handler l.initial.answered l.answered × (l.answered ≤ l.limit) × g.H.Handler.waited l.counter
